@@ -1,0 +1,5 @@
+pub mod Node
+pub mod Sequence
+pub mod Ballot
+pub mod Majority
+pub mod Field

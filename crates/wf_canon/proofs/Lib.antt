@@ -1,0 +1,9 @@
+pub mod Fraction
+pub mod GrammarLaw
+pub mod MeaningLaw
+pub mod MapText
+pub mod Lexing
+pub mod NumberLaw
+pub mod NumberWord
+pub mod Utf8Law
+pub mod WrittenLaw

@@ -1,0 +1,3 @@
+pub mod Number
+pub mod Canon
+pub mod Refusal

@@ -1,0 +1,28 @@
+//! Laws of the canonical text, over its definition alone.
+
+ghost use Rattle.std.specs.Prelude.{◌≡◌, ℤ, Ok, ◌≤◌, length};
+ghost use Rattle.wf_def.specs.Definition.{Definition};
+ghost use Rattle.wf_def.specs.Micro.{IsMicro};
+ghost use Rattle.wf_def.specs.Number.{number};
+ghost use Rattle.wf_mapfile.specs.Meaning.{Means};
+ghost use Rattle.wf_canon.specs.Number.{number_text};
+ghost use Rattle.wf_canon.specs.Canon.{canon, IsMap};
+ghost use Rattle.wf_canon.specs.declared.canon.TheConstants.{MOST_CANON_BYTES};
+
+/// What is written of a number is read as that number.
+#[tactic(auto, using(crate::proofs::NumberLaw::number_again))]
+pub fn number_is_read_again()
+    ensures { (millionths : ℤ) → IsMicro millionths → number (number_text millionths) ≡ Ok millionths }
+{}
+
+/// The canonical text of a map means that map.
+#[tactic(auto, using(crate::proofs::MeaningLaw::canon_means))]
+pub fn canonical_text_means_its_map()
+    ensures { (d : Definition) → IsMap d → length (canon d) ≤ MOST_CANON_BYTES → Means (canon d) d }
+{}
+
+/// Two maps with one canonical text are one map.
+#[tactic(auto, using(crate::proofs::MeaningLaw::one_definition))]
+pub fn one_text_one_map()
+    ensures { (d e : Definition) → IsMap d → IsMap e → canon d ≡ canon e → d ≡ e }
+{}

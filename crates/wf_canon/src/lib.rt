@@ -1,0 +1,24 @@
+//! Canonical texts: one text for each map definition, and back.
+//!
+//! A canonical text is a mapfile with one item a line, single spaces, keywords in capitals and every default filled in
+//! (MapServer mapfile reference). `specs/Canon.antt` defines it as the lines of a definition, one after the other.
+//!
+//! It promises that [`Canon::of`] gives exactly the text of its definition, that [`Canon::from_bytes`] takes exactly the canonical
+//! texts within the limit of 32,768 bytes, with their definition, and, as laws over the definitions alone, that the canonical text of
+//! a map means that map and that two maps with one text are one map. A [`Canon`] is seen as its definition. It doesn't know layers
+//! yet, and says nothing of which of two mapfiles a user would prefer.
+#![tactic(auto)]
+
+mod canon;
+mod fault;
+mod law;
+mod number;
+mod writer;
+
+pub use canon::{Canon, MOST_CANON_BYTES};
+pub use fault::CanonFault;
+pub use law::{canonical_text_means_its_map, number_is_read_again, one_text_one_map};
+pub use number::write_number;
+
+#[cfg(test)]
+mod tests;

@@ -1,0 +1,71 @@
+-- What a map definition says, without memory: coordinates in millionths, texts as bytes, lists in order.
+use Rattle.std.specs.Prelude.{ℕ, pos, Bool, List, [], Option, codes}
+use Rattle.wf_def.specs.Extent.{ExtentValue}
+use Rattle.wf_def.specs.declared.color.Color.{Color}
+use Rattle.wf_def.specs.declared.point.Point.{Point}
+use Rattle.wf_def.specs.declared.choice.Projection.{Projection}
+use Rattle.wf_def.specs.declared.choice.Projection.TheVariants.{Epsg4326}
+use Rattle.wf_def.specs.declared.choice.LayerKind.{LayerKind}
+use Rattle.wf_def.specs.declared.choice.LabelSize.{LabelSize}
+use Rattle.wf_def.specs.declared.choice.LabelPosition.{LabelPosition}
+
+-- how a feature is drawn: widths and sizes in pixels
+pub record StyleDefinition : Type 0 where
+  pub color : Option Color
+  pub outline_color : Option Color
+  pub width : ℕ
+  pub size : ℕ
+
+-- how a feature's text is drawn: the free space around it in pixels
+pub record LabelDefinition : Type 0 where
+  pub color : Color
+  pub size : LabelSize
+  pub position : LabelPosition
+  pub priority : ℕ
+  pub force : Bool
+  pub buffer : ℕ
+
+-- which features are drawn alike
+pub record ClassDefinition : Type 0 where
+  pub name : List ℕ
+  pub expression : Option (List ℕ)
+  pub styles : List StyleDefinition
+  pub label : Option LabelDefinition
+
+-- a shape with its attributes' values, cut at semicolons, and the text of its label
+pub record FeatureDefinition : Type 0 where
+  pub parts : List (List Point)
+  pub items : List ℕ
+  pub text : List ℕ
+
+-- a layer without its name: the names of its features' attributes are `items`, cut at commas
+pub record LayerDefinition : Type 0 where
+  pub kind : LayerKind
+  pub title : List ℕ
+  pub class_item : List ℕ
+  pub label_item : List ℕ
+  pub items : List ℕ
+  pub classes : List ClassDefinition
+  pub features : List FeatureDefinition
+
+-- a map: the layers are pairs of name and layer, in the order of the mapfile
+pub record Definition : Type 0 where
+  pub name : List ℕ
+  pub title : List ℕ
+  pub abstract_text : List ℕ
+  pub address : List ℕ
+  pub extent : ExtentValue
+  pub projection : Projection
+  pub layers : List (List ℕ × LayerDefinition)
+
+-- the map before the first: what every history begins with
+abbrev pub empty_map : Definition
+empty_map = record {
+  name = codes "empty";
+  title = codes "empty";
+  abstract_text = [];
+  address = codes "http://localhost/wms?";
+  extent = record { minx = pos 0; miny = pos 0; maxx = pos 1_000_000; maxy = pos 1_000_000 };
+  projection = Epsg4326;
+  layers = [];
+}

@@ -1,0 +1,45 @@
+//! The choices of a map definition: each an enum with the words of the mapfile as its variants.
+
+/// The coordinate system of a map's EXTENT and points (MapServer mapfile reference, PROJECTION).
+#[derive(Clone, Copy, Debug, PartialEq, Eq, Hash)]
+pub enum Projection {
+    /// `init=epsg:4326`: degrees of longitude, then latitude, in this order in a mapfile.
+    Epsg4326,
+    /// `init=epsg:3857`: metres to the east, then to the north.
+    Epsg3857,
+}
+
+/// What a layer's features are (MapServer mapfile reference, LAYER TYPE).
+#[derive(Clone, Copy, Debug, PartialEq, Eq, Hash)]
+pub enum LayerKind {
+    /// `POINT`: a marker at each point.
+    Points,
+    /// `LINE`: each part is a line through two points or more.
+    Lines,
+    /// `POLYGON`: each part is a ring of three points or more.
+    Polygons,
+}
+
+/// How large a label's letters are (MapServer mapfile reference, LABEL SIZE).
+#[derive(Clone, Copy, Debug, PartialEq, Eq, Hash)]
+pub enum LabelSize {
+    Tiny,
+    Small,
+    Medium,
+    Large,
+    Giant,
+}
+
+/// Where a label stands to its point (MapServer mapfile reference, LABEL POSITION).
+#[derive(Clone, Copy, Debug, PartialEq, Eq, Hash)]
+pub enum LabelPosition {
+    UpperLeft,
+    UpperCenter,
+    UpperRight,
+    CenterLeft,
+    CenterCenter,
+    CenterRight,
+    LowerLeft,
+    LowerCenter,
+    LowerRight,
+}

@@ -1,0 +1,152 @@
+//! Map definitions.
+ghost use Rattle.std.specs.Prelude.{◌≡◌, [], IfOk};
+ghost use Rattle.wf_def.specs.Definition.{Definition, empty_map};
+ghost use Rattle.wf_def.specs.Limits.{IsWithinLimits};
+
+#[cfg(test)]
+mod tests;
+
+use crate::choice::Projection;
+use crate::extent::Extent;
+use crate::micro::Micro;
+use crate::text::Text;
+use std::alloc::{AllocError, Global};
+use std::marker::Model;
+
+/// What a mapfile says, within the limits (MapServer mapfile reference, MAP).
+#[derive(Debug, Drop)]
+pub struct MapDef {
+    name: Text,
+    title: Text,
+    abstract_text: Text,
+    address: Text,
+    extent: Extent,
+    projection: Projection,
+}
+
+impl Model for MapDef {
+    ghost use Rattle.std.specs.Prelude.{[]};
+    ghost use Rattle.wf_def.specs.Definition.{Definition};
+    ghost use Rattle.wf_def.specs.Limits.{IsWithinLimits};
+
+    ghost Value = { Definition };
+
+    ghost view = { λ m. record { name = m.name; title = m.title; abstract_text = m.abstract_text; address = m.address; extent = m.extent; projection = m.projection; layers = [] } };
+
+    ghost invariant = { λ m. IsWithinLimits (record { name = m.name; title = m.title; abstract_text = m.abstract_text; address = m.address; extent = m.extent; projection = m.projection; layers = [] }) };
+}
+
+impl MapDef {
+    /// A map without layers. The title, the abstract and the address are those of the WEB block's metadata.
+    pub fn new(
+        name: Text,
+        title: Text,
+        abstract_text: Text,
+        address: Text,
+        extent: Extent,
+        projection: Projection,
+    ) -> Self
+        ensures { result ≡ record { name = name; title = title; abstract_text = abstract_text; address = address; extent = extent; projection = projection; layers = [] } }
+    {
+        let _ = name.as_bytes();
+        let _ = title.as_bytes();
+        let _ = abstract_text.as_bytes();
+        let _ = address.as_bytes();
+        let _ = extent.minx();
+        MapDef {
+            name,
+            title,
+            abstract_text,
+            address,
+            extent,
+            projection,
+        }
+    }
+
+    /// The map that stands before the first published one: named `empty`, from 0 0 to 1 1 degrees, without layers.
+    pub fn empty(alloc: Global) -> Result<Self, AllocError>
+        ensures { IfOk result (λ map. map ≡ empty_map) }
+    {
+        Ok(MapDef::new(
+            Text::from_str(alloc, "empty")?,
+            Text::from_str(alloc, "empty")?,
+            Text::from_str(alloc, "")?,
+            Text::from_str(alloc, "http://localhost/wms?")?,
+            unit_extent(),
+            Projection::Epsg4326,
+        ))
+    }
+
+    /// What the map is called. Until a map can be given layers, it also says that there are none.
+    pub fn name(&self) -> &Text
+        ensures value { result.now ≡ self.now.name }
+        ensures within { IsWithinLimits self.now }
+        ensures no_layers { self.now.layers ≡ [] }
+    {
+        &self.name
+    }
+
+    /// The title of the service, for readers (OGC 06-042 7.2.4.2).
+    pub fn title(&self) -> &Text
+        ensures value { result.now ≡ self.now.title }
+        ensures within { IsWithinLimits self.now }
+    {
+        &self.title
+    }
+
+    /// What the service offers, in some sentences (OGC 06-042 7.2.4.2).
+    pub fn abstract_text(&self) -> &Text
+        ensures value { result.now ≡ self.now.abstract_text }
+        ensures within { IsWithinLimits self.now }
+    {
+        &self.abstract_text
+    }
+
+    /// The address that requests are sent to (OGC 06-042 7.2.4.2, OnlineResource).
+    pub fn address(&self) -> &Text
+        ensures value { result.now ≡ self.now.address }
+        ensures within { IsWithinLimits self.now }
+    {
+        &self.address
+    }
+
+    /// The box that the map covers, in the units of its projection.
+    pub fn extent(&self) -> Extent
+        ensures value { result ≡ self.now.extent }
+        ensures within { IsWithinLimits self.now }
+    {
+        self.extent
+    }
+
+    /// The coordinate system of the extent and of all points.
+    pub fn projection(&self) -> Projection
+        ensures value { result ≡ self.now.projection }
+        ensures within { IsWithinLimits self.now }
+    {
+        self.projection
+    }
+}
+
+/// The box from 0 0 to 1 1.
+fn unit_extent() -> Extent
+    ensures { result ≡ empty_map.extent }
+{
+    let zero = Micro::from_millionths(0).unwrap();
+    let one = Micro::from_millionths(1_000_000).unwrap();
+    Extent::new(zero, zero, one, one).unwrap()
+}
+
+impl Clone for MapDef {
+    ghost is_clone = { λ map copy. copy ≡ map };
+
+    fn clone(&self) -> Result<Self, AllocError> {
+        Ok(MapDef {
+            name: self.name.clone()?,
+            title: self.title.clone()?,
+            abstract_text: self.abstract_text.clone()?,
+            address: self.address.clone()?,
+            extent: self.extent,
+            projection: self.projection,
+        })
+    }
+}

@@ -1,0 +1,10 @@
+//! Points.
+
+use crate::micro::Micro;
+
+/// A point in the map's coordinates, in the order of the mapfile: east, then north.
+#[derive(Clone, Copy, Debug, PartialEq, Eq, Hash)]
+pub struct Point {
+    pub x: Micro,
+    pub y: Micro,
+}

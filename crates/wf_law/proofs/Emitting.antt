@@ -1,0 +1,207 @@
+-- The messages of a row go out: none, one, or a list. And what a running proposal keeps meanwhile.
+use Rattle.std.proofs.Common.{◌≡◌, ℕ, ◌+◌, ◌<◌, ◌≤◌, List, [], ◌∷◌, ◌++◌, zero, suc, Option, Some, None, refl, sym, subst, inl, inr, append_assoc, append-nil}
+use Rattle.std.specs.Prelude.{⊤}
+use Rattle.wf_ballot.specs.Ballot.{Ballot}
+use Rattle.wf_model.specs.Message.{Message, Prepare, Promise, Accept, Accepted, Nack, Chosen, Ask}
+use Rattle.wf_model.specs.Stored.{Stored, published, next_sequence, entry_at}
+use Rattle.wf_model.specs.Working.{Phase, Preparing, Accepting, Proposal, Working, Idle, Running, Won, Overtaken, carried}
+use Rattle.wf_model.specs.Table.{told_of, told, told_from}
+use Rattle.wf_model.specs.Chosen.{IsIn, IsChosen}
+use Rattle.wf_law.proofs.Members.{member-before, member-parts}
+use Rattle.wf_law.proofs.Facts.{MessageFacts, StoredFacts, PreparingFacts, AcceptingFacts, PhaseFacts, WorkingFacts, MayAsk, IsMeet, MaySend, Sends, IsOwnAsk}
+use Rattle.wf_law.proofs.Keeping.{HasPromised-longer, BestIsTold-longer, IsChosen-longer}
+use Rattle.wf_law.proofs.Sending.{send_messages, send_own, send_other}
+
+-- ---- one message after the other
+
+module _ {V : Type 0} (n i : ℕ) (stored : Stored V) where
+  pub emit_messages : (sent new : List (Message V)) → Sends n i stored sent new → MessageFacts n sent → StoredFacts n i stored sent → MessageFacts n (sent ++ new)
+  emit_messages sent [] sends messages own = subst (MessageFacts n) (sym (append-nil sent)) messages
+  emit_messages sent (m ∷ rest) sends messages own =
+      subst (MessageFacts n) (append_assoc sent (m ∷ []) rest)
+      (emit_messages (sent ++ m ∷ []) rest sends.1 (send_messages n i stored sent m messages sends.0) (send_own n i stored sent m own sends.0))
+
+  pub emit_own : (sent new : List (Message V)) → Sends n i stored sent new → StoredFacts n i stored sent → StoredFacts n i stored (sent ++ new)
+  emit_own sent [] sends own = subst (StoredFacts n i stored) (sym (append-nil sent)) own
+  emit_own sent (m ∷ rest) sends own =
+      subst (StoredFacts n i stored) (append_assoc sent (m ∷ []) rest) (emit_own (sent ++ m ∷ []) rest sends.1 (send_own n i stored sent m own sends.0))
+
+  pub emit_other : (sent new : List (Message V)) (j : ℕ) (other : Stored V) → (j ≡ i → ⊥) → Sends n i stored sent new → StoredFacts n j other sent → StoredFacts n j other (sent ++ new)
+  emit_other sent [] j other differs sends facts = subst (StoredFacts n j other) (sym (append-nil sent)) facts
+  emit_other sent (m ∷ rest) j other differs sends facts =
+      subst (StoredFacts n j other) (append_assoc sent (m ∷ []) rest)
+      (emit_other (sent ++ m ∷ []) rest j other differs sends.1 (send_other n i stored sent m j other differs facts sends.0))
+
+  -- an Accept among them is at a ballot of their node
+  asks_own : (sent new : List (Message V)) (t : ℕ) (b : Ballot) (d : V) → Sends n i stored sent new → IsIn (Accept t b d) new → b.node ≡ i
+  asks_own sent [] t b d sends h = absurd h
+  asks_own sent (m ∷ rest) t b d sends (inl e) =
+      let ask : MayAsk n i sent t b d = subst (IsMeet n i stored sent) (sym e) sends.0.meet in ask.own
+  asks_own sent (m ∷ rest) t b d sends (inr h) = asks_own (sent ++ m ∷ []) rest t b d sends.1 h
+
+-- ---- running proposals
+
+-- no Accept at the ballot is among the new messages
+abbrev pub IsUnasked : {V : Type 0} → List (Message V) → Ballot → Type 0
+IsUnasked {V} new b = (t : ℕ) (d : V) → IsIn (Accept t b d) new → ⊥
+
+module _ {V : Type 0} (sent new : List (Message V)) where
+  pub PreparingFacts-longer : (p : Proposal V) → IsUnasked new p.ballot → PreparingFacts sent p → PreparingFacts (sent ++ new) p
+  PreparingFacts-longer p unasked facts = record {
+    fresh = λ t d h. elim (member-parts (Accept t p.ballot d) sent new h) [ inl old ↦ facts.fresh t d old | inr k ↦ unasked t d k ];
+    heard = λ j is_in. HasPromised-longer sent new (facts.heard j is_in);
+    told = BestIsTold-longer sent new p.sequence p.ballot p.heard p.best facts.told;
+  }
+
+  pub AcceptingFacts-longer : (p : Proposal V) → AcceptingFacts sent p → AcceptingFacts (sent ++ new) p
+  AcceptingFacts-longer p facts = record {
+    asked = member-before (Accept p.sequence p.ballot (carried p.best p.own)) sent new facts.asked;
+    heard = λ j is_in. member-before (Accepted j p.sequence p.ballot) sent new (facts.heard j is_in);
+  }
+
+  PhaseFacts-longer : (p : Proposal V) (phase : Phase) → IsUnasked new p.ballot → PhaseFacts sent p phase → PhaseFacts (sent ++ new) p phase
+  PhaseFacts-longer p Preparing unasked facts = PreparingFacts-longer p unasked facts
+  PhaseFacts-longer p Accepting unasked facts = AcceptingFacts-longer p facts
+
+  -- a node's working part keeps its facts while no Accept at a ballot of its own goes out
+  pub WorkingFacts-longer : (j : ℕ) (stored : Stored V) (working : Working V) → ((b : Ballot) → b.node ≡ j → IsUnasked new b) →
+      WorkingFacts j stored sent working → WorkingFacts j stored (sent ++ new) working
+  WorkingFacts-longer j stored Idle unasked facts = tt
+  WorkingFacts-longer j stored (Running p) unasked facts = record {
+    own = facts.own;
+    tried = facts.tried;
+    next = facts.next;
+    phase = PhaseFacts-longer p p.phase (unasked p.ballot facts.own) facts.phase;
+  }
+  WorkingFacts-longer j stored (Won s) unasked facts = tt
+  WorkingFacts-longer j stored (Overtaken s) unasked facts = tt
+
+-- every other node's working part keeps its facts
+pub working_other : {V : Type 0} (n i : ℕ) (stored : Stored V) (sent new : List (Message V)) (j : ℕ) (other : Stored V) (working : Working V) →
+    (j ≡ i → ⊥) → Sends n i stored sent new → WorkingFacts j other sent working → WorkingFacts j other (sent ++ new) working
+working_other n i stored sent new j other working differs sends facts =
+    WorkingFacts-longer sent new j other working
+    (λ b of_j t d h. let of_i : b.node ≡ i = asks_own n i stored sent new t b d sends h in let same : j ≡ i = cc in differs same) facts
+
+-- the stored part changes under a running proposal, but not what is published
+pub WorkingFacts-stored : {V : Type 0} (i : ℕ) (stored stored' : Stored V) (sent : List (Message V)) (working : Working V) → stored.tried ≡ stored'.tried →
+    published stored ≡ published stored' → WorkingFacts i stored sent working → WorkingFacts i stored' sent working
+unfolding next_sequence
+WorkingFacts-stored i stored stored' sent Idle same_tried same_published facts = tt
+WorkingFacts-stored i stored stored' sent (Running p) same_tried same_published facts = record {
+  own = facts.own;
+  tried = subst (λ r. p.ballot.round ≤ r) same_tried facts.tried;
+  next = subst (λ k. p.sequence ≡ k + 1) same_published facts.next;
+  phase = facts.phase;
+}
+WorkingFacts-stored i stored stored' sent (Won s) same_tried same_published facts = tt
+WorkingFacts-stored i stored stored' sent (Overtaken s) same_tried same_published facts = tt
+
+-- ---- answers, which ask for nothing
+
+abbrev pub IsAnswer : {V : Type 0} → Message V → Type 0
+IsAnswer (Prepare s b) = ⊥
+IsAnswer (Promise i s b vote) = ⊤
+IsAnswer (Accept s b d) = ⊥
+IsAnswer (Accepted i s b) = ⊤
+IsAnswer (Nack i s b promise) = ⊤
+IsAnswer (Chosen s d) = ⊤
+IsAnswer (Ask s) = ⊤
+
+abbrev pub AreAnswers : {V : Type 0} → List (Message V) → Type 0
+AreAnswers [] = ⊤
+AreAnswers (m ∷ rest) = IsAnswer m × AreAnswers rest
+
+pub answers_unasked : {V : Type 0} (new : List (Message V)) (b : Ballot) → AreAnswers new → IsUnasked new b
+answers_unasked [] b answers t d h = absurd h
+answers_unasked (m ∷ rest) b answers t d (inl e) = absurd (subst IsAnswer (sym e) answers.0)
+answers_unasked (m ∷ rest) b answers t d (inr h) = answers_unasked rest b answers.1 t d h
+
+answer_asks : {V : Type 0} (i : ℕ) (working : Working V) (m : Message V) → IsAnswer m → IsOwnAsk i working m
+answer_asks i working (Prepare s b) h = absurd h
+answer_asks i working (Promise j s b vote) h = tt
+answer_asks i working (Accept s b d) h = absurd h
+answer_asks i working (Accepted j s b) h = tt
+answer_asks i working (Nack j s b promise) h = tt
+answer_asks i working (Chosen s d) h = tt
+answer_asks i working (Ask s) h = tt
+
+pub answers_ask : {V : Type 0} (i : ℕ) (working : Working V) (new : List (Message V)) → AreAnswers new → (m : Message V) → IsIn m new → IsOwnAsk i working m
+answers_ask i working [] answers m h = absurd h
+answers_ask i working (a ∷ rest) answers m (inl e) = subst (IsOwnAsk i working) (sym e) (answer_asks i working a answers.0)
+answers_ask i working (a ∷ rest) answers m (inr h) = answers_ask i working rest answers.1 m h
+
+-- ---- published entries are told
+
+-- the messages are Chosen, each of what is chosen
+abbrev pub IsTold : {V : Type 0} → ℕ → List (Message V) → Message V → Type 0
+IsTold n sent (Prepare s b) = ⊥
+IsTold n sent (Promise i s b vote) = ⊥
+IsTold n sent (Accept s b d) = ⊥
+IsTold n sent (Accepted i s b) = ⊥
+IsTold n sent (Nack i s b promise) = ⊥
+IsTold n sent (Chosen s d) = IsChosen n sent s d
+IsTold n sent (Ask s) = ⊥
+
+abbrev pub AreTold : {V : Type 0} → ℕ → List (Message V) → List (Message V) → Type 0
+AreTold n sent [] = ⊤
+AreTold n sent (m ∷ rest) = IsTold n sent m × AreTold n sent rest
+
+IsTold-longer : {V : Type 0} (n : ℕ) (sent new : List (Message V)) (m : Message V) → IsTold n sent m → IsTold n (sent ++ new) m
+IsTold-longer n sent new (Prepare s b) h = absurd h
+IsTold-longer n sent new (Promise i s b vote) h = absurd h
+IsTold-longer n sent new (Accept s b d) h = absurd h
+IsTold-longer n sent new (Accepted i s b) h = absurd h
+IsTold-longer n sent new (Nack i s b promise) h = absurd h
+IsTold-longer n sent new (Chosen s d) h = IsChosen-longer sent new h
+IsTold-longer n sent new (Ask s) h = absurd h
+
+AreTold-longer : {V : Type 0} (n : ℕ) (sent new list : List (Message V)) → AreTold n sent list → AreTold n (sent ++ new) list
+AreTold-longer n sent new [] h = tt
+AreTold-longer n sent new (m ∷ rest) h = (IsTold-longer n sent new m h.0, AreTold-longer n sent new rest h.1)
+
+told_answer : {V : Type 0} (n : ℕ) (sent : List (Message V)) (m : Message V) → IsTold n sent m → IsAnswer m
+told_answer n sent (Prepare s b) h = absurd h
+told_answer n sent (Promise i s b vote) h = absurd h
+told_answer n sent (Accept s b d) h = absurd h
+told_answer n sent (Accepted i s b) h = absurd h
+told_answer n sent (Nack i s b promise) h = absurd h
+told_answer n sent (Chosen s d) h = tt
+told_answer n sent (Ask s) h = absurd h
+
+pub told_answers : {V : Type 0} (n : ℕ) (sent list : List (Message V)) → AreTold n sent list → AreAnswers list
+told_answers n sent [] h = tt
+told_answers n sent (m ∷ rest) h = (told_answer n sent m h.0, told_answers n sent rest h.1)
+
+told_may : {V : Type 0} (n i : ℕ) (stored : Stored V) (sent : List (Message V)) → i < n → (m : Message V) → IsTold n sent m → MaySend n i stored sent m
+told_may n i stored sent is_node (Prepare s b) h = absurd h
+told_may n i stored sent is_node (Promise j s b vote) h = absurd h
+told_may n i stored sent is_node (Accept s b d) h = absurd h
+told_may n i stored sent is_node (Accepted j s b) h = absurd h
+told_may n i stored sent is_node (Nack j s b promise) h = absurd h
+told_may n i stored sent is_node (Chosen s d) h = record { is_node = is_node; known = λ b is_in. absurd is_in; meet = h }
+told_may n i stored sent is_node (Ask s) h = absurd h
+
+pub told_sends : {V : Type 0} (n i : ℕ) (stored : Stored V) (sent list : List (Message V)) → i < n → AreTold n sent list → Sends n i stored sent list
+told_sends n i stored sent [] is_node h = tt
+told_sends n i stored sent (m ∷ rest) is_node h =
+    (told_may n i stored sent is_node m h.0, told_sends n i stored (sent ++ m ∷ []) rest is_node (AreTold-longer n sent (m ∷ []) rest h.1))
+
+AreTold-both : {V : Type 0} (n : ℕ) (sent first second : List (Message V)) → AreTold n sent first → AreTold n sent second → AreTold n sent (first ++ second)
+AreTold-both n sent [] second h k = k
+AreTold-both n sent (m ∷ rest) second h k = (h.0, AreTold-both n sent rest second h.1 k)
+
+module _ {V : Type 0} (n : ℕ) (sent : List (Message V)) (history : List V) (chosen : (s : ℕ) (d : V) → entry_at history s ≡ Some d → IsChosen n sent s d) where
+  of_entry : (s : ℕ) (entry : Option V) → entry_at history s ≡ entry → AreTold n sent (told_of s entry)
+  unfolding told_of
+  of_entry s None e = tt
+  of_entry s (Some d) e = (chosen s d e, tt)
+
+  pub told_are_told : (s : ℕ) → AreTold n sent (told history s)
+  unfolding told
+  told_are_told s = of_entry s (entry_at history s) refl
+
+  pub told_from_are_told : (s count : ℕ) → AreTold n sent (told_from history s count)
+  unfolding told_from
+  told_from_are_told s zero = tt
+  told_from_are_told s (suc count) = AreTold-both n sent (told history s) (told_from history (suc s) count) (told_are_told s) (told_from_are_told (suc s) count)

@@ -1,0 +1,48 @@
+-- Facts that a longer list of messages keeps.
+use Rattle.std.proofs.Common.{ℕ, Bool, List, ◌++◌, Option, Some, None}
+use Rattle.wf_ballot.specs.Ballot.{Ballot}
+use Rattle.wf_model.specs.Message.{Vote, Message, Promise, Accept, Accepted}
+use Rattle.wf_model.specs.Chosen.{Voted, IsChosen}
+use Rattle.wf_law.specs.Laws.{HasPromised, BestIsTold, IsBacked}
+use Rattle.wf_law.proofs.Members.{member-before}
+use Rattle.wf_law.proofs.Facts.{Stands}
+
+module _ {V : Type 0} (sent new : List (Message V)) where
+  pub Stands-longer : {b : Ballot} → Stands sent b → Stands (sent ++ new) b
+  Stands-longer h = record { message = h.message; was_sent = member-before h.message sent new h.was_sent; is_in = h.is_in }
+
+  -- the same majority voted, and its messages are still in the list
+  pub IsChosen-longer : {n s : ℕ} {d : V} → IsChosen n sent s d → IsChosen n (sent ++ new) s d
+  IsChosen-longer {n} {s} {d} h = record {
+    ballot = h.ballot;
+    majority = record {
+      nodes = h.majority.nodes;
+      is_majority = h.majority.is_majority;
+      each = λ i is_node is_in. let v : Voted sent s h.ballot d i = h.majority.each i is_node is_in in record {
+        said = member-before (Accepted i s h.ballot) sent new v.said;
+        asked = member-before (Accept s h.ballot d) sent new v.asked;
+      };
+    };
+  }
+
+  pub HasPromised-longer : {s : ℕ} {b : Ballot} {best : Option (Vote V)} {i : ℕ} → HasPromised sent s b best i → HasPromised (sent ++ new) s b best i
+  HasPromised-longer {s} {b} {best} {i} h =
+      record { vote = h.vote; said = member-before (Promise i s b h.vote) sent new h.said; within = h.within }
+
+  pub BestIsTold-longer : (s : ℕ) (b : Ballot) (nodes : ℕ → Bool) (best : Option (Vote V)) → BestIsTold sent s b nodes best → BestIsTold (sent ++ new) s b nodes best
+  BestIsTold-longer s b nodes None h = tt
+  BestIsTold-longer s b nodes (Some vote) h =
+      record { teller = h.teller; is_member = h.is_member; said = member-before (Promise h.teller s b (Some vote)) sent new h.said }
+
+  -- the same majority promised, and told the same
+  pub IsBacked-longer : {n s : ℕ} {b : Ballot} {d : V} → IsBacked n sent s b d → IsBacked n (sent ++ new) s b d
+  IsBacked-longer {n} {s} {b} {d} h = record {
+    best = h.best;
+    majority = record {
+      nodes = h.majority.nodes;
+      is_majority = h.majority.is_majority;
+      each = λ i is_node is_in. HasPromised-longer (h.majority.each i is_node is_in);
+    };
+    told = BestIsTold-longer s b h.majority.nodes h.best h.told;
+    carried = h.carried;
+  }

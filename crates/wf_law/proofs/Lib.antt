@@ -1,0 +1,13 @@
+mod Members
+mod Facts
+mod Keeping
+mod Sending
+mod Storing
+mod Emitting
+mod Ballots
+mod Acceptor
+mod Proposer
+mod Worlds
+mod Core
+mod Growing
+mod Theorems

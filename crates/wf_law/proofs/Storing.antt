@@ -1,0 +1,211 @@
+-- A record is stored, with no message out, and what its node stored keeps its facts. This is a torn step too.
+use Rattle.std.proofs.Common.{◌≡◌, ◌⊎◌, ℕ, zero, suc, ◌+◌, ◌<◌, ◌≤◌, true, false, List, [], ◌∷◌, ◌++◌, length, slice_get, Option, Some, None, refl, sym, ap, subst, inl, inr, arith, length-append, eq-eqb, ne_eqb, lt-ltb}
+use Rattle.std.specs.Prelude.{⊤}
+use Rattle.std.proofs.lemmas.Bool.{cases_eq}
+use Rattle.std.proofs.lemmas.Option.{none-some, same_Some}
+use Rattle.wf_ballot.specs.Ballot.{Ballot, below}
+use Rattle.wf_ballot.proofs.Order.{below-irreflexive, below-asymmetric, not_below-transitive}
+use Rattle.wf_model.specs.Message.{Vote, Message, Accept}
+use Rattle.wf_model.specs.Stored.{Stored, Tried, Promised, Accepted, Published, published, entry_at, put, with_record}
+use Rattle.wf_model.specs.Chosen.{IsIn, IsChosen}
+use Rattle.wf_law.specs.Laws.{NotBelow, VoteNotBelow}
+use Rattle.wf_law.proofs.Facts.{Stands, IsAsked, StoredFacts}
+
+-- ---- a function that is changed at one place
+
+pub put-same : {A : Type 0} (f : ℕ → Option A) (s : ℕ) (x : Option A) (t : ℕ) → t ≡ s → put f s x t ≡ x
+unfolding put
+put-same f s x t e = rw (eq-eqb t s e) refl
+
+put-other : {A : Type 0} (f : ℕ → Option A) (s : ℕ) (x : Option A) (t : ℕ) → (t ≡ s → ⊥) → put f s x t ≡ f t
+unfolding put
+put-other f s x t differs = rw (ne_eqb t s differs) refl
+
+-- what holds of the new value, and of each old one, holds everywhere
+at_put : {A : Type 0} (P : Option A → Type 0) (f : ℕ → Option A) (s : ℕ) (x : Option A) (t : ℕ) → (t ≡ s → P x) → ((t ≡ s → ⊥) → P (f t)) → P (put f s x t)
+at_put P f s x t new old =
+    elim (cases_eq t s) [ inl e ↦ subst P (sym (put-same f s x t e)) (new e) | inr differs ↦ subst P (sym (put-other f s x t differs)) (old differs) ]
+
+-- ---- promises rise
+
+-- there is no promise, or one below b; there is none, or one that isn't above b
+abbrev pub LiesBelow : Option Ballot → Ballot → Type 0
+LiesBelow None b = ⊤
+LiesBelow (Some q) b = below q b ≡ true
+
+abbrev pub NotAbove : Option Ballot → Ballot → Type 0
+NotAbove None b = ⊤
+NotAbove (Some q) b = below b q ≡ false
+
+pub NotAbove-from_below : (promise : Option Ballot) (b : Ballot) → LiesBelow promise b → NotAbove promise b
+NotAbove-from_below None b h = tt
+NotAbove-from_below (Some q) b h = below-asymmetric q b h
+
+-- a promise that wasn't below c is replaced by one that isn't either
+pub raised : (promise : Option Ballot) (b c : Ballot) → NotAbove promise b → NotBelow promise c → below b c ≡ false
+raised None b c h k = absurd k
+raised (Some q) b c h k = not_below-transitive c q b k h
+
+-- ---- the published list grows
+
+entry-last : {A : Type 0} (xs : List A) (x : A) (k : ℕ) (y : A) → slice_get (xs ++ x ∷ []) k ≡ Some y → (slice_get xs k ≡ Some y) ⊎ ((k ≡ length xs) × (x ≡ y))
+entry-last [] x zero y e = inr (refl, same_Some x y e)
+entry-last [] x (suc k) y e = absurd (none-some y e)
+entry-last (z ∷ xs) x zero y e = inl e
+entry-last (z ∷ xs) x (suc k) y e = moved (entry-last xs x k y e)
+  where
+    moved : (slice_get xs k ≡ Some y) ⊎ ((k ≡ length xs) × (x ≡ y)) → (slice_get xs k ≡ Some y) ⊎ ((suc k ≡ suc (length xs)) × (x ≡ y))
+    moved (inl h) = inl h
+    moved (inr h) = inr (ap suc h.0, h.1)
+
+entry_at-last : {V : Type 0} (history : List V) (d : V) (t : ℕ) (e : V) → entry_at (history ++ d ∷ []) t ≡ Some e →
+    (entry_at history t ≡ Some e) ⊎ ((t ≡ length history + 1) × (d ≡ e))
+unfolding entry_at
+entry_at-last history d zero e h = inl h
+entry_at-last history d (suc k) e h = moved (entry-last history d k e h)
+  where
+    moved : (slice_get history k ≡ Some e) ⊎ ((k ≡ length history) × (d ≡ e)) → (slice_get history k ≡ Some e) ⊎ ((suc k ≡ length history + 1) × (d ≡ e))
+    moved (inl old) = inl old
+    moved (inr new) = inr (omega arith, new.1)
+
+-- the stored part with a promise, and that this is what the record makes of it
+abbrev pub with_promise : {V : Type 0} → Stored V → ℕ → Ballot → Stored V
+with_promise stored s b = record stored { promises = put stored.promises s (Some b) }
+
+pub is_promised : {V : Type 0} (stored : Stored V) (s : ℕ) (b : Ballot) → published stored < s → with_record stored (Promised s b) ≡ with_promise stored s b
+unfolding with_record
+is_promised stored s b is_open = rw (lt-ltb (published stored) s is_open) refl
+
+-- the stored part with a vote, and that this is what the record makes of it
+abbrev pub with_vote : {V : Type 0} → Stored V → ℕ → Ballot → V → Stored V
+with_vote stored s b d = record stored { promises = put stored.promises s (Some b); votes = put stored.votes s (Some (record { ballot = b; definition = d })) }
+
+pub is_accepted : {V : Type 0} (stored : Stored V) (s : ℕ) (b : Ballot) (d : V) → published stored < s → with_record stored (Accepted s b d) ≡ with_vote stored s b d
+unfolding with_record
+is_accepted stored s b d is_open = rw (lt-ltb (published stored) s is_open) refl
+
+-- one definition more is published
+pub published-more : {V : Type 0} (stored : Stored V) (s : ℕ) (d : V) → published (with_record stored (Published s d)) ≡ published stored + 1
+unfolding published with_record
+published-more stored s d = length-append stored.history (d ∷ [])
+
+-- ---- the four records
+
+module _ {V : Type 0} (n i : ℕ) (stored : Stored V) (sent : List (Message V)) where
+  -- A higher round is tried: what was within the old one is within it.
+  pub store_tried : (r : ℕ) → stored.tried ≤ r → StoredFacts n i stored sent → StoredFacts n i (with_record stored (Tried r)) sent
+  unfolding with_record published
+  store_tried r higher facts = record {
+    tried = λ message b is_in in_message of_i. let old : b.round ≤ stored.tried = facts.tried message b is_in in_message of_i in omega arith;
+    open_promises = facts.open_promises;
+    open_votes = facts.open_votes;
+    promised = facts.promised;
+    accepted = facts.accepted;
+    voted = facts.voted;
+    vote_asked = facts.vote_asked;
+    vote_within = facts.vote_within;
+    promise_stands = facts.promise_stands;
+    chosen = facts.chosen;
+  }
+
+  -- At s the promise is b now, which was above the one there: what that one wasn't below, b isn't below either.
+  -- Elsewhere nothing changed.
+  promised_facts : (s : ℕ) (b : Ballot) → published stored < s → LiesBelow (stored.promises s) b → Stands sent b → StoredFacts n i stored sent →
+      StoredFacts n i (with_promise stored s b) sent
+  unfolding published
+  promised_facts s b is_open lower stands facts =
+      let up : (c : Ballot) (t : ℕ) → t ≡ s → NotBelow (stored.promises t) c → below b c ≡ false =
+      λ c t e h. raised (stored.promises s) b c (NotAbove-from_below (stored.promises s) b lower) (subst (λ x. NotBelow (stored.promises x) c) e h) in
+      record {
+        tried = facts.tried;
+        open_promises = λ t closed. at_put (λ o. o ≡ None) stored.promises s (Some b) t (λ e. absurd (omega arith)) (λ _. facts.open_promises t closed);
+        open_votes = facts.open_votes;
+        promised = λ t c vote is_in opened.
+            at_put (λ o. NotBelow o c) stored.promises s (Some b) t (λ e. up c t e (facts.promised t c vote is_in opened)) (λ _. facts.promised t c vote is_in opened);
+        accepted = λ t c is_in opened.
+            at_put (λ o. NotBelow o c) stored.promises s (Some b) t (λ e. up c t e (facts.accepted t c is_in opened)) (λ _. facts.accepted t c is_in opened);
+        voted = facts.voted;
+        vote_asked = facts.vote_asked;
+        vote_within = λ t vote h.
+            at_put (λ o. NotBelow o vote.ballot) stored.promises s (Some b) t (λ e. up vote.ballot t e (facts.vote_within t vote h)) (λ _. facts.vote_within t vote h);
+        promise_stands = λ t c.
+            at_put (λ o. o ≡ Some c → Stands sent c) stored.promises s (Some b) t (λ e h. subst (Stands sent) (same_Some b c h) stands) (λ _. facts.promise_stands t c);
+        chosen = facts.chosen;
+      }
+
+  pub store_promised : (s : ℕ) (b : Ballot) → published stored < s → LiesBelow (stored.promises s) b → Stands sent b → StoredFacts n i stored sent →
+      StoredFacts n i (with_record stored (Promised s b)) sent
+  store_promised s b is_open lower stands facts =
+      subst (λ x. StoredFacts n i x sent) (sym (is_promised stored s b is_open)) (promised_facts s b is_open lower stands facts)
+
+  -- At s promise and vote are at b now, and the promise there wasn't above b: what it wasn't below, b isn't below
+  -- either. Elsewhere nothing changed.
+  accepted_facts : (s : ℕ) (b : Ballot) (d : V) → published stored < s → NotAbove (stored.promises s) b → IsIn (Accept s b d) sent → StoredFacts n i stored sent →
+      StoredFacts n i (with_vote stored s b d) sent
+  unfolding published
+  accepted_facts s b d is_open lower asked facts =
+      let vote : Vote V = record { ballot = b; definition = d } in
+      let up : (c : Ballot) (t : ℕ) → t ≡ s → NotBelow (stored.promises t) c → below b c ≡ false =
+      λ c t e h. raised (stored.promises s) b c lower (subst (λ x. NotBelow (stored.promises x) c) e h) in
+      record {
+        tried = facts.tried;
+        open_promises = λ t closed. at_put (λ o. o ≡ None) stored.promises s (Some b) t (λ e. absurd (omega arith)) (λ _. facts.open_promises t closed);
+        open_votes = λ t closed. at_put (λ o. o ≡ None) stored.votes s (Some vote) t (λ e. absurd (omega arith)) (λ _. facts.open_votes t closed);
+        promised = λ t c v is_in opened.
+            at_put (λ o. NotBelow o c) stored.promises s (Some b) t (λ e. up c t e (facts.promised t c v is_in opened)) (λ _. facts.promised t c v is_in opened);
+        accepted = λ t c is_in opened.
+            at_put (λ o. NotBelow o c) stored.promises s (Some b) t (λ e. up c t e (facts.accepted t c is_in opened)) (λ _. facts.accepted t c is_in opened);
+        voted = λ t c is_in opened.
+            at_put (λ o. VoteNotBelow o c) stored.votes s (Some vote) t (λ e. up c t e (facts.accepted t c is_in opened)) (λ _. facts.voted t c is_in opened);
+        vote_asked = λ t v.
+            at_put (λ o. o ≡ Some v → IsAsked sent t v) stored.votes s (Some vote) t
+            (λ e h. subst (IsAsked sent t) (same_Some vote v h) (subst (λ x. IsIn (Accept x b d) sent) (sym e) asked)) (λ _. facts.vote_asked t v);
+        vote_within = λ t v. elim (cases_eq t s) [
+          | inl e ↦ λ h. subst (λ o. NotBelow o v.ballot) (sym (put-same stored.promises s (Some b) t e))
+              (subst (λ (x : Vote V). below b x.ballot ≡ false) (same_Some vote v (rw (put-same stored.votes s (Some vote) t e) at h)) (below-irreflexive b))
+          | inr differs ↦ λ h. subst (λ o. NotBelow o v.ballot) (sym (put-other stored.promises s (Some b) t differs))
+              (facts.vote_within t v (rw (put-other stored.votes s (Some vote) t differs) at h))
+        ];
+        promise_stands = λ t c.
+            at_put (λ o. o ≡ Some c → Stands sent c) stored.promises s (Some b) t
+            (λ e h. subst (Stands sent) (same_Some b c h) (record { message = Accept s b d; was_sent = asked; is_in = inl refl })) (λ _. facts.promise_stands t c);
+        chosen = facts.chosen;
+      }
+
+  pub store_accepted : (s : ℕ) (b : Ballot) (d : V) → published stored < s → NotAbove (stored.promises s) b → IsIn (Accept s b d) sent → StoredFacts n i stored sent →
+      StoredFacts n i (with_record stored (Accepted s b d)) sent
+  store_accepted s b d is_open lower asked facts =
+      subst (λ x. StoredFacts n i x sent) (sym (is_accepted stored s b d is_open)) (accepted_facts s b d is_open lower asked facts)
+
+  same_sequence : (s t : ℕ) → s ≡ published stored + 1 → t ≡ length stored.history + 1 → s ≡ t
+  unfolding published
+  same_sequence s t first second = omega arith
+
+  -- The sequence is published, so nothing is asked of its promise and vote any more, and they are gone. Elsewhere
+  -- nothing changed, and the entry that is new is chosen.
+  pub store_published : (s : ℕ) (d : V) → s ≡ published stored + 1 → IsChosen n sent s d → StoredFacts n i stored sent → StoredFacts n i (with_record stored (Published s d)) sent
+  unfolding with_record
+  store_published s d is_next is_chosen facts =
+      let more : published (with_record stored (Published s d)) ≡ published stored + 1 = published-more stored s d in
+      record {
+        tried = facts.tried;
+        open_promises = λ t closed. at_put (λ o. o ≡ None) stored.promises s None t (λ e. refl) (λ differs. facts.open_promises t (omega arith));
+        open_votes = λ t closed. at_put (λ o. o ≡ None) stored.votes s None t (λ e. refl) (λ differs. facts.open_votes t (omega arith));
+        promised = λ t c vote is_in opened.
+            at_put (λ o. NotBelow o c) stored.promises s None t (λ e. absurd (omega arith)) (λ _. facts.promised t c vote is_in (omega arith));
+        accepted = λ t c is_in opened.
+            at_put (λ o. NotBelow o c) stored.promises s None t (λ e. absurd (omega arith)) (λ _. facts.accepted t c is_in (omega arith));
+        voted = λ t c is_in opened.
+            at_put (λ o. VoteNotBelow o c) stored.votes s None t (λ e. absurd (omega arith)) (λ _. facts.voted t c is_in (omega arith));
+        vote_asked = λ t v. at_put (λ o. o ≡ Some v → IsAsked sent t v) stored.votes s None t (λ e h. absurd (none-some v h)) (λ _. facts.vote_asked t v);
+        vote_within = λ t v. elim (cases_eq t s) [
+          | inl e ↦ λ h. absurd (none-some v (rw (put-same stored.votes s None t e) at h))
+          | inr differs ↦ λ h. subst (λ o. NotBelow o v.ballot) (sym (put-other stored.promises s None t differs))
+              (facts.vote_within t v (rw (put-other stored.votes s None t differs) at h))
+        ];
+        promise_stands = λ t c. at_put (λ o. o ≡ Some c → Stands sent c) stored.promises s None t (λ e h. absurd (none-some c h)) (λ _. facts.promise_stands t c);
+        chosen = λ t e h. elim (entry_at-last stored.history d t e h) [
+          | inl old ↦ facts.chosen t e old
+          | inr new ↦ subst (IsChosen n sent t) new.1 (subst (λ x. IsChosen n sent x d) (same_sequence s t is_next new.0) is_chosen)
+        ];
+      }

@@ -1,0 +1,214 @@
+-- The four laws, from the facts of every world that is reached.
+use Rattle.std.proofs.Common.{◌≡◌, ℕ, zero, suc, ◌<◌, Bool, List, [], ◌∷◌, ◌++◌, length, drop, slice_get, slice_set, Option, Some, None, refl, sym, subst, ◌∙◌, inl, inr, arith}
+use Rattle.std.proofs.lemmas.Bool.{cases_lt}
+use Rattle.std.proofs.lemmas.Option.{none-some, same_Some}
+use Rattle.wf_ballot.specs.Ballot.{Ballot}
+use Rattle.wf_model.specs.Message.{Message, Prepare, Promise, Accept, Accepted, Nack, Chosen, Ask}
+use Rattle.wf_model.specs.Stored.{Stored, published, entry_at}
+use Rattle.wf_model.specs.Working.{Working, Idle, Running, Won, Overtaken}
+use Rattle.wf_model.specs.Table as table
+use Rattle.wf_model.specs.Table.{Action, store}
+use Rattle.wf_model.specs.World.{Node, World, Event, Propose, Retry, CatchUp, Deliver, Stop, Restart, Torn, Kept, Turn, stored_after, with_node, after_turn, after_torn, stop_running, after_stop, restart_stopped, after_restart, turn, happens, after}
+use Rattle.wf_model.specs.Chosen.{IsIn, IsChosen, history_of, history, definition}
+use Rattle.wf_law.specs.Laws.{ballots_of, IsTried, Proposes, node_of, AsksForItself, OwnBallotsIn, OwnBallots, NotBelow, IsBound, KeptPromisesIn, KeptPromises, PromisedMajorityIn, PromisedMajority, AgreementIn, Agreement}
+use Rattle.wf_law.proofs.Facts.{MessageFacts, StoredFacts, IsRunningAt, IsOwnAsk}
+use Rattle.wf_law.proofs.Worlds.{get-set_same, MemberFacts, WorldFacts, SomeTurnFacts, turn_facts, after_facts}
+use Rattle.wf_law.proofs.Core.{carries, one_chosen}
+use Rattle.wf_law.proofs.Growing.{history_grows}
+
+-- ---- lists
+
+-- an index within a list has its element
+found : {A : Type 0} (xs : List A) (i : ℕ) → i < length xs → (x : A) × (slice_get xs i ≡ Some x)
+found [] i h = absurd (omega arith)
+found (x ∷ xs) zero h = (x, refl)
+found (x ∷ xs) (suc i) h = found xs i (omega arith)
+
+drop-all : {A : Type 0} (xs ys : List A) → drop (length xs) (xs ++ ys) ≡ ys
+drop-all [] ys = refl
+drop-all (x ∷ xs) ys = drop-all xs ys
+
+drop-itself : {A : Type 0} (xs : List A) → drop (length xs) xs ≡ []
+drop-itself [] = refl
+drop-itself (x ∷ xs) = drop-itself xs
+
+-- ---- ballots belong to their nodes
+
+module _ {V : Type 0} (n : ℕ) (w : World V) (facts : WorldFacts n w) where
+  tried_facts : (b : Ballot) (message : Message V) → IsIn message w.sent → IsIn b (ballots_of message) → IsTried w b
+  tried_facts b message is_sent is_in =
+      let is_node : b.node < length w.nodes = subst (λ k. b.node < k) (sym facts.size) (facts.messages.nodes message b is_sent is_in) in
+      let (node, is_there) = found w.nodes b.node is_node in
+      let member : MemberFacts n b.node w.sent node = facts.nodes b.node node is_there in
+      record {
+        stored = node.stored;
+        node = record { working = node.working; is_there = is_there };
+        tried = member.stored.tried message b is_sent is_in refl;
+      }
+
+  own_ballots_in : OwnBallotsIn w
+  own_ballots_in = record { tried = λ message b. tried_facts b message; one_accept = facts.messages.one_accept }
+
+-- an ask of a node whose proposal runs is that proposal's
+proposes : {V : Type 0} (w : World V) (i s : ℕ) (b : Ballot) (stored : Stored V) (working : Working V) → slice_get w.nodes i ≡ Some (record { stored = stored; working = Some working }) →
+    IsRunningAt working s b → Proposes w i s b
+proposes w i s b stored Idle is_there running = absurd running
+proposes w i s b stored (Running p) is_there running =
+    record { stored = stored; proposal = p; is_there = is_there; at_sequence = running.0; at_ballot = running.1 }
+proposes w i s b stored (Won t) is_there running = absurd running
+proposes w i s b stored (Overtaken t) is_there running = absurd running
+
+asks_itself : {V : Type 0} (w : World V) (i : ℕ) (stored : Stored V) (working : Working V) (m : Message V) →
+    slice_get w.nodes i ≡ Some (record { stored = stored; working = Some working }) → IsOwnAsk i working m → AsksForItself w i m
+asks_itself w i stored working (Prepare s b) is_there own = (own.0, proposes w i s b stored working is_there own.1)
+asks_itself w i stored working (Promise sender s b vote) is_there own = tt
+asks_itself w i stored working (Accept s b d) is_there own = (own.0, proposes w i s b stored working is_there own.1)
+asks_itself w i stored working (Accepted sender s b) is_there own = tt
+asks_itself w i stored working (Nack sender s b q) is_there own = tt
+asks_itself w i stored working (Chosen s d) is_there own = tt
+asks_itself w i stored working (Ask s) is_there own = tt
+
+module _ {V : Type 0} (w : World V) (i : ℕ) where
+  -- nothing goes out
+  silent : (w' : World V) (m : Message V) → w'.sent ≡ w.sent → IsIn m (drop (length w.sent) w'.sent) → AsksForItself w' i m
+  silent w' m e is_new = absurd (subst (λ (x : List (Message V)). IsIn m x) (drop-itself w.sent) (subst (λ (x : List (Message V)). IsIn m (drop (length w.sent) x)) e is_new))
+
+  asked_by_turn : (n : ℕ) (t : Option (Turn V)) → SomeTurnFacts n w i t → (m : Message V) → IsIn m (drop (length w.sent) (after_turn w i t).sent) → AsksForItself (after_turn w i t) i m
+  unfolding after_turn with_node stored_after
+  asked_by_turn n None known m is_new = silent w m refl is_new
+  asked_by_turn n (Some t) known m is_new =
+      let new : Node V = record { stored = store t.stored t.row.entry; working = Some t.row.working } in
+      let is_sent : IsIn m t.row.messages = subst (λ (x : List (Message V)). IsIn m x) (drop-all w.sent t.row.messages) is_new in
+      asks_itself (record { nodes = slice_set w.nodes i new; sent = w.sent ++ t.row.messages }) i (store t.stored t.row.entry) t.row.working m
+      (get-set_same w.nodes i new (record { stored = t.stored; working = Some known.working }) known.is_there) (known.step.asks m is_sent)
+
+  -- a torn step, a stop and a restart send nothing
+  torn_sends : (kept : Kept) (t : Option (Turn V)) → (after_torn w i kept t).sent ≡ w.sent
+  unfolding after_torn with_node
+  torn_sends kept None = refl
+  torn_sends kept (Some t) = refl
+
+  stop_sends : (stored : Stored V) (working : Option (Working V)) → (stop_running w i stored working).sent ≡ w.sent
+  unfolding stop_running with_node
+  stop_sends stored None = refl
+  stop_sends stored (Some working) = refl
+
+  after_stop_sends : (node : Option (Node V)) → (after_stop w i node).sent ≡ w.sent
+  unfolding after_stop
+  after_stop_sends None = refl
+  after_stop_sends (Some node) = stop_sends node.stored node.working
+
+  restart_sends : (stored : Stored V) (working : Option (Working V)) → (restart_stopped w i stored working).sent ≡ w.sent
+  unfolding restart_stopped with_node
+  restart_sends stored None = refl
+  restart_sends stored (Some working) = refl
+
+  after_restart_sends : (node : Option (Node V)) → (after_restart w i node).sent ≡ w.sent
+  unfolding after_restart
+  after_restart_sends None = refl
+  after_restart_sends (Some node) = restart_sends node.stored node.working
+
+module _ {V : Type 0} (same : V → V → Bool) (n : ℕ) (w : World V) (facts : WorldFacts n w) where
+  asked_by : (event : Event V) (m : Message V) → IsIn m (drop (length w.sent) (happens same w event).sent) → AsksForItself (happens same w event) (node_of event) m
+  unfolding happens
+  asked_by (Propose i d) m is_new = asked_by_turn w i n (turn same w i (table.Propose d)) (turn_facts same n w facts i (table.Propose d)) m is_new
+  asked_by (Retry i) m is_new = asked_by_turn w i n (turn same w i table.Retry) (turn_facts same n w facts i table.Retry) m is_new
+  asked_by (CatchUp i) m is_new = asked_by_turn w i n (turn same w i table.CatchUp) (turn_facts same n w facts i table.CatchUp) m is_new
+  asked_by (Deliver i k) m is_new = asked_by_turn w i n (turn same w i (table.Deliver k)) (turn_facts same n w facts i (table.Deliver k)) m is_new
+  asked_by (Stop i) m is_new = silent w i (after_stop w i (slice_get w.nodes i)) m (after_stop_sends w i (slice_get w.nodes i)) is_new
+  asked_by (Restart i) m is_new = silent w i (after_restart w i (slice_get w.nodes i)) m (after_restart_sends w i (slice_get w.nodes i)) is_new
+  asked_by (Torn i action kept) m is_new = silent w i (after_torn w i kept (turn same w i action)) m (torn_sends w i kept (turn same w i action)) is_new
+
+pub own_ballots : (V : Type 0) → OwnBallots V
+own_ballots V = record {
+  facts = λ same n events. own_ballots_in n (after same n events) (after_facts same n events);
+  asked = λ same n events event message. asked_by same n (after same n events) (after_facts same n events) event message;
+}
+
+-- ---- promises are kept
+
+module _ {V : Type 0} (n : ℕ) (w : World V) (facts : WorldFacts n w) where
+  -- a node of the farm is bound, published or not
+  bound : (i s : ℕ) (b : Ballot) → i < n → ((stored : Stored V) → StoredFacts n i stored w.sent → published stored < s → NotBelow (stored.promises s) b) → IsBound w i s b
+  bound i s b is_node open_case =
+      let within : i < length w.nodes = subst (λ k. i < k) (sym facts.size) is_node in
+      let (node, is_there) = found w.nodes i within in
+      let member : MemberFacts n i w.sent node = facts.nodes i node is_there in
+      record {
+        stored = node.stored;
+        node = record { working = node.working; is_there = is_there };
+        bound = elim (cases_lt (published node.stored) s) [ inl is_open ↦ inr (open_case node.stored member.stored is_open) | inr closed ↦ inl closed ];
+      }
+
+  -- Each part is a fact of the world: of its messages, or of the node that sent or stored.
+  kept_promises_in : KeptPromisesIn w
+  kept_promises_in = record {
+    promised = λ i s b vote is_sent. bound i s b (facts.messages.senders i s b vote is_sent) (λ stored known is_open. known.promised s b vote is_sent is_open);
+    accepted = λ i s b is_sent. bound i s b (facts.messages.voters i s b is_sent) (λ stored known is_open. known.accepted s b is_sent is_open);
+    in_order = facts.messages.in_order;
+    stored_vote = λ i s stored vote node e.
+        let member : MemberFacts n i w.sent (record { stored = stored; working = node.working }) =
+        facts.nodes i (record { stored = stored; working = node.working }) node.is_there in
+        member.stored.vote_asked s vote e;
+    told_vote = facts.messages.told_asked;
+  }
+
+pub kept_promises : (V : Type 0) → KeptPromises V
+kept_promises V = λ same n events. kept_promises_in n (after same n events) (after_facts same n events)
+
+-- ---- a majority promised
+
+promised_majority_in : {V : Type 0} (n : ℕ) (sent : List (Message V)) → MessageFacts n sent → PromisedMajorityIn n sent
+promised_majority_in n sent facts = record {
+  backed = facts.backed;
+  carries = λ s b c d e chosen above is_sent. carries n sent facts s b d chosen c e above is_sent;
+}
+
+pub promised_majority : (V : Type 0) → PromisedMajority V
+promised_majority V = λ same n events. promised_majority_in n (after same n events).sent (messages_of n (after same n events) (after_facts same n events))
+  where
+    messages_of : (n : ℕ) (w : World V) → WorldFacts n w → MessageFacts n w.sent
+    messages_of n w facts = facts.messages
+
+-- ---- agreement
+
+module _ {V : Type 0} (n : ℕ) (w : World V) (facts : WorldFacts n w) where
+  nothing_published : (s : ℕ) (d : V) → entry_at {V = V} [] s ≡ Some d → ⊥
+  unfolding entry_at
+  nothing_published zero d e = none-some d e
+  nothing_published (suc k) d e = none-some d e
+
+  entry_chosen : (i s : ℕ) (d : V) (node : Option (Node V)) → slice_get w.nodes i ≡ node → entry_at (history_of node) s ≡ Some d → IsChosen n w.sent s d
+  unfolding history_of
+  entry_chosen i s d None is_there e = absurd (nothing_published s d e)
+  entry_chosen i s d (Some node) is_there e =
+      let member : MemberFacts n i w.sent node = facts.nodes i node is_there in
+      member.stored.chosen s d e
+
+  published_chosen : (i s : ℕ) (d : V) → entry_at (history w i) s ≡ Some d → IsChosen n w.sent s d
+  unfolding history
+  published_chosen i s d e = entry_chosen i s d (slice_get w.nodes i) refl e
+
+  definition_chosen : (empty : V) (i k : ℕ) (d : V) → definition empty w i (suc k) ≡ Some d → IsChosen n w.sent (suc k) d
+  unfolding definition entry_at
+  definition_chosen empty i k d e = published_chosen i (suc k) d e
+
+  same_definition : (empty : V) (i j s : ℕ) (c d : V) → definition empty w i s ≡ Some c → definition empty w j s ≡ Some d → c ≡ d
+  unfolding definition
+  same_definition empty i j zero c d e h = sym (same_Some empty c e) ∙ same_Some empty d h
+  same_definition empty i j (suc k) c d e h =
+      one_chosen n w.sent facts.messages (suc k) c d (definition_chosen empty i k c e) (definition_chosen empty j k d h)
+
+  agreement_in : AgreementIn n w
+  agreement_in = record {
+    one_chosen = one_chosen n w.sent facts.messages;
+    published_is_chosen = published_chosen;
+    told_is_chosen = facts.messages.chosen;
+    same_definition = same_definition;
+  }
+
+pub agreement : (V : Type 0) → Agreement V
+agreement V = record {
+  facts = λ same n events. agreement_in n (after same n events) (after_facts same n events);
+  grows = λ same n i events more. history_grows same n i events more;
+}

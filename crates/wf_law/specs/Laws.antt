@@ -1,0 +1,174 @@
+-- The law of agreement, and the facts that it rests on, as statements about the world after any events.
+use Rattle.std.specs.Prelude.{◌≡◌, ◌⊎◌, ℕ, ◌≤◌, Bool, true, false, ⊤, List, [], ◌∷◌, ◌++◌, length, drop, slice_get, Option, Some, None}
+use Rattle.wf_ballot.specs.Ballot.{Ballot, below}
+use Rattle.wf_ballot.specs.Majority.{Majority}
+use Rattle.wf_model.specs.Message.{Vote, Message, Prepare, Promise, Accept, Accepted, Nack, Chosen, Ask}
+use Rattle.wf_model.specs.Stored.{Stored, published, entry_at}
+use Rattle.wf_model.specs.Working.{Proposal, Working, Running}
+use Rattle.wf_model.specs.World as world
+use Rattle.wf_model.specs.World.{Node, World, Event, after, happens}
+use Rattle.wf_model.specs.Chosen.{IsIn, Voted, IsChosen, history, definition}
+
+-- ---- ballots belong to their nodes
+
+abbrev pub vote_ballots : {V : Type 0} → Option (Vote V) → List Ballot
+vote_ballots None = []
+vote_ballots (Some vote) = vote.ballot ∷ []
+
+-- the ballots that stand in a message
+abbrev pub ballots_of : {V : Type 0} → Message V → List Ballot
+ballots_of (Prepare s b) = b ∷ []
+ballots_of (Promise i s b vote) = b ∷ vote_ballots vote
+ballots_of (Accept s b d) = b ∷ []
+ballots_of (Accepted i s b) = b ∷ []
+ballots_of (Nack i s b promise) = b ∷ promise ∷ []
+ballots_of (Chosen s d) = []
+ballots_of (Ask s) = []
+
+-- node i is there, with this stored part
+pub record HasStored {V : Type 0} (w : World V) (i : ℕ) (stored : Stored V) : Type 0 where
+  pub working : Option (Working V)
+  pub is_there : slice_get w.nodes i ≡ Some (record { stored = stored; working = working })
+
+-- the ballot's node tried its round, or a later one
+pub record IsTried {V : Type 0} (w : World V) (b : Ballot) : Type 0 where
+  pub stored : Stored V
+  pub node : HasStored w b.node stored
+  pub tried : b.round ≤ stored.tried
+
+-- node i runs a proposal at this sequence and ballot
+pub record Proposes {V : Type 0} (w : World V) (i s : ℕ) (b : Ballot) : Type 0 where
+  pub stored : Stored V
+  pub proposal : Proposal V
+  pub is_there : slice_get w.nodes i ≡ Some (record { stored = stored; working = Some (Running proposal) })
+  pub at_sequence : proposal.sequence ≡ s
+  pub at_ballot : proposal.ballot ≡ b
+
+-- the node that an event is about
+abbrev pub node_of : {V : Type 0} → Event V → ℕ
+node_of (world.Propose i d) = i
+node_of (world.Retry i) = i
+node_of (world.CatchUp i) = i
+node_of (world.Deliver i k) = i
+node_of (world.Stop i) = i
+node_of (world.Restart i) = i
+node_of (world.Torn i action kept) = i
+
+-- what a node asks for, it asks for at a ballot of its own, and its proposal at that ballot runs
+abbrev pub AsksForItself : {V : Type 0} → World V → ℕ → Message V → Type 0
+AsksForItself w i (Prepare s b) = (b.node ≡ i) × Proposes w i s b
+AsksForItself w i (Accept s b d) = (b.node ≡ i) × Proposes w i s b
+AsksForItself w i message = ⊤
+
+pub record OwnBallotsIn {V : Type 0} (w : World V) : Type 0 where
+  pub tried : (message : Message V) (b : Ballot) → IsIn message w.sent → IsIn b (ballots_of message) → IsTried w b
+  pub one_accept : (s t : ℕ) (b : Ballot) (c d : V) → IsIn (Accept s b c) w.sent → IsIn (Accept t b d) w.sent → (s ≡ t) × (c ≡ d)
+
+-- A ballot is used by its own node's proposals alone, for one sequence and one definition, also after a
+-- restart that lost the working part.
+pub record OwnBallots (V : Type 0) : Type 0 where
+  pub facts : (same : V → V → Bool) (n : ℕ) (events : List (Event V)) → OwnBallotsIn (after same n events)
+  pub asked : (same : V → V → Bool) (n : ℕ) (events : List (Event V)) (event : Event V) (message : Message V) →
+      IsIn message (drop (length (after same n events).sent) (happens same (after same n events) event).sent) →
+      AsksForItself (happens same (after same n events) event) (node_of event) message
+
+-- ---- promises are kept
+
+abbrev pub NotBelow : Option Ballot → Ballot → Type 0
+NotBelow None b = ⊥
+NotBelow (Some promise) b = below promise b ≡ false
+
+-- node i published s, or still has a promise at s that isn't below b
+pub record IsBound {V : Type 0} (w : World V) (i s : ℕ) (b : Ballot) : Type 0 where
+  pub stored : Stored V
+  pub node : HasStored w i stored
+  pub bound : (s ≤ published stored) ⊎ NotBelow (stored.promises s) b
+
+-- no vote below a promise of that node goes out among the messages after it
+abbrev pub NoVoteBelow : {V : Type 0} → Message V → List (Message V) → Type 0
+NoVoteBelow (Promise i s b vote) later = (c : Ballot) → IsIn (Accepted i s c) later → below c b ≡ false
+NoVoteBelow message later = ⊤
+
+abbrev pub VotesInOrder : {V : Type 0} → List (Message V) → Type 0
+VotesInOrder [] = ⊤
+VotesInOrder (message ∷ later) = NoVoteBelow message later × VotesInOrder later
+
+pub record KeptPromisesIn {V : Type 0} (w : World V) : Type 0 where
+  pub promised : (i s : ℕ) (b : Ballot) (vote : Option (Vote V)) → IsIn (Promise i s b vote) w.sent → IsBound w i s b
+  pub accepted : (i s : ℕ) (b : Ballot) → IsIn (Accepted i s b) w.sent → IsBound w i s b
+  pub in_order : VotesInOrder w.sent
+  pub stored_vote : (i s : ℕ) (stored : Stored V) (vote : Vote V) → HasStored w i stored → stored.votes s ≡ Some vote → IsIn (Accept s vote.ballot vote.definition) w.sent
+  pub told_vote : (i s : ℕ) (b : Ballot) (vote : Vote V) → IsIn (Promise i s b (Some vote)) w.sent → IsIn (Accept s vote.ballot vote.definition) w.sent
+
+-- A node keeps what it promised: it stays bound until the sequence is published, it doesn't vote below its
+-- promise, and each vote that it keeps or tells was asked for.
+abbrev pub KeptPromises : Type 0 → Type 0
+KeptPromises V = (same : V → V → Bool) (n : ℕ) (events : List (Event V)) → KeptPromisesIn (after same n events)
+
+-- ---- a majority promised
+
+-- a vote at a ballot that isn't below b
+abbrev pub VoteNotBelow : {V : Type 0} → Option (Vote V) → Ballot → Type 0
+VoteNotBelow None b = ⊥
+VoteNotBelow (Some vote) b = below vote.ballot b ≡ false
+
+-- a reported vote isn't above the best one; where there is no best one, none was reported
+abbrev pub IsWithin : {V : Type 0} → Option (Vote V) → Option (Vote V) → Type 0
+IsWithin None best = ⊤
+IsWithin (Some vote) best = VoteNotBelow best vote.ballot
+
+-- node i promised at the sequence and ballot, and told a vote not above the best one
+pub record HasPromised {V : Type 0} (sent : List (Message V)) (s : ℕ) (b : Ballot) (best : Option (Vote V)) (i : ℕ) : Type 0 where
+  pub vote : Option (Vote V)
+  pub said : IsIn (Promise i s b vote) sent
+  pub within : IsWithin vote best
+
+-- one of these nodes told the vote
+pub record IsTold {V : Type 0} (sent : List (Message V)) (s : ℕ) (b : Ballot) (nodes : ℕ → Bool) (vote : Vote V) : Type 0 where
+  pub teller : ℕ
+  pub is_member : nodes teller ≡ true
+  pub said : IsIn (Promise teller s b (Some vote)) sent
+
+-- the best vote, where there is one, was told by one of these nodes
+abbrev pub BestIsTold : {V : Type 0} → List (Message V) → ℕ → Ballot → (ℕ → Bool) → Option (Vote V) → Type 0
+BestIsTold sent s b nodes None = ⊤
+BestIsTold sent s b nodes (Some vote) = IsTold sent s b nodes vote
+
+-- d is the best vote's definition, where there is one
+abbrev pub IsCarried : {V : Type 0} → Option (Vote V) → V → Type 0
+IsCarried None d = ⊤
+IsCarried (Some vote) d = d ≡ vote.definition
+
+-- A majority promised at the sequence and ballot, and d is the definition of the highest vote that they
+-- told, or they told none.
+pub record IsBacked {V : Type 0} (n : ℕ) (sent : List (Message V)) (s : ℕ) (b : Ballot) (d : V) : Type 0 where
+  pub best : Option (Vote V)
+  pub majority : Majority n (HasPromised sent s b best)
+  pub told : BestIsTold sent s b majority.nodes best
+  pub carried : IsCarried best d
+
+pub record PromisedMajorityIn {V : Type 0} (n : ℕ) (sent : List (Message V)) : Type 0 where
+  pub backed : (s : ℕ) (b : Ballot) (d : V) → IsIn (Accept s b d) sent → IsBacked n sent s b d
+  pub carries : (s : ℕ) (b c : Ballot) (d e : V) → Majority n (Voted sent s b d) → below b c ≡ true → IsIn (Accept s c e) sent → e ≡ d
+
+-- Each Accept is backed, and so carries the definition that was chosen at a lower ballot.
+abbrev pub PromisedMajority : Type 0 → Type 0
+PromisedMajority V = (same : V → V → Bool) (n : ℕ) (events : List (Event V)) → PromisedMajorityIn n (after same n events).sent
+
+-- ---- agreement
+
+abbrev pub IsBeginning : {A : Type 0} → List A → List A → Type 0
+IsBeginning {A} xs ys = (rest : List A) × (xs ++ rest ≡ ys)
+
+pub record AgreementIn {V : Type 0} (n : ℕ) (w : World V) : Type 0 where
+  pub one_chosen : (s : ℕ) (c d : V) → IsChosen n w.sent s c → IsChosen n w.sent s d → c ≡ d
+  pub published_is_chosen : (i s : ℕ) (d : V) → entry_at (history w i) s ≡ Some d → IsChosen n w.sent s d
+  pub told_is_chosen : (s : ℕ) (d : V) → IsIn (Chosen s d) w.sent → IsChosen n w.sent s d
+  pub same_definition : (empty : V) (i j s : ℕ) (c d : V) → definition empty w i s ≡ Some c → definition empty w j s ≡ Some d → c ≡ d
+
+-- Whatever happens, one definition at most is chosen for a sequence, nodes publish what is chosen, so no two
+-- of them publish different definitions under one sequence, and what a node published it keeps.
+pub record Agreement (V : Type 0) : Type 0 where
+  pub facts : (same : V → V → Bool) (n : ℕ) (events : List (Event V)) → AgreementIn n (after same n events)
+  pub grows : (same : V → V → Bool) (n i : ℕ) (events more : List (Event V)) →
+      IsBeginning (history (after same n events) i) (history (after same n (events ++ more)) i)

@@ -1,0 +1,99 @@
+-- Readers of tokens: each gives what stands at the front of a list of tokens, with the tokens after it, or
+-- nothing where that isn't there. The blocks of a mapfile are made of them.
+use Rattle.std.specs.Prelude.{ℕ, zero, suc, Bool, if◌then◌else◌, ℤ, List, [], ◌∷◌, length, codes, Option, Some, None}
+use Rattle.std.specs.Result.{result_ok}
+use Rattle.std.specs.Str.{str_eq_ignore_ascii_case}
+use Rattle.wf_def.specs.Number as micro
+use Rattle.wf_def.specs.Text.{is_text}
+use Rattle.wf_def.specs.Whole.{whole_between}
+use Rattle.wf_mapfile.specs.Token.{Token, Word, Quoted}
+
+-- what comes next is read from the tokens that are left
+infixl 10 ◌>>=◌
+abbrev pub ◌>>=◌ : {A B : Type 0} → Option A → (A → Option B) → Option B
+None >>= f = None
+(Some x) >>= f = f x
+
+-- the value of the first entry that has this name, without regard to ASCII letter case
+abbrev pub choice : {A : Type 0} → List (List ℕ × A) → List ℕ → Option A
+choice [] name = None
+choice (entry ∷ others) name = if str_eq_ignore_ascii_case name entry.0 then Some entry.1 else choice others name
+
+-- whether a word is END
+unfoldable pub is_end : List ℕ → Bool
+is_end word = str_eq_ignore_ascii_case word (codes "END")
+
+-- a word, as a keyword is
+unfoldable pub word : List Token → Option (List ℕ × List Token)
+word [] = None
+word (Quoted bytes ∷ rest) = None
+word (Word bytes ∷ rest) = Some (bytes, rest)
+
+-- an argument: what a string holds, or a word other than END
+unfoldable pub argument : List Token → Option (List ℕ × List Token)
+argument [] = None
+argument (Quoted bytes ∷ rest) = Some (bytes, rest)
+argument (Word bytes ∷ rest) = if is_end bytes then None else Some (bytes, rest)
+
+-- a text
+unfoldable pub text : List Token → Option (List ℕ × List Token)
+text tokens = do
+  x ← argument tokens
+  if is_text x.0 then Some x else None
+
+-- one of a table's choices
+unfoldable pub chosen : {A : Type 0} → List (List ℕ × A) → List Token → Option (A × List Token)
+chosen table tokens = do
+  x ← argument tokens
+  value ← choice table x.0
+  Some (value, x.1)
+
+-- a number, in millionths
+unfoldable pub number : List Token → Option (ℤ × List Token)
+number tokens = do
+  x ← argument tokens
+  value ← result_ok (micro.number x.0)
+  Some (value, x.1)
+
+-- a whole number in a range
+unfoldable pub whole : ℕ → ℕ → List Token → Option (ℕ × List Token)
+whole least most tokens = do
+  x ← number tokens
+  n ← whole_between least most x.0
+  Some (n, x.1)
+
+-- the END of a block
+unfoldable pub end : List Token → Option (List Token)
+end tokens = do
+  x ← word tokens
+  if is_end x.0 then Some x.1 else None
+
+-- What a block holds, up to its END: at most so many items, each a keyword and what it asks for.
+unfoldable pub items : {K I : Type 0} → (List ℕ → Option K) → (K → List Token → Option (I × List Token)) → ℕ → List Token → Option (List I × List Token)
+items keyword item zero tokens = None
+items keyword item (suc most) tokens = do
+  x ← word tokens
+  if is_end x.0 then Some ([], x.1) else (do
+    k ← keyword x.0
+    first ← item k x.1
+    others ← items keyword item most first.1
+    Some (first.0 ∷ others.0, others.1))
+
+-- a block: each of its items has a token at least
+abbrev pub block : {K I A : Type 0} → (List ℕ → Option K) → (K → List Token → Option (I × List Token)) → (List I → Option A) → List Token → Option (A × List Token)
+block keyword item value_of tokens = do
+  x ← items keyword item (length tokens) tokens
+  value ← value_of x.0
+  Some (value, x.1)
+
+-- what a keyword said that comes at most once
+unfoldable pub at_most_one : {A : Type 0} → List A → Option (Option A)
+at_most_one [] = Some None
+at_most_one (x ∷ []) = Some (Some x)
+at_most_one (x ∷ y ∷ xs) = None
+
+-- what a keyword said that comes exactly once
+unfoldable pub exactly_one : {A : Type 0} → List A → Option A
+exactly_one [] = None
+exactly_one (x ∷ []) = Some x
+exactly_one (x ∷ y ∷ xs) = None

@@ -1,0 +1,10 @@
+pub mod Lexeme
+pub mod Token
+pub mod Grammar
+pub mod Color
+pub mod Metadata
+pub mod Web
+pub mod Map
+pub mod Meaning
+pub mod Reading
+pub mod Slots

@@ -1,0 +1,30 @@
+-- What a mapfile means.
+use Rattle.std.specs.Prelude.{◌≡◌, ℕ, ◌&&◌, ◌==◌, nat_le, if◌then◌else◌, List, length, codes, Option, Some, None}
+use Rattle.std.specs.Str.{is_utf8, str_eq_ignore_ascii_case}
+use Rattle.wf_def.specs.Definition.{Definition}
+use Rattle.wf_mapfile.specs.Token.{Token, tokens}
+use Rattle.wf_mapfile.specs.Grammar.{◌>>=◌, word}
+use Rattle.wf_mapfile.specs.Map.{map}
+
+-- bytes
+abbrev pub longest_mapfile : ℕ
+longest_mapfile = 65536
+
+-- MAP, its contents, END, and nothing else
+unfoldable pub file : List Token → Option Definition
+file tokens = do
+  x ← word tokens
+  all ← if str_eq_ignore_ascii_case x.0 (codes "MAP") then map x.1 else None
+  if length all.1 == 0 then Some all.0 else None
+
+-- a mapfile of at most 65,536 bytes, in UTF-8
+unfoldable pub meaning : List ℕ → Option Definition
+meaning bytes = if nat_le (length bytes) longest_mapfile && is_utf8 bytes then tokens bytes >>= file else None
+
+-- a text means at most one definition
+abbrev pub Means : List ℕ → Definition → Type 0
+Means bytes d = meaning bytes ≡ Some d
+
+-- a text that isn't a mapfile
+abbrev pub MeansNothing : List ℕ → Type 0
+MeansNothing bytes = (d : Definition) → ¬ (Means bytes d)

@@ -1,0 +1,30 @@
+//! The mapfile reader: bytes to a map definition, or to the first fault from the left.
+//!
+//! A mapfile is a text (MapServer mapfile reference, the part of it that `specs/Meaning.antt` defines). Its model is the definition
+//! that it means: `meaning` of the bytes, by a grammar over tokens that has no comments, letter case, order of keywords or dropped
+//! words on the side of the definition.
+//!
+//! It promises, of [`read`], that what is read is what the bytes mean, and that a fault other than want of memory comes only
+//! where they mean no map. Each byte is looked at a bounded number of times. Which fault is answered, and its place, is tested and
+//! not proved. It says nothing of files or of how a definition is written (wf_canon).
+//!
+//! The way through it: `lexer` (bytes to tokens), `parser` (readers of tokens), `block` (keywords up to END, for any block), then
+//! one module a block, each keyword filling its slot of `slots`.
+#![tactic(auto)]
+
+mod block;
+mod choice;
+mod color;
+pub mod fault;
+mod keyword;
+mod lexeme;
+mod lexer;
+mod map;
+mod metadata;
+mod parser;
+mod reader;
+mod slots;
+mod token;
+mod web;
+
+pub use reader::{MOST_MAPFILE_BYTES, read};

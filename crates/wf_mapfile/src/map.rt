@@ -1,0 +1,198 @@
+//! MAP: a map's definition.
+ghost use Rattle.std.specs.Prelude.{◌≡◌, None, IfOk, unwrap_or};
+ghost use Rattle.wf_def.specs.Text.{IsText};
+ghost use Rattle.wf_mapfile.specs.Map.{extent, map, projection, two_numbers};
+ghost use Rattle.wf_mapfile.specs.Reading.{Gives};
+ghost use Rattle.wf_mapfile.specs.Slots.{map_filled};
+
+use crate::block::{Slots, fill_block, vacant};
+use crate::fault::MapFault;
+use crate::keyword::{MapKeyword, map_keyword, projection_named};
+use crate::parser::Parser;
+use crate::slots::{MapSlots, Metadata};
+use crate::token::Token;
+use std::alloc::{AllocError, Global};
+use wf_def::choice::Projection;
+use wf_def::extent::Extent;
+use wf_def::map::MapDef;
+use wf_def::text::Text;
+
+/// What a map is called that has no NAME.
+const DEFAULT_NAME: &str = "map";
+
+/// The address of a service that names none.
+const DEFAULT_ADDRESS: &str = "http://localhost/wms?";
+
+impl Slots for MapSlots {
+    ghost use Rattle.wf_mapfile.specs.Slots.{map_put};
+
+    ghost put = { map_put };
+
+    #[tactic(auto, unfolding(crate::specs::Slots::map_put, crate::specs::Slots::map_take))]
+    fn take(&mut self, keyword: Token<'_>, parser: &mut Parser<'_>) -> Result<(), MapFault> {
+        let place = keyword.place;
+        match map_keyword(keyword.text) {
+            Some(MapKeyword::Name) => {
+                vacant(&self.name, place)?;
+                self.name = Some(parser.text()?);
+            }
+            Some(MapKeyword::Extent) => {
+                vacant(&self.extent, place)?;
+                self.extent = Some(parser.extent(place)?);
+            }
+            Some(MapKeyword::Projection) => {
+                vacant(&self.projection, place)?;
+                self.projection = Some(parser.projection()?);
+            }
+            Some(MapKeyword::Web) => {
+                vacant(&self.web, place)?;
+                self.web = Some(parser.web()?);
+            }
+            Some(MapKeyword::Size) => {
+                vacant(&self.size, place)?;
+                parser.two_numbers()?;
+                self.size = Some(());
+            }
+            Some(MapKeyword::ImageColor) => {
+                vacant(&self.image_color, place)?;
+                let _ = parser.color()?;
+                self.image_color = Some(());
+            }
+            Some(MapKeyword::Units) => {
+                vacant(&self.units, place)?;
+                let _ = parser.text()?;
+                self.units = Some(());
+            }
+            Some(MapKeyword::Status) => {
+                vacant(&self.status, place)?;
+                let _ = parser.text()?;
+                self.status = Some(());
+            }
+            Some(MapKeyword::ImageType) => {
+                vacant(&self.image_type, place)?;
+                let _ = parser.text()?;
+                self.image_type = Some(());
+            }
+            Some(MapKeyword::ShapePath) => {
+                vacant(&self.shape_path, place)?;
+                let _ = parser.text()?;
+                self.shape_path = Some(());
+            }
+            None => return Err(MapFault::UnexpectedWord(place)),
+        }
+        Ok(())
+    }
+}
+
+impl MapSlots {
+    fn new() -> Self
+        ensures { result ≡ record { name = None; extent = None; projection = None; web = None; size = None; image_color = None; units = None; status = None; image_type = None; shape_path = None } }
+    {
+        MapSlots {
+            name: None,
+            extent: None,
+            projection: None,
+            web: None,
+            size: None,
+            image_color: None,
+            units: None,
+            status: None,
+            image_type: None,
+            shape_path: None,
+        }
+    }
+
+    /// What the block says in the end, with defaults for what wasn't said.
+    #[tactic(auto, unfolding(crate::specs::Slots::map_filled, crate::specs::Map::definition))]
+    fn filled(self, alloc: Global) -> Result<MapDef, MapFault>
+        ensures { Gives (λ d. d) result (map_filled self) }
+    {
+        let MapSlots {
+            name,
+            extent,
+            projection,
+            web,
+            size: _,
+            image_color: _,
+            units: _,
+            status: _,
+            image_type: _,
+            shape_path: _,
+        } = self;
+        let extent = extent.ok_or(MapFault::Missing)?;
+        let projection = projection.ok_or(MapFault::Missing)?;
+        let Metadata {
+            title,
+            abstract_text,
+            address,
+        } = match web {
+            Some(web) => web,
+            None => Metadata::new(),
+        };
+        let name = text_or(alloc, name, DEFAULT_NAME)?;
+        let title = match title {
+            Some(title) => title,
+            None => name.clone()?,
+        };
+        let abstract_text = text_or(alloc, abstract_text, "")?;
+        let address = text_or(alloc, address, DEFAULT_ADDRESS)?;
+        Ok(MapDef::new(name, title, abstract_text, address, extent, projection))
+    }
+}
+
+/// The text, or else the default.
+fn text_or(alloc: Global, text: Option<Text>, default: &str) -> Result<Text, AllocError>
+    requires { IsText default.now }
+    ensures { IfOk result (λ t. t ≡ unwrap_or text default.now) }
+{
+    match text {
+        Some(text) => Ok(text),
+        None => Text::from_str(alloc, default),
+    }
+}
+
+impl Parser<'_> {
+    /// Reads a map up to MAP's END (MapServer mapfile reference, MAP).
+    #[tactic(auto, using(crate::proofs::MapLaw::map_read))]
+    pub fn map(&mut self) -> Result<MapDef, MapFault>
+        ensures { Gives (λ d. (d, self.new)) result (map self.old) }
+    {
+        let mut slots = MapSlots::new();
+        fill_block(self, &mut slots)?;
+        slots.filled(self.alloc())
+    }
+
+    /// Reads a width and a height, which may be any numbers.
+    #[tactic(auto, unfolding(crate::specs::Map::two_numbers))]
+    fn two_numbers(&mut self) -> Result<(), MapFault>
+        ensures { Gives (λ x. (x, self.new)) result (two_numbers self.old) }
+    {
+        let _ = self.number()?;
+        let _ = self.number()?;
+        Ok(())
+    }
+
+    /// Reads a box (MapServer mapfile reference, EXTENT). A box whose minima aren't below its maxima is out of range at the keyword.
+    #[tactic(auto, unfolding(crate::specs::Map::extent))]
+    fn extent(&mut self, keyword: usize) -> Result<Extent, MapFault>
+        ensures { Gives (λ e. (e, self.new)) result (extent self.old) }
+    {
+        let minx = self.number()?;
+        let miny = self.number()?;
+        let maxx = self.number()?;
+        let maxy = self.number()?;
+        Extent::new(minx, miny, maxx, maxy).ok_or(MapFault::OutOfRange(keyword))
+    }
+
+    /// Reads a coordinate system up to its END (MapServer mapfile reference, PROJECTION).
+    #[tactic(auto, unfolding(crate::specs::Map::projection))]
+    fn projection(&mut self) -> Result<Projection, MapFault>
+        ensures { Gives (λ p. (p, self.new)) result (projection self.old) }
+    {
+        let place = self.place();
+        let text = self.text()?;
+        let projection = projection_named(text.as_bytes()).ok_or(MapFault::UnexpectedWord(place))?;
+        self.end()?;
+        Ok(projection)
+    }
+}

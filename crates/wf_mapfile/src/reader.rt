@@ -1,0 +1,99 @@
+//! The reader of whole files.
+ghost use Rattle.std.specs.Prelude.{◌≡◌, false, true, IfErr, IfOk, OnErr, OnOk};
+ghost use Rattle.std.specs.Str.{is_utf8};
+ghost use Rattle.wf_mapfile.specs.Meaning.{Means, MeansNothing, file, meaning};
+ghost use Rattle.wf_mapfile.specs.Reading.{Gives, is_memory};
+
+#[cfg(test)]
+mod tests;
+
+use crate::fault::MapFault;
+use crate::keyword::is_name;
+use crate::lexer::tokenize;
+use crate::parser::Parser;
+use crate::token::{LexFault, LexFaultKind};
+use std::alloc::Global;
+use wf_def::map::MapDef;
+
+/// The longest mapfile, in bytes.
+pub const MOST_MAPFILE_BYTES: usize = 65_536;
+
+/// Reads a mapfile (MapServer mapfile reference): what it means, or the first fault from the left.
+///
+/// `TooLong` is checked first, `NotUtf8` second; after these the file is judged token by token, and a missing keyword at the END of
+/// its block. `Memory` tells nothing of the file. Each byte is looked at a bounded number of times.
+pub fn read(alloc: Global, bytes: &[u8]) -> Result<MapDef, MapFault>
+    // What is read is what the bytes mean.
+    ensures meant { IfOk result (λ map. Means bytes.now map) }
+    // A fault other than want of memory comes only where the bytes mean no map.
+    ensures refused { IfErr result (λ fault. is_memory fault ≡ false → MeansNothing bytes.now) }
+{
+    read_meaning(alloc, bytes)
+}
+
+/// What the bytes mean, or the first fault.
+#[tactic(auto, unfolding(crate::specs::Meaning::meaning))]
+fn read_meaning(alloc: Global, bytes: &[u8]) -> Result<MapDef, MapFault>
+    ensures { Gives (λ map. map) result (meaning bytes.now) }
+{
+    if bytes.len() > MOST_MAPFILE_BYTES {
+        return Err(MapFault::TooLong);
+    }
+    check_utf8(bytes)?;
+    let lexed = tokenize(alloc, bytes)?;
+    let mut parser = Parser::new(alloc, lexed.tokens.as_slice(), bytes.len());
+    let parsed = parser.file();
+    match lexed.fault {
+        None => parsed,
+        Some(fault) => Err(first_fault(parsed, lexed.tokens.is_empty(), fault)),
+    }
+}
+
+/// Refuses what isn't UTF-8.
+fn check_utf8(bytes: &[u8]) -> Result<(), MapFault>
+    ensures ok { OnOk result (is_utf8 bytes.now ≡ true) }
+    ensures err { OnErr result (is_utf8 bytes.now ≡ false) }
+{
+    match str::from_utf8(bytes) {
+        Ok(_) => Ok(()),
+        Err(fault) => Err(MapFault::NotUtf8(fault.valid_up_to())),
+    }
+}
+
+/// The first fault of a file whose tokens end at a fault: the parser's, unless the parser came to that place.
+fn first_fault(parsed: Result<MapDef, MapFault>, no_tokens: bool, lexed: LexFault) -> MapFault {
+    match parsed {
+        Ok(_) | Err(MapFault::MissingEnd(_)) => lexed.into(),
+        Err(fault) => { if no_tokens { lexed.into() } else { fault } }
+    }
+}
+
+impl From<LexFault> for MapFault {
+    fn from(fault: LexFault) -> MapFault {
+        match fault.kind {
+            LexFaultKind::BadToken => MapFault::BadToken(fault.place),
+            LexFaultKind::OutOfRange => MapFault::OutOfRange(fault.place),
+        }
+    }
+}
+
+impl Parser<'_> {
+    /// Reads a whole file: MAP up to its END, and nothing else.
+    #[tactic(auto, unfolding(crate::specs::Meaning::file, crate::specs::Grammar::word))]
+    fn file(&mut self) -> Result<MapDef, MapFault>
+        ensures { Gives (λ map. map) result (file self.old) }
+    {
+        if self.peek().is_none() {
+            return Err(MapFault::Missing);
+        }
+        let word = self.word()?;
+        if !is_name(word.text, "MAP") {
+            return Err(MapFault::UnexpectedWord(word.place));
+        }
+        let map = self.map()?;
+        match self.peek() {
+            None => Ok(map),
+            Some(token) => Err(MapFault::Trailing(token.place)),
+        }
+    }
+}

@@ -1,0 +1,3 @@
+mod Folds
+mod Rows
+mod Runs

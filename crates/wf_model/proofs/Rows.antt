@@ -1,0 +1,218 @@
+-- Each row's record fits what its node stored.
+use Rattle.std.proofs.Common.{◌≡◌, ℕ, ◌+◌, ◌==◌, nat_lt, nat_le, max, Bool, true, false, cond, List, [], ◌∷◌, Option, Some, None, refl, sym, subst, eq-eqb}
+use Rattle.wf_ballot.specs.Ballot.{Ballot, below}
+use Rattle.wf_ballot.specs.Majority.{count_nodes, is_majority_of}
+use Rattle.wf_ballot.specs.Sequence.{last_sequence}
+use Rattle.wf_model.specs.Message.{Vote, Message, Prepare, Promise, Accept, Accepted, Nack, Chosen, Ask}
+use Rattle.wf_model.specs.Stored as stored_part
+use Rattle.wf_model.specs.Stored.{Stored, Record, Tried, Promised, Published, published, next_sequence, with_record, fits}
+use Rattle.wf_model.specs.Working.{Proposal, Working, Idle, Running, Won, Overtaken, Preparing, Accepting, carried, is_at}
+use Rattle.wf_model.specs.Table.{Input, Propose, Retry, CatchUp, Deliver, store, quiet, says, stores, round_known, begin_at, on_propose, on_retry, on_catch_up, told, told_from, on_ask, entries_told, promise_to, prepare_open, on_prepare, votes_at, vote_for, accept_open, on_accept, hears, with_promise, asking_votes, promised, on_promise, with_vote, on_nack, ended, ends, voted, on_accepted, on_chosen, on_message, row}
+use Rattle.wf_model.specs.Fits.{IsForNext, RowFits, RecordsFit}
+
+module _ {V : Type 0} (stored : Stored V) where
+  -- ---- the forms of a row
+
+  quiet_fits : (working : Working V) → IsForNext stored working → RowFits stored (quiet working)
+  unfolding quiet store
+  quiet_fits working next = record { fits = tt; for_next = next }
+
+  says_fits : (working : Working V) (messages : List (Message V)) → IsForNext stored working → RowFits stored (says working messages)
+  unfolding says store
+  says_fits working messages next = record { fits = tt; for_next = next }
+
+  -- a record of a promise or a vote publishes nothing
+  promised_stays : (s : ℕ) (b : Ballot) (is_open : Bool) → nat_lt (published stored) s ≡ is_open → published (with_record stored (Promised s b)) ≡ published stored
+  unfolding with_record published
+  promised_stays s b true e = rw e refl
+  promised_stays s b false e = rw e refl
+
+  accepted_stays : (s : ℕ) (b : Ballot) (d : V) (is_open : Bool) → nat_lt (published stored) s ≡ is_open →
+      published (with_record stored (stored_part.Accepted s b d)) ≡ published stored
+  unfolding with_record published
+  accepted_stays s b d true e = rw e refl
+  accepted_stays s b d false e = rw e refl
+
+  still_next : (after : Stored V) (working : Working V) → published after ≡ published stored → IsForNext stored working → IsForNext after working
+  unfolding next_sequence
+  still_next after Idle e next = tt
+  still_next after (Running p) e next = subst (λ k. p.sequence ≡ k + 1) (sym e) next
+  still_next after (Won s) e next = tt
+  still_next after (Overtaken s) e next = tt
+
+  -- ---- the acceptor
+
+  promise_fits : (me : ℕ) (working : Working V) (s : ℕ) (b : Ballot) → IsForNext stored working → RowFits stored (promise_to me stored working s b)
+  unfolding promise_to stores store fits
+  promise_fits me working s b next = record {
+    fits = refl;
+    for_next = still_next (with_record stored (Promised s b)) working (promised_stays s b (nat_lt (published stored) s) refl) next;
+  }
+
+  compared_fits : (me : ℕ) (working : Working V) (s : ℕ) (b q : Ballot) (lower higher : Bool) → IsForNext stored working → below q b ≡ lower → below b q ≡ higher →
+      RowFits stored (prepare_open me stored working s b (Some q))
+  unfolding prepare_open
+  compared_fits me working s b q true higher next e h = rw e (promise_fits me working s b next)
+  compared_fits me working s b q false true next e h = rw (e, h) (says_fits working (Nack me s b q ∷ []) next)
+  compared_fits me working s b q false false next e h = rw (e, h) (quiet_fits working next)
+
+  prepare_open_fits : (me : ℕ) (working : Working V) (s : ℕ) (b : Ballot) (promise : Option Ballot) → IsForNext stored working →
+      RowFits stored (prepare_open me stored working s b promise)
+  unfolding prepare_open
+  prepare_open_fits me working s b None next = promise_fits me working s b next
+  prepare_open_fits me working s b (Some q) next = compared_fits me working s b q (below q b) (below b q) next refl refl
+
+  prepare_fits : (me : ℕ) (working : Working V) (s : ℕ) (b : Ballot) (is_published : Bool) → IsForNext stored working → nat_le s (published stored) ≡ is_published →
+      RowFits stored (on_prepare me stored working s b)
+  unfolding on_prepare
+  prepare_fits me working s b true next e = rw e (says_fits working (told stored.history s) next)
+  prepare_fits me working s b false next e = rw e (prepare_open_fits me working s b (stored.promises s) next)
+
+  vote_fits : (me : ℕ) (working : Working V) (s : ℕ) (b : Ballot) (d : V) (again : Bool) → IsForNext stored working → votes_at (stored.votes s) b ≡ again →
+      RowFits stored (vote_for me stored working s b d)
+  unfolding vote_for stores store fits
+  vote_fits me working s b d true next e = rw e (says_fits working (Accepted me s b ∷ []) next)
+  vote_fits me working s b d false next e = rw e (record {
+    fits = refl;
+    for_next = still_next (with_record stored (stored_part.Accepted s b d)) working (accepted_stays s b d (nat_lt (published stored) s) refl) next;
+  })
+
+  compared_accept_fits : (me : ℕ) (working : Working V) (s : ℕ) (b : Ballot) (d : V) (q : Ballot) (lower : Bool) → IsForNext stored working → below b q ≡ lower →
+      RowFits stored (accept_open me stored working s b d (Some q))
+  unfolding accept_open
+  compared_accept_fits me working s b d q true next e = rw e (says_fits working (Nack me s b q ∷ []) next)
+  compared_accept_fits me working s b d q false next e = rw e (vote_fits me working s b d (votes_at (stored.votes s) b) next refl)
+
+  accept_open_fits : (me : ℕ) (working : Working V) (s : ℕ) (b : Ballot) (d : V) (promise : Option Ballot) → IsForNext stored working →
+      RowFits stored (accept_open me stored working s b d promise)
+  unfolding accept_open
+  accept_open_fits me working s b d None next = vote_fits me working s b d (votes_at (stored.votes s) b) next refl
+  accept_open_fits me working s b d (Some q) next = compared_accept_fits me working s b d q (below b q) next refl
+
+  accept_fits : (me : ℕ) (working : Working V) (s : ℕ) (b : Ballot) (d : V) (is_published : Bool) → IsForNext stored working → nat_le s (published stored) ≡ is_published →
+      RowFits stored (on_accept me stored working s b d)
+  unfolding on_accept
+  accept_fits me working s b d true next e = rw e (says_fits working (told stored.history s) next)
+  accept_fits me working s b d false next e = rw e (accept_open_fits me working s b d (stored.promises s) next)
+
+  -- ---- the proposer
+
+  begin_fits : (me : ℕ) (own : V) (round : ℕ) → RowFits stored (begin_at me stored own round)
+  unfolding begin_at stores store fits with_record next_sequence published
+  begin_fits me own round = record { fits = refl; for_next = refl }
+
+  retry_fits : (me : ℕ) (working : Working V) → RowFits stored (on_retry me stored working)
+  unfolding on_retry
+  retry_fits me Idle = quiet_fits Idle tt
+  retry_fits me (Running p) = begin_fits me p.own (round_known stored p + 1)
+  retry_fits me (Won s) = quiet_fits (Won s) tt
+  retry_fits me (Overtaken s) = quiet_fits (Overtaken s) tt
+
+  catch_up_fits : (working : Working V) (more : Bool) → IsForNext stored working → nat_lt (published stored) last_sequence ≡ more → RowFits stored (on_catch_up stored working)
+  unfolding on_catch_up
+  catch_up_fits working true next e = rw e (says_fits working (Ask (next_sequence stored) ∷ []) next)
+  catch_up_fits working false next e = rw e (quiet_fits working next)
+
+  promised_fits : (n : ℕ) (p : Proposal V) (is_majority : Bool) → p.sequence ≡ next_sequence stored → is_majority_of (count_nodes n p.heard) n ≡ is_majority →
+      RowFits stored (promised n p)
+  unfolding promised asking_votes
+  promised_fits n p true next e = rw e (says_fits (Running (asking_votes p)) (Accept p.sequence p.ballot (carried p.best p.own) ∷ []) next)
+  promised_fits n p false next e = rw e (quiet_fits (Running p) next)
+
+  promise_by : (n : ℕ) (p : Proposal V) (sender s : ℕ) (b : Ballot) (vote : Option (Vote V)) (is_heard : Bool) → p.sequence ≡ next_sequence stored →
+      hears n p Preparing sender s b ≡ is_heard → RowFits stored (on_promise n (Running p) sender s b vote)
+  unfolding on_promise with_promise
+  promise_by n p sender s b vote true next e =
+      let q : Proposal V = with_promise p sender vote in
+      rw e (promised_fits n q (is_majority_of (count_nodes n q.heard) n) next refl)
+  promise_by n p sender s b vote false next e = rw e (quiet_fits (Running p) next)
+
+  promises_fit : (n : ℕ) (working : Working V) (sender s : ℕ) (b : Ballot) (vote : Option (Vote V)) → IsForNext stored working → RowFits stored (on_promise n working sender s b vote)
+  unfolding on_promise
+  promises_fit n Idle sender s b vote next = quiet_fits Idle tt
+  promises_fit n (Running p) sender s b vote next = promise_by n p sender s b vote (hears n p Preparing sender s b) next refl
+  promises_fit n (Won t) sender s b vote next = quiet_fits (Won t) tt
+  promises_fit n (Overtaken t) sender s b vote next = quiet_fits (Overtaken t) tt
+
+  nack_by : (p : Proposal V) (s : ℕ) (b q : Ballot) (is_its : Bool) → p.sequence ≡ next_sequence stored → is_at p s b ≡ is_its → RowFits stored (on_nack (Running p) s b q)
+  unfolding on_nack
+  nack_by p s b q true next e = rw e (quiet_fits (Running (record p { seen = max p.seen q.round })) next)
+  nack_by p s b q false next e = rw e (quiet_fits (Running p) next)
+
+  nacks_fit : (working : Working V) (s : ℕ) (b q : Ballot) → IsForNext stored working → RowFits stored (on_nack working s b q)
+  unfolding on_nack
+  nacks_fit Idle s b q next = quiet_fits Idle tt
+  nacks_fit (Running p) s b q next = nack_by p s b q (is_at p s b) next refl
+  nacks_fit (Won t) s b q next = quiet_fits (Won t) tt
+  nacks_fit (Overtaken t) s b q next = quiet_fits (Overtaken t) tt
+
+  -- ---- what publishes
+
+  module _ (same : V → V → Bool) where
+    ends_by : (after : Stored V) (s : ℕ) (is_own : Bool) → IsForNext after (cond is_own (Won s) (Overtaken s))
+    ends_by after s true = tt
+    ends_by after s false = tt
+
+    ended_fits : (after : Stored V) (p : Proposal V) (d : V) → IsForNext after (ended same p d)
+    unfolding ended
+    ended_fits after p d = ends_by after p.sequence (same p.own d)
+
+    ends_fits : (after : Stored V) (working : Working V) (d : V) → IsForNext after (ends same working d)
+    unfolding ends
+    ends_fits after Idle d = tt
+    ends_fits after (Running p) d = ended_fits after p d
+    ends_fits after (Won s) d = tt
+    ends_fits after (Overtaken s) d = tt
+
+    voted_fits : (n : ℕ) (p : Proposal V) (is_majority : Bool) → p.sequence ≡ next_sequence stored → is_majority_of (count_nodes n p.heard) n ≡ is_majority →
+        RowFits stored (voted same n p)
+    unfolding voted stores store fits
+    voted_fits n p true next e = rw e (record {
+      fits = eq-eqb p.sequence (next_sequence stored) next;
+      for_next = ended_fits (with_record stored (Published p.sequence (carried p.best p.own))) p (carried p.best p.own);
+    })
+    voted_fits n p false next e = rw e (quiet_fits (Running p) next)
+
+    vote_by : (n : ℕ) (p : Proposal V) (sender s : ℕ) (b : Ballot) (is_heard : Bool) → p.sequence ≡ next_sequence stored →
+        hears n p Accepting sender s b ≡ is_heard → RowFits stored (on_accepted same n (Running p) sender s b)
+    unfolding on_accepted with_vote
+    vote_by n p sender s b true next e =
+        let q : Proposal V = with_vote p sender in
+        rw e (voted_fits n q (is_majority_of (count_nodes n q.heard) n) next refl)
+    vote_by n p sender s b false next e = rw e (quiet_fits (Running p) next)
+
+    votes_fit : (n : ℕ) (working : Working V) (sender s : ℕ) (b : Ballot) → IsForNext stored working → RowFits stored (on_accepted same n working sender s b)
+    unfolding on_accepted
+    votes_fit n Idle sender s b next = quiet_fits Idle tt
+    votes_fit n (Running p) sender s b next = vote_by n p sender s b (hears n p Accepting sender s b) next refl
+    votes_fit n (Won t) sender s b next = quiet_fits (Won t) tt
+    votes_fit n (Overtaken t) sender s b next = quiet_fits (Overtaken t) tt
+
+    chosen_fits : (working : Working V) (s : ℕ) (d : V) (is_next is_later : Bool) → IsForNext stored working → (s == next_sequence stored) ≡ is_next →
+        nat_lt (next_sequence stored) s ≡ is_later → RowFits stored (on_chosen same stored working s d)
+    unfolding on_chosen store fits
+    chosen_fits working s d true is_later next e h = rw e (record { fits = e; for_next = ends_fits (with_record stored (Published s d)) working d })
+    chosen_fits working s d false true next e h = rw (e, h) (says_fits working (Ask (next_sequence stored) ∷ []) next)
+    chosen_fits working s d false false next e h = rw (e, h) (quiet_fits working next)
+
+    -- ---- the table
+
+    message_fits : (n me : ℕ) (working : Working V) (m : Message V) → IsForNext stored working → RowFits stored (on_message same n me stored working m)
+    unfolding on_message on_ask
+    message_fits n me working (Prepare s b) next = prepare_fits me working s b (nat_le s (published stored)) next refl
+    message_fits n me working (Promise sender s b vote) next = promises_fit n working sender s b vote next
+    message_fits n me working (Accept s b d) next = accept_fits me working s b d (nat_le s (published stored)) next refl
+    message_fits n me working (Accepted sender s b) next = votes_fit n working sender s b next
+    message_fits n me working (Nack sender s b q) next = nacks_fit working s b q next
+    message_fits n me working (Chosen s d) next = chosen_fits working s d (s == next_sequence stored) (nat_lt (next_sequence stored) s) next refl refl
+    message_fits n me working (Ask s) next = says_fits working (told_from stored.history s entries_told) next
+
+    pub row_fits : (n me : ℕ) (working : Working V) (input : Input V) → IsForNext stored working → RowFits stored (row same n me stored working input)
+    unfolding row on_propose
+    row_fits n me working (Propose d) next = begin_fits me d (stored.tried + 1)
+    row_fits n me working Retry next = retry_fits me working
+    row_fits n me working CatchUp next = catch_up_fits working (nat_lt (published stored) last_sequence) next refl
+    row_fits n me working (Deliver m) next = message_fits n me working m next
+
+pub records_fit : (V : Type 0) → RecordsFit V
+records_fit V = λ same n me stored working input next. row_fits stored same n me working input next

@@ -1,0 +1,37 @@
+-- What is voted, chosen and published in a world, read off the messages that were sent and the nodes' lists.
+use Rattle.std.specs.Prelude.{◌≡◌, ◌⊎◌, ℕ, zero, suc, List, [], ◌∷◌, length, slice_get, Option, Some, None}
+use Rattle.wf_ballot.specs.Ballot.{Ballot}
+use Rattle.wf_ballot.specs.Majority.{Majority}
+use Rattle.wf_model.specs.Message.{Message, Accept, Accepted}
+use Rattle.wf_model.specs.World.{Node, World}
+
+-- x is in the list
+abbrev pub IsIn : {A : Type 0} → A → List A → Type 0
+IsIn x [] = ⊥
+IsIn x (y ∷ ys) = (x ≡ y) ⊎ IsIn x ys
+
+-- Node i voted for d at the sequence and ballot: it said so, and d is what it was asked for.
+pub record Voted {V : Type 0} (sent : List (Message V)) (s : ℕ) (b : Ballot) (d : V) (i : ℕ) : Type 0 where
+  pub said : IsIn (Accepted i s b) sent
+  pub asked : IsIn (Accept s b d) sent
+
+-- d is chosen for the sequence: at some ballot a majority of the n nodes voted for it.
+pub record IsChosen {V : Type 0} (n : ℕ) (sent : List (Message V)) (s : ℕ) (d : V) : Type 0 where
+  pub ballot : Ballot
+  pub majority : Majority n (Voted sent s ballot d)
+
+-- the list of a node, running or stopped, and how many definitions it published
+unfoldable pub history_of : {V : Type 0} → Option (Node V) → List V
+history_of None = []
+history_of (Some node) = node.stored.history
+
+unfoldable pub history : {V : Type 0} → World V → ℕ → List V
+history w i = history_of (slice_get w.nodes i)
+
+unfoldable pub published_by : {V : Type 0} → World V → ℕ → ℕ
+published_by w i = length (history w i)
+
+-- the definition of sequence s at node i: the empty map for 0, and nothing above what it published
+unfoldable pub definition : {V : Type 0} → V → World V → ℕ → ℕ → Option V
+definition empty w i zero = Some empty
+definition empty w i (suc k) = slice_get (history w i) k

@@ -1,0 +1,37 @@
+-- What the rows and the fold keep by themselves: a row's record fits what its node stored, and nothing is
+-- stored of a sequence that is published.
+use Rattle.std.specs.Prelude.{◌≡◌, ℕ, ◌≤◌, Bool, true, ⊤, List, Option, Some, None}
+use Rattle.wf_model.specs.Stored.{Stored, Record, published, next_sequence, fits, fold}
+use Rattle.wf_model.specs.Working.{Working, Idle, Running, Won, Overtaken}
+use Rattle.wf_model.specs.Table.{Row, Input, store, row}
+
+-- a running proposal is for the next sequence
+abbrev pub IsForNext : {V : Type 0} → Stored V → Working V → Type 0
+IsForNext stored Idle = ⊤
+IsForNext stored (Running proposal) = proposal.sequence ≡ next_sequence stored
+IsForNext stored (Won s) = ⊤
+IsForNext stored (Overtaken s) = ⊤
+
+-- a record that is stored fits
+abbrev pub Fits : {V : Type 0} → Stored V → Option (Record V) → Type 0
+Fits stored None = ⊤
+Fits stored (Some r) = fits stored r ≡ true
+
+-- the row's record fits, and the proposal that runs after it is for the next sequence then
+pub record RowFits {V : Type 0} (before : Stored V) (row : Row V) : Type 0 where
+  pub fits : Fits before row.entry
+  pub for_next : IsForNext (store before row.entry) row.working
+
+-- Each row's record fits the fold, where the running proposal is for the next sequence; and then it stays so.
+abbrev pub RecordsFit : Type 0 → Type 0
+RecordsFit V = (same : V → V → Bool) (n me : ℕ) (stored : Stored V) (working : Working V) (input : Input V) → IsForNext stored working →
+    RowFits stored (row same n me stored working input)
+
+-- promises and votes are of sequences above the published list alone
+pub record IsOpenAlone {V : Type 0} (stored : Stored V) : Type 0 where
+  pub promises : (s : ℕ) → s ≤ published stored → stored.promises s ≡ None
+  pub votes : (s : ℕ) → s ≤ published stored → stored.votes s ≡ None
+
+-- what any list of records folds to has no promise and no vote of a published sequence
+abbrev pub FoldsAreOpen : Type 0 → Type 0
+FoldsAreOpen V = (records : List (Record V)) (stored : Stored V) → fold records ≡ Some stored → IsOpenAlone stored

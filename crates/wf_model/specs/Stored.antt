@@ -1,0 +1,68 @@
+-- What a node keeps on its tape: records, and what they stand for.
+use Rattle.std.specs.Prelude.{ℕ, zero, suc, ◌+◌, Bool, true, List, [], ◌∷◌, ◌++◌, length, slice_get, Option, Some, None, ◌==◌, nat_lt, if◌then◌else◌}
+use Rattle.wf_ballot.specs.Ballot.{Ballot}
+use Rattle.wf_model.specs.Message.{Vote}
+
+-- one record on the tape
+pub data Record (V : Type 0) : Type 0 where
+  Tried : (round : ℕ) → Record V
+  Promised : (sequence : ℕ) (ballot : Ballot) → Record V
+  Accepted : (sequence : ℕ) (ballot : Ballot) (definition : V) → Record V
+  Published : (sequence : ℕ) (definition : V) → Record V
+
+-- What the records stand for: the last round that the node tried, its promise and its vote at each
+-- sequence, and the published definitions, sequence 1 first.
+pub record Stored (V : Type 0) : Type 0 where
+  pub tried : ℕ
+  pub promises : ℕ → Option Ballot
+  pub votes : ℕ → Option (Vote V)
+  pub history : List V
+
+-- a node that has stored nothing yet
+unfoldable pub nothing_stored : {V : Type 0} → Stored V
+nothing_stored = record { tried = 0; promises = λ s. None; votes = λ s. None; history = [] }
+
+-- how many definitions are published, and the sequence that comes next
+unfoldable pub published : {V : Type 0} → Stored V → ℕ
+published stored = length stored.history
+
+unfoldable pub next_sequence : {V : Type 0} → Stored V → ℕ
+next_sequence stored = published stored + 1
+
+-- the published definition of a sequence, counted from 1
+unfoldable pub entry_at : {V : Type 0} → List V → ℕ → Option V
+entry_at history zero = None
+entry_at history (suc k) = slice_get history k
+
+-- the function that is x at s, and else as it was
+unfoldable pub put : {A : Type 0} → (ℕ → Option A) → ℕ → Option A → ℕ → Option A
+put f s x t = if t == s then x else f t
+
+-- What is stored after one more record. Tried sets the round, Promised the promise, Accepted the promise
+-- and the vote. Published appends, and forgets promise and vote. A Promised or an Accepted of a published
+-- sequence changes nothing.
+unfoldable pub with_record : {V : Type 0} → Stored V → Record V → Stored V
+with_record stored (Tried r) = record stored { tried = r }
+with_record stored (Promised s b) =
+    if nat_lt (published stored) s then record stored { promises = put stored.promises s (Some b) } else stored
+with_record stored (Accepted s b d) =
+    if nat_lt (published stored) s
+    then record stored { promises = put stored.promises s (Some b); votes = put stored.votes s (Some (record { ballot = b; definition = d })) }
+    else stored
+with_record stored (Published s d) =
+    record stored { promises = put stored.promises s None; votes = put stored.votes s None; history = stored.history ++ d ∷ [] }
+
+-- A record fits where a Published is of the next sequence.
+unfoldable pub fits : {V : Type 0} → Stored V → Record V → Bool
+fits stored (Tried r) = true
+fits stored (Promised s b) = true
+fits stored (Accepted s b d) = true
+fits stored (Published s d) = s == next_sequence stored
+
+-- what is stored after these records, oldest first, None where one of them doesn't fit
+unfoldable pub fold_from : {V : Type 0} → Stored V → List (Record V) → Option (Stored V)
+fold_from stored [] = Some stored
+fold_from stored (r ∷ rest) = if fits stored r then fold_from (with_record stored r) rest else None
+
+unfoldable pub fold : {V : Type 0} → List (Record V) → Option (Stored V)
+fold records = fold_from nothing_stored records

@@ -1,0 +1,247 @@
+-- What one step of a node does: the table's rows, one small function each. A row is data: the record to
+-- store, the messages to hand out after that, and the working part to come.
+use Rattle.std.specs.Prelude.{ℕ, zero, suc, ◌+◌, max, Bool, false, not, List, [], ◌∷◌, ◌++◌, Option, Some, None, ◌==◌, nat_lt, nat_le, ◌&&◌, if◌then◌else◌}
+use Rattle.wf_ballot.specs.Ballot.{last_round, Ballot, below}
+use Rattle.wf_ballot.specs.Sequence.{last_sequence}
+use Rattle.wf_ballot.specs.Majority.{count_nodes, is_majority_of}
+use Rattle.wf_model.specs.Message.{Vote, Message, Prepare, Promise, Accept, Accepted, Nack, Chosen, Ask}
+use Rattle.wf_model.specs.Stored as stored_part
+use Rattle.wf_model.specs.Stored.{Stored, Record, published, next_sequence, entry_at, with_record}
+use Rattle.wf_model.specs.Working.{Phase, Preparing, Accepting, Proposal, Working, Idle, Running, Won, Overtaken, nobody, and_node, better, carried, same_ballot, same_phase, is_at}
+
+-- how many entries answer one Ask at most
+abbrev pub entries_told : ℕ
+entries_told = 8
+
+pub record Row (V : Type 0) : Type 0 where
+  pub entry : Option (Record V)
+  pub messages : List (Message V)
+  pub working : Working V
+
+-- what is stored after a row's record, if it has one
+unfoldable pub store : {V : Type 0} → Stored V → Option (Record V) → Stored V
+store stored None = stored
+store stored (Some r) = with_record stored r
+
+-- a row that stores nothing and sends nothing; one that only answers; one that stores and answers
+unfoldable pub quiet : {V : Type 0} → Working V → Row V
+quiet working = record { entry = None; messages = []; working = working }
+
+unfoldable pub says : {V : Type 0} → Working V → List (Message V) → Row V
+says working messages = record { entry = None; messages = messages; working = working }
+
+unfoldable pub stores : {V : Type 0} → Working V → Record V → Message V → Row V
+stores working r message = record { entry = Some r; messages = message ∷ []; working = working }
+
+-- ---- what a node is asked to do
+
+-- A proposal, a second try of the running one, a question for the next entry, or a message that is
+-- delivered: `M` is the message itself for a node's step, and its number in an event.
+pub data Action (V M : Type 0) : Type 0 where
+  Propose : (definition : V) → Action V M
+  Retry : Action V M
+  CatchUp : Action V M
+  Deliver : (message : M) → Action V M
+
+abbrev pub Input : Type 0 → Type 0
+Input V = Action V (Message V)
+
+-- ---- refusals
+
+pub data Refusal : Type 0 where
+  Busy SequenceFull RoundsFull NothingToRetry : Refusal
+
+unfoldable pub rounds_full : ℕ → Option Refusal
+rounds_full round = if nat_le last_round round then Some RoundsFull else None
+
+-- the highest round that a proposal knows of: its node's own, or one told in a Nack
+unfoldable pub round_known : {V : Type 0} → Stored V → Proposal V → ℕ
+round_known stored proposal = max stored.tried proposal.seen
+
+unfoldable pub refuse_proposal : {V : Type 0} → Stored V → Working V → Option Refusal
+refuse_proposal stored (Running proposal) = Some Busy
+refuse_proposal stored working = if nat_le last_sequence (published stored) then Some SequenceFull else rounds_full stored.tried
+
+unfoldable pub refuse_retry : {V : Type 0} → Stored V → Working V → Option Refusal
+refuse_retry stored (Running proposal) = rounds_full (round_known stored proposal)
+refuse_retry stored working = Some NothingToRetry
+
+-- A refused step changes nothing. A running node refuses a proposal; none begins past the last sequence or
+-- the last round; only a running proposal is tried again.
+unfoldable pub refusal : {V : Type 0} → Stored V → Working V → Input V → Option Refusal
+refusal stored working (Propose d) = refuse_proposal stored working
+refusal stored working Retry = refuse_retry stored working
+refusal stored working CatchUp = None
+refusal stored working (Deliver message) = None
+
+-- ---- proposals begin
+
+-- A proposal of `own` begins, or begins anew, at a round that its node hasn't tried: the round is stored
+-- before anyone is asked for a promise.
+unfoldable pub begin_at : {V : Type 0} → ℕ → Stored V → V → ℕ → Row V
+begin_at me stored own round =
+    let ballot : Ballot = record { round = round; node = me } in
+    stores
+    (Running (record {
+      sequence = next_sequence stored;
+      ballot = ballot;
+      own = own;
+      phase = Preparing;
+      heard = nobody;
+      best = None;
+      seen = 0;
+    }))
+    (stored_part.Tried round) (Prepare (next_sequence stored) ballot)
+
+unfoldable pub on_propose : {V : Type 0} → ℕ → Stored V → V → Row V
+on_propose me stored own = begin_at me stored own (stored.tried + 1)
+
+unfoldable pub on_retry : {V : Type 0} → ℕ → Stored V → Working V → Row V
+on_retry me stored (Running proposal) = begin_at me stored proposal.own (round_known stored proposal + 1)
+on_retry me stored working = quiet working
+
+unfoldable pub on_catch_up : {V : Type 0} → Stored V → Working V → Row V
+on_catch_up stored working =
+    if nat_lt (published stored) last_sequence then says working (Ask (next_sequence stored) ∷ []) else quiet working
+
+-- ---- published entries are told
+
+-- Chosen for the entry of sequence s, if there is one
+unfoldable pub told_of : {V : Type 0} → ℕ → Option V → List (Message V)
+told_of s None = []
+told_of s (Some d) = Chosen s d ∷ []
+
+unfoldable pub told : {V : Type 0} → List V → ℕ → List (Message V)
+told history s = told_of s (entry_at history s)
+
+-- Chosen for each entry among the `count` sequences from s on
+unfoldable pub told_from : {V : Type 0} → List V → ℕ → ℕ → List (Message V)
+told_from history s zero = []
+told_from history s (suc count) = told history s ++ told_from history (suc s) count
+
+unfoldable pub on_ask : {V : Type 0} → Stored V → Working V → ℕ → Row V
+on_ask stored working s = says working (told_from stored.history s entries_told)
+
+-- ---- the acceptor
+
+-- It promises at its first Prepare of a sequence, and at one above its promise, and reports its vote.
+unfoldable pub promise_to : {V : Type 0} → ℕ → Stored V → Working V → ℕ → Ballot → Row V
+promise_to me stored working s b =
+    stores working (stored_part.Promised s b) (Promise me s b (stored.votes s))
+
+-- a Prepare of a sequence that isn't published, by the promise of that sequence
+unfoldable pub prepare_open : {V : Type 0} → ℕ → Stored V → Working V → ℕ → Ballot → Option Ballot → Row V
+prepare_open me stored working s b None = promise_to me stored working s b
+prepare_open me stored working s b (Some promise) =
+    if below promise b then promise_to me stored working s b
+    else (if below b promise then says working (Nack me s b promise ∷ []) else quiet working)
+
+unfoldable pub on_prepare : {V : Type 0} → ℕ → Stored V → Working V → ℕ → Ballot → Row V
+on_prepare me stored working s b =
+    if nat_le s (published stored) then says working (told stored.history s)
+    else prepare_open me stored working s b (stored.promises s)
+
+-- whether the vote was given at this ballot
+unfoldable pub votes_at : {V : Type 0} → Option (Vote V) → Ballot → Bool
+votes_at None b = false
+votes_at (Some vote) b = same_ballot vote.ballot b
+
+-- It votes, or repeats its answer where it voted at this ballot.
+unfoldable pub vote_for : {V : Type 0} → ℕ → Stored V → Working V → ℕ → Ballot → V → Row V
+vote_for me stored working s b d =
+    if votes_at (stored.votes s) b then says working (Accepted me s b ∷ [])
+    else stores working (stored_part.Accepted s b d) (Accepted me s b)
+
+-- an Accept of a sequence that isn't published, by the promise of that sequence: none below it gets a vote
+unfoldable pub accept_open : {V : Type 0} → ℕ → Stored V → Working V → ℕ → Ballot → V → Option Ballot → Row V
+accept_open me stored working s b d None = vote_for me stored working s b d
+accept_open me stored working s b d (Some promise) =
+    if below b promise then says working (Nack me s b promise ∷ []) else vote_for me stored working s b d
+
+unfoldable pub on_accept : {V : Type 0} → ℕ → Stored V → Working V → ℕ → Ballot → V → Row V
+on_accept me stored working s b d =
+    if nat_le s (published stored) then says working (told stored.history s)
+    else accept_open me stored working s b d (stored.promises s)
+
+-- ---- the proposer
+
+-- A proposal hears an answer in its phase, to its sequence and ballot, from a node that it hasn't heard.
+unfoldable pub hears : {V : Type 0} → ℕ → Proposal V → Phase → ℕ → ℕ → Ballot → Bool
+hears n proposal phase sender s b =
+    same_phase proposal.phase phase && (is_at proposal s b && (nat_lt sender n && not (proposal.heard sender)))
+
+-- the proposal after a promise, and the same once a majority has promised: nobody is heard of its Accept yet
+unfoldable pub with_promise : {V : Type 0} → Proposal V → ℕ → Option (Vote V) → Proposal V
+with_promise proposal sender vote =
+    record proposal { heard = and_node proposal.heard sender; best = better proposal.best vote }
+
+unfoldable pub asking_votes : {V : Type 0} → Proposal V → Proposal V
+asking_votes proposal = record proposal { phase = Accepting; heard = nobody }
+
+unfoldable pub promised : {V : Type 0} → ℕ → Proposal V → Row V
+promised n proposal =
+    if is_majority_of (count_nodes n proposal.heard) n
+    then says (Running (asking_votes proposal)) (Accept proposal.sequence proposal.ballot (carried proposal.best proposal.own) ∷ [])
+    else quiet (Running proposal)
+
+unfoldable pub on_promise : {V : Type 0} → ℕ → Working V → ℕ → ℕ → Ballot → Option (Vote V) → Row V
+on_promise n (Running proposal) sender s b vote =
+    if hears n proposal Preparing sender s b then promised n (with_promise proposal sender vote) else quiet (Running proposal)
+on_promise n working sender s b vote = quiet working
+
+unfoldable pub with_vote : {V : Type 0} → Proposal V → ℕ → Proposal V
+with_vote proposal sender = record proposal { heard = and_node proposal.heard sender }
+
+unfoldable pub on_nack : {V : Type 0} → Working V → ℕ → Ballot → Ballot → Row V
+on_nack (Running proposal) s b promise =
+    if is_at proposal s b then quiet (Running (record proposal { seen = max proposal.seen promise.round })) else quiet (Running proposal)
+on_nack working s b promise = quiet working
+
+-- ---- the rows that tell a node's own definition from another's
+
+-- `same` tests two definitions for equality. The law of agreement asks nothing of it.
+module _ {V : Type 0} (same : V → V → Bool) where
+  -- how a proposal ends where d is published at its sequence
+  unfoldable pub ended : Proposal V → V → Working V
+  ended proposal d = if same proposal.own d then Won proposal.sequence else Overtaken proposal.sequence
+
+  unfoldable pub ends : Working V → V → Working V
+  ends (Running proposal) d = ended proposal d
+  ends Idle d = Idle
+  ends (Won s) d = Won s
+  ends (Overtaken s) d = Overtaken s
+
+  unfoldable pub voted : ℕ → Proposal V → Row V
+  voted n proposal =
+      let d : V = carried proposal.best proposal.own in
+      if is_majority_of (count_nodes n proposal.heard) n
+      then stores (ended proposal d) (stored_part.Published proposal.sequence d) (Chosen proposal.sequence d)
+      else quiet (Running proposal)
+
+  unfoldable pub on_accepted : ℕ → Working V → ℕ → ℕ → Ballot → Row V
+  on_accepted n (Running proposal) sender s b =
+      if hears n proposal Accepting sender s b then voted n (with_vote proposal sender) else quiet (Running proposal)
+  on_accepted n working sender s b = quiet working
+
+  -- A chosen definition is published where its sequence is the next; further on, the entries between are asked for.
+  unfoldable pub on_chosen : Stored V → Working V → ℕ → V → Row V
+  on_chosen stored working s d =
+      if s == next_sequence stored then record { entry = Some (stored_part.Published s d); messages = []; working = ends working d }
+      else (if nat_lt (next_sequence stored) s then says working (Ask (next_sequence stored) ∷ []) else quiet working)
+
+  -- ---- the table: the row of node `me` of n
+
+  unfoldable pub on_message : ℕ → ℕ → Stored V → Working V → Message V → Row V
+  on_message n me stored working (Prepare s b) = on_prepare me stored working s b
+  on_message n me stored working (Promise sender s b vote) = on_promise n working sender s b vote
+  on_message n me stored working (Accept s b d) = on_accept me stored working s b d
+  on_message n me stored working (Accepted sender s b) = on_accepted n working sender s b
+  on_message n me stored working (Nack sender s b promise) = on_nack working s b promise
+  on_message n me stored working (Chosen s d) = on_chosen stored working s d
+  on_message n me stored working (Ask s) = on_ask stored working s
+
+  unfoldable pub row : ℕ → ℕ → Stored V → Working V → Input V → Row V
+  row n me stored working (Propose d) = on_propose me stored d
+  row n me stored working Retry = on_retry me stored working
+  row n me stored working CatchUp = on_catch_up stored working
+  row n me stored working (Deliver message) = on_message n me stored working message

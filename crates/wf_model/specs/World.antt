@@ -1,0 +1,155 @@
+-- The farm: its nodes and all messages ever sent, what may happen, and whole runs.
+use Rattle.std.specs.Prelude.{ℕ, Bool, List, [], ◌∷◌, ◌++◌, length, replicate, slice_get, slice_set, Option, Some, None, is_some, if◌then◌else◌}
+use Rattle.wf_model.specs.Message.{Message}
+use Rattle.wf_model.specs.Stored.{Stored, nothing_stored}
+use Rattle.wf_model.specs.Working.{Working, Idle}
+use Rattle.wf_model.specs.Table as table
+use Rattle.wf_model.specs.Table.{Action, Input, Refusal, Row, row, refusal, store}
+
+-- a node: what it stored, and its working part, None while it is stopped
+pub record Node (V : Type 0) : Type 0 where
+  pub stored : Stored V
+  pub working : Option (Working V)
+
+-- Node 0, 1, 2 and so on, and message 0, 1, 2 and so on. Nothing is ever taken from the list of messages:
+-- a loss is a delivery that never comes.
+pub record World (V : Type 0) : Type 0 where
+  pub nodes : List (Node V)
+  pub sent : List (Message V)
+
+-- which stored part a torn step leaves
+pub data Kept : Type 0 where
+  Before After : Kept
+
+-- What may happen, to the node of that number: a step; a stop and a restart; a step that is torn. A
+-- delivery names a message that was sent, by its number, so none can be invented; it may come late,
+-- again, in any order, or never.
+pub data Event (V : Type 0) : Type 0 where
+  Propose : (node : ℕ) (definition : V) → Event V
+  Retry : (node : ℕ) → Event V
+  CatchUp : (node : ℕ) → Event V
+  Deliver : (node number : ℕ) → Event V
+  Stop : (node : ℕ) → Event V
+  Restart : (node : ℕ) → Event V
+  Torn : (node : ℕ) (action : Action V ℕ) (kept : Kept) → Event V
+
+-- a step that has an effect: what its node had stored, and its row
+pub record Turn (V : Type 0) : Type 0 where
+  pub stored : Stored V
+  pub row : Row V
+
+-- an action's message by its number, None where it isn't sent yet
+unfoldable pub delivered : {V : Type 0} → Option (Message V) → Option (Input V)
+delivered None = None
+delivered (Some message) = Some (table.Deliver message)
+
+unfoldable pub input_of : {V : Type 0} → List (Message V) → Action V ℕ → Option (Input V)
+input_of sent (table.Propose d) = Some (table.Propose d)
+input_of sent table.Retry = Some table.Retry
+input_of sent table.CatchUp = Some table.CatchUp
+input_of sent (table.Deliver k) = delivered (slice_get sent k)
+
+-- the stored part that a torn step leaves
+unfoldable pub stored_after : {V : Type 0} → Turn V → Stored V
+stored_after turn = store turn.stored turn.row.entry
+
+unfoldable pub kept_part : {V : Type 0} → Kept → Turn V → Stored V
+kept_part Before turn = turn.stored
+kept_part After turn = stored_after turn
+
+-- ---- refused steps
+
+-- why a step is refused: its node is there and runs, its message is sent, and the table refuses it
+unfoldable pub refusal_running : {V : Type 0} → Stored V → Option (Working V) → Input V → Option Refusal
+refusal_running stored None input = None
+refusal_running stored (Some working) input = refusal stored working input
+
+unfoldable pub refusal_of : {V : Type 0} → Option (Node V) → Option (Input V) → Option Refusal
+refusal_of None input = None
+refusal_of (Some node) None = None
+refusal_of (Some node) (Some input) = refusal_running node.stored node.working input
+
+unfoldable pub refused_at : {V : Type 0} → World V → ℕ → Action V ℕ → Option Refusal
+refused_at w i action = refusal_of (slice_get w.nodes i) (input_of w.sent action)
+
+-- the refusal of an event's step, also of a torn one; None where it isn't refused
+unfoldable pub refused : {V : Type 0} → World V → Event V → Option Refusal
+refused w (Propose i d) = refused_at w i (table.Propose d)
+refused w (Retry i) = refused_at w i table.Retry
+refused w (CatchUp i) = refused_at w i table.CatchUp
+refused w (Deliver i k) = refused_at w i (table.Deliver k)
+refused w (Stop i) = None
+refused w (Restart i) = None
+refused w (Torn i action kept) = refused_at w i action
+
+-- ---- effects on the world
+
+-- node i is this one now
+unfoldable pub with_node : {V : Type 0} → World V → ℕ → Stored V → Option (Working V) → World V
+with_node w i stored working = record w { nodes = slice_set w.nodes i (record { stored = stored; working = working }) }
+
+-- A whole step: its record is stored, then its messages go out.
+unfoldable pub after_turn : {V : Type 0} → World V → ℕ → Option (Turn V) → World V
+after_turn w i None = w
+after_turn w i (Some turn) =
+    record (with_node w i (stored_after turn) (Some turn.row.working)) { sent = w.sent ++ turn.row.messages }
+
+-- A torn step loses the working part and all output; its record is stored or not.
+unfoldable pub after_torn : {V : Type 0} → World V → ℕ → Kept → Option (Turn V) → World V
+after_torn w i kept None = w
+after_torn w i kept (Some turn) = with_node w i (kept_part kept turn) None
+
+-- A stop loses the working part. A stopped node can't stop.
+unfoldable pub stop_running : {V : Type 0} → World V → ℕ → Stored V → Option (Working V) → World V
+stop_running w i stored None = w
+stop_running w i stored (Some working) = with_node w i stored None
+
+unfoldable pub after_stop : {V : Type 0} → World V → ℕ → Option (Node V) → World V
+after_stop w i None = w
+after_stop w i (Some node) = stop_running w i node.stored node.working
+
+-- A stopped node comes back with what it had stored, and no proposal. A running node can't be restarted.
+unfoldable pub restart_stopped : {V : Type 0} → World V → ℕ → Stored V → Option (Working V) → World V
+restart_stopped w i stored None = with_node w i stored (Some Idle)
+restart_stopped w i stored (Some working) = w
+
+unfoldable pub after_restart : {V : Type 0} → World V → ℕ → Option (Node V) → World V
+after_restart w i None = w
+after_restart w i (Some node) = restart_stopped w i node.stored node.working
+
+module _ {V : Type 0} (same : V → V → Bool) where
+  -- A step has an effect where its node is there and runs, its message is sent, and it isn't refused.
+  unfoldable pub turn_running : ℕ → ℕ → Stored V → Option (Working V) → Input V → Option (Turn V)
+  turn_running n i stored None input = None
+  turn_running n i stored (Some working) input =
+      if is_some (refusal stored working input) then None else Some (record { stored = stored; row = row same n i stored working input })
+
+  unfoldable pub turn_of : ℕ → ℕ → Option (Node V) → Option (Input V) → Option (Turn V)
+  turn_of n i None input = None
+  turn_of n i (Some node) None = None
+  turn_of n i (Some node) (Some input) = turn_running n i node.stored node.working input
+
+  unfoldable pub turn : World V → ℕ → Action V ℕ → Option (Turn V)
+  turn w i action = turn_of (length w.nodes) i (slice_get w.nodes i) (input_of w.sent action)
+
+  unfoldable pub happens : World V → Event V → World V
+  happens w (Propose i d) = after_turn w i (turn w i (table.Propose d))
+  happens w (Retry i) = after_turn w i (turn w i table.Retry)
+  happens w (CatchUp i) = after_turn w i (turn w i table.CatchUp)
+  happens w (Deliver i k) = after_turn w i (turn w i (table.Deliver k))
+  happens w (Stop i) = after_stop w i (slice_get w.nodes i)
+  happens w (Restart i) = after_restart w i (slice_get w.nodes i)
+  happens w (Torn i action kept) = after_torn w i kept (turn w i action)
+
+  -- ---- whole runs
+
+  unfoldable pub steps : World V → List (Event V) → World V
+  steps w [] = w
+  steps w (event ∷ rest) = steps (happens w event) rest
+
+-- n nodes that run, with all parts empty
+unfoldable pub start : {V : Type 0} → ℕ → World V
+start n = record { nodes = replicate n (record { stored = nothing_stored; working = Some Idle }); sent = [] }
+
+unfoldable pub after : {V : Type 0} → (V → V → Bool) → ℕ → List (Event V) → World V
+after same n events = steps same (start n) events

@@ -1,0 +1,9 @@
+use Rattle.std.proofs.Common.{append_assoc}
+use Rattle.wf_wms.specs.Capabilities.{side}
+use Rattle.wf_wms.proofs.capabilities.write_side.Goals as goal
+
+pub returns : goal.returns
+unfolding side
+returns c =
+    rw (c.in_ok-write_text-4.ensures, c.in_ok-write_number.ensures.ok, c.in_ok-write_text-3.ensures, c.in_ok-write_text-2.ensures, c.in_ok-write_text.ensures)
+    (simp (append_assoc))

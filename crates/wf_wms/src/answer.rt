@@ -1,0 +1,55 @@
+//! Answers.
+ghost use Rattle.std.specs.Prelude.{◌≡◌, IfOk};
+ghost use Rattle.wf_wms.specs.Answer.{refusal, metadata};
+
+use crate::capabilities::capabilities;
+use crate::exception::Exception;
+use crate::kind::Kind;
+use crate::report::report;
+use std::alloc::{AllocError, Global};
+use std::marker::Model;
+use wf_def::map::MapDef;
+
+/// The media type of both XML documents.
+const XML: &str = "text/xml";
+
+/// What a client gets.
+#[derive(Drop)]
+pub struct Answer {
+    pub kind: Kind,
+    /// The media type of the bytes.
+    pub media: &'static str,
+    pub bytes: Vec<u8>,
+}
+
+impl Model for Answer {
+    ghost use Rattle.wf_wms.specs.Answer.{AnswerValue};
+
+    ghost Value = { AnswerValue };
+
+    ghost view = { λ a. record { kind = a.kind; media = a.media.now; bytes = a.bytes.items } };
+}
+
+impl Answer {
+    /// The answer that refuses a request.
+    pub(crate) fn refusal(alloc: Global, exception: Exception) -> Result<Self, AllocError>
+        ensures { IfOk result (λ answer. answer ≡ refusal exception) }
+    {
+        Ok(Answer {
+            kind: Kind::Exception(exception),
+            media: XML,
+            bytes: report(alloc, exception)?,
+        })
+    }
+
+    /// The answer with the service metadata.
+    pub(crate) fn metadata(alloc: Global, seq: u16, map: &MapDef) -> Result<Self, AllocError>
+        ensures { IfOk result (λ answer. answer ≡ metadata seq map.now) }
+    {
+        Ok(Answer {
+            kind: Kind::Capabilities,
+            media: XML,
+            bytes: capabilities(alloc, seq, map)?,
+        })
+    }
+}

@@ -1,0 +1,12 @@
+use crate::exception::Exception;
+
+/// What an answer is.
+#[derive(Clone, Copy, Debug, PartialEq, Eq)]
+pub enum Kind {
+    /// The service metadata.
+    Capabilities,
+    /// A picture of the map.
+    Map,
+    /// A service exception.
+    Exception(Exception),
+}

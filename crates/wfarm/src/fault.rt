@@ -1,0 +1,21 @@
+//! Why a run failed.
+use thiserror::Error;
+use wf_canon::CanonFault;
+use wf_mapfile::fault::MapFault;
+
+/// Why a run failed. The text is the line for standard error.
+#[derive(Clone, Copy, Debug, PartialEq, Eq, Error)]
+pub enum RunFault {
+    /// The input is no mapfile, or memory ran out.
+    #[error("map fault {0}")]
+    Map(MapFault),
+    /// The map's canonical text can't be had.
+    #[error("canon fault {0}")]
+    Canon(CanonFault),
+    /// The reader failed; nothing was judged.
+    #[error("read fault")]
+    Read,
+    /// The writer failed; a part may be written.
+    #[error("write fault")]
+    Write,
+}

@@ -1,0 +1,10 @@
+//! What the program can be asked for.
+
+/// What a command line asks for.
+#[derive(Clone, Copy, Debug, PartialEq, Eq)]
+pub enum Line<'a> {
+    /// Answer a request about the mapfile on standard input, at an update sequence.
+    Caps { seq: u16, query: &'a str },
+    /// Write the canonical text of the mapfile on standard input.
+    Canon,
+}
