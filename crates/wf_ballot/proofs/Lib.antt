@@ -1,3 +1,4 @@
 pub mod Order
 pub mod Quorum
 pub mod Spelling
+pub mod Fronts

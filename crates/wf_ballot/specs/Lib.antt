@@ -3,3 +3,6 @@ pub mod Sequence
 pub mod Ballot
 pub mod Majority
 pub mod Field
+pub mod Slot
+pub mod Front
+pub mod Frame

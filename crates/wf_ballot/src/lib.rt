@@ -1,7 +1,7 @@
 //! Nodes, update sequences, ballots and majorities: what the nodes of a farm count in when they agree
 //! on one history of map definitions.
 //!
-//! Its model: a `NodeId` and a `Seq` are seen as their numbers, a `Ballot` as the record of its round
+//! Its model: a `NodeId`, a `Seq` and a `Slot` (a sequence from 1 on) are seen as their numbers, a `Ballot` as the record of its round
 //! and its node's number (`specs/Ballot.antt`), a set of nodes as a test of numbers that is counted over
 //! the nodes of the farm (`specs/Majority.antt`).
 //!
@@ -15,15 +15,19 @@
 
 mod ballot;
 mod field;
+mod front;
 mod majority;
 mod node;
 mod sequence;
+mod slot;
 
 pub use ballot::{Ballot, ROUNDS, order_is_total};
 pub use field::{field_lengths, fields_tell_apart};
+pub use front::{fields_are_read, split_ballot, split_node, split_round, split_slot};
 pub use majority::{is_majority, majorities_meet};
 pub use node::{NODES, NodeId};
 pub use sequence::{SEQUENCES, Seq};
+pub use slot::Slot;
 
 #[cfg(test)]
 mod tests;

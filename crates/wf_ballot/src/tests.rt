@@ -135,3 +135,73 @@ fn values_are_printed_in_decimal(rt: HostRuntime) -> Result<(), Fail> {
     assert_eq!(rt; format!(in alloc; "{ballot}")?.as_str(), "(12, 10)");
     Ok(())
 }
+
+#[test]
+fn slots_are_the_sequences_from_one_on(rt: HostRuntime) -> Result<(), Fail> {
+    for (number, want) in [(0, None), (1, Some(1)), (4096, Some(4096)), (4097, None)] {
+        assert_eq!(rt;
+            Slot::new(number).map(|slot| slot.number()),
+            want,
+            "slot {number}"
+        );
+        let of = Seq::new(number).and_then(|sequence| Slot::of(sequence));
+        assert_eq!(rt; of, Slot::new(number), "sequence {number}");
+    }
+    let slot = Slot::new(258).ok_or("a slot")?;
+    assert_eq!(rt; Some(slot.seq()), Seq::new(258));
+    assert_eq!(rt; slot.bytes(), [0x01, 0x02]);
+    assert_eq!(rt; Slot::from_bytes(&[0x01, 0x02]), Some(slot));
+    let others: [&[u8]; 5] = [
+        &[],
+        &[0x01],
+        &[0x00, 0x00],
+        &[0x10, 0x01],
+        &[0x01, 0x02, 0x03],
+    ];
+    for bytes in others {
+        assert_eq!(rt; Slot::from_bytes(bytes), None, "{bytes:?}");
+    }
+    assert_eq!(rt; format!(in rt.alloc(); "{slot}")?.as_str(), "258");
+    Ok(())
+}
+
+#[test]
+fn fields_are_split_off_the_front(rt: HostRuntime) {
+    let bytes: &[u8] = &[0x00, 0x00, 0x00, 0x02, 0x01, 0x09];
+    assert_eq!(rt;
+        split_node(bytes).map(|(node, rest)| (node.number(), rest.len())),
+        Some((0, 5))
+    );
+    assert_eq!(rt;
+        split_slot(&bytes[2..]).map(|(slot, rest)| (slot.number(), rest.len())),
+        Some((2, 2))
+    );
+    assert_eq!(rt;
+        split_round(bytes).map(|(round, rest)| (round, rest.len())),
+        Some((2, 2))
+    );
+    let found = split_ballot(bytes);
+    let parts = found.map(|(ballot, rest)| (ballot.round(), ballot.node().number(), rest.len()));
+    assert_eq!(rt; parts, Some((2, 1, 1)));
+    fields_are_read();
+}
+
+#[test]
+fn no_field_is_split_off_other_bytes(rt: HostRuntime) {
+    let nodes: [&[u8]; 3] = [&[], &[0x40], &[0xff, 0x00]];
+    for bytes in nodes {
+        assert!(rt; split_node(bytes).is_none(), "{bytes:?}");
+    }
+    let slots: [&[u8]; 4] = [&[], &[0x01], &[0x00, 0x00, 0x01], &[0x10, 0x01]];
+    for bytes in slots {
+        assert!(rt; split_slot(bytes).is_none(), "{bytes:?}");
+    }
+    let rounds: [&[u8]; 3] = [&[], &[0, 0, 1], &[0, 0, 0, 0, 1]];
+    for bytes in rounds {
+        assert!(rt; split_round(bytes).is_none(), "{bytes:?}");
+    }
+    let ballots: [&[u8]; 4] = [&[], &[0, 0, 0, 1], &[0, 0, 0, 0, 0], &[0, 0, 0, 1, 0x40]];
+    for bytes in ballots {
+        assert!(rt; split_ballot(bytes).is_none(), "{bytes:?}");
+    }
+}

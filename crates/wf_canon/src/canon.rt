@@ -72,10 +72,21 @@ impl Canon {
         Ok(Canon { text, def })
     }
 
+    /// An equal value, for a message or a history that keeps its own. Want of memory is the one error.
+    pub fn copy(&self) -> Result<Self, AllocError>
+        ensures { IfOk result (λ copy. copy ≡ self.now) }
+    {
+        Ok(Canon {
+            text: self.text.clone()?,
+            def: self.def.clone()?,
+        })
+    }
+
     /// The text, in UTF-8.
     pub fn text(&self) -> &[u8]
         ensures value { result.now ≡ canon self.now }
         ensures short { length result.now ≤ MOST_CANON_BYTES }
+        ensures is_map { IsMap self.now }
     {
         self.text.as_slice()
     }

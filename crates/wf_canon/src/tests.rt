@@ -133,3 +133,12 @@ fn other_bytes_are_refused(rt: HostRuntime) -> Result<(), Fail> {
     }
     Ok(())
 }
+
+#[test]
+fn a_copy_has_the_text_and_the_map(rt: HostRuntime) -> Result<(), Fail> {
+    let canonical = Canon::of(rt.alloc(), &titled(rt.alloc(), b"Roads")?)?;
+    let copy = canonical.copy()?;
+    assert_eq!(rt; copy.text(), canonical.text());
+    assert_eq!(rt; copy.def().title().as_str(), "Roads");
+    Ok(())
+}

@@ -1,5 +1,5 @@
 -- What a run of a command reads and writes, and why it fails.
-use Rattle.std.specs.Prelude.{◌≡◌, ◌<◌, ◌⊎◌, ℕ, List, length, Option, Some, None, false, ⊤, IfSome}
+use Rattle.std.specs.Prelude.{◌≡◌, ◌<◌, ◌⊎◌, ℕ, List, length, Option, false, true, ⊤, IfSome}
 use Rattle.wf_def.specs.Definition.{Definition}
 use Rattle.wf_mapfile.specs.Meaning.{Means, MeansNothing, longest_mapfile}
 use Rattle.wf_mapfile.specs.Reading.{is_memory}
@@ -7,9 +7,9 @@ use Rattle.wf_canon.specs.Refusal.{IsCauseOf}
 use Rattle.wfarm.specs.declared.fault.RunFault.{RunFault}
 use Rattle.wfarm.specs.declared.fault.RunFault.TheVariants as faults
 
--- the bytes mean a map definition, which has the property
-abbrev pub MeansOne : (Definition → Type 0) → List ℕ → Type 0
-MeansOne P bytes = (d : Definition) × Means bytes d × P d
+-- a definition with the property, which the input means where it is known
+abbrev pub MeansOne : (Definition → Type 0) → Option (List ℕ) → Type 0
+MeansOne P input = (d : Definition) × IfSome input (λ bytes. Means bytes d) × P d
 
 -- The bytes are judged in place of the input: they are the input, or both are longer than a mapfile may be.
 abbrev pub StandsFor : List ℕ → List ℕ → Type 0
@@ -23,19 +23,23 @@ IsReadingFault input faults.Read = ⊤
 IsReadingFault input (faults.Canon fault) = ⊥
 IsReadingFault input faults.Write = ⊥
 
--- a write can fail only where the input meant a definition
-abbrev pub IsCapsFault : Option (List ℕ) → RunFault → Type 0
-IsCapsFault input (faults.Map fault) = IsReadingFault input (faults.Map fault)
-IsCapsFault input faults.Read = ⊤
-IsCapsFault input (faults.Canon fault) = ⊥
-IsCapsFault input faults.Write = IfSome input (MeansOne (λ _. ⊤))
+-- of what is done with a definition once the input has meant it: describing it can want memory
+abbrev pub IsDescribingFault : Definition → RunFault → Type 0
+IsDescribingFault d (faults.Map fault) = is_memory fault ≡ true
+IsDescribingFault d faults.Read = ⊥
+IsDescribingFault d (faults.Canon fault) = ⊥
+IsDescribingFault d faults.Write = ⊤
 
--- and the definition's canonical text can't be had
-abbrev pub IsCanonFault : Option (List ℕ) → RunFault → Type 0
-IsCanonFault input (faults.Map fault) = IsReadingFault input (faults.Map fault)
-IsCanonFault input faults.Read = ⊤
-IsCanonFault input (faults.Canon fault) = IfSome input (MeansOne (IsCauseOf fault))
-IsCanonFault input faults.Write = IfSome input (MeansOne (λ _. ⊤))
+-- and its canonical text can be too long
+abbrev pub IsSpellingFault : Definition → RunFault → Type 0
+IsSpellingFault d (faults.Map fault) = ⊥
+IsSpellingFault d faults.Read = ⊥
+IsSpellingFault d (faults.Canon fault) = IsCauseOf fault d
+IsSpellingFault d faults.Write = ⊤
+
+-- a run fails in reading, or once the input has meant a definition
+abbrev pub IsRunFault : (Definition → RunFault → Type 0) → Option (List ℕ) → RunFault → Type 0
+IsRunFault fails input fault = IsReadingFault input fault ⊎ MeansOne (λ d. fails d fault) input
 
 -- the fault comes before anything is written
 abbrev pub IsBeforeWriting : RunFault → Type 0

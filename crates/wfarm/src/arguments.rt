@@ -1,4 +1,4 @@
-//! The command line.
+//! Reading the command line.
 ghost use Rattle.std.specs.Prelude.{IfOk, IfSome};
 ghost use Rattle.wfarm.specs.Line.{IsInRange};
 
@@ -30,6 +30,7 @@ fn command<'a>(alloc: Global) -> Result<Command<'a>, AllocError> {
         "Writes the canonical text of the mapfile on standard input",
     );
     Command::new(alloc, "wfarm")
+        .bin_name("wfarm")?
         .about("A farm of Web Map Service servers over one history of mapfiles")
         .no_binary_name(true)
         .subcommand_required(true)
@@ -63,6 +64,7 @@ pub fn line<'a, S: AsStr>(alloc: Global, words: &'a [S]) -> Result<Line<'a>, Err
         Some(("canon", _)) => Some(Line::Canon),
         _ => None,
     };
+    // The command line's parser has made sure of both; its promise ends at a subcommand's door.
     match asked {
         Some(line) => Ok(line),
         None => Err(refusal(alloc, "a command is missing, or a value is out of range")?),

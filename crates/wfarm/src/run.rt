@@ -4,7 +4,7 @@ ghost use Rattle.std.specs.Io.KnownBytes.{Appends, Keeps};
 ghost use Rattle.wf_mapfile.specs.Meaning.{Means};
 ghost use Rattle.wf_canon.specs.Canon.{canon};
 ghost use Rattle.wf_wms.specs.Answer.{description};
-ghost use Rattle.wfarm.specs.Run.{MeansOne, StandsFor, IsReadingFault, IsCapsFault, IsCanonFault, IsBeforeWriting};
+ghost use Rattle.wfarm.specs.Run.{MeansOne, StandsFor, IsReadingFault, IsDescribingFault, IsSpellingFault, IsRunFault, IsBeforeWriting};
 
 use crate::fault::RunFault;
 use std::alloc::Global;
@@ -57,7 +57,40 @@ fn write<W: Write>(writer: &mut W, bytes: &[u8]) -> Result<(), RunFault>
     Ok(())
 }
 
-/// Reads a mapfile and writes the answer about it, at an update sequence, to a query.
+// Writes the answer about a map.
+fn write_answer<W: Write>(
+    alloc: Global,
+    map: &MapDef,
+    writer: &mut W,
+    seq: u16,
+    query: &[u8],
+) -> Result<(), RunFault>
+    requires { seq ≤ LAST_SEQUENCE }
+    ensures ok { OnOk result (Appends (W.contents writer.old) (W.contents writer.new)
+        (description seq map.now query.now).bytes) }
+    ensures err { IfErr result (IsDescribingFault map.now) }
+    ensures unwritten { IfErr result (λ fault. IsBeforeWriting fault → Keeps (W.contents writer.old) (W.contents writer.new)) }
+{
+    match describe(alloc, seq, map, query) {
+        Ok(answer) => write(writer, &answer.bytes),
+        Err(_) => Err(RunFault::Map(MapFault::Memory)),
+    }
+}
+
+// Writes the canonical text of a map.
+fn write_canonical<W: Write>(alloc: Global, map: &MapDef, writer: &mut W) -> Result<(), RunFault>
+    ensures ok { OnOk result (Appends (W.contents writer.old) (W.contents writer.new) (canon map.now)) }
+    ensures err { IfErr result (IsSpellingFault map.now) }
+    ensures unwritten { IfErr result (λ fault. IsBeforeWriting fault → Keeps (W.contents writer.old) (W.contents writer.new)) }
+{
+    match Canon::of(alloc, map) {
+        Ok(canon) => write(writer, canon.text()),
+        Err(fault) => Err(RunFault::Canon(fault)),
+    }
+}
+
+/// Reads a mapfile to its end, or to the byte that makes it too long, and writes the answer about its
+/// map, at the update sequence `seq`, to a query.
 pub fn run_caps<R: Read, W: Write>(
     alloc: Global,
     reader: &mut R,
@@ -66,28 +99,29 @@ pub fn run_caps<R: Read, W: Write>(
     query: &[u8],
 ) -> Result<(), RunFault>
     requires { seq ≤ LAST_SEQUENCE }
-    ensures ok { OnOk result (IfSome (R.remaining reader.old) (MeansOne (λ d.
-        Appends (W.contents writer.old) (W.contents writer.new) (description seq d query.now).bytes))) }
-    ensures err { IfErr result (IsCapsFault (R.remaining reader.old)) }
+    // Where the reader tells its bytes, they mean the map that is described.
+    ensures ok { OnOk result (MeansOne (λ d.
+        Appends (W.contents writer.old) (W.contents writer.new) (description seq d query.now).bytes)
+        (R.remaining reader.old)) }
+    ensures err { IfErr result (IsRunFault IsDescribingFault (R.remaining reader.old)) }
     ensures unwritten { IfErr result (λ fault. IsBeforeWriting fault → Keeps (W.contents writer.old) (W.contents writer.new)) }
 {
     let map = map(alloc, reader)?;
-    let answer = describe(alloc, seq, &map, query).map_err(|_| RunFault::Map(MapFault::Memory))?;
-    write(writer, &answer.bytes)
+    write_answer(alloc, &map, writer, seq, query)
 }
 
-/// Reads a mapfile and writes its canonical text.
+/// Reads a mapfile to its end, or to the byte that makes it too long, and writes its canonical text.
 pub fn run_canon<R: Read, W: Write>(
     alloc: Global,
     reader: &mut R,
     writer: &mut W,
 ) -> Result<(), RunFault>
-    ensures ok { OnOk result (IfSome (R.remaining reader.old) (MeansOne (λ d.
-        Appends (W.contents writer.old) (W.contents writer.new) (canon d)))) }
-    ensures err { IfErr result (IsCanonFault (R.remaining reader.old)) }
+    // Where the reader tells its bytes, they mean the map that is spelled.
+    ensures ok { OnOk result (MeansOne (λ d.
+        Appends (W.contents writer.old) (W.contents writer.new) (canon d)) (R.remaining reader.old)) }
+    ensures err { IfErr result (IsRunFault IsSpellingFault (R.remaining reader.old)) }
     ensures unwritten { IfErr result (λ fault. IsBeforeWriting fault → Keeps (W.contents writer.old) (W.contents writer.new)) }
 {
     let map = map(alloc, reader)?;
-    let canon = Canon::of(alloc, &map).map_err(RunFault::Canon)?;
-    write(writer, canon.text())
+    write_canonical(alloc, &map, writer)
 }

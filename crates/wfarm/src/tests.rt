@@ -1,4 +1,7 @@
 //! The commands on bytes from outside, over readers and writers of memory.
+ghost use Rattle.std.specs.Prelude.{◌≤◌};
+ghost use Rattle.wf_wms.specs.declared.update_sequence.TheConstants.{LAST_SEQUENCE};
+
 use crate::arguments::line;
 use crate::fault::RunFault;
 use crate::line::Line;
@@ -39,7 +42,7 @@ fn canon(alloc: Global, input: &[u8]) -> Result<String, Fail> {
 
 // What `caps` writes, or its fault line.
 fn caps(alloc: Global, input: &str, seq: u16, query: &str) -> Result<String, Fail>
-    requires { seq ≤ 4096 }
+    requires { seq ≤ LAST_SEQUENCE }
 {
     let mut reader = input.as_bytes();
     let mut written = Vec::new(alloc);

@@ -23,9 +23,8 @@ fn shown_map(alloc: Global, map: &MapDef) -> Result<String, AllocError> {
     let (minx, miny) = (extent.minx().millionths(), extent.miny().millionths());
     let (maxx, maxy) = (extent.maxx().millionths(), extent.maxy().millionths());
     let projection = map.projection();
-    let layers = map.layer_count();
     format!(in alloc;
-        "{name}|{title}|{abstract_text}|{address}|{minx} {miny} {maxx} {maxy}|{projection:?}|{layers}"
+        "{name}|{title}|{abstract_text}|{address}|{minx} {miny} {maxx} {maxy}|{projection:?}"
     )
 }
 
@@ -42,7 +41,7 @@ fn each_shown(rt: &impl Abort, alloc: Global, table: &[(&str, &str)]) -> Result<
 }
 
 /// What map `a` is shown as: the name is the title, the abstract is empty, the address is the default.
-const MAP_A: &str = "a|a||http://localhost/wms?|0 0 4000000 4000000|Epsg4326|0";
+const MAP_A: &str = "a|a||http://localhost/wms?|0 0 4000000 4000000|Epsg4326";
 
 #[test]
 fn a_map_is_read_in_each_spelling(rt: HostRuntime) -> Result<(), Fail> {
@@ -69,19 +68,19 @@ fn a_map_is_read_in_each_spelling(rt: HostRuntime) -> Result<(), Fail> {
         ),
         (
             "MAP EXTENT -1 -2.5 3 4 PROJECTION \"init=epsg:3857\" END END",
-            "map|map||http://localhost/wms?|-1000000 -2500000 3000000 4000000|Epsg3857|0",
+            "map|map||http://localhost/wms?|-1000000 -2500000 3000000 4000000|Epsg3857",
         ),
         (
             "MAP WEB METADATA wms_abstract 'all of it' WMS_Title \"Der Plan\" 'other' x wms_onlineresource 'http://a.example/?m=1&' END END NAME 'n' PROJECTION init=EPSG:3857 END EXTENT 0 0 1 1 END",
-            "n|Der Plan|all of it|http://a.example/?m=1&|0 0 1000000 1000000|Epsg3857|0",
+            "n|Der Plan|all of it|http://a.example/?m=1&|0 0 1000000 1000000|Epsg3857",
         ),
         (
             "MAP SIZE 400 -3.5 IMAGECOLOR 255 0 128 UNITS dd STATUS ON IMAGETYPE png SHAPEPATH './data' WEB IMAGEPATH '/tmp' IMAGEURL '/img' END EXTENT 0 0 1 1 PROJECTION 'init=epsg:4326' END END",
-            "map|map||http://localhost/wms?|0 0 1000000 1000000|Epsg4326|0",
+            "map|map||http://localhost/wms?|0 0 1000000 1000000|Epsg4326",
         ),
         (
             "map imagecolor '#fF00a9' web metadata end end name '' extent 0 0 1 1 projection 'init=epsg:4326' end end",
-            "|||http://localhost/wms?|0 0 1000000 1000000|Epsg4326|0",
+            "|||http://localhost/wms?|0 0 1000000 1000000|Epsg4326",
         ),
     ];
     Ok(each_shown(&rt, rt.alloc(), &table)?)
@@ -367,7 +366,7 @@ const EACH_KEYWORD: [&str; 48] = [
 
 /// What that mapfile is shown as.
 const EACH_KEYWORD_SHOWN: &str =
-    "a map|its title|its 'abstract'|http://a.example/|-1000000 500000 3000000 40000000|Epsg3857|0";
+    "a map|its title|its 'abstract'|http://a.example/|-1000000 500000 3000000 40000000|Epsg3857";
 
 /// The tokens with a gap between each two, and another gap behind token `at`.
 fn with_gaps(

@@ -1,0 +1,77 @@
+ghost use Rattle.std.specs.Prelude.{◌≡◌, ◌≤◌, IfSome};
+ghost use Rattle.wf_ballot.specs.Node.{IsNode};
+ghost use Rattle.wf_ballot.specs.Slot.{IsSlot};
+ghost use Rattle.wf_ballot.specs.Ballot.{IsBallot};
+ghost use Rattle.std.specs.Option.{option_map};
+ghost use Rattle.wf_ballot.specs.Front.{front_node, front_slot, front_round, front_ballot, FieldsAreRead};
+
+use crate::ballot::Ballot;
+use crate::node::NodeId;
+use crate::slot::Slot;
+
+/// The node at the front of the bytes, and the bytes after it; None where none stands there.
+#[tactic(auto, unfolding(crate::specs::Front::front_node))]
+pub fn split_node(bytes: &[u8]) -> Option<(NodeId, &[u8])>
+    ensures value { option_map (λ x. (x.0, x.1.now)) result ≡ front_node bytes.now }
+    ensures in_range { IfSome result (λ x. IsNode x.0) }
+{
+    let (number, rest) = bytes.split_first()?;
+    let node = NodeId::new(*number)?;
+    Some((node, rest))
+}
+
+/// The slot at the front of the bytes, and the bytes after it; None where none stands there.
+#[tactic(auto, unfolding(crate::specs::Front::front_slot))]
+pub fn split_slot(bytes: &[u8]) -> Option<(Slot, &[u8])>
+    ensures value { option_map (λ x. (x.0, x.1.now)) result ≡ front_slot bytes.now }
+    ensures in_range { IfSome result (λ x. IsSlot x.0) }
+{
+    match bytes {
+        [a, b, rest @ ..] => {
+            let slot = Slot::new(u16::from_be_bytes([*a, *b]))?;
+            Some((slot, rest))
+        }
+        _ => None,
+    }
+}
+
+/// The round at the front of the bytes, and the bytes after it; None where none stands there.
+#[tactic(auto, unfolding(crate::specs::Front::front_round))]
+pub fn split_round(bytes: &[u8]) -> Option<(u32, &[u8])>
+    ensures value { option_map (λ x. (x.0, x.1.now)) result ≡ front_round bytes.now }
+    ensures in_range { IfSome result (λ x. 1 ≤ x.0) }
+{
+    match bytes {
+        [a, b, c, d, rest @ ..] => {
+            let round = u32::from_be_bytes([*a, *b, *c, *d]);
+            if round < 1 {
+                return None;
+            }
+            Some((round, rest))
+        }
+        _ => None,
+    }
+}
+
+/// The ballot at the front of the bytes, and the bytes after it; None where none stands there.
+#[tactic(auto, unfolding(crate::specs::Front::front_ballot))]
+pub fn split_ballot(bytes: &[u8]) -> Option<(Ballot, &[u8])>
+    ensures value { option_map (λ x. (x.0, x.1.now)) result ≡ front_ballot bytes.now }
+    ensures in_range { IfSome result (λ x. IsBallot x.0) }
+{
+    match bytes {
+        [a, b, c, d, node, rest @ ..] => {
+            let node = NodeId::new(*node)?;
+            let ballot = Ballot::new(u32::from_be_bytes([*a, *b, *c, *d]), node)?;
+            let _ = ballot.round();
+            Some((ballot, rest))
+        }
+        _ => None,
+    }
+}
+
+/// What is split off the front is the field that stands there, and each field that stands there is split
+/// off. A law about the definitions: the call does nothing.
+pub fn fields_are_read()
+    ensures { FieldsAreRead }
+{}

@@ -1,0 +1,5 @@
+pub mod Texts
+pub mod Fields
+pub mod Headers
+pub mod Judged
+pub mod Encoded

@@ -1,0 +1,87 @@
+-- Messages with definitions, and the same messages with canonical texts.
+use Rattle.std.proofs.Common.{◌≡◌, ℕ, ◌+◌, ◌≤◌, List, [], ◌∷◌, length, Option, Some, None, refl, sym, ap, ◌∙◌, arith}
+use Rattle.std.specs.Prelude.{IsSomeAnd}
+use Rattle.wf_def.specs.Definition.{Definition}
+use Rattle.wf_canon.specs.Canon.{canon, line}
+use Rattle.wf_canon.proofs.MeaningLaw.{one_definition}
+use Rattle.wf_ballot.specs.Ballot.{Ballot}
+use Rattle.wf_model.specs.Message.{Message, Prepare, Promise, Accept, Accepted, Nack, Chosen, Ask, Vote}
+use Rattle.wf_codec.specs.Kind.{most_text}
+use Rattle.wf_codec.specs.Message.{vote_with, texts, HasText, IsVoteOf, IsMessageOf, IsMessage}
+use Rattle.wf_codec.specs.Judging.{IsNoText, HasBadText}
+
+-- a text that a message may have
+pub record IsText (text : List ℕ) : Type 0 where
+  pub least : 1 ≤ length text
+  pub most : length text ≤ most_text
+
+-- a canonical text begins with MAP
+not_empty : (d : Definition) → 1 ≤ length (canon d)
+unfolding canon line
+not_empty d = omega arith
+
+canon_is_text : (d : Definition) → HasText d → IsText (canon d)
+canon_is_text d has = record { least = not_empty d; most = has.short }
+
+vote_is_text : (v : Option (Vote Definition)) → IsVoteOf HasText v → IsVoteOf IsText (vote_with canon v)
+vote_is_text None p = p
+vote_is_text (Some v) p = (p.0, canon_is_text v.definition p.1)
+
+-- a message's texts are texts
+pub texts_fit : (m : Message Definition) → IsMessage m → IsMessageOf IsText (texts m)
+texts_fit (Prepare s b) p = p
+texts_fit (Promise i s b v) p = (p.0, p.1, p.2, vote_is_text v p.3)
+texts_fit (Accept s b d) p = (p.0, p.1, canon_is_text d p.2)
+texts_fit (Accepted i s b) p = p
+texts_fit (Nack i s b q) p = p
+texts_fit (Chosen s d) p = (p.0, canon_is_text d p.1)
+texts_fit (Ask s) p = p
+
+same_vote : (v w : Vote Definition) → v.ballot ≡ w.ballot → v.definition ≡ w.definition → v ≡ w
+same_vote v w same_ballot same_definition =
+    let with_ballot : Ballot → Vote Definition = λ b. record { ballot = b; definition = v.definition } in
+    let with_definition : Definition → Vote Definition = λ d. record { ballot = w.ballot; definition = d } in
+    ap with_ballot same_ballot ∙ ap with_definition same_definition
+
+-- a vote with its definition's canonical text
+abbrev with_text : Vote Definition → Vote (List ℕ)
+with_text v = record { ballot = v.ballot; definition = canon v.definition }
+
+vote_apart : (v w : Option (Vote Definition)) → IsVoteOf HasText v → IsVoteOf HasText w → vote_with canon v ≡ vote_with canon w → v ≡ w
+vote_apart None None p q e = refl
+vote_apart None (Some w) p q e = absurd cc
+vote_apart (Some v) None p q e = absurd cc
+vote_apart (Some v) (Some w) p q e =
+    let same : with_text v ≡ with_text w = cc in
+    ap Some (same_vote v w (ap (λ vote. vote.ballot) same) (one_definition v.definition w.definition p.1.is_map q.1.is_map (ap (λ vote. vote.definition) same)))
+
+-- messages with equal texts are equal
+pub texts_apart : (m n : Message Definition) → IsMessage m → IsMessage n → texts m ≡ texts n → m ≡ n
+texts_apart (Prepare s b) (Prepare t c) p q e = cc
+texts_apart (Prepare s b) n p q e = absurd cc
+texts_apart (Promise i s b v) (Promise j t c w) p q e = let votes : v ≡ w = vote_apart v w p.3 q.3 cc in cc
+texts_apart (Promise i s b v) n p q e = absurd cc
+texts_apart (Accept s b d) (Accept t c f) p q e = let same : d ≡ f = one_definition d f p.2.is_map q.2.is_map cc in cc
+texts_apart (Accept s b d) n p q e = absurd cc
+texts_apart (Accepted i s b) (Accepted j t c) p q e = cc
+texts_apart (Accepted i s b) n p q e = absurd cc
+texts_apart (Nack i s b x) (Nack j t c y) p q e = cc
+texts_apart (Nack i s b x) n p q e = absurd cc
+texts_apart (Chosen s d) (Chosen t f) p q e = let same : d ≡ f = one_definition d f p.1.is_map q.1.is_map cc in cc
+texts_apart (Chosen s d) n p q e = absurd cc
+texts_apart (Ask s) (Ask t) p q e = cc
+texts_apart (Ask s) n p q e = absurd cc
+
+vote_not_bad : (v : Option (Vote Definition)) → IsVoteOf HasText v → IsSomeAnd (vote_with canon v) (λ vote. IsNoText vote.definition) → ⊥
+vote_not_bad None p bad = bad
+vote_not_bad (Some v) p bad = bad v.definition p.1 refl
+
+-- a message's texts are canonical
+pub not_bad : (m : Message Definition) → IsMessage m → HasBadText (texts m) → ⊥
+not_bad (Prepare s b) p bad = bad
+not_bad (Promise i s b v) p bad = vote_not_bad v p.3 bad
+not_bad (Accept s b d) p bad = bad d p.2 refl
+not_bad (Accepted i s b) p bad = bad
+not_bad (Nack i s b q) p bad = bad
+not_bad (Chosen s d) p bad = bad d p.1 refl
+not_bad (Ask s) p bad = bad

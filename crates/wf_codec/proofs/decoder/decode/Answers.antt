@@ -1,0 +1,19 @@
+use Rattle.std.proofs.Common.{arith}
+use Rattle.wf_codec.specs.Message.{view}
+use Rattle.wf_codec.proofs.Judged.{begins, whole_is_read, refused, short_unfinished, unfinished_short, short_is_none}
+use Rattle.wf_codec.proofs.decoder.decode.Goals as goal
+
+pub returns-clause-read : goal.returns-clause-read
+returns-clause-read c = begins view c.judge.result c.args.bytes.now (λ i. omega (arith, c.type_inv.bytes i)) c.judge.ensures
+
+pub returns-clause-each : goal.returns-clause-each
+returns-clause-each c = whole_is_read view c.judge.result c.args.bytes.now c.judge.ensures
+
+pub returns-clause-refused : goal.returns-clause-refused
+returns-clause-refused c = refused view c.judge.result c.args.bytes.now (λ i. omega (arith, c.type_inv.bytes i)) c.judge.ensures
+
+pub returns-clause-short : goal.returns-clause-short
+returns-clause-short c = (short_unfinished view c.judge.result c.args.bytes.now c.judge.ensures, unfinished_short view c.judge.result c.args.bytes.now c.judge.ensures)
+
+pub returns-clause-none_yet : goal.returns-clause-none_yet
+returns-clause-none_yet c = short_is_none view c.judge.result c.args.bytes.now c.judge.ensures

@@ -1,0 +1,5 @@
+use Rattle.wf_codec.proofs.Judged.{none_begins_another}
+use Rattle.wf_codec.proofs.law.none_begins_another.Goals as goal
+
+pub returns : goal.returns
+returns c = none_begins_another

@@ -1,0 +1,126 @@
+-- Bytes are judged from left to right, as early as they are there: which fault is found first.
+use Rattle.std.specs.Prelude.{◌≡◌, ℕ, ◌+◌, ◌<◌, ◌⊎◌, nat_lt, ◌==◌, List, [], ◌∷◌, length, take, drop, zero, suc, Bool, true, Option, Some, None, Result, Ok, Err, ok_or, option_and_then, IsSomeAnd, if◌then◌else◌}
+use Rattle.std.specs.Int.{w32, from_be_bytes}
+use Rattle.wf_ballot.specs.Ballot.{Ballot}
+use Rattle.wf_ballot.specs.Front.{front_node, front_slot, front_ballot}
+use Rattle.wf_model.specs.Message.{Message, Prepare, Promise, Accept, Accepted, Nack, Chosen, Ask, Vote}
+use Rattle.wf_def.specs.Definition.{Definition}
+use Rattle.wf_canon.specs.Canon.{canon}
+use Rattle.wf_codec.specs.declared.kind.Kind.{Kind}
+use Rattle.wf_codec.specs.declared.kind.Kind.TheVariants as kinds
+use Rattle.wf_codec.specs.declared.fault.DecodeFault.{DecodeFault}
+use Rattle.wf_codec.specs.declared.fault.DecodeFault.TheVariants.{Short, BadVersion, BadKind, BadField, NotCanonical, TooLong, Memory}
+use Rattle.wf_codec.specs.Kind.{most_body, kind_of_byte, can_have}
+use Rattle.wf_codec.specs.Spelling.{message_version}
+use Rattle.wf_codec.specs.Message.{view_vote, vote_with, texts, HasText, IsVoteOf, IsMessage}
+
+-- ---- the header
+
+-- behind the length: the body, where so many bytes are there
+unfoldable pub body_front : Kind → ℕ → List ℕ → Result (Kind × List ℕ) DecodeFault
+body_front kind n bytes =
+    if nat_lt most_body n then Err TooLong
+    else if can_have kind n then (if nat_lt (length bytes) n then Err Short else Ok (kind, take n bytes))
+    else Err BadField
+
+-- behind the kind's byte
+unfoldable pub length_front : Option Kind → List ℕ → Result (Kind × List ℕ) DecodeFault
+length_front None bytes = Err BadKind
+length_front (Some kind) (a ∷ b ∷ c ∷ d ∷ bytes) = body_front kind (from_be_bytes w32 (a ∷ b ∷ c ∷ d ∷ [])) bytes
+length_front (Some kind) _ = Err Short
+
+-- behind the version
+unfoldable pub kind_front : List ℕ → Result (Kind × List ℕ) DecodeFault
+kind_front [] = Err Short
+kind_front (byte ∷ bytes) = length_front (kind_of_byte byte) bytes
+
+-- the kind and the body of the frame at the front of bytes
+unfoldable pub frame_front : List ℕ → Result (Kind × List ℕ) DecodeFault
+frame_front [] = Err Short
+frame_front (version ∷ bytes) = if version == message_version then kind_front bytes else Err BadVersion
+
+-- ---- the fields
+
+infixl 10 ◌>>=◌
+abbrev pub ◌>>=◌ : {A B : Type 0} → Option A → (A → Option B) → Option B
+o >>= f = option_and_then f o
+
+-- the vote behind its mark: a mark that the body's length denies is wrong
+unfoldable pub vote_of : List ℕ → Option (Option (Vote (List ℕ)))
+vote_of [] = None
+vote_of (zero ∷ []) = Some None
+vote_of (zero ∷ byte ∷ bytes) = None
+vote_of (suc zero ∷ bytes) = do
+  ballot ← front_ballot bytes
+  Some (Some (record { ballot = ballot.0; definition = ballot.1 }))
+vote_of (suc (suc mark) ∷ bytes) = None
+
+-- the message of this kind that has this body, with texts for its definitions; the length is one that the kind can have
+unfoldable pub fields_of : Kind → List ℕ → Option (Message (List ℕ))
+fields_of kinds.Prepare bytes = do
+  s ← front_slot bytes
+  b ← front_ballot s.1
+  Some (Prepare s.0 b.0)
+fields_of kinds.Promise bytes = do
+  i ← front_node bytes
+  s ← front_slot i.1
+  b ← front_ballot s.1
+  v ← vote_of b.1
+  Some (Promise i.0 s.0 b.0 v)
+fields_of kinds.Accept bytes = do
+  s ← front_slot bytes
+  b ← front_ballot s.1
+  Some (Accept s.0 b.0 b.1)
+fields_of kinds.Accepted bytes = do
+  i ← front_node bytes
+  s ← front_slot i.1
+  b ← front_ballot s.1
+  Some (Accepted i.0 s.0 b.0)
+fields_of kinds.Nack bytes = do
+  i ← front_node bytes
+  s ← front_slot i.1
+  b ← front_ballot s.1
+  q ← front_ballot b.1
+  Some (Nack i.0 s.0 b.0 q.0)
+fields_of kinds.Chosen bytes = do
+  s ← front_slot bytes
+  Some (Chosen s.0 s.1)
+fields_of kinds.Ask bytes = do
+  s ← front_slot bytes
+  Some (Ask s.0)
+
+-- ---- the whole
+
+-- no message has this text
+abbrev pub IsNoText : List ℕ → Type 0
+IsNoText text = (d : Definition) → HasText d → canon d ≡ text → ⊥
+
+-- the canonical text of a definition within the limits, no such text, or no memory
+abbrev pub ReadsText : Result Definition DecodeFault → List ℕ → Type 0
+ReadsText (Ok d) text = (canon d ≡ text) × HasText d
+ReadsText (Err NotCanonical) text = IsNoText text
+ReadsText (Err Memory) text = Unit {0}
+ReadsText (Err fault) text = ⊥
+
+-- the vote that stands there, and whether its text is canonical
+abbrev pub ReadsVote : Result (Option (Ballot × Definition)) DecodeFault → Option (Option (Vote (List ℕ))) → Type 0
+ReadsVote (Ok v) vote = (vote ≡ Some (vote_with canon (view_vote v))) × IsVoteOf HasText (view_vote v)
+ReadsVote (Err BadField) vote = vote ≡ None
+ReadsVote (Err NotCanonical) vote = IsSomeAnd vote (λ v. IsSomeAnd v (λ x. IsNoText x.definition))
+ReadsVote (Err Memory) vote = Unit {0}
+ReadsVote (Err fault) vote = ⊥
+
+-- the message has a text that is no definition's
+abbrev pub HasBadText : Message (List ℕ) → Type 0
+HasBadText (Promise i s b v) = IsSomeAnd v (λ vote. IsNoText vote.definition)
+HasBadText (Accept s b text) = IsNoText text
+HasBadText (Chosen s text) = IsNoText text
+HasBadText m = ⊥
+
+-- what a function that reads a body returned, seen by view, against the fields that stand there
+abbrev pub ReadsAs : {X : Type 0} → (X → Message Definition) → Result X DecodeFault → Option (Message (List ℕ)) → Type 0
+ReadsAs view (Ok x) fields = (fields ≡ Some (texts (view x))) × IsMessage (view x)
+ReadsAs view (Err BadField) fields = fields ≡ None
+ReadsAs view (Err NotCanonical) fields = IsSomeAnd fields HasBadText
+ReadsAs view (Err Memory) fields = Unit {0}
+ReadsAs view (Err fault) fields = ⊥

@@ -1,0 +1,64 @@
+-- What message bytes promise: one spelling a message, none of which begins another, and what stands at the front of bytes.
+use Rattle.std.specs.Prelude.{◌≡◌, ℕ, ◌+◌, ◌<◌, ◌≤◌, ◌⊎◌, List, [], ◌∷◌, ◌++◌, length, take, true, Result, Ok, Err, IfOk, MatchResult}
+use Rattle.std.specs.Int.{w32, from_be_bytes}
+use Rattle.wf_model.specs.Message.{Message}
+use Rattle.wf_def.specs.Definition.{Definition}
+use Rattle.wf_codec.specs.declared.kind.Kind.{Kind}
+use Rattle.wf_codec.specs.declared.fault.DecodeFault.{DecodeFault}
+use Rattle.wf_codec.specs.declared.fault.DecodeFault.TheVariants.{Short, Memory}
+use Rattle.wf_codec.specs.Kind.{kind_byte, can_have}
+use Rattle.wf_codec.specs.Spelling.{message_version, header_length, Spells}
+use Rattle.wf_codec.specs.Judging.{fields_of, ReadsAs}
+
+-- a message has one spelling
+abbrev pub OneSpelling : Type 0
+OneSpelling = (m : Message Definition) (a b : List ℕ) → Spells m a → Spells m b → a ≡ b
+
+-- No spelling begins another: bytes that begin with a message's spelling begin with no other message's, and what follows is the same.
+abbrev pub NoneBeginsAnother : Type 0
+NoneBeginsAnother = (m n : Message Definition) (a b after_a after_b : List ℕ) → Spells m a → Spells n b →
+    a ++ after_a ≡ b ++ after_b → (m ≡ n) × (a ≡ b) × (after_a ≡ after_b)
+
+-- the first k bytes spell the message
+pub record BeginsWith (bytes : List ℕ) (m : Message Definition) (k : ℕ) : Type 0 where
+  pub within : k ≤ length bytes
+  pub spells : Spells m (take k bytes)
+
+-- no beginning of the bytes spells a message
+abbrev pub BeginsWithNone : List ℕ → Type 0
+BeginsWithNone bytes = (m : Message Definition) (spelled after : List ℕ) → Spells m spelled → bytes ≡ spelled ++ after → ⊥
+
+-- no continuation of the bytes begins with a message
+abbrev pub NeverBegins : List ℕ → Type 0
+NeverBegins bytes = (more : List ℕ) → BeginsWithNone (bytes ++ more)
+
+-- faults that no further bytes can mend
+abbrev pub IsRefusal : DecodeFault → Type 0
+IsRefusal Short = ⊥
+IsRefusal Memory = ⊥
+IsRefusal fault = Unit {0}
+
+-- the length of the body, as the four bytes at the front state it
+abbrev pub stated_length : List ℕ → ℕ
+stated_length bytes = from_be_bytes w32 (take 4 bytes)
+
+-- The header isn't whole, or it states a length that the kind can have and the body isn't whole.
+abbrev pub LacksBody : Kind → List ℕ → Type 0
+LacksBody kind bytes = (length bytes < 4) ⊎ ((can_have kind (stated_length bytes) ≡ true) × (length bytes < 4 + stated_length bytes))
+
+-- Less than a whole message, with nothing wrong in its version, its kind and its length as far as they are there; the length is
+-- judged once its four bytes are there.
+abbrev pub IsUnfinished : List ℕ → Type 0
+IsUnfinished [] = Unit {0}
+IsUnfinished (version ∷ []) = version ≡ message_version
+IsUnfinished (version ∷ byte ∷ bytes) = (version ≡ message_version) × ((kind : Kind) × (byte ≡ kind_byte kind) × LacksBody kind bytes)
+
+-- the message and its length, unless memory ran out
+abbrev pub IsReadAs : {X : Type 0} → (X → Message Definition) → Result (X × ℕ) DecodeFault → Message Definition → ℕ → Type 0
+IsReadAs view result m k = MatchResult result (λ x. (view x.0 ≡ m) × (x.1 ≡ k)) (λ e. e ≡ Memory)
+
+-- Which fault is answered: the frame's first one, else the fields' first one, else the text's.
+abbrev pub IsJudged : {X : Type 0} → (X → Message Definition) → Result (X × ℕ) DecodeFault → Result (Kind × List ℕ) DecodeFault → Type 0
+IsJudged view result split = MatchResult split
+    (λ frame. ReadsAs (λ x. view x.0) result (fields_of frame.0 frame.1) × IfOk result (λ x. x.1 ≡ header_length + length frame.1))
+    (λ fault. result ≡ Err fault)

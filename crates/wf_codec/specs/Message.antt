@@ -1,0 +1,67 @@
+-- A message as the farm's model has it, with definitions or with their canonical texts.
+use Rattle.std.specs.Prelude.{ℕ, ◌≤◌, List, length, Option, option_map, IfSome}
+use Rattle.wf_ballot.specs.Node.{IsNode}
+use Rattle.wf_ballot.specs.Slot.{IsSlot}
+use Rattle.wf_ballot.specs.Ballot.{Ballot, IsBallot}
+use Rattle.wf_model.specs.Message.{Vote}
+use Rattle.wf_model.specs.Message as model
+use Rattle.wf_def.specs.Definition.{Definition}
+use Rattle.wf_canon.specs.Canon.{canon, IsMap}
+use Rattle.wf_codec.specs.Kind.{most_text}
+use Rattle.wf_codec.specs.declared.message.Message.{Message}
+use Rattle.wf_codec.specs.declared.message.Message.TheVariants as code
+
+-- a vote of the program as the model's
+abbrev pub view_vote : Option (Ballot × Definition) → Option (Vote Definition)
+view_vote v = option_map (λ vote. record { ballot = vote.0; definition = vote.1 }) v
+
+-- a message of the program as the model's
+abbrev pub view : Message → model.Message Definition
+view (code.Prepare s b) = model.Prepare s b
+view (code.Promise i s b v) = model.Promise i s b (view_vote v)
+view (code.Accept s b d) = model.Accept s b d
+view (code.Accepted i s b) = model.Accepted i s b
+view (code.Nack i s b q) = model.Nack i s b q
+view (code.Chosen s d) = model.Chosen s d
+view (code.Ask s) = model.Ask s
+
+-- the vote with f of its definition in the definition's place
+abbrev pub vote_with : {V W : Type 0} → (V → W) → Option (Vote V) → Option (Vote W)
+vote_with f v = option_map (λ vote. record { ballot = vote.ballot; definition = f vote.definition }) v
+
+-- the message with f of each definition in the definition's place
+abbrev pub with_each : {V W : Type 0} → (V → W) → model.Message V → model.Message W
+with_each f (model.Prepare s b) = model.Prepare s b
+with_each f (model.Promise i s b v) = model.Promise i s b (vote_with f v)
+with_each f (model.Accept s b d) = model.Accept s b (f d)
+with_each f (model.Accepted i s b) = model.Accepted i s b
+with_each f (model.Nack i s b q) = model.Nack i s b q
+with_each f (model.Chosen s d) = model.Chosen s (f d)
+with_each f (model.Ask s) = model.Ask s
+
+-- the message with canonical texts
+abbrev pub texts : model.Message Definition → model.Message (List ℕ)
+texts m = with_each canon m
+
+-- a map whose canonical text has at most 32,768 bytes
+pub record HasText (d : Definition) : Type 0 where
+  pub is_map : IsMap d
+  pub short : length (canon d) ≤ most_text
+
+-- the vote's ballot is in its range, and P holds of its definition
+abbrev pub IsVoteOf : {V : Type 0} → (V → Type 0) → Option (Vote V) → Type 0
+IsVoteOf P v = IfSome v (λ vote. IsBallot vote.ballot × P vote.definition)
+
+-- A message's numbers are in their ranges, sequences from 1 on, and P holds of each of its definitions.
+abbrev pub IsMessageOf : {V : Type 0} → (V → Type 0) → model.Message V → Type 0
+IsMessageOf P (model.Prepare s b) = IsSlot s × IsBallot b
+IsMessageOf P (model.Promise i s b v) = IsNode i × IsSlot s × IsBallot b × IsVoteOf P v
+IsMessageOf P (model.Accept s b d) = IsSlot s × IsBallot b × P d
+IsMessageOf P (model.Accepted i s b) = IsNode i × IsSlot s × IsBallot b
+IsMessageOf P (model.Nack i s b q) = IsNode i × IsSlot s × IsBallot b × IsBallot q
+IsMessageOf P (model.Chosen s d) = IsSlot s × P d
+IsMessageOf P (model.Ask s) = IsSlot s
+
+-- a message that has a spelling
+abbrev pub IsMessage : model.Message Definition → Type 0
+IsMessage m = IsMessageOf HasText m

@@ -1,0 +1,187 @@
+ghost use Rattle.std.specs.Prelude.{◌≡◌, ◌++◌, ◌↔◌, length, IfOk, IfErr, IsErrOf};
+ghost use Rattle.wf_codec.specs.declared.kind.Kind.TheVariants as kinds;
+ghost use Rattle.wf_codec.specs.Message.{view};
+ghost use Rattle.wf_codec.specs.Spelling.{Spells};
+ghost use Rattle.wf_codec.specs.Judging.{frame_front, fields_of, vote_of, ReadsAs, ReadsVote, ReadsText};
+ghost use Rattle.wf_codec.specs.Law.{BeginsWith, BeginsWithNone, NeverBegins, IsRefusal, IsUnfinished, IsReadAs, IsJudged};
+
+use crate::fault::DecodeFault;
+use crate::frame::{HEADER_BYTES, split_frame};
+use crate::kind::Kind;
+use crate::message::Message;
+use std::alloc::Global;
+use wf_ballot::{Ballot, split_ballot, split_node, split_slot};
+use wf_canon::{Canon, CanonFault};
+
+/// The message at the front of the bytes, and how many bytes it has. The bytes are judged from left to
+/// right, as early as they are there: the version, the kind, the body's length, whether the body is
+/// whole, its fields, then the text of a definition. What follows the message isn't looked at.
+///
+/// `Short` says that nothing is wrong so far and that more bytes are to come. `Memory` says nothing of
+/// the bytes. After any other fault no further bytes make a message of them.
+pub fn decode(alloc: Global, bytes: &[u8]) -> Result<(Message, usize), DecodeFault>
+    // What is read stands at the front, and what stands at the front is read, unless memory runs out.
+    ensures read { IfOk result (λ x. BeginsWith bytes.now (view x.0) x.1) }
+    ensures each { (m : _) (spelled after : _) → Spells m spelled → bytes.now ≡ spelled ++ after → IsReadAs view result m (length spelled) }
+
+    // What is refused never becomes a message, however it goes on.
+    ensures refused { IfErr result (λ e. IsRefusal e → NeverBegins bytes.now) }
+
+    ensures short { IsErrOf result DecodeFault.Short ↔ IsUnfinished bytes.now }
+    ensures none_yet { IsErrOf result DecodeFault.Short → BeginsWithNone bytes.now }
+
+    // Which fault it is: the first one.
+    ensures first { IsJudged view result (frame_front bytes.now) }
+{
+    judge(alloc, bytes)
+}
+
+fn judge(alloc: Global, bytes: &[u8]) -> Result<(Message, usize), DecodeFault>
+    ensures { IsJudged view result (frame_front bytes.now) }
+{
+    let (kind, body) = split_frame(bytes)?;
+    let length = body.len();
+    let message = message_of(alloc, kind, body)?;
+    Ok((message, HEADER_BYTES + length))
+}
+
+fn canon_of(alloc: Global, text: &[u8]) -> Result<Canon, DecodeFault>
+    ensures { ReadsText result text.now }
+{
+    match Canon::from_bytes(alloc, text) {
+        Ok(canon) => Ok(canon),
+        Err(CanonFault::Memory) => Err(DecodeFault::Memory),
+        Err(CanonFault::TooBig | CanonFault::NotCanonical) => Err(DecodeFault::NotCanonical),
+    }
+}
+
+#[tactic(auto, unfolding(crate::specs::Judging::fields_of))]
+fn prepare_of(body: &[u8]) -> Result<Message, DecodeFault>
+    ensures { ReadsAs view result (fields_of kinds.Prepare body.now) }
+{
+    let Some((slot, rest)) = split_slot(body) else {
+        return Err(DecodeFault::BadField);
+    };
+    let Some((ballot, _)) = split_ballot(rest) else {
+        return Err(DecodeFault::BadField);
+    };
+    Ok(Message::Prepare(slot, ballot))
+}
+
+#[tactic(auto, unfolding(crate::specs::Judging::fields_of))]
+fn promise_of(alloc: Global, body: &[u8]) -> Result<Message, DecodeFault>
+    ensures { ReadsAs view result (fields_of kinds.Promise body.now) }
+{
+    let Some((node, rest)) = split_node(body) else {
+        return Err(DecodeFault::BadField);
+    };
+    let Some((slot, rest)) = split_slot(rest) else {
+        return Err(DecodeFault::BadField);
+    };
+    let Some((ballot, rest)) = split_ballot(rest) else {
+        return Err(DecodeFault::BadField);
+    };
+    let vote = vote_of(alloc, rest)?;
+    Ok(Message::Promise(node, slot, ballot, vote))
+}
+
+#[tactic(auto, unfolding(crate::specs::Judging::vote_of))]
+fn vote_of(alloc: Global, bytes: &[u8]) -> Result<Option<(Ballot, Canon)>, DecodeFault>
+    ensures { ReadsVote result (vote_of bytes.now) }
+{
+    match bytes {
+        [0] => Ok(None),
+        [1, rest @ ..] => {
+            let Some((ballot, text)) = split_ballot(rest) else {
+                return Err(DecodeFault::BadField);
+            };
+            let canon = canon_of(alloc, text)?;
+            Ok(Some((ballot, canon)))
+        }
+        _ => Err(DecodeFault::BadField),
+    }
+}
+
+#[tactic(auto, unfolding(crate::specs::Judging::fields_of))]
+fn accept_of(alloc: Global, body: &[u8]) -> Result<Message, DecodeFault>
+    ensures { ReadsAs view result (fields_of kinds.Accept body.now) }
+{
+    let Some((slot, rest)) = split_slot(body) else {
+        return Err(DecodeFault::BadField);
+    };
+    let Some((ballot, text)) = split_ballot(rest) else {
+        return Err(DecodeFault::BadField);
+    };
+    let canon = canon_of(alloc, text)?;
+    Ok(Message::Accept(slot, ballot, canon))
+}
+
+#[tactic(auto, unfolding(crate::specs::Judging::fields_of))]
+fn accepted_of(body: &[u8]) -> Result<Message, DecodeFault>
+    ensures { ReadsAs view result (fields_of kinds.Accepted body.now) }
+{
+    let Some((node, rest)) = split_node(body) else {
+        return Err(DecodeFault::BadField);
+    };
+    let Some((slot, rest)) = split_slot(rest) else {
+        return Err(DecodeFault::BadField);
+    };
+    let Some((ballot, _)) = split_ballot(rest) else {
+        return Err(DecodeFault::BadField);
+    };
+    Ok(Message::Accepted(node, slot, ballot))
+}
+
+#[tactic(auto, unfolding(crate::specs::Judging::fields_of))]
+fn nack_of(body: &[u8]) -> Result<Message, DecodeFault>
+    ensures { ReadsAs view result (fields_of kinds.Nack body.now) }
+{
+    let Some((node, rest)) = split_node(body) else {
+        return Err(DecodeFault::BadField);
+    };
+    let Some((slot, rest)) = split_slot(rest) else {
+        return Err(DecodeFault::BadField);
+    };
+    let Some((ballot, rest)) = split_ballot(rest) else {
+        return Err(DecodeFault::BadField);
+    };
+    let Some((promised, _)) = split_ballot(rest) else {
+        return Err(DecodeFault::BadField);
+    };
+    Ok(Message::Nack(node, slot, ballot, promised))
+}
+
+#[tactic(auto, unfolding(crate::specs::Judging::fields_of))]
+fn chosen_of(alloc: Global, body: &[u8]) -> Result<Message, DecodeFault>
+    ensures { ReadsAs view result (fields_of kinds.Chosen body.now) }
+{
+    let Some((slot, text)) = split_slot(body) else {
+        return Err(DecodeFault::BadField);
+    };
+    let canon = canon_of(alloc, text)?;
+    Ok(Message::Chosen(slot, canon))
+}
+
+#[tactic(auto, unfolding(crate::specs::Judging::fields_of))]
+fn ask_of(body: &[u8]) -> Result<Message, DecodeFault>
+    ensures { ReadsAs view result (fields_of kinds.Ask body.now) }
+{
+    let Some((slot, _)) = split_slot(body) else {
+        return Err(DecodeFault::BadField);
+    };
+    Ok(Message::Ask(slot))
+}
+
+fn message_of(alloc: Global, kind: Kind, body: &[u8]) -> Result<Message, DecodeFault>
+    ensures { ReadsAs view result (fields_of kind body.now) }
+{
+    match kind {
+        Kind::Prepare => prepare_of(body),
+        Kind::Promise => promise_of(alloc, body),
+        Kind::Accept => accept_of(alloc, body),
+        Kind::Accepted => accepted_of(body),
+        Kind::Nack => nack_of(body),
+        Kind::Chosen => chosen_of(alloc, body),
+        Kind::Ask => ask_of(body),
+    }
+}

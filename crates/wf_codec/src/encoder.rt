@@ -1,0 +1,172 @@
+ghost use Rattle.std.specs.Prelude.{◌≡◌, ◌+◌, ◌≤◌, ◌++◌, length, vec_len, vec_capacity, OnOk, OnErr};
+ghost use Rattle.wf_codec.specs.Message.{view, view_vote, vote_with, texts, HasText, IsVoteOf, IsMessage};
+ghost use Rattle.wf_codec.specs.Spelling.{kind_of, vote_bytes, body, text_spelling, spelling};
+ghost use Rattle.wf_canon.specs.Canon.{canon};
+
+use crate::frame::{BODY_BYTES, HEADER_BYTES, VERSION};
+use crate::kind::Kind;
+use crate::message::Message;
+use std::alloc::AllocError;
+use wf_ballot::Ballot;
+use wf_canon::Canon;
+
+/// Appends the message's one spelling. An error, where a growth was refused, leaves the bytes as they
+/// were.
+pub fn encode(message: &Message, out: &mut Vec<u8>) -> Result<(), AllocError>
+    ensures ok { OnOk result (out.new.items ≡ out.old.items ++ spelling (view message.now)) }
+    ensures err { OnErr result (out.new.items ≡ out.old.items) }
+    ensures is_message { IsMessage (view message.now) }
+{
+    let length = body_length(message);
+    out.reserve(HEADER_BYTES + length)?;
+    put(out, &[VERSION, kind_of(message).byte()]);
+    put(out, &(length as u32).to_be_bytes());
+    put_body(out, message);
+    Ok(())
+}
+
+/// The message's kind.
+fn kind_of(message: &Message) -> Kind
+    ensures { result ≡ kind_of (view message.now) }
+{
+    match message {
+        Message::Prepare(..) => Kind::Prepare,
+        Message::Promise(..) => Kind::Promise,
+        Message::Accept(..) => Kind::Accept,
+        Message::Accepted(..) => Kind::Accepted,
+        Message::Nack(..) => Kind::Nack,
+        Message::Chosen(..) => Kind::Chosen,
+        Message::Ask(..) => Kind::Ask,
+    }
+}
+
+/// How many bytes the message's body has.
+#[tactic(auto, using(crate::proofs::Fields::body_has_length, crate::proofs::Fields::promise_has_length))]
+fn body_length(message: &Message) -> usize
+    ensures value { result ≡ length (body (texts (view message.now))) }
+    ensures most { result ≤ BODY_BYTES }
+    ensures is_message { IsMessage (view message.now) }
+{
+    match message {
+        Message::Prepare(slot, ballot) => {
+            let _ = (slot.seq(), ballot.round());
+            7
+        }
+        Message::Promise(node, slot, ballot, vote) => {
+            let _ = (node.number(), slot.seq(), ballot.round());
+            8 + vote_length(vote)
+        }
+        Message::Accept(slot, ballot, canon) => {
+            let _ = (slot.seq(), ballot.round());
+            7 + text_length(canon)
+        }
+        Message::Accepted(node, slot, ballot) => {
+            let _ = (node.number(), slot.seq(), ballot.round());
+            8
+        }
+        Message::Nack(node, slot, ballot, promised) => {
+            let _ = (node.number(), slot.seq(), ballot.round(), promised.round());
+            13
+        }
+        Message::Chosen(slot, canon) => {
+            let _ = slot.seq();
+            2 + text_length(canon)
+        }
+        Message::Ask(slot) => {
+            let _ = slot.seq();
+            2
+        }
+    }
+}
+
+/// How many bytes a vote has, with its mark.
+#[tactic(auto, using(crate::proofs::Fields::vote_has_length))]
+fn vote_length(vote: &Option<(Ballot, Canon)>) -> usize
+    ensures value { result ≡ length (vote_bytes (vote_with canon (view_vote vote.now))) }
+    ensures most { 8 + result ≤ BODY_BYTES }
+    ensures is_vote { IsVoteOf HasText (view_vote vote.now) }
+{
+    match vote {
+        None => 1,
+        Some((ballot, canon)) => {
+            let _ = ballot.round();
+            6 + text_length(canon)
+        }
+    }
+}
+
+/// How many bytes a canonical text has.
+fn text_length(text: &Canon) -> usize
+    ensures value { result ≡ length (canon text.now) }
+    ensures has_text { HasText text.now }
+{
+    let _ = text.def();
+    text.text().len()
+}
+
+/// Appends bytes for which there is room.
+fn put(out: &mut Vec<u8>, bytes: &[u8])
+    requires { vec_len out.old + length bytes.now ≤ vec_capacity out.old }
+    ensures items { out.new.items ≡ out.old.items ++ bytes.now }
+    ensures len { vec_len out.new ≡ vec_len out.old + length bytes.now }
+    ensures capacity { vec_capacity out.old ≤ vec_capacity out.new }
+{
+    out.extend_from_slice(bytes).unwrap();
+}
+
+/// Appends the body, for which there is room.
+#[tactic(auto, using(crate::proofs::Fields::body_has_length), unfolding(crate::specs::Spelling::body))]
+fn put_body(out: &mut Vec<u8>, message: &Message)
+    requires { vec_len out.old + length (body (texts (view message.now))) ≤ vec_capacity out.old }
+    ensures { out.new.items ≡ out.old.items ++ body (texts (view message.now)) }
+{
+    match message {
+        Message::Prepare(slot, ballot) => {
+            put(out, &slot.bytes());
+            put(out, &ballot.bytes());
+        }
+        Message::Promise(node, slot, ballot, vote) => {
+            put(out, &node.bytes());
+            put(out, &slot.bytes());
+            put(out, &ballot.bytes());
+            put_vote(out, vote);
+        }
+        Message::Accept(slot, ballot, canon) => {
+            put(out, &slot.bytes());
+            put(out, &ballot.bytes());
+            put(out, canon.text());
+        }
+        Message::Accepted(node, slot, ballot) => {
+            put(out, &node.bytes());
+            put(out, &slot.bytes());
+            put(out, &ballot.bytes());
+        }
+        Message::Nack(node, slot, ballot, promised) => {
+            put(out, &node.bytes());
+            put(out, &slot.bytes());
+            put(out, &ballot.bytes());
+            put(out, &promised.bytes());
+        }
+        Message::Chosen(slot, canon) => {
+            put(out, &slot.bytes());
+            put(out, canon.text());
+        }
+        Message::Ask(slot) => put(out, &slot.bytes()),
+    }
+}
+
+/// Appends a vote with its mark, for which there is room.
+#[tactic(auto, using(crate::proofs::Fields::vote_has_length), unfolding(crate::specs::Spelling::vote_bytes))]
+fn put_vote(out: &mut Vec<u8>, vote: &Option<(Ballot, Canon)>)
+    requires { vec_len out.old + length (vote_bytes (vote_with canon (view_vote vote.now))) ≤ vec_capacity out.old }
+    ensures { out.new.items ≡ out.old.items ++ vote_bytes (vote_with canon (view_vote vote.now)) }
+{
+    match vote {
+        None => put(out, &[0]),
+        Some((ballot, canon)) => {
+            put(out, &[1]);
+            put(out, &ballot.bytes());
+            put(out, canon.text());
+        }
+    }
+}

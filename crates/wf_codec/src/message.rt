@@ -1,0 +1,55 @@
+ghost use Rattle.std.specs.Prelude.{◌≡◌, IfOk};
+
+use std::alloc::AllocError;
+use wf_ballot::{Ballot, NodeId, Slot};
+use wf_canon::Canon;
+
+/// What nodes say to one another. A message names no addressee, since the network may hand any message
+/// to any node.
+#[derive(Debug, Drop)]
+pub enum Message {
+    /// Asks to promise the ballot at the slot.
+    Prepare(Slot, Ballot),
+    /// The node promises the ballot at the slot, and tells its vote there, if it has one.
+    Promise(NodeId, Slot, Ballot, Option<(Ballot, Canon)>),
+    /// Asks to vote for the definition at the slot and the ballot.
+    Accept(Slot, Ballot, Canon),
+    /// The node voted at the slot and the ballot.
+    Accepted(NodeId, Slot, Ballot),
+    /// The node refuses the ballot at the slot, since it promised the second ballot there.
+    Nack(NodeId, Slot, Ballot, Ballot),
+    /// The definition is chosen at the slot.
+    Chosen(Slot, Canon),
+    /// Asks for what is chosen from the slot on.
+    Ask(Slot),
+}
+
+impl Message {
+    /// An equal message; an error where a growth was refused.
+    pub fn copy(&self) -> Result<Message, AllocError>
+        ensures { IfOk result (λ m. m ≡ self.now) }
+    {
+        Ok(match self {
+            Message::Prepare(slot, ballot) => Message::Prepare(*slot, *ballot),
+            Message::Promise(node, slot, ballot, vote) => {
+                Message::Promise(*node, *slot, *ballot, copy_vote(vote)?)
+            }
+            Message::Accept(slot, ballot, canon) => Message::Accept(*slot, *ballot, canon.copy()?),
+            Message::Accepted(node, slot, ballot) => Message::Accepted(*node, *slot, *ballot),
+            Message::Nack(node, slot, ballot, promised) => {
+                Message::Nack(*node, *slot, *ballot, *promised)
+            }
+            Message::Chosen(slot, canon) => Message::Chosen(*slot, canon.copy()?),
+            Message::Ask(slot) => Message::Ask(*slot),
+        })
+    }
+}
+
+fn copy_vote(vote: &Option<(Ballot, Canon)>) -> Result<Option<(Ballot, Canon)>, AllocError>
+    ensures { IfOk result (λ v. v ≡ vote.now) }
+{
+    match vote {
+        None => Ok(None),
+        Some((ballot, canon)) => Ok(Some((*ballot, canon.copy()?))),
+    }
+}

@@ -1,0 +1,2 @@
+pub mod HeardSets
+pub mod Begun

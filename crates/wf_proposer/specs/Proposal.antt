@@ -1,0 +1,26 @@
+-- A running proposal, as the farm's model has it.
+use Rattle.std.specs.Prelude.{ℕ, Bool, Option}
+use Rattle.wf_def.specs.Definition.{Definition}
+use Rattle.wf_codec.specs.Message.{view_vote}
+use Rattle.wf_model.specs.Working as model
+use Rattle.wf_proposer.specs.Heard.{among}
+use Rattle.wf_proposer.specs.declared.proposal.Phase.{Phase}
+use Rattle.wf_proposer.specs.declared.proposal.Phase.TheVariants.{Preparing, Accepting}
+use Rattle.wf_proposer.specs.declared.proposal.Proposal.{Proposal}
+
+abbrev pub phase_of : Phase → model.Phase
+phase_of Preparing = model.Preparing
+phase_of Accepting = model.Accepting
+
+-- the running proposal, its list of heard nodes as the set of its members
+abbrev pub proposal_of : Proposal → model.Proposal Definition
+proposal_of p =
+    record {
+      sequence = p.slot;
+      ballot = p.ballot;
+      own = p.own;
+      phase = phase_of p.phase;
+      heard = among p.heard;
+      best = view_vote p.best;
+      seen = p.seen;
+    }

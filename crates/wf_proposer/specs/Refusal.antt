@@ -1,0 +1,18 @@
+-- Refusals, as the table has them.
+use Rattle.std.specs.Prelude.{Option, Some, None, Result, Ok, Err}
+use Rattle.wf_model.specs.Table as table
+use Rattle.wf_proposer.specs.Next.{Next}
+use Rattle.wf_proposer.specs.declared.refusal.Refusal.{Refusal}
+use Rattle.wf_proposer.specs.declared.refusal.Refusal.TheVariants.{Busy, Nothing, RoundsFull, Memory}
+
+-- the table's refusal; want of memory is none of the table's
+abbrev pub refusal_of : Refusal → Option table.Refusal
+refusal_of Busy = Some table.Busy
+refusal_of Nothing = Some table.NothingToRetry
+refusal_of RoundsFull = Some table.RoundsFull
+refusal_of Memory = None
+
+-- the table's refusal that was answered, None for a Next and for want of memory
+abbrev pub refused_by : Result Next Refusal → Option table.Refusal
+refused_by (Ok next) = None
+refused_by (Err refusal) = refusal_of refusal

@@ -1,0 +1,200 @@
+ghost use Rattle.std.specs.Prelude.{◌≡◌, ◌+◌, ◌<◌, true, Err, IfOk, IsErr};
+ghost use Rattle.wf_ballot.specs.Sequence.{last_sequence};
+ghost use Rattle.wf_codec.specs.Message.{view_vote};
+ghost use Rattle.wf_def.specs.Definition.{Definition};
+ghost use Rattle.wf_model.specs.Fits.{IsForNext};
+ghost use Rattle.wf_model.specs.Stored.{Stored};
+ghost use Rattle.wf_model.specs.Table as table;
+ghost use Rattle.wf_model.specs.Working as model;
+ghost use Rattle.wf_proposer.specs.Change.{changed};
+ghost use Rattle.wf_proposer.specs.Proposer.{HasStored, RunsForNoOther, is_heard, row_of, working_of};
+ghost use Rattle.wf_proposer.specs.Refusal.{refused_by};
+ghost use Rattle.wf_proposer.specs.Same.{same_text, SameTextIsEquality};
+ghost use Rattle.wf_proposer.specs.Standing.{standing_of};
+ghost use Rattle.wf_proposer.specs.declared.working.Working.TheVariants.{Idle};
+
+use crate::change::Change;
+use crate::next::Next;
+use crate::proposal::Proposal;
+use crate::proposer::Proposer;
+use crate::refusal::Refusal;
+use crate::standing::Standing;
+use crate::working::Working;
+use std::alloc::Global;
+use wf_ballot::{Ballot, NodeId, Seq, Slot};
+use wf_canon::Canon;
+use wf_codec::Message;
+use wf_tape::Record;
+
+impl Proposer {
+    /// The proposer of node `id` in a farm of `n` nodes, with no proposal.
+    pub fn new(id: NodeId, n: u8) -> Proposer
+        ensures { result ≡ record { node = id; nodes = n; working = Idle } }
+    {
+        Proposer {
+            node: id,
+            nodes: n,
+            working: Working::Idle,
+        }
+    }
+
+    /// How the node's proposal stands.
+    pub fn proposal(&self) -> Standing
+        ensures { result ≡ standing_of self.now.working }
+    {
+        match &self.working {
+            Working::Idle => Standing::None,
+            Working::Running(_) => Standing::Running,
+            Working::Published(slot) => Standing::Published(*slot),
+            Working::Overtaken(slot) => Standing::Overtaken(*slot),
+        }
+    }
+
+    /// A proposal of `own` begins, where round `tried` is stored and the definitions up to `published` are
+    /// published. It is refused as Busy while one runs, then as RoundsFull after the last round.
+    #[tactic(auto, unfolding(wf_model::specs::Table::refuse_proposal, wf_model::specs::Table::on_propose, wf_model::specs::Table::begin_at, wf_model::specs::Table::stores, wf_model::specs::Working::nobody, wf_model::specs::Stored::next_sequence))]
+    pub fn start(
+        &self,
+        alloc: Global,
+        tried: u32,
+        published: Seq,
+        own: Canon,
+    ) -> Result<Next, Refusal>
+        requires { published < last_sequence }
+        ensures refused { (stored : Stored Definition) → HasStored stored tried published → refused_by result ≡ table.refuse_proposal stored (working_of self.now) }
+        ensures row { (stored : Stored Definition) → HasStored stored tried published → IfOk result (λ next. row_of self.now next ≡ table.on_propose self.now.node stored own) }
+    {
+        match &self.working {
+            Working::Running(_) => Err(Refusal::Busy),
+            Working::Idle => Proposal::first(alloc, self.node, slot_after(published), own, tried),
+            Working::Published(_) => {
+                Proposal::first(alloc, self.node, slot_after(published), own, tried)
+            }
+            Working::Overtaken(_) => {
+                Proposal::first(alloc, self.node, slot_after(published), own, tried)
+            }
+        }
+    }
+
+    /// The running proposal begins anew in a higher round, where round `tried` is stored. It is refused as
+    /// Nothing while none runs, and as RoundsFull where the last round was tried or told.
+    #[tactic(auto, unfolding(wf_model::specs::Table::refuse_retry, wf_model::specs::Table::on_retry, wf_model::specs::Table::round_known, wf_model::specs::Table::begin_at, wf_model::specs::Table::stores, wf_model::specs::Working::nobody))]
+    pub fn retry(&self, alloc: Global, tried: u32) -> Result<Next, Refusal>
+        ensures refused { (stored : Stored Definition) → stored.tried ≡ tried → refused_by result ≡ table.refuse_retry stored (working_of self.now) }
+        ensures row { (stored : Stored Definition) → stored.tried ≡ tried → IsForNext stored (working_of self.now) → IfOk result (λ next. row_of self.now next ≡ table.on_retry self.now.node stored (working_of self.now)) }
+    {
+        match &self.working {
+            Working::Running(proposal) => proposal.again(alloc, self.node, tried),
+            Working::Idle => Err(Refusal::Nothing),
+            Working::Published(_) => Err(Refusal::Nothing),
+            Working::Overtaken(_) => Err(Refusal::Nothing),
+        }
+    }
+
+    /// A Promise of `from` came. Memory is the only refusal, and it comes only where the answer is heard.
+    #[tactic(auto, unfolding(wf_model::specs::Table::on_promise, wf_model::specs::Table::quiet))]
+    pub fn on_promise(
+        &self,
+        alloc: Global,
+        from: NodeId,
+        slot: Slot,
+        ballot: Ballot,
+        vote: Option<(Ballot, Canon)>,
+    ) -> Result<Next, Refusal>
+        ensures memory { IsErr result → (is_heard self.now.nodes (working_of self.now) model.Preparing from slot ballot ≡ true) × (result ≡ Err Refusal.Memory) }
+        ensures row { IfOk result (λ next. row_of self.now next ≡ table.on_promise self.now.nodes (working_of self.now) from slot ballot (view_vote vote)) }
+    {
+        match &self.working {
+            Working::Running(proposal) => {
+                proposal.on_promise(alloc, self.nodes, from, slot, ballot, vote)
+            }
+            Working::Idle => Ok(Next::quiet(alloc, Change::Nothing)),
+            Working::Published(_) => Ok(Next::quiet(alloc, Change::Nothing)),
+            Working::Overtaken(_) => Ok(Next::quiet(alloc, Change::Nothing)),
+        }
+    }
+
+    /// An Accepted of `from` came. Memory is the only refusal, and it comes only where the answer is heard.
+    #[tactic(auto, unfolding(wf_model::specs::Table::on_accepted, wf_model::specs::Table::quiet))]
+    pub fn on_accepted(
+        &self,
+        alloc: Global,
+        from: NodeId,
+        slot: Slot,
+        ballot: Ballot,
+    ) -> Result<Next, Refusal>
+        ensures memory { IsErr result → (is_heard self.now.nodes (working_of self.now) model.Accepting from slot ballot ≡ true) × (result ≡ Err Refusal.Memory) }
+        ensures row { IfOk result (λ next. row_of self.now next ≡ table.on_accepted same_text self.now.nodes (working_of self.now) from slot ballot) }
+    {
+        match &self.working {
+            Working::Running(proposal) => {
+                proposal.on_accepted(alloc, self.nodes, from, slot, ballot)
+            }
+            Working::Idle => Ok(Next::quiet(alloc, Change::Nothing)),
+            Working::Published(_) => Ok(Next::quiet(alloc, Change::Nothing)),
+            Working::Overtaken(_) => Ok(Next::quiet(alloc, Change::Nothing)),
+        }
+    }
+
+    /// A Nack came that names `promised`. It is never refused, and takes no memory.
+    #[tactic(auto, unfolding(wf_model::specs::Table::on_nack, wf_model::specs::Table::quiet))]
+    pub fn on_nack(&self, alloc: Global, slot: Slot, ballot: Ballot, promised: Ballot) -> Next
+        ensures { row_of self.now result ≡ table.on_nack (working_of self.now) slot ballot promised }
+    {
+        match &self.working {
+            Working::Running(proposal) => proposal.on_nack(alloc, slot, ballot, promised),
+            Working::Idle => Next::quiet(alloc, Change::Nothing),
+            Working::Published(_) => Next::quiet(alloc, Change::Nothing),
+            Working::Overtaken(_) => Next::quiet(alloc, Change::Nothing),
+        }
+    }
+
+    /// Makes the working part of an answer the node's, and gives back the record, which is stored by now,
+    /// and the messages to hand out. It takes no memory.
+    pub fn commit(&mut self, next: Next) -> (Option<Record>, Vec<Message>)
+        ensures working { self.new ≡ record self.old { working = changed next.change self.old.working } }
+        ensures entry { result.0 ≡ next.entry }
+        ensures messages { result.1.items ≡ next.messages }
+    {
+        let (entry, messages, change) = next.into_parts();
+        self.working.make(change);
+        (entry, messages)
+    }
+
+    /// The definition is published at the slot: a proposal that runs for the slot ends. It takes no memory.
+    #[tactic(auto, unfolding(wf_model::specs::Table::ends))]
+    pub fn on_published(&mut self, slot: Slot, canon: &Canon)
+        ensures ends { RunsForNoOther slot (working_of self.old) → working_of self.new ≡ table.ends same_text (working_of self.old) canon.now }
+        ensures other { (RunsForNoOther slot (working_of self.old) → ⊥) → self.new ≡ self.old }
+        ensures node { self.new ≡ record self.old { working = self.new.working } }
+    {
+        match &self.working {
+            Working::Running(proposal) => {
+                if proposal.slot == slot {
+                    let ended = proposal.ended(canon);
+                    self.working = ended;
+                }
+            }
+            Working::Idle => {}
+            Working::Published(_) => {}
+            Working::Overtaken(_) => {}
+        }
+    }
+}
+
+/// The slot that comes next.
+fn slot_after(published: Seq) -> Slot
+    requires { published < last_sequence }
+    ensures { result ≡ published + 1 }
+{
+    Slot::new(published.number() + 1).unwrap()
+}
+
+/// Two definitions have one canonical text exactly where they are equal. A law about the definitions: the
+/// call does nothing.
+#[tactic(auto, unfolding(crate::specs::Same::same_text))]
+pub fn same_text_is_equality()
+    ensures { SameTextIsEquality }
+{
+    wf_canon::one_text_one_map();
+}

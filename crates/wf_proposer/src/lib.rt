@@ -1,0 +1,35 @@
+//! The proposer of a node: at most one proposal, from its first Prepare to the publishing of a definition.
+//!
+//! Its model: a `Proposer` is seen as its node, the farm's number of nodes and its working part; `working_of`
+//! (`specs/Proposer.antt`) reads that as the working part of the farm's model, with the list of heard nodes
+//! as the set of its members. A `Next` is seen as its record, its messages and its change, and `row_of` reads
+//! it, beside the proposer that it answers for, as a row of the model's table.
+//!
+//! It promises that each call answers the row of the model's table, as a function of the working part and
+//! the input, and refuses exactly where the table does, want of memory aside; that a call which answers
+//! changes nothing, until `commit` makes the answered working part the node's, which takes no memory; and
+//! that an answer which isn't waited for, and each Nack, is answered without memory.
+//!
+//! It doesn't know what is stored: the caller names the round that was tried and the sequence that was
+//! published, stores the record of an answer before it commits, and hands the messages out after that.
+#![tactic(auto)]
+
+mod call;
+mod change;
+mod heard;
+mod next;
+mod proposal;
+mod proposer;
+mod refusal;
+mod row;
+mod standing;
+mod working;
+
+pub use call::same_text_is_equality;
+pub use next::Next;
+pub use proposer::Proposer;
+pub use refusal::Refusal;
+pub use standing::Standing;
+
+#[cfg(test)]
+mod tests;

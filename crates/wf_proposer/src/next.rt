@@ -1,0 +1,84 @@
+ghost use Rattle.std.specs.Prelude.{◌≡◌, None, [], ◌∷◌, IfOk};
+ghost use Rattle.std.specs.Option.{option_copied};
+
+use crate::change::Change;
+use std::alloc::{AllocError, Global};
+use std::marker::Model;
+use wf_codec::Message;
+use wf_tape::Record;
+
+/// What a proposer answers: a record to store, messages to hand out once it is stored, and the working
+/// part to come.
+#[derive(Debug, Drop)]
+pub struct Next {
+    entry: Option<Record>,
+    messages: Vec<Message>,
+    change: Change,
+}
+
+impl Model for Next {
+    ghost use Rattle.wf_proposer.specs.Next.{Next};
+
+    ghost Value = { Next };
+
+    ghost view = { λ n. record { entry = n.entry; messages = n.messages.items; change = n.change } };
+}
+
+impl Next {
+    /// Nothing to store and nothing to send.
+    pub(crate) fn quiet(alloc: Global, change: Change) -> Next
+        ensures { result ≡ record { entry = None; messages = []; change = change } }
+    {
+        Next {
+            entry: None,
+            messages: Vec::new(alloc),
+            change,
+        }
+    }
+
+    /// One message to send, once the record, if any, is stored.
+    pub(crate) fn says(
+        alloc: Global,
+        entry: Option<Record>,
+        message: Message,
+        change: Change,
+    ) -> Result<Next, AllocError>
+        ensures { IfOk result (λ next. next ≡ record { entry = entry; messages = message ∷ []; change = change }) }
+    {
+        let mut messages = Vec::new(alloc);
+        messages.push(message)?;
+        Ok(Next {
+            entry,
+            messages,
+            change,
+        })
+    }
+
+    /// The record to store before the commit, if there is one.
+    pub fn entry(&self) -> Option<&Record>
+        ensures { option_copied result ≡ self.now.entry }
+    {
+        self.entry.as_ref()
+    }
+
+    /// The messages to hand out once the record is stored.
+    pub fn messages(&self) -> &[Message]
+        ensures { result.now ≡ self.now.messages }
+    {
+        self.messages.as_slice()
+    }
+
+    /// The record, the messages and the change of the working part.
+    pub(crate) fn into_parts(self) -> (Option<Record>, Vec<Message>, Change)
+        ensures entry { result.0 ≡ self.entry }
+        ensures messages { result.1.items ≡ self.messages }
+        ensures change { result.2 ≡ self.change }
+    {
+        let Next {
+            entry,
+            messages,
+            change,
+        } = self;
+        (entry, messages, change)
+    }
+}

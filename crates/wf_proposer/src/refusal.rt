@@ -1,0 +1,51 @@
+use std::alloc::{AllocError, AllocFailed};
+use std::error::Error;
+use std::fmt;
+
+/// Why a proposer refuses. A refusal changes nothing.
+#[derive(Clone, Copy, Debug, PartialEq, Eq)]
+pub enum Refusal {
+    /// A proposal runs.
+    Busy,
+    /// No proposal runs that could be tried again.
+    Nothing,
+    /// The last round, 4,294,967,295, was tried or told: there is no higher one.
+    RoundsFull,
+    /// A growth was refused.
+    Memory,
+}
+
+impl fmt::Display for Refusal {
+    fn fmt<W: fmt::Write>(&self, f: &mut fmt::Formatter<W>) -> fmt::Result {
+        match self {
+            Refusal::Busy => write!(f, "a proposal runs"),
+            Refusal::Nothing => write!(f, "no proposal runs"),
+            Refusal::RoundsFull => write!(f, "no higher round"),
+            Refusal::Memory => write!(f, "out of memory"),
+        }
+    }
+}
+
+impl Error for Refusal {}
+
+impl From<AllocError> for Refusal {
+    ghost use Rattle.std.specs.Prelude.{◌≡◌};
+    ghost use Rattle.wf_proposer.specs.declared.refusal.Refusal.TheVariants.{Memory};
+
+    ghost from_gives = { λ _ e. e ≡ Memory };
+
+    fn from(_error: AllocError) -> Refusal {
+        Refusal::Memory
+    }
+}
+
+impl<T: Drop> From<AllocFailed<T>> for Refusal {
+    ghost use Rattle.std.specs.Prelude.{◌≡◌};
+    ghost use Rattle.wf_proposer.specs.declared.refusal.Refusal.TheVariants.{Memory};
+
+    ghost from_gives = { λ _ e. e ≡ Memory };
+
+    fn from(_failed: AllocFailed<T>) -> Refusal {
+        Refusal::Memory
+    }
+}

@@ -1,0 +1,337 @@
+ghost use Rattle.std.specs.Prelude.{max, [], ◌∷◌, ◌≡◌, ℕ, ◌+◌, ◌↔◌, true, None, Err, IfOk, IsErr, IsErrOf};
+ghost use Rattle.wf_ballot.specs.Ballot.{last_round};
+ghost use Rattle.wf_codec.specs.Message.{view_vote};
+ghost use Rattle.wf_def.specs.Definition.{Definition};
+ghost use Rattle.wf_model.specs.Message.{Chosen};
+ghost use Rattle.wf_model.specs.Stored as stored_part;
+ghost use Rattle.wf_model.specs.Working as model;
+ghost use Rattle.wf_model.specs.Table as table;
+ghost use Rattle.wf_proposer.specs.Change.{best_now};
+ghost use Rattle.wf_proposer.specs.Next.{begun, row_at};
+ghost use Rattle.wf_proposer.specs.Proposal.{phase_of, proposal_of};
+ghost use Rattle.wf_proposer.specs.Refusal.{refused_by};
+ghost use Rattle.wf_proposer.specs.Same.{same_text};
+ghost use Rattle.wf_proposer.specs.Working.{working_of};
+ghost use Rattle.wf_proposer.specs.Change.{asking, changed, with_heard, with_seen};
+ghost use Rattle.wf_proposer.specs.declared.proposal.Phase.TheVariants.{Accepting};
+ghost use Rattle.wf_proposer.specs.declared.working.Working.TheVariants.{Running};
+
+use crate::change::Change;
+use crate::heard::Heard;
+use crate::next::Next;
+use crate::proposal::{Phase, Proposal};
+use crate::refusal::Refusal;
+use crate::working::Working;
+use std::alloc::{AllocError, Global};
+use wf_ballot::{Ballot, NodeId, Slot};
+use wf_canon::Canon;
+use wf_codec::Message;
+use wf_tape::Record;
+
+impl Proposal {
+    /// A proposal of `own` begins at the ballot: its round is stored before anyone is asked for a promise.
+    pub fn begin(alloc: Global, slot: Slot, own: Canon, ballot: Ballot) -> Result<Next, AllocError>
+        ensures { IfOk result (λ next. next ≡ begun slot own ballot) }
+    {
+        let proposal = Proposal {
+            slot,
+            ballot,
+            own,
+            phase: Phase::Preparing,
+            heard: Heard::nobody(alloc),
+            best: None,
+            seen: 0,
+        };
+        let entry = Record::Tried(ballot.round());
+        let message = Message::Prepare(slot, ballot);
+        let change = Change::Becomes(Working::Running(proposal));
+        let next = Next::says(alloc, Some(entry), message, change)?;
+        Ok(next)
+    }
+
+    /// The proposal begins anew, in a round above the one tried and each one told. Its rounds may be used up.
+    #[tactic(auto, unfolding(wf_model::specs::Table::rounds_full))]
+    pub fn again(&self, alloc: Global, node: NodeId, tried: u32) -> Result<Next, Refusal>
+        ensures refused { refused_by result ≡ table.rounds_full (max tried self.now.seen) }
+        ensures row { IfOk result (λ next. next ≡ begun self.now.slot self.now.own (record { round = max tried self.now.seen + 1; node = node })) }
+    {
+        match Ballot::next(tried.max(self.seen), node) {
+            None => Err(Refusal::RoundsFull),
+            Some(ballot) => {
+                let own = self.own.copy()?;
+                let next = Proposal::begin(alloc, self.slot, own, ballot)?;
+                Ok(next)
+            }
+        }
+    }
+
+    /// The first try of a proposal of `own`, in the round after the one tried. The rounds may be used up.
+    #[tactic(auto, unfolding(wf_model::specs::Table::rounds_full))]
+    pub fn first(
+        alloc: Global,
+        node: NodeId,
+        slot: Slot,
+        own: Canon,
+        tried: u32,
+    ) -> Result<Next, Refusal>
+        ensures refused { refused_by result ≡ table.rounds_full tried }
+        ensures row { IfOk result (λ next. next ≡ begun slot own (record { round = tried + 1; node = node })) }
+    {
+        match Ballot::next(tried, node) {
+            None => Err(Refusal::RoundsFull),
+            Some(ballot) => {
+                let next = Proposal::begin(alloc, slot, own, ballot)?;
+                Ok(next)
+            }
+        }
+    }
+
+    /// These nodes are heard; and this vote, if any, is the best.
+    pub fn hear(&mut self, heard: Heard, vote: Option<(Ballot, Canon)>)
+        ensures { self.new ≡ record self.old { heard = heard; best = best_now vote self.old.best } }
+    {
+        self.heard = heard;
+        match vote {
+            None => {}
+            Some(vote) => self.best = Some(vote),
+        }
+    }
+
+    /// Votes are asked for, and nobody is heard of that; this vote, if any, is the best.
+    pub fn ask_votes(&mut self, vote: Option<(Ballot, Canon)>)
+        ensures { self.new ≡ record self.old { phase = Accepting; heard = []; best = best_now vote self.old.best } }
+    {
+        self.phase = Phase::Accepting;
+        self.heard.clear();
+        match vote {
+            None => {}
+            Some(vote) => self.best = Some(vote),
+        }
+    }
+
+    /// Is this the phase?
+    #[tactic(auto, unfolding(wf_model::specs::Working::same_phase))]
+    pub fn is_in(&self, phase: Phase) -> bool
+        ensures { result ≡ model.same_phase (phase_of self.now.phase) (phase_of phase) }
+    {
+        match self.phase {
+            Phase::Preparing => matches!(phase, Phase::Preparing),
+            Phase::Accepting => matches!(phase, Phase::Accepting),
+        }
+    }
+
+    /// Is this the proposal at the slot and the ballot?
+    #[tactic(auto, unfolding(wf_model::specs::Working::is_at, wf_model::specs::Working::same_ballot))]
+    pub fn is_at(&self, slot: Slot, ballot: Ballot) -> bool
+        ensures { result ≡ model.is_at (proposal_of self.now) slot ballot }
+    {
+        self.slot == slot && self.ballot == ballot
+    }
+
+    /// Is the answer one that the proposal waits for: to its phase, slot and ballot, from a node of the farm
+    /// that it hasn't heard?
+    #[tactic(auto, unfolding(wf_model::specs::Table::hears))]
+    pub fn hears(&self, phase: Phase, n: u8, from: NodeId, slot: Slot, ballot: Ballot) -> bool
+        ensures { result ≡ table.hears n (proposal_of self.now) (phase_of phase) from slot ballot }
+    {
+        self.is_in(phase)
+            && self.is_at(slot, ballot)
+            && from.number() < n
+            && !self.heard.contains(from.number())
+    }
+
+    /// The vote, if it is better than the best so far: at a higher ballot.
+    #[tactic(auto, unfolding(wf_model::specs::Working::better))]
+    pub fn improvement(&self, vote: Option<(Ballot, Canon)>) -> Option<(Ballot, Canon)>
+        ensures { view_vote (best_now result self.now.best) ≡ model.better (view_vote self.now.best) (view_vote vote) }
+    {
+        match vote {
+            None => None,
+            Some((ballot, canon)) => match &self.best {
+                None => Some((ballot, canon)),
+                Some((best, _)) => {
+                    if best.is_below(ballot) {
+                        Some((ballot, canon))
+                    } else {
+                        None
+                    }
+                }
+            },
+        }
+    }
+
+    /// What votes are asked for: the definition of the best vote, which is `better` where that is one, or
+    /// else the node's own.
+    #[tactic(auto, unfolding(wf_model::specs::Working::carried))]
+    pub fn carried<'a>(&'a self, better: &'a Option<(Ballot, Canon)>) -> &'a Canon
+        ensures { result.now ≡ model.carried (view_vote (best_now better.now self.now.best)) self.now.own }
+    {
+        match better {
+            Some((_, canon)) => canon,
+            None => match &self.best {
+                Some((_, canon)) => canon,
+                None => &self.own,
+            },
+        }
+    }
+
+    /// How the proposal ends where the definition is published at its slot.
+    #[tactic(auto, unfolding(wf_model::specs::Table::ended, crate::specs::Same::same_text))]
+    pub fn ended(&self, canon: &Canon) -> Working
+        ensures { working_of result ≡ table.ended same_text (proposal_of self.now) canon.now }
+    {
+        if self.own.text() == canon.text() {
+            Working::Published(self.slot)
+        } else {
+            Working::Overtaken(self.slot)
+        }
+    }
+
+    /// A node promised: it is heard, and its vote is the best if it is a better one than the best so far. Once
+    /// a majority promised, votes are asked for. An answer that the proposal doesn't wait for has no effect and
+    /// takes no memory.
+    #[tactic(auto, using(crate::proofs::HeardSets::heard_rules), unfolding(wf_model::specs::Table::on_promise, wf_model::specs::Table::with_promise, wf_model::specs::Table::quiet))]
+    pub fn on_promise(
+        &self,
+        alloc: Global,
+        n: u8,
+        from: NodeId,
+        slot: Slot,
+        ballot: Ballot,
+        vote: Option<(Ballot, Canon)>,
+    ) -> Result<Next, Refusal>
+        ensures memory { IsErr result → (table.hears n (proposal_of self.now) model.Preparing from slot ballot ≡ true) × (result ≡ Err Refusal.Memory) }
+        ensures row { IfOk result (λ next. row_at (Running self.now) next ≡ table.on_promise n (model.Running (proposal_of self.now)) from slot ballot (view_vote vote)) }
+    {
+        if !self.hears(Phase::Preparing, n, from, slot, ballot) {
+            return Ok(Next::quiet(alloc, Change::Nothing));
+        }
+        let heard = self.heard.with(from)?;
+        let better = self.improvement(vote);
+        Ok(self.promised(alloc, n, heard, better)?)
+    }
+
+    /// What follows once these nodes promised and this vote, if any, is the best.
+    #[tactic(auto, unfolding(wf_model::specs::Table::promised, wf_model::specs::Table::asking_votes, wf_model::specs::Table::says, wf_model::specs::Table::quiet, wf_model::specs::Working::nobody))]
+    fn promised(
+        &self,
+        alloc: Global,
+        n: u8,
+        heard: Heard,
+        better: Option<(Ballot, Canon)>,
+    ) -> Result<Next, AllocError>
+        ensures { IfOk result (λ next. row_at (Running self.now) next ≡ table.promised n (proposal_of (record self.now { heard = heard; best = best_now better self.now.best }))) }
+    {
+        if !heard.is_majority(n) {
+            return Ok(Next::quiet(alloc, Change::Hears(heard, better)));
+        }
+        let canon = self.carried(&better).copy()?;
+        let message = Message::Accept(self.slot, self.ballot, canon);
+        let next = Next::says(alloc, None, message, Change::AsksVotes(better))?;
+        Ok(next)
+    }
+
+    /// A node voted: it is heard. Once a majority voted, the definition is published and the proposal ends. An
+    /// answer that the proposal doesn't wait for has no effect and takes no memory.
+    #[tactic(auto, using(crate::proofs::HeardSets::heard_rules), unfolding(wf_model::specs::Table::on_accepted, wf_model::specs::Table::with_vote, wf_model::specs::Table::quiet))]
+    pub fn on_accepted(
+        &self,
+        alloc: Global,
+        n: u8,
+        from: NodeId,
+        slot: Slot,
+        ballot: Ballot,
+    ) -> Result<Next, Refusal>
+        ensures memory { IsErr result → (table.hears n (proposal_of self.now) model.Accepting from slot ballot ≡ true) × (result ≡ Err Refusal.Memory) }
+        ensures row { IfOk result (λ next. row_at (Running self.now) next ≡ table.on_accepted same_text n (model.Running (proposal_of self.now)) from slot ballot) }
+    {
+        if !self.hears(Phase::Accepting, n, from, slot, ballot) {
+            return Ok(Next::quiet(alloc, Change::Nothing));
+        }
+        let heard = self.heard.with(from)?;
+        Ok(self.voted(alloc, n, heard)?)
+    }
+
+    /// What follows once these nodes voted.
+    #[tactic(auto, unfolding(wf_model::specs::Table::voted, wf_model::specs::Table::ended, wf_model::specs::Table::stores, wf_model::specs::Table::quiet))]
+    fn voted(&self, alloc: Global, n: u8, heard: Heard) -> Result<Next, AllocError>
+        ensures { IfOk result (λ next. row_at (Running self.now) next ≡ table.voted same_text n (proposal_of (record self.now { heard = heard }))) }
+    {
+        if !heard.is_majority(n) {
+            return Ok(Next::quiet(alloc, Change::Hears(heard, None)));
+        }
+        let next = self.publishes(alloc, self.carried(&None))?;
+        Ok(next)
+    }
+
+    /// The definition is published, and the proposal ends.
+    #[tactic(auto, unfolding(wf_model::specs::Table::stores))]
+    fn publishes(&self, alloc: Global, canon: &Canon) -> Result<Next, AllocError>
+        ensures { IfOk result (λ next. row_at (Running self.now) next ≡ table.stores (table.ended same_text (proposal_of self.now) canon.now) (stored_part.Published self.now.slot canon.now) (Chosen self.now.slot canon.now)) }
+    {
+        let entry = Record::Published(self.slot, canon.copy()?);
+        let message = Message::Chosen(self.slot, canon.copy()?);
+        let change = Change::Becomes(self.ended(canon));
+        let next = Next::says(alloc, Some(entry), message, change)?;
+        Ok(next)
+    }
+
+    /// A node promised a higher ballot: the highest round told is kept for the next try. It takes no memory.
+    #[tactic(auto, unfolding(wf_model::specs::Table::on_nack, wf_model::specs::Table::quiet))]
+    pub fn on_nack(&self, alloc: Global, slot: Slot, ballot: Ballot, promised: Ballot) -> Next
+        ensures { row_at (Running self.now) result ≡ table.on_nack (model.Running (proposal_of self.now)) slot ballot promised }
+    {
+        if !self.is_at(slot, ballot) {
+            return Next::quiet(alloc, Change::Nothing);
+        }
+        Next::quiet(alloc, Change::Sees(self.seen.max(promised.round())))
+    }
+}
+
+impl Working {
+    /// Makes the change.
+    pub fn make(&mut self, change: Change)
+        ensures { self.new ≡ changed change self.old }
+    {
+        match change {
+            Change::Nothing => {}
+            Change::Becomes(next) => *self = next,
+            Change::Hears(heard, vote) => self.hear(heard, vote),
+            Change::AsksVotes(vote) => self.ask_votes(vote),
+            Change::Sees(round) => self.see(round),
+        }
+    }
+
+    fn hear(&mut self, heard: Heard, vote: Option<(Ballot, Canon)>)
+        ensures { self.new ≡ with_heard heard vote self.old }
+    {
+        match self {
+            Working::Running(proposal) => proposal.hear(heard, vote),
+            Working::Idle => {}
+            Working::Published(_) => {}
+            Working::Overtaken(_) => {}
+        }
+    }
+
+    fn ask_votes(&mut self, vote: Option<(Ballot, Canon)>)
+        ensures { self.new ≡ asking vote self.old }
+    {
+        match self {
+            Working::Running(proposal) => proposal.ask_votes(vote),
+            Working::Idle => {}
+            Working::Published(_) => {}
+            Working::Overtaken(_) => {}
+        }
+    }
+
+    fn see(&mut self, round: u32)
+        ensures { self.new ≡ with_seen round self.old }
+    {
+        match self {
+            Working::Running(proposal) => proposal.seen = round,
+            Working::Idle => {}
+            Working::Published(_) => {}
+            Working::Overtaken(_) => {}
+        }
+    }
+}

@@ -1,0 +1,34 @@
+ghost use Rattle.std.specs.Prelude.{◌≡◌, IfOk};
+
+use std::alloc::AllocError;
+use wf_ballot::{Ballot, Slot};
+use wf_canon::Canon;
+
+/// One entry of a node's tape. What a node stored is what its records say, the oldest first.
+#[derive(Debug, Drop)]
+pub enum Record {
+    /// The node tries this round: it never begins a proposal in it again.
+    Tried(u32),
+    /// The node promised the ballot at the slot: it takes part in none below it there.
+    Promised(Slot, Ballot),
+    /// The node voted for the definition at the slot and the ballot, which it promised too.
+    Accepted(Slot, Ballot, Canon),
+    /// The definition is published at the slot.
+    Published(Slot, Canon),
+}
+
+impl Record {
+    /// An equal record; an error where a growth was refused.
+    pub fn copy(&self) -> Result<Record, AllocError>
+        ensures { IfOk result (λ r. r ≡ self.now) }
+    {
+        Ok(match self {
+            Record::Tried(round) => Record::Tried(*round),
+            Record::Promised(slot, ballot) => Record::Promised(*slot, *ballot),
+            Record::Accepted(slot, ballot, canon) => {
+                Record::Accepted(*slot, *ballot, canon.copy()?)
+            }
+            Record::Published(slot, canon) => Record::Published(*slot, canon.copy()?),
+        })
+    }
+}
