@@ -168,21 +168,25 @@ fn slots_are_the_sequences_from_one_on(rt: HostRuntime) -> Result<(), Fail> {
 #[test]
 fn fields_are_split_off_the_front(rt: HostRuntime) {
     let bytes: &[u8] = &[0x00, 0x00, 0x00, 0x02, 0x01, 0x09];
+    let Some((node, after_node)) = split_node(bytes) else {
+        panic!(rt; "a node stands at the front");
+    };
+    assert_eq!(rt; (node.number(), after_node.len()), (0, 5));
+    let Some((slot, after_slot)) = split_slot(&bytes[2..]) else {
+        panic!(rt; "a slot stands behind two bytes");
+    };
+    assert_eq!(rt; (slot.number(), after_slot.len()), (2, 2));
+    let Some((round, after_round)) = split_round(bytes) else {
+        panic!(rt; "a round stands at the front");
+    };
+    assert_eq!(rt; (round, after_round.len()), (2, 2));
+    let Some((ballot, after_ballot)) = split_ballot(bytes) else {
+        panic!(rt; "a ballot stands at the front");
+    };
     assert_eq!(rt;
-        split_node(bytes).map(|(node, rest)| (node.number(), rest.len())),
-        Some((0, 5))
+        (ballot.round(), ballot.node().number(), after_ballot.len()),
+        (2, 1, 1)
     );
-    assert_eq!(rt;
-        split_slot(&bytes[2..]).map(|(slot, rest)| (slot.number(), rest.len())),
-        Some((2, 2))
-    );
-    assert_eq!(rt;
-        split_round(bytes).map(|(round, rest)| (round, rest.len())),
-        Some((2, 2))
-    );
-    let found = split_ballot(bytes);
-    let parts = found.map(|(ballot, rest)| (ballot.round(), ballot.node().number(), rest.len()));
-    assert_eq!(rt; parts, Some((2, 1, 1)));
     fields_are_read();
 }
 
