@@ -30,6 +30,3 @@ pub use next::Next;
 pub use proposer::Proposer;
 pub use refusal::Refusal;
 pub use standing::Standing;
-
-#[cfg(test)]
-mod tests;
