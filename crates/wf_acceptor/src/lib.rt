@@ -20,3 +20,6 @@ mod same;
 
 pub use acceptor::Acceptor;
 pub use answer::Answer;
+
+#[cfg(test)]
+mod tests;

@@ -5,3 +5,5 @@ pub mod Text
 pub mod Definition
 pub mod Limits
 pub mod Whole
+pub mod Equality
+pub mod EqualityLaws

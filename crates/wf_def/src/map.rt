@@ -3,6 +3,7 @@ ghost use Rattle.std.specs.Prelude.{◌≡◌, [], IfOk};
 ghost use Rattle.wf_def.specs.Definition.{Definition, empty_map};
 ghost use Rattle.wf_def.specs.Limits.{IsWithinLimits};
 
+mod equality;
 #[cfg(test)]
 mod tests;
 

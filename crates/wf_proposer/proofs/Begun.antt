@@ -1,8 +1,8 @@
 -- A proposal that begins is the table's, for a proposal and for a second try.
-use Rattle.std.proofs.Common.{◌≡◌, ℕ, ◌+◌, max, List, Result, Ok, Err, IfOk, ap, sym, subst, ◌∙◌}
+use Rattle.std.proofs.Common.{◌≡◌, ℕ, ◌+◌, max, Result, Ok, Err, IfOk, ap, sym, subst, ◌∙◌}
 use Rattle.wf_def.specs.Definition.{Definition}
 use Rattle.wf_model.specs.Fits.{IsForNext}
-use Rattle.wf_model.specs.Stored.{Stored, published, next_sequence}
+use Rattle.wf_model.specs.Stored.{Stored, next_sequence}
 use Rattle.wf_model.specs.Table.{begin_at, stores, on_propose, on_retry, round_known}
 use Rattle.wf_model.specs.Working as model
 use Rattle.wf_model.specs.Working.{nobody}

@@ -3,7 +3,6 @@ use Rattle.std.specs.Prelude.{ℕ, List, [], Option, Some, None}
 use Rattle.wf_ballot.specs.Ballot.{Ballot}
 use Rattle.wf_def.specs.Definition.{Definition}
 use Rattle.wf_proposer.specs.declared.proposal.Phase.TheVariants.{Accepting}
-use Rattle.wf_proposer.specs.declared.proposal.Proposal.{Proposal}
 use Rattle.wf_proposer.specs.declared.working.Working.{Working}
 use Rattle.wf_proposer.specs.declared.working.Working.TheVariants.{Idle, Running, Published, Overtaken}
 use Rattle.wf_proposer.specs.declared.change.Change.{Change}

@@ -1,5 +1,4 @@
 -- A running proposal, as the farm's model has it.
-use Rattle.std.specs.Prelude.{ℕ, Bool, Option}
 use Rattle.wf_def.specs.Definition.{Definition}
 use Rattle.wf_codec.specs.Message.{view_vote}
 use Rattle.wf_model.specs.Working as model

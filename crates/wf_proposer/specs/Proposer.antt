@@ -1,4 +1,4 @@
--- A node's proposer, as the farm's model has it.
+-- A node's proposer: what it shows, and that as the farm's model has it.
 use Rattle.std.specs.Prelude.{◌≡◌, ℕ, Bool, false, ⊤}
 use Rattle.wf_ballot.specs.Ballot.{Ballot}
 use Rattle.wf_def.specs.Definition.{Definition}
@@ -6,14 +6,25 @@ use Rattle.wf_model.specs.Stored.{Stored, published}
 use Rattle.wf_model.specs.Working as model
 use Rattle.wf_model.specs.Table.{Row, hears}
 use Rattle.wf_proposer.specs.Working as shown
+use Rattle.wf_proposer.specs.Change.{changed}
 use Rattle.wf_proposer.specs.Next.{Next, row_at}
-use Rattle.wf_proposer.specs.declared.proposer.Proposer.{Proposer}
+use Rattle.wf_proposer.specs.declared.working.Working.{Working}
 
--- its working part, as the farm's model has it
+-- its node, how many nodes the farm has, and what it holds: at most one proposal, or how the last one ended
+pub record Proposer : Type 0 where
+  pub node : ℕ
+  pub nodes : ℕ
+  pub working : Working
+
+-- what it holds, as the working part of the farm's model
 abbrev pub working_of : Proposer → model.Working Definition
 working_of proposer = shown.working_of proposer.working
 
--- what it answers, as a row of the farm's table
+-- the proposer once an answer is committed
+abbrev pub committed : Proposer → Next → Proposer
+committed proposer next = record proposer { working = changed next.change proposer.working }
+
+-- what it answers, as a row of the farm's table: the record, the messages, and the working part once it is committed
 abbrev pub row_of : Proposer → Next → Row Definition
 row_of proposer next = row_at proposer.working next
 

@@ -6,12 +6,10 @@ ghost use Rattle.wf_model.specs.Fits.{IsForNext};
 ghost use Rattle.wf_model.specs.Stored.{Stored};
 ghost use Rattle.wf_model.specs.Table as table;
 ghost use Rattle.wf_model.specs.Working as model;
-ghost use Rattle.wf_proposer.specs.Change.{changed};
-ghost use Rattle.wf_proposer.specs.Proposer.{HasStored, RunsForNoOther, is_heard, row_of, working_of};
+ghost use Rattle.wf_proposer.specs.Proposer.{HasStored, RunsForNoOther, committed, is_heard, row_of, working_of};
 ghost use Rattle.wf_proposer.specs.Refusal.{refused_by};
 ghost use Rattle.wf_proposer.specs.Same.{same_text, SameTextIsEquality};
 ghost use Rattle.wf_proposer.specs.Standing.{standing_of};
-ghost use Rattle.wf_proposer.specs.declared.working.Working.TheVariants.{Idle};
 
 use crate::change::Change;
 use crate::next::Next;
@@ -29,7 +27,9 @@ use wf_tape::Record;
 impl Proposer {
     /// The proposer of node `id` in a farm of `n` nodes, with no proposal.
     pub fn new(id: NodeId, n: u8) -> Proposer
-        ensures { result ≡ record { node = id; nodes = n; working = Idle } }
+        ensures node { result.node ≡ id }
+        ensures nodes { result.nodes ≡ n }
+        ensures idle { working_of result ≡ model.Idle }
     {
         Proposer {
             node: id,
@@ -40,7 +40,7 @@ impl Proposer {
 
     /// How the node's proposal stands.
     pub fn proposal(&self) -> Standing
-        ensures { result ≡ standing_of self.now.working }
+        ensures { result ≡ standing_of (working_of self.now) }
     {
         match &self.working {
             Working::Idle => Standing::None,
@@ -152,7 +152,7 @@ impl Proposer {
     /// Makes the working part of an answer the node's, and gives back the record, which is stored by now,
     /// and the messages to hand out. It takes no memory.
     pub fn commit(&mut self, next: Next) -> (Option<Record>, Vec<Message>)
-        ensures working { self.new ≡ record self.old { working = changed next.change self.old.working } }
+        ensures working { self.new ≡ committed self.old next }
         ensures entry { result.0 ≡ next.entry }
         ensures messages { result.1.items ≡ next.messages }
     {

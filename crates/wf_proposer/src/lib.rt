@@ -1,9 +1,10 @@
 //! The proposer of a node: at most one proposal, from its first Prepare to the publishing of a definition.
 //!
-//! Its model: a `Proposer` is seen as its node, the farm's number of nodes and its working part; `working_of`
+//! Its model: a `Proposer` is seen as its node, the farm's number of nodes and what it holds; `working_of`
 //! (`specs/Proposer.antt`) reads that as the working part of the farm's model, with the list of heard nodes
-//! as the set of its members. A `Next` is seen as its record, its messages and its change, and `row_of` reads
-//! it, beside the proposer that it answers for, as a row of the model's table.
+//! as the set of its members. A `Next` is seen as its record, its messages and its change; `committed` is the
+//! proposer once the change is made, and `row_of` reads the answer as a row of the model's table: the record,
+//! the messages and the working part once it is committed.
 //!
 //! It promises that each call answers the row of the model's table, as a function of the working part and
 //! the input, and refuses exactly where the table does, want of memory aside; that a call which answers
@@ -23,6 +24,8 @@ mod proposer;
 mod refusal;
 mod row;
 mod standing;
+#[cfg(test)]
+mod tests;
 mod working;
 
 pub use call::same_text_is_equality;

@@ -42,10 +42,10 @@ impl Proposal {
             best: None,
             seen: 0,
         };
-        let entry = Record::Tried(ballot.round());
+        let tried = Record::Tried(ballot.round());
         let message = Message::Prepare(slot, ballot);
         let change = Change::Becomes(Working::Running(proposal));
-        let next = Next::says(alloc, Some(entry), message, change)?;
+        let next = Next::says(alloc, Some(tried), message, change)?;
         Ok(next)
     }
 
@@ -269,10 +269,10 @@ impl Proposal {
     fn publishes(&self, alloc: Global, canon: &Canon) -> Result<Next, AllocError>
         ensures { IfOk result (λ next. row_at (Running self.now) next ≡ table.stores (table.ended same_text (proposal_of self.now) canon.now) (stored_part.Published self.now.slot canon.now) (Chosen self.now.slot canon.now)) }
     {
-        let entry = Record::Published(self.slot, canon.copy()?);
+        let published = Record::Published(self.slot, canon.copy()?);
         let message = Message::Chosen(self.slot, canon.copy()?);
         let change = Change::Becomes(self.ended(canon));
-        let next = Next::says(alloc, Some(entry), message, change)?;
+        let next = Next::says(alloc, Some(published), message, change)?;
         Ok(next)
     }
 

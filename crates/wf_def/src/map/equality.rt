@@ -1,0 +1,33 @@
+//! When two map definitions are equal: where all their fields are.
+ghost use Rattle.std.specs.Prelude.{◌≡◌, ◌↔◌, IsTrue};
+ghost use Rattle.std.specs.Cmp.{partial_equiv_from_equiv};
+ghost use Rattle.wf_def.specs.Equality.{definition_eq};
+ghost use Rattle.wf_def.specs.EqualityLaws.{definition_eq_equiv};
+
+#[cfg(test)]
+mod tests;
+
+use super::MapDef;
+
+impl PartialEq for MapDef {
+    ghost eq = { definition_eq };
+
+    ghost laws = { partial_equiv_from_equiv definition_eq_equiv };
+
+    #[tactic(auto, unfolding(crate::specs::Equality::definition_eq))]
+    fn eq(&self, other: &Self) -> bool
+        ensures test { result ≡ definition_eq self.now other.now }
+        ensures equal { IsTrue result ↔ (self.now ≡ other.now) }
+    {
+        self.name == other.name
+            && self.title == other.title
+            && self.abstract_text == other.abstract_text
+            && self.address == other.address
+            && self.extent == other.extent
+            && self.projection == other.projection
+    }
+}
+
+impl Eq for MapDef {
+    ghost laws = { definition_eq_equiv };
+}

@@ -1,0 +1,197 @@
+//! One proposal from its first Prepare to its end, and each refusal, with the maps `a` and `b`.
+use super::*;
+use std::alloc::Global;
+use std::process::Abort;
+use wf_ballot::{Ballot, NodeId, Seq, Slot};
+use wf_canon::Canon;
+use wf_codec::Message;
+use wf_tape::Record;
+
+/// The canonical text of the map that is named `a`, from 0 0 to 4 4 degrees.
+const MAP_A: &[u8] =
+    b"MAP\nNAME \"a\"\nEXTENT 0 0 4 4\nPROJECTION\n\"init=epsg:4326\"\nEND\nWEB\nMETADATA\n\"wms_title\" \"a\"\n\"wms_abstract\" \"\"\n\"wms_onlineresource\" \"http://localhost/wms?\"\nEND\nEND\nEND\n";
+
+/// The same of the map that is named `b`.
+const MAP_B: &[u8] =
+    b"MAP\nNAME \"b\"\nEXTENT 0 0 4 4\nPROJECTION\n\"init=epsg:4326\"\nEND\nWEB\nMETADATA\n\"wms_title\" \"b\"\n\"wms_abstract\" \"\"\n\"wms_onlineresource\" \"http://localhost/wms?\"\nEND\nEND\nEND\n";
+
+/// The highest round.
+const LAST_ROUND: u32 = 4_294_967_295;
+
+fn node(rt: &impl Abort, number: u8) -> NodeId {
+    NodeId::new(number).expect(rt, "a node")
+}
+
+fn ballot(rt: &impl Abort, round: u32, number: u8) -> Ballot {
+    Ballot::new(round, node(rt, number)).expect(rt, "a ballot")
+}
+
+fn slot(rt: &impl Abort, number: u16) -> Slot {
+    Slot::new(number).expect(rt, "a slot")
+}
+
+fn map(rt: &impl Abort, alloc: Global, text: &[u8]) -> Canon {
+    Canon::from_bytes(alloc, text).expect(rt, "a canonical text")
+}
+
+/// Node 0 of 3, which tried round 1 and published nothing, proposes `a`: what it answers.
+fn started(
+    rt: &impl Abort,
+    alloc: Global,
+    proposer: &Proposer,
+    tried: u32,
+) -> Result<Next, Refusal> {
+    let nothing = Seq::new(0).expect(rt, "the first sequence");
+    proposer.start(alloc, tried, nothing, map(rt, alloc, MAP_A))
+}
+
+/// Whether a round was to be stored.
+fn is_tried(record: &Option<Record>, round: u32) -> bool {
+    matches!(record, Some(Record::Tried(stored)) if *stored == round)
+}
+
+/// Whether this definition was to be stored as published.
+fn is_published(record: &Option<Record>, text: &[u8]) -> bool {
+    matches!(record, Some(Record::Published(_, canon)) if canon.text() == text)
+}
+
+/// Whether the one message is Prepare at the ballot of this round.
+fn is_prepare(messages: &[Message], round: u32) -> bool {
+    matches!(messages, [Message::Prepare(_, ballot)] if ballot.round() == round)
+}
+
+/// Whether the one message is Accept at the ballot of this round, of this definition.
+fn is_accept(messages: &[Message], round: u32, text: &[u8]) -> bool {
+    matches!(messages, [Message::Accept(_, ballot, canon)] if ballot.round() == round && canon.text() == text)
+}
+
+/// Whether the one message is Chosen of this definition.
+fn is_chosen(messages: &[Message], text: &[u8]) -> bool {
+    matches!(messages, [Message::Chosen(_, canon)] if canon.text() == text)
+}
+
+/// Node 0 of 3 has begun: round 2 is stored, and Prepare is out.
+fn begun(rt: &impl Abort, alloc: Global) -> Proposer {
+    let mut proposer = Proposer::new(node(rt, 0), 3);
+    let next = started(rt, alloc, &proposer, 1).expect(rt, "a proposal");
+    let (record, messages) = proposer.commit(next);
+    assert!(rt; is_tried(&record, 2));
+    assert!(rt; is_prepare(&messages, 2));
+    proposer
+}
+
+/// A Promise of a node without a vote: whether anything was to be said.
+fn promised(rt: &impl Abort, alloc: Global, proposer: &mut Proposer, from: u8) -> Vec<Message> {
+    let next = proposer
+        .on_promise(alloc, node(rt, from), slot(rt, 1), ballot(rt, 2, 0), None)
+        .expect(rt, "an answer");
+    proposer.commit(next).1
+}
+
+/// A Promise of a node with a vote for `b` at ballot (1, 2).
+fn told(rt: &impl Abort, alloc: Global, proposer: &mut Proposer, from: u8) -> Vec<Message> {
+    let vote = Some((ballot(rt, 1, 2), map(rt, alloc, MAP_B)));
+    let next = proposer
+        .on_promise(alloc, node(rt, from), slot(rt, 1), ballot(rt, 2, 0), vote)
+        .expect(rt, "an answer");
+    proposer.commit(next).1
+}
+
+/// An Accepted of a node.
+fn accepted(
+    rt: &impl Abort,
+    alloc: Global,
+    proposer: &mut Proposer,
+    from: u8,
+) -> (Option<Record>, Vec<Message>) {
+    let next = proposer
+        .on_accepted(alloc, node(rt, from), slot(rt, 1), ballot(rt, 2, 0))
+        .expect(rt, "an answer");
+    proposer.commit(next)
+}
+
+#[test]
+fn a_vote_that_was_told_is_asked_for_in_place_of_the_own_definition(rt: HostRuntime) {
+    let mut proposer = begun(&rt, rt.alloc());
+    assert!(rt; promised(&rt, rt.alloc(), &mut proposer, 0).is_empty());
+    assert!(rt; promised(&rt, rt.alloc(), &mut proposer, 0).is_empty());
+    let asked = told(&rt, rt.alloc(), &mut proposer, 1);
+    assert!(rt; is_accept(&asked, 2, MAP_B));
+}
+
+#[test]
+fn a_vote_that_was_told_is_published(rt: HostRuntime) {
+    let mut proposer = begun(&rt, rt.alloc());
+    let _ = promised(&rt, rt.alloc(), &mut proposer, 0);
+    let _ = told(&rt, rt.alloc(), &mut proposer, 1);
+    assert!(rt; accepted(&rt, rt.alloc(), &mut proposer, 0).1.is_empty());
+    assert!(rt; accepted(&rt, rt.alloc(), &mut proposer, 0).1.is_empty());
+    let (record, messages) = accepted(&rt, rt.alloc(), &mut proposer, 2);
+    assert!(rt; is_published(&record, MAP_B));
+    assert!(rt; is_chosen(&messages, MAP_B));
+    assert_eq!(rt; proposer.proposal(), Standing::Overtaken(slot(&rt, 1)));
+}
+
+#[test]
+fn the_own_definition_is_asked_for_where_no_vote_was_told(rt: HostRuntime) {
+    let mut proposer = begun(&rt, rt.alloc());
+    let _ = promised(&rt, rt.alloc(), &mut proposer, 2);
+    let asked = promised(&rt, rt.alloc(), &mut proposer, 1);
+    assert!(rt; is_accept(&asked, 2, MAP_A));
+}
+
+/// The round that a retry stores after a Nack that told a round.
+fn retried(rt: &impl Abort, alloc: Global, told: u32, tried: u32, round: u32) -> bool {
+    let mut proposer = begun(rt, alloc);
+    let next = proposer.on_nack(alloc, slot(rt, 1), ballot(rt, 2, 0), ballot(rt, told, 1));
+    let _ = proposer.commit(next);
+    let next = proposer.retry(alloc, tried).expect(rt, "a round");
+    let (record, messages) = proposer.commit(next);
+    is_tried(&record, round) && is_prepare(&messages, round)
+}
+
+#[test]
+fn a_retry_is_above_each_round_tried_or_told(rt: HostRuntime) {
+    for (told, tried, round) in [
+        (5, 2, 6),
+        (1, 2, 3),
+        (5, 9, 10),
+        (LAST_ROUND - 1, 2, LAST_ROUND),
+    ] {
+        assert!(rt;
+            retried(&rt, rt.alloc(), told, tried, round),
+            "{told} {tried}"
+        );
+    }
+}
+
+#[test]
+fn nothing_to_try_again(rt: HostRuntime) {
+    let proposer = Proposer::new(node(&rt, 0), 3);
+    assert_eq!(rt; proposer.retry(rt.alloc(), 1).err(), Some(Refusal::Nothing));
+}
+
+#[test]
+fn no_second_proposal_beside_one_that_runs(rt: HostRuntime) {
+    let proposer = begun(&rt, rt.alloc());
+    assert_eq!(rt;
+        started(&rt, rt.alloc(), &proposer, 2).err(),
+        Some(Refusal::Busy)
+    );
+}
+
+#[test]
+fn no_proposal_after_the_last_round(rt: HostRuntime) {
+    let proposer = Proposer::new(node(&rt, 0), 3);
+    assert_eq!(rt;
+        started(&rt, rt.alloc(), &proposer, LAST_ROUND).err(),
+        Some(Refusal::RoundsFull)
+    );
+}
+
+#[test]
+fn what_is_published_at_its_slot_ends_a_proposal(rt: HostRuntime) {
+    let mut proposer = begun(&rt, rt.alloc());
+    proposer.on_published(slot(&rt, 1), &map(&rt, rt.alloc(), MAP_A));
+    assert_eq!(rt; proposer.proposal(), Standing::Published(slot(&rt, 1)));
+}
