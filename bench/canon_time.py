@@ -13,21 +13,18 @@ import time
 
 LONGEST = 65_536
 RUNS = 30
-HEAD = b'MAP NAME "bench" EXTENT 0 0 4 4 PROJECTION "init=epsg:4326" END WEB METADATA\n'
-TAIL = b"END END END\n"
+HEAD = b'MAP NAME "bench" EXTENT 0 0 4 4 PROJECTION "init=epsg:4326" END LAYER NAME p TYPE LINE\n'
+TAIL = b"END END\n"
+# Ten points with every digit that a number may have, so that the canonical text is much shorter than the file.
+POINTS = b" ".join(b"%d.25%023d %d.5%024d" % (n, 0, n + 1, 0) for n in range(10))
+FEATURE = b"FEATURE POINTS %s END END\n" % POINTS
 
 
 def mapfile(size):
-    """A mapfile of this many bytes: one METADATA block of many short pairs."""
-    pairs = []
+    """A mapfile of this many bytes: one layer of features of ten points each."""
     room = size - len(HEAD) - len(TAIL)
-    number = 0
-    while room >= 32:
-        pair = b'"key%05d" "value %05d"\n' % (number, number)
-        pairs.append(pair)
-        room -= len(pair)
-        number += 1
-    return HEAD + b"".join(pairs) + b" " * room + TAIL
+    count = room // len(FEATURE)
+    return HEAD + FEATURE * count + b" " * (room - count * len(FEATURE)) + TAIL
 
 
 def seconds(program, text):

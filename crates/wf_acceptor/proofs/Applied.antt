@@ -1,5 +1,5 @@
 -- What a record does to an acceptor is what the fold does with it.
-use Rattle.std.proofs.Common.{◌≡◌, ℕ, ◌+◌, Bool, true, false, nat_le, nat_lt, List, [], ◌∷◌, ◌++◌, length, ◌==◌, Option, Some, None, if◌then◌else◌, refl, sym, ◌∙◌, ap, subst, arith, length-append}
+use Rattle.std.proofs.Common.{◌≡◌, ℕ, ◌+◌, true, false, nat_le, nat_lt, List, [], ◌∷◌, ◌==◌, Option, Some, None, if◌then◌else◌, refl, sym, ◌∙◌, ap, subst, arith, length-append}
 use Rattle.std.proofs.lemmas.Grind.{common_steps}
 use Rattle.wf_ballot.specs.Ballot.{Ballot}
 use Rattle.wf_model.specs.Message.{Vote}
@@ -9,8 +9,8 @@ use Rattle.wf_def.specs.Definition.{Definition}
 use Rattle.wf_codec.specs.Message.{view_vote}
 use Rattle.wf_tape.specs.Record.{view}
 use Rattle.wf_tape.specs.declared.record.Record.{Record}
-use Rattle.wf_tape.specs.declared.record.Record.TheVariants.{Tried, Promised, Accepted, Published}
-use Rattle.wf_acceptor.specs.Entries.{latest, without}
+use Rattle.wf_tape.specs.declared.record.Record.TheVariants.{Promised, Accepted}
+use Rattle.wf_acceptor.specs.Entries.{latest}
 use Rattle.wf_acceptor.specs.Acceptor.{Acceptor, ActsFor, Applies, with_entries, with_entries_at, with_published}
 use Rattle.wf_acceptor.proofs.Latest.{latest_append, latest_without}
 

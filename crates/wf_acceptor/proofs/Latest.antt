@@ -1,5 +1,5 @@
 -- What `latest` finds in a list of entries, in one with an entry more, and in one without a slot's entries.
-use Rattle.std.proofs.Common.{◌≡◌, ℕ, Bool, true, false, not, List, [], ◌∷◌, ◌++◌, reverse, find, filter, Option, Some, None, ◌==◌, if◌then◌else◌, option_map, refl, sym, ◌∙◌, ap, arith}
+use Rattle.std.proofs.Common.{◌≡◌, ℕ, Bool, true, false, List, [], ◌∷◌, ◌++◌, reverse, find, Option, Some, None, ◌==◌, if◌then◌else◌, option_map, refl, sym, ◌∙◌, ap, arith}
 use Rattle.std.specs.Option.{option_or}
 use Rattle.std.proofs.lemmas.List.{reverse-append}
 use Rattle.std.proofs.lemmas.List.Folds.{find-append}

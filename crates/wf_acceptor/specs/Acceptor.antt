@@ -41,6 +41,14 @@ IsPrepared a (Promised s b) = a.prepared ≡ Some (Promised s b)
 IsPrepared a (Accepted s b d) = a.prepared ≡ Some (Accepted s b d)
 IsPrepared a (Published s d) = ⊤
 
+-- the definition of a vote's record, if it is one
+abbrev pub definition_of : Option Record → Option Definition
+definition_of None = None
+definition_of (Some (Tried round)) = None
+definition_of (Some (Promised s b)) = None
+definition_of (Some (Accepted s b d)) = Some d
+definition_of (Some (Published s d)) = None
+
 -- the acceptor with the record's promise and vote as its newest entries, and nothing set aside
 abbrev pub with_entries : Acceptor → Record → Acceptor
 with_entries a (Tried round) = record a { prepared = None }

@@ -1,5 +1,5 @@
 -- An answer as a row of the table.
-use Rattle.std.specs.Prelude.{◌≡◌, ℕ, List, Option, option_map, IsSome}
+use Rattle.std.specs.Prelude.{◌≡◌, option_map, IsSome}
 use Rattle.std.specs.Option.{option_to_list}
 use Rattle.wf_model.specs.Stored.{Stored}
 use Rattle.wf_model.specs.Working.{Working}

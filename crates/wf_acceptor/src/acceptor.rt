@@ -1,3 +1,6 @@
+ghost use Rattle.std.specs.Prelude.{◌≡◌, None};
+ghost use Rattle.wf_acceptor.specs.Acceptor.{definition_of};
+
 use crate::answer::Answer;
 use crate::entries::{add, forget, newest};
 use crate::same::is_same_record;
@@ -283,7 +286,7 @@ impl Acceptor {
                 let slot = *slot;
                 let ballot = *ballot;
                 add(&mut self.promises, slot, ballot);
-                if let Some(Record::Accepted(_, _, canon)) = self.prepared.take() {
+                if let Some(canon) = take_definition(&mut self.prepared) {
                     add(&mut self.votes, slot, (ballot, canon));
                 }
             }
@@ -300,5 +303,16 @@ impl Acceptor {
         forget(&mut self.promises, slot);
         forget(&mut self.votes, slot);
         self.prepared = None;
+    }
+}
+
+// Takes the definition of a vote's record.
+fn take_definition(prepared: &mut Option<Record>) -> Option<Canon>
+    ensures value { result ≡ definition_of prepared.old }
+    ensures after { prepared.new ≡ None }
+{
+    match prepared.take() {
+        Some(Record::Accepted(_, _, canon)) => Some(canon),
+        _ => None,
     }
 }

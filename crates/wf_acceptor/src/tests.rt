@@ -25,11 +25,15 @@ fn ballot(rt: &impl Abort, round: u32, node: u8) -> Ballot {
     Ballot::new(round, NodeId::new(node).expect(rt, "a node")).expect(rt, "a ballot")
 }
 
+/// A text that found no memory is read once more.
 fn map_a(rt: &impl Abort, alloc: Global) -> Canon {
-    Canon::from_bytes(alloc, MAP_A).expect(rt, "a canonical text")
+    match Canon::from_bytes(alloc, MAP_A) {
+        Ok(canon) => canon,
+        Err(_) => Canon::from_bytes(alloc, MAP_A).expect(rt, "a canonical text"),
+    }
 }
 
-/// Stores the record of an answer, if it has one.
+/// Stores the record of an answer, if it has one. That takes no memory.
 fn store(rt: &impl Abort, acceptor: &mut Acceptor, answer: &Answer) {
     match &answer.entry {
         None => {}
@@ -41,102 +45,136 @@ fn store(rt: &impl Abort, acceptor: &mut Acceptor, answer: &Answer) {
     }
 }
 
-/// Asks with Prepare at a slot, and stores what is answered.
-fn prepare(rt: &impl Abort, acceptor: &mut Acceptor, number: u16, round: u32, node: u8) -> Answer {
-    let slot = slot(rt, number);
+/// Asks with Prepare, and stores what is answered. Want of memory changes nothing, so the second try is
+/// answered as the first would have been.
+fn prepare(rt: &impl Abort, acceptor: &mut Acceptor, slot: Slot, ballot: Ballot) -> Answer {
     if acceptor.is_published(slot) {
         panic!(rt; "the slot is published");
     }
-    let answer = acceptor
-        .on_prepare(slot, ballot(rt, round, node))
-        .expect(rt, "memory");
+    let answer = match acceptor.on_prepare(slot, ballot) {
+        Ok(answer) => answer,
+        Err(_) => acceptor.on_prepare(slot, ballot).expect(rt, "memory"),
+    };
     store(rt, acceptor, &answer);
     answer
 }
 
-/// Asks with Accept of `a` at slot 1, and stores what is answered.
-fn accept(rt: &impl Abort, alloc: Global, acceptor: &mut Acceptor, round: u32, node: u8) -> Answer {
+/// Asks with Accept of `a` at slot 1, and stores what is answered; likewise.
+fn accept(rt: &impl Abort, alloc: Global, acceptor: &mut Acceptor, ballot: Ballot) -> Answer {
     let slot = slot(rt, 1);
     if acceptor.is_published(slot) {
         panic!(rt; "the slot is published");
     }
-    let answer = acceptor
-        .on_accept(slot, ballot(rt, round, node), map_a(rt, alloc))
-        .expect(rt, "memory");
+    let answer = match acceptor.on_accept(slot, ballot, map_a(rt, alloc)) {
+        Ok(answer) => answer,
+        Err(_) => {
+            let again = acceptor.on_accept(slot, ballot, map_a(rt, alloc));
+            again.expect(rt, "memory")
+        }
+    };
     store(rt, acceptor, &answer);
     answer
 }
 
-/// Whether the answer is a promise of this round, to be stored, without a vote.
-fn is_promise(answer: &Answer, round: u32) -> bool {
-    matches!(&answer.entry, Some(Record::Promised(_, ballot)) if ballot.round() == round)
-        && matches!(&answer.reply, Some(Message::Promise(_, _, ballot, None)) if ballot.round() == round)
+/// Whether the promise is to be stored.
+fn stores_promise(answer: &Answer, slot: Slot, ballot: Ballot) -> bool {
+    matches!(&answer.entry, Some(Record::Promised(at, stored)) if *at == slot && *stored == ballot)
 }
 
-/// Whether the answer is a promise of round 3, to be stored, that tells the vote for `a` at round 2.
-fn tells_the_vote(answer: &Answer) -> bool {
-    matches!(&answer.entry, Some(Record::Promised(_, ballot)) if ballot.round() == 3)
-        && matches!(&answer.reply, Some(Message::Promise(_, _, _, Some((ballot, canon)))) if ballot.round() == 2 && canon.text() == MAP_A)
+/// Whether node 1's promise is to be stored and sent, without a vote.
+fn is_promise(answer: Answer, slot: Slot, ballot: Ballot) -> bool {
+    stores_promise(&answer, slot, ballot)
+        && matches!(&answer.reply, Some(Message::Promise(node, at, sent, None)) if node.number() == 1 && *at == slot && *sent == ballot)
 }
 
-/// Whether nothing is to be stored, and the answer is a Nack that names a promise of this round.
-fn is_nack(answer: &Answer, promised: u32) -> bool {
+/// Whether node 1's promise is to be stored and sent, with the vote for `a` at this ballot.
+fn tells_the_vote(answer: Answer, slot: Slot, ballot: Ballot, voted: Ballot) -> bool {
+    stores_promise(&answer, slot, ballot)
+        && matches!(&answer.reply, Some(Message::Promise(node, at, sent, Some((told, canon)))) if node.number() == 1 && *at == slot && *sent == ballot && *told == voted && canon.text() == MAP_A)
+}
+
+/// Whether nothing is to be stored, and node 1 refuses the ballot for that of its promise.
+fn is_nack(answer: Answer, slot: Slot, ballot: Ballot, promised: Ballot) -> bool {
     answer.entry.is_none()
-        && matches!(&answer.reply, Some(Message::Nack(_, _, _, ballot)) if ballot.round() == promised)
+        && matches!(&answer.reply, Some(Message::Nack(node, at, asked, named)) if node.number() == 1 && *at == slot && *asked == ballot && *named == promised)
 }
 
-/// Whether a vote for `a` at round 2 is to be stored.
-fn is_vote(entry: &Option<Record>) -> bool {
-    matches!(entry, Some(Record::Accepted(_, ballot, canon)) if ballot.round() == 2 && canon.text() == MAP_A)
+/// Whether nothing is to be stored or sent.
+fn is_silence(answer: Answer) -> bool {
+    answer.entry.is_none() && answer.reply.is_none()
 }
 
-/// Whether the reply is Accepted at round 2.
-fn is_accepted(reply: &Option<Message>) -> bool {
-    matches!(reply, Some(Message::Accepted(_, _, ballot)) if ballot.round() == 2)
+/// Whether node 1 says that it voted.
+fn says_accepted(answer: &Answer, slot: Slot, ballot: Ballot) -> bool {
+    matches!(&answer.reply, Some(Message::Accepted(node, at, voted)) if node.number() == 1 && *at == slot && *voted == ballot)
+}
+
+/// Whether a vote for `a` is to be stored, and node 1 says that it voted.
+fn is_vote(answer: Answer, slot: Slot, ballot: Ballot) -> bool {
+    says_accepted(&answer, slot, ballot)
+        && matches!(&answer.entry, Some(Record::Accepted(at, voted, canon)) if *at == slot && *voted == ballot && canon.text() == MAP_A)
+}
+
+/// Whether nothing is to be stored, and node 1 says again that it voted.
+fn is_old_vote(answer: Answer, slot: Slot, ballot: Ballot) -> bool {
+    answer.entry.is_none() && says_accepted(&answer, slot, ballot)
 }
 
 #[test]
 fn an_older_ballot_is_told_the_promise(rt: HostRuntime) {
     let mut acceptor = new_acceptor(&rt, rt.alloc());
-    assert!(rt; is_promise(&prepare(&rt, &mut acceptor, 1, 2, 0), 2));
-    assert!(rt; is_nack(&prepare(&rt, &mut acceptor, 1, 1, 2), 2));
-    assert!(rt; is_nack(&accept(&rt, rt.alloc(), &mut acceptor, 1, 2), 2));
+    let (slot, newer, older) = (slot(&rt, 1), ballot(&rt, 2, 0), ballot(&rt, 1, 2));
+    let answer = prepare(&rt, &mut acceptor, slot, newer);
+    assert!(rt; is_promise(answer, slot, newer));
+    let answer = prepare(&rt, &mut acceptor, slot, older);
+    assert!(rt; is_nack(answer, slot, older, newer));
+    let answer = accept(&rt, rt.alloc(), &mut acceptor, older);
+    assert!(rt; is_nack(answer, slot, older, newer));
 }
 
 #[test]
 fn a_promise_asked_for_again_is_not_answered(rt: HostRuntime) {
     let mut acceptor = new_acceptor(&rt, rt.alloc());
-    let _ = prepare(&rt, &mut acceptor, 1, 2, 0);
-    let again = prepare(&rt, &mut acceptor, 1, 2, 0);
-    assert!(rt; again.entry.is_none());
-    assert!(rt; again.reply.is_none());
+    let (slot, ballot) = (slot(&rt, 1), ballot(&rt, 2, 0));
+    let answer = prepare(&rt, &mut acceptor, slot, ballot);
+    assert!(rt; is_promise(answer, slot, ballot));
+    let answer = prepare(&rt, &mut acceptor, slot, ballot);
+    assert!(rt; is_silence(answer));
 }
 
 #[test]
 fn a_vote_is_stored_once_and_told_again(rt: HostRuntime) {
     let mut acceptor = new_acceptor(&rt, rt.alloc());
-    let _ = prepare(&rt, &mut acceptor, 1, 2, 0);
-    let first = accept(&rt, rt.alloc(), &mut acceptor, 2, 0);
-    assert!(rt; is_vote(&first.entry));
-    assert!(rt; is_accepted(&first.reply));
-    let second = accept(&rt, rt.alloc(), &mut acceptor, 2, 0);
-    assert!(rt; second.entry.is_none());
-    assert!(rt; is_accepted(&second.reply));
+    let (slot, ballot) = (slot(&rt, 1), ballot(&rt, 2, 0));
+    let answer = prepare(&rt, &mut acceptor, slot, ballot);
+    assert!(rt; is_promise(answer, slot, ballot));
+    let answer = accept(&rt, rt.alloc(), &mut acceptor, ballot);
+    assert!(rt; is_vote(answer, slot, ballot));
+    let answer = accept(&rt, rt.alloc(), &mut acceptor, ballot);
+    assert!(rt; is_old_vote(answer, slot, ballot));
 }
 
 #[test]
 fn a_later_promise_tells_the_vote_and_refuses_its_ballot(rt: HostRuntime) {
     let mut acceptor = new_acceptor(&rt, rt.alloc());
-    let _ = accept(&rt, rt.alloc(), &mut acceptor, 2, 0);
-    assert!(rt; tells_the_vote(&prepare(&rt, &mut acceptor, 1, 3, 1)));
-    assert!(rt; is_nack(&accept(&rt, rt.alloc(), &mut acceptor, 2, 0), 3));
+    let (slot, voted, later) = (slot(&rt, 1), ballot(&rt, 2, 0), ballot(&rt, 3, 1));
+    let answer = accept(&rt, rt.alloc(), &mut acceptor, voted);
+    assert!(rt; is_vote(answer, slot, voted));
+    let answer = prepare(&rt, &mut acceptor, slot, later);
+    assert!(rt; tells_the_vote(answer, slot, later, voted));
+    let answer = accept(&rt, rt.alloc(), &mut acceptor, voted);
+    assert!(rt; is_nack(answer, slot, voted, later));
 }
 
 #[test]
 fn a_promise_of_a_slot_is_none_of_another(rt: HostRuntime) {
     let mut acceptor = new_acceptor(&rt, rt.alloc());
-    let _ = prepare(&rt, &mut acceptor, 1, 2, 0);
-    assert!(rt; is_promise(&prepare(&rt, &mut acceptor, 2, 1, 2), 1));
+    let (first, second) = (slot(&rt, 1), slot(&rt, 2));
+    let (newer, older) = (ballot(&rt, 2, 0), ballot(&rt, 1, 2));
+    let answer = prepare(&rt, &mut acceptor, first, newer);
+    assert!(rt; is_promise(answer, first, newer));
+    let answer = prepare(&rt, &mut acceptor, second, older);
+    assert!(rt; is_promise(answer, second, older));
 }
 
 #[test]

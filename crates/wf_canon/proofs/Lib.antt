@@ -1,9 +1,14 @@
+pub mod ClassLaw
 pub mod Fraction
-pub mod GrammarLaw
+pub mod Items
+pub mod KnownText
+pub mod LayerLaw
 pub mod MeaningLaw
+pub mod MapLaw
 pub mod MapText
 pub mod Lexing
 pub mod NumberLaw
 pub mod NumberWord
+pub mod TokenLaw
 pub mod Utf8Law
 pub mod WrittenLaw

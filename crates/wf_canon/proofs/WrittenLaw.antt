@@ -30,7 +30,7 @@ use Rattle.wf_canon.proofs.Lexing.{and_left, and_right, not_true, is_word, lacks
 use Rattle.wf_canon.proofs.NumberLaw.{are_digits_decimal}
 use Rattle.wf_canon.proofs.NumberWord.{number_word_is, digits_word}
 use Rattle.wf_canon.proofs.Utf8Law.{text_is_utf8}
-use Rattle.wf_canon.proofs.GrammarLaw.{title_key, abstract_key, address_key, projection_is_text}
+use Rattle.wf_canon.proofs.KnownText.{title_key, abstract_key, address_key, projection_is_text}
 
 -- ---- each token is read as it was written
 
@@ -131,7 +131,7 @@ unfolding chars
 items_chars = refl
 
 -- `ITEMS=` before a text is a text, where there is room for it
-items_is_text : (t : List ℕ) → is_text t ≡ true → length t ≤ 994 → is_text (codes "ITEMS=" ++ t) ≡ true
+pub items_is_text : (t : List ℕ) → is_text t ≡ true → length t ≤ 994 → is_text (codes "ITEMS=" ++ t) ≡ true
 unfolding is_text
 items_is_text t e most =
     let front : IsUtf8 (codes "ITEMS=") = IsUtf8-from_is_utf8 (codes "ITEMS=") items_is_utf8 in
@@ -242,13 +242,17 @@ written_layer entry name h =
       written_with_key (codes "wms_title") l.title title_key h.title,
     ) inner
 
-record IsEntry (entry : List ℕ × LayerDefinition) : Type 0 where
-  name : IsLayerName entry.0
-  layer : IsLayer entry.1
+-- a layer within the limits, with a name that a layer may have
+pub record IsEntry (entry : List ℕ × LayerDefinition) : Type 0 where
+  pub name : IsLayerName entry.0
+  pub layer : IsLayer entry.1
 
 entries : (layers : List (List ℕ × LayerDefinition)) → AllByRecursion (λ entry. IsLayerName entry.0) layers → AllByRecursion (λ entry. IsLayer entry.1) layers → AllByRecursion IsEntry layers
 entries [] names layers = tt
 entries (entry ∷ others) names layers = (record { name = names.0; layer = layers.0 }, entries others names.1 layers.1)
+
+pub entries_within : (d : Definition) → IsWithinLimits d → AllByRecursion IsEntry d.layers
+entries_within d h = entries d.layers (recursion_from_All (λ entry. IsLayerName entry.0) d.layers h.names) (recursion_from_All (λ entry. IsLayer entry.1) d.layers h.layers)
 
 -- ---- the map
 
@@ -275,7 +279,6 @@ map_is_written d h =
     let front : are_written (first ++ second) ≡ true = written_behind first second (heading_is_written d h) (projection_is_written d.projection) in
     let head : are_written ((first ++ second) ++ third) ≡ true = written_behind (first ++ second) third front (web_is_written d h) in
     let layers_written : are_written layers ≡ true =
-    written_each IsEntry layer_lines d.layers (λ entry is. written_layer entry is.name is.layer)
-    (entries d.layers (recursion_from_All (λ entry. IsLayerName entry.0) d.layers h.names) (recursion_from_All (λ entry. IsLayer entry.1) d.layers h.layers)) in
+    written_each IsEntry layer_lines d.layers (λ entry is. written_layer entry is.name is.layer) (entries_within d h) in
     let all : are_written (((first ++ second) ++ third) ++ layers) ≡ true = written_behind ((first ++ second) ++ third) layers head layers_written in
     written_behind (((first ++ second) ++ third) ++ layers) (end_line ∷ []) all (written_more end_line [] end_is_written refl)

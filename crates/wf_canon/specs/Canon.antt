@@ -161,6 +161,10 @@ class_lines c =
     ++ optional_label_lines c.label
     ++ end_line ∷ []
 
+-- what a layer tells the web
+abbrev pub metadata_lines : List ℕ → List (List Token)
+metadata_lines title = alone (codes "METADATA") ∷ with_key (codes "wms_title") title ∷ end_line ∷ []
+
 -- a layer with its name
 abbrev pub layer_lines : List ℕ × LayerDefinition → List (List Token)
 layer_lines entry = let l = entry.1 in
@@ -170,10 +174,7 @@ layer_lines entry = let l = entry.1 in
     ∷ with_text (codes "CLASSITEM") l.class_item
     ∷ with_text (codes "LABELITEM") l.label_item
     ∷ with_text (codes "PROCESSING") (codes "ITEMS=" ++ l.items)
-    ∷ alone (codes "METADATA")
-    ∷ with_key (codes "wms_title") l.title
-    ∷ end_line
-    ∷ [])
+    ∷ metadata_lines l.title)
     ++ flat_map class_lines l.classes
     ++ flat_map feature_lines l.features
     ++ end_line ∷ []
@@ -216,13 +217,8 @@ text_of lines = flat_map line lines
 unfoldable pub canon : Definition → List ℕ
 canon d = text_of (map_lines d)
 
--- a map as the mapfile reader gives it: within the limits, and without layers so far
-pub record IsMap (d : Definition) : Type 0 where
-  pub within : IsWithinLimits d
-  pub no_layers : d.layers ≡ []
-
 -- the text is a map's canonical text, of at most 32,768 bytes
 pub record IsCanon (text : List ℕ) (d : Definition) : Type 0 where
   pub spelled : text ≡ canon d
-  pub is_map : IsMap d
+  pub within : IsWithinLimits d
   pub short : length text ≤ 32768

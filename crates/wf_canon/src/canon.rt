@@ -1,9 +1,10 @@
 //! Map definitions with their canonical texts.
 
 ghost use Rattle.std.specs.Prelude.{◌≡◌, ◌<◌, ◌≤◌, length, if◌then◌else◌, IfOk, IfErr, OnOk};
+ghost use Rattle.wf_def.specs.Limits.{IsWithinLimits};
 ghost use Rattle.wf_mapfile.specs.Meaning.{Means};
 ghost use Rattle.wf_mapfile.specs.Reading.{is_memory};
-ghost use Rattle.wf_canon.specs.Canon.{canon, IsMap};
+ghost use Rattle.wf_canon.specs.Canon.{canon};
 ghost use Rattle.wf_canon.specs.Refusal.{IsCauseOf, IsWhyRefused};
 
 use crate::fault::CanonFault;
@@ -58,7 +59,7 @@ impl Canon {
     pub fn from_bytes(alloc: Global, bytes: &[u8]) -> Result<Self, CanonFault>
         ensures too_big { MOST_CANON_BYTES < length bytes.now → result ≡ Err CanonFault.TooBig }
         ensures value { IfOk result (λ canonical. canon canonical ≡ bytes.now) }
-        ensures is_map { IfOk result IsMap }
+        ensures within { IfOk result IsWithinLimits }
         ensures cause { IfErr result (λ fault. IsWhyRefused fault bytes.now) }
     {
         if bytes.len() > MOST_CANON_BYTES {
@@ -86,7 +87,7 @@ impl Canon {
     pub fn text(&self) -> &[u8]
         ensures value { result.now ≡ canon self.now }
         ensures short { length result.now ≤ MOST_CANON_BYTES }
-        ensures is_map { IsMap self.now }
+        ensures within { IsWithinLimits self.now }
     {
         self.text.as_slice()
     }
@@ -94,7 +95,7 @@ impl Canon {
     /// The definition.
     pub fn def(&self) -> &MapDef
         ensures value { result.now ≡ self.now }
-        ensures is_map { IsMap self.now }
+        ensures within { IsWithinLimits self.now }
     {
         &self.def
     }
@@ -103,7 +104,7 @@ impl Canon {
 /// The canonical text of a definition, however long.
 fn text_of(alloc: Global, def: &MapDef) -> Result<Vec<u8>, AllocError>
     ensures written { IfOk result (λ text. text.items ≡ canon def.now) }
-    ensures is_map { OnOk result (IsMap def.now) }
+    ensures within { OnOk result (IsWithinLimits def.now) }
 {
     let mut text = Vec::new(alloc);
     push_map(&mut text, def)?;

@@ -2,11 +2,12 @@
 
 ghost use Rattle.std.specs.Prelude.{◌≡◌, ℤ, Ok, ◌≤◌, length};
 ghost use Rattle.wf_def.specs.Definition.{Definition};
+ghost use Rattle.wf_def.specs.Limits.{IsWithinLimits};
 ghost use Rattle.wf_def.specs.Micro.{IsMicro};
 ghost use Rattle.wf_def.specs.Number.{number};
 ghost use Rattle.wf_mapfile.specs.Meaning.{Means};
 ghost use Rattle.wf_canon.specs.Number.{number_text};
-ghost use Rattle.wf_canon.specs.Canon.{canon, IsMap};
+ghost use Rattle.wf_canon.specs.Canon.{canon};
 ghost use Rattle.wf_canon.specs.declared.canon.TheConstants.{MOST_CANON_BYTES};
 
 /// What is written of a number is read as that number.
@@ -18,11 +19,11 @@ pub fn number_is_read_again()
 /// The canonical text of a map means that map.
 #[tactic(auto, using(crate::proofs::MeaningLaw::canon_means))]
 pub fn canonical_text_means_its_map()
-    ensures { (d : Definition) → IsMap d → length (canon d) ≤ MOST_CANON_BYTES → Means (canon d) d }
+    ensures { (d : Definition) → IsWithinLimits d → length (canon d) ≤ MOST_CANON_BYTES → Means (canon d) d }
 {}
 
 /// Two maps with one canonical text are one map.
 #[tactic(auto, using(crate::proofs::MeaningLaw::one_definition))]
 pub fn one_text_one_map()
-    ensures { (d e : Definition) → IsMap d → IsMap e → canon d ≡ canon e → d ≡ e }
+    ensures { (d e : Definition) → IsWithinLimits d → IsWithinLimits e → canon d ≡ canon e → d ≡ e }
 {}

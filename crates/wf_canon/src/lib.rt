@@ -5,13 +5,19 @@
 //!
 //! It promises that [`Canon::of`] gives exactly the text of its definition, that [`Canon::from_bytes`] takes exactly the canonical
 //! texts within the limit of 32,768 bytes, with their definition, and, as laws over the definitions alone, that the canonical text of
-//! a map means that map and that two maps with one text are one map. A [`Canon`] is seen as its definition. It doesn't know layers
-//! yet, and says nothing of which of two mapfiles a user would prefer.
+//! a map means that map and that two maps with one text are one map, for every map within the limits. A [`Canon`] is seen as its
+//! definition. It says nothing of which of two mapfiles a user would prefer.
+//!
+//! The way through it: `line` writes the lines of one item, `class`, `feature`, `layer` and `writer` the blocks of these lines.
 #![tactic(auto)]
 
 mod canon;
+mod class;
 mod fault;
+mod feature;
 mod law;
+mod layer;
+mod line;
 mod number;
 mod writer;
 

@@ -13,7 +13,8 @@ const UNIT: u64 = 1_000_000;
 /// How many digits a fraction in millionths has.
 const FRACTION_DIGITS: u32 = 6;
 
-fn push_whole(out: &mut Vec<u8>, whole: u64) -> Result<(), AllocError>
+/// Writes a whole number, and leaves a part of it where memory runs out.
+pub fn push_whole(out: &mut Vec<u8>, whole: u64) -> Result<(), AllocError>
     ensures { OnOk result (out.new.items ≡ out.old.items ++ decimal whole) }
 {
     let digits = whole.to_string(*out.allocator())?;
@@ -60,7 +61,7 @@ fn push_magnitude(out: &mut Vec<u8>, millionths: u64) -> Result<(), AllocError>
 
 #[tactic(auto, unfolding(crate::specs::Number::number_text))]
 /// Writes a number of millionths, and leaves a part of it where memory runs out.
-pub(crate) fn push_number(out: &mut Vec<u8>, millionths: i64) -> Result<(), AllocError>
+pub fn push_number(out: &mut Vec<u8>, millionths: i64) -> Result<(), AllocError>
     ensures { OnOk result (out.new.items ≡ out.old.items ++ number_text millionths) }
 {
     if millionths < 0 {

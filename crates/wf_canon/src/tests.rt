@@ -1,3 +1,5 @@
+mod layers;
+
 use super::*;
 use std::alloc::Global;
 use std::test::Fail;
@@ -20,6 +22,7 @@ fn units(count: i64) -> Result<Micro, Fail> {
 fn titled(alloc: Global, title: &[u8]) -> Result<MapDef, Fail> {
     let extent = Extent::new(units(0)?, units(0)?, units(4)?, units(4)?).ok_or("empty")?;
     Ok(MapDef::new(
+        alloc,
         Text::new(alloc, b"a")?,
         Text::new(alloc, title)?,
         Text::new(alloc, b"")?,

@@ -53,7 +53,7 @@ vote_apart None (Some w) p q e = absurd cc
 vote_apart (Some v) None p q e = absurd cc
 vote_apart (Some v) (Some w) p q e =
     let same : with_text v ≡ with_text w = cc in
-    ap Some (same_vote v w (ap (λ vote. vote.ballot) same) (one_definition v.definition w.definition p.1.is_map q.1.is_map (ap (λ vote. vote.definition) same)))
+    ap Some (same_vote v w (ap (λ vote. vote.ballot) same) (one_definition v.definition w.definition p.1.within q.1.within (ap (λ vote. vote.definition) same)))
 
 -- messages with equal texts are equal
 pub texts_apart : (m n : Message Definition) → IsMessage m → IsMessage n → texts m ≡ texts n → m ≡ n
@@ -61,13 +61,13 @@ texts_apart (Prepare s b) (Prepare t c) p q e = cc
 texts_apart (Prepare s b) n p q e = absurd cc
 texts_apart (Promise i s b v) (Promise j t c w) p q e = let votes : v ≡ w = vote_apart v w p.3 q.3 cc in cc
 texts_apart (Promise i s b v) n p q e = absurd cc
-texts_apart (Accept s b d) (Accept t c f) p q e = let same : d ≡ f = one_definition d f p.2.is_map q.2.is_map cc in cc
+texts_apart (Accept s b d) (Accept t c f) p q e = let same : d ≡ f = one_definition d f p.2.within q.2.within cc in cc
 texts_apart (Accept s b d) n p q e = absurd cc
 texts_apart (Accepted i s b) (Accepted j t c) p q e = cc
 texts_apart (Accepted i s b) n p q e = absurd cc
 texts_apart (Nack i s b x) (Nack j t c y) p q e = cc
 texts_apart (Nack i s b x) n p q e = absurd cc
-texts_apart (Chosen s d) (Chosen t f) p q e = let same : d ≡ f = one_definition d f p.1.is_map q.1.is_map cc in cc
+texts_apart (Chosen s d) (Chosen t f) p q e = let same : d ≡ f = one_definition d f p.1.within q.1.within cc in cc
 texts_apart (Chosen s d) n p q e = absurd cc
 texts_apart (Ask s) (Ask t) p q e = cc
 texts_apart (Ask s) n p q e = absurd cc

@@ -6,7 +6,8 @@ use Rattle.wf_ballot.specs.Ballot.{Ballot, IsBallot}
 use Rattle.wf_model.specs.Message.{Vote}
 use Rattle.wf_model.specs.Message as model
 use Rattle.wf_def.specs.Definition.{Definition}
-use Rattle.wf_canon.specs.Canon.{canon, IsMap}
+use Rattle.wf_def.specs.Limits.{IsWithinLimits}
+use Rattle.wf_canon.specs.Canon.{canon}
 use Rattle.wf_codec.specs.Kind.{most_text}
 use Rattle.wf_codec.specs.declared.message.Message.{Message}
 use Rattle.wf_codec.specs.declared.message.Message.TheVariants as code
@@ -45,7 +46,7 @@ texts m = with_each canon m
 
 -- a map whose canonical text has at most 32,768 bytes
 pub record HasText (d : Definition) : Type 0 where
-  pub is_map : IsMap d
+  pub within : IsWithinLimits d
   pub short : length (canon d) ≤ most_text
 
 -- the vote's ballot is in its range, and P holds of its definition

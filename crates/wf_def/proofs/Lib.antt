@@ -1,1 +1,3 @@
 pub mod NumberLemmas
+mod LayerLemmas
+mod MapLemmas

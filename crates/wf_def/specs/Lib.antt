@@ -5,5 +5,7 @@ pub mod Text
 pub mod Definition
 pub mod Limits
 pub mod Whole
+pub mod Layer
 pub mod Equality
 pub mod EqualityLaws
+pub mod Attribute

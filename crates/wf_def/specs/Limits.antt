@@ -1,10 +1,12 @@
 -- Which definitions are within the limits: one predicate a level.
-use Rattle.std.specs.Prelude.{◌≡◌, ℕ, ◌<◌, ◌≤◌, ◌==◌, false, List, length, map, All, IfSome, sum_by, bytes_eq}
+use Rattle.std.specs.Prelude.{◌≡◌, ℕ, ◌<◌, ◌≤◌, ◌==◌, Bool, true, false, List, length, map, All, IfSome, sum_by, bytes_eq}
 use Rattle.std.specs.List.{list_any, IsDistinct}
 use Rattle.wf_def.specs.Micro.{IsMicro}
 use Rattle.wf_def.specs.Extent.{IsExtent}
 use Rattle.wf_def.specs.Text.{IsText}
 use Rattle.wf_def.specs.Definition.{Definition, LayerDefinition, ClassDefinition, StyleDefinition, LabelDefinition, FeatureDefinition}
+use Rattle.wf_def.specs.declared.fault.LayerFault.{LayerFault}
+use Rattle.wf_def.specs.declared.fault.LayerFault.TheVariants.{OutOfMemory, Repeated}
 use Rattle.wf_def.specs.declared.color.Color.{Color}
 use Rattle.wf_def.specs.declared.point.Point.{Point}
 use Rattle.wf_def.specs.declared.choice.LayerKind.{LayerKind}
@@ -35,6 +37,11 @@ pub record IsLabel (l : LabelDefinition) : Type 0 where
   pub priority_most : l.priority ≤ MOST_PRIORITY
   pub buffer_most : l.buffer ≤ MOST_BUFFER
 
+-- a class's styles
+pub record IsStyles (styles : List StyleDefinition) : Type 0 where
+  pub most : length styles ≤ MOST_STYLES
+  pub each : All IsStyle styles
+
 pub record IsClass (c : ClassDefinition) : Type 0 where
   pub name : IsText c.name
   pub expression : IfSome c.expression IsText
@@ -42,12 +49,26 @@ pub record IsClass (c : ClassDefinition) : Type 0 where
   pub styles : All IsStyle c.styles
   pub label : IfSome c.label IsLabel
 
+abbrev pub IsPart : List Point → Type 0
+IsPart part = All IsPoint part
+
+abbrev pub IsParts : List (List Point) → Type 0
+IsParts parts = All IsPart parts
+
 -- there is a part
 pub record IsFeature (f : FeatureDefinition) : Type 0 where
   pub parts_least : 1 ≤ length f.parts
-  pub parts : All (All IsPoint) f.parts
+  pub parts : IsParts f.parts
   pub items : IsText f.items
   pub text : IsText f.text
+
+-- a layer's classes
+pub record IsClasses (classes : List ClassDefinition) : Type 0 where
+  pub most : length classes ≤ MOST_CLASSES
+  pub each : All IsClass classes
+
+abbrev pub IsFeatures : List FeatureDefinition → Type 0
+IsFeatures features = All IsFeature features
 
 -- how many points a part has at least: a ring needs three
 abbrev pub least_points : LayerKind → ℕ
@@ -103,3 +124,12 @@ pub record IsWithinLimits (m : Definition) : Type 0 where
   pub unlike_names : IsDistinct bytes_eq (layer_names m.layers)
   pub features_most : feature_count m.layers ≤ MOST_FEATURES
   pub points_most : point_count m.layers ≤ MOST_POINTS
+
+-- a layer of the name is there
+abbrev pub has_layer : List (List ℕ × LayerDefinition) → List ℕ → Bool
+has_layer layers name = list_any (bytes_eq name) (layer_names layers)
+
+-- the fault is a name that is there already
+abbrev pub is_repeated : LayerFault → Bool
+is_repeated Repeated = true
+is_repeated OutOfMemory = false

@@ -1,4 +1,4 @@
-//! Why a number or a text was refused.
+//! Why a number, a text or a layer was refused.
 
 use thiserror::Error;
 
@@ -31,4 +31,15 @@ pub enum TextFault {
     /// A `"` and a `'`: neither kind of quote could stand around the text.
     #[error("the text holds both kinds of quote")]
     BothQuotes,
+}
+
+/// Why a map didn't take a layer.
+#[derive(Clone, Copy, Debug, PartialEq, Eq, Hash, Error)]
+pub enum LayerFault {
+    /// Memory ran out.
+    #[error("out of memory")]
+    OutOfMemory,
+    /// The map has a layer of the name.
+    #[error("the map has a layer of this name")]
+    Repeated,
 }

@@ -1,22 +1,33 @@
 //! Numbers, texts and map definitions.
 //!
 //! A map definition is what a mapfile says, without its comments, letter case and order: a plain value, equal to another exactly
-//! where all fields are equal. Contracts see each type as a record of `specs/`: coordinates as whole numbers of millionths, texts
-//! as their bytes, lists in order.
+//! where all fields are equal. A [`map::MapDef`] has layers under unlike names; a [`layer::Layer`] has classes, which say what is
+//! drawn alike and by which styles and label, and features, each a shape with its attributes. Contracts see each type as a record
+//! of `specs/Definition.antt`: coordinates as whole numbers of millionths, texts as their bytes, lists in order, a map's layers as
+//! pairs of name and layer.
 //!
-//! It promises that every value is within the limits: each type's accessors ensure both the value and its limits. A text's number
-//! is read exactly as `specs/Number.antt` defines, without floating point and without memory. It says nothing of mapfiles, of
-//! pictures or of the web.
+//! It promises that every value is within the limits of `specs/Limits.antt`: each type's accessors ensure both the value and its
+//! limits. What a caller can know, as room for one more, is a condition of the call that needs it; what only the parts tell, as too
+//! few points for the layer's kind, answers none, and a repeated name is refused. After want of memory a value is as it was. A
+//! text's number is read exactly as `specs/Number.antt` defines, without floating point and without memory. It says nothing of
+//! mapfiles, of pictures or of the web.
 #![tactic(auto)]
 
+pub mod attribute;
 pub mod choice;
+pub mod class;
 pub mod color;
+mod equality;
 pub mod extent;
 pub mod fault;
+pub mod feature;
+pub mod label;
+pub mod layer;
 pub mod limits;
 pub mod map;
 pub mod micro;
 mod number;
 pub mod point;
+pub mod style;
 pub mod text;
 pub mod whole;

@@ -1,7 +1,8 @@
 //! Map definitions.
-ghost use Rattle.std.specs.Prelude.{◌≡◌, [], IfOk};
+ghost use Rattle.std.specs.Prelude.{◌≡◌, ◌+◌, ◌<◌, ◌≤◌, false, [], ◌∷◌, ◌++◌, length, slice_get, sum_by, Some, IfOk, IfErr, OnOk, OnErr};
 ghost use Rattle.wf_def.specs.Definition.{Definition, empty_map};
-ghost use Rattle.wf_def.specs.Limits.{IsWithinLimits};
+ghost use Rattle.wf_def.specs.Limits.{IsWithinLimits, IsLayer, IsLayerName, points_of_feature, feature_count, point_count, has_layer, is_repeated};
+ghost use Rattle.wf_def.specs.declared.limits.TheConstants.{MOST_LAYERS, MOST_FEATURES, MOST_POINTS};
 
 mod equality;
 #[cfg(test)]
@@ -9,8 +10,11 @@ mod tests;
 
 use crate::choice::Projection;
 use crate::extent::Extent;
+use crate::fault::LayerFault;
+use crate::layer::Layer;
 use crate::micro::Micro;
 use crate::text::Text;
+use indexmap::IndexMap;
 use std::alloc::{AllocError, Global};
 use std::marker::Model;
 
@@ -23,23 +27,24 @@ pub struct MapDef {
     address: Text,
     extent: Extent,
     projection: Projection,
+    layers: IndexMap<Text, Layer>,
 }
 
 impl Model for MapDef {
-    ghost use Rattle.std.specs.Prelude.{[]};
     ghost use Rattle.wf_def.specs.Definition.{Definition};
     ghost use Rattle.wf_def.specs.Limits.{IsWithinLimits};
 
     ghost Value = { Definition };
 
-    ghost view = { λ m. record { name = m.name; title = m.title; abstract_text = m.abstract_text; address = m.address; extent = m.extent; projection = m.projection; layers = [] } };
+    ghost view = { λ m. record { name = m.name; title = m.title; abstract_text = m.abstract_text; address = m.address; extent = m.extent; projection = m.projection; layers = m.layers.entries } };
 
-    ghost invariant = { λ m. IsWithinLimits (record { name = m.name; title = m.title; abstract_text = m.abstract_text; address = m.address; extent = m.extent; projection = m.projection; layers = [] }) };
+    ghost invariant = { λ m. IsWithinLimits (record { name = m.name; title = m.title; abstract_text = m.abstract_text; address = m.address; extent = m.extent; projection = m.projection; layers = m.layers.entries }) };
 }
 
 impl MapDef {
     /// A map without layers. The title, the abstract and the address are those of the WEB block's metadata.
     pub fn new(
+        alloc: Global,
         name: Text,
         title: Text,
         abstract_text: Text,
@@ -61,6 +66,7 @@ impl MapDef {
             address,
             extent,
             projection,
+            layers: IndexMap::new(alloc),
         }
     }
 
@@ -69,6 +75,7 @@ impl MapDef {
         ensures { IfOk result (λ map. map ≡ empty_map) }
     {
         Ok(MapDef::new(
+            alloc,
             Text::from_str(alloc, "empty")?,
             Text::from_str(alloc, "empty")?,
             Text::from_str(alloc, "")?,
@@ -78,11 +85,51 @@ impl MapDef {
         ))
     }
 
-    /// What the map is called. Until a map can be given layers, it also says that there are none.
+    /// Puts a layer behind the others. The name of a layer that is there is refused; after a refusal the map is as it was.
+    pub fn add_layer(&mut self, name: Text, layer: Layer) -> Result<(), LayerFault>
+        requires is_name { IsLayerName name }
+        requires room { length self.old.layers < MOST_LAYERS }
+        requires features { feature_count self.old.layers + length layer.features ≤ MOST_FEATURES }
+        requires points { point_count self.old.layers + sum_by points_of_feature layer.features ≤ MOST_POINTS }
+        ensures added { OnOk result (self.new ≡ record self.old { layers = self.old.layers ++ (name, layer) ∷ [] }) }
+        ensures new_name { OnOk result (has_layer self.old.layers name ≡ false) }
+        ensures unchanged { OnErr result (self.new ≡ self.old) }
+        ensures repeated { IfErr result (λ fault. has_layer self.old.layers name ≡ is_repeated fault) }
+    {
+        let _ = layer.kind();
+        if self.layers.contains_key(&name) {
+            return Err(LayerFault::Repeated);
+        }
+        match self.layers.insert(name, layer) {
+            Ok(_) => Ok(()),
+            Err(_) => Err(LayerFault::OutOfMemory),
+        }
+    }
+
+    /// How many layers there are.
+    pub fn layer_count(&self) -> usize
+        ensures value { result ≡ length self.now.layers }
+        ensures within { IsWithinLimits self.now }
+    {
+        self.layers.len()
+    }
+
+    /// The layer in this place, with its name; layers are drawn in their order, each over those before it.
+    pub fn layer(&self, index: usize) -> (&Text, &Layer)
+        requires { index < length self.now.layers }
+        ensures value { slice_get self.now.layers index ≡ Some (result.0.now, result.1.now) }
+        ensures named { IsLayerName result.0.now }
+        ensures layer { IsLayer result.1.now }
+        ensures points { sum_by points_of_feature result.1.now.features ≤ MOST_POINTS }
+        ensures within { IsWithinLimits self.now }
+    {
+        self.layers.get_index(index).unwrap()
+    }
+
+    /// What the map is called.
     pub fn name(&self) -> &Text
         ensures value { result.now ≡ self.now.name }
         ensures within { IsWithinLimits self.now }
-        ensures no_layers { self.now.layers ≡ [] }
     {
         &self.name
     }
@@ -148,6 +195,7 @@ impl Clone for MapDef {
             address: self.address.clone()?,
             extent: self.extent,
             projection: self.projection,
+            layers: self.layers.clone()?,
         })
     }
 }

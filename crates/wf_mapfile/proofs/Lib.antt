@@ -6,3 +6,16 @@ pub mod WebLaw
 pub mod MapLaw
 pub mod Pairs
 pub mod Prefix
+pub mod Lists
+pub mod Rooms
+pub mod PointsLaw
+pub mod FeatureLaw
+pub mod LayerLaw
+pub mod StyleLaw
+pub mod LabelLaw
+pub mod ClassLaw
+pub mod Texts
+pub mod Unlike
+pub mod GatheredLaw
+pub mod LayerNames
+pub mod Booleans

@@ -21,3 +21,7 @@ bind_swap None None f = refl
 bind_swap None (Some y) f = refl
 bind_swap (Some x) None f = refl
 bind_swap (Some x) (Some y) f = refl
+
+-- where what comes next is nothing, a reader gives nothing
+pub refused : {A B : Type 0} (o : Option A) → ◌>>=◌ {A = A} {B = B} o (λ x. None) ≡ None
+refused o = bind_none o _ (λ x. refl)

@@ -39,7 +39,7 @@ unfolding collect
 collect_past seen slots n i tokens past = let none : n - i ≡ 0 = omega arith in rw none
 
 -- none of the keys was seen before, and none comes twice
-abbrev fresh : (List ℕ → Bool) → List (List ℕ) → Bool
+abbrev pub fresh : (List ℕ → Bool) → List (List ℕ) → Bool
 fresh seen [] = true
 fresh seen (key ∷ keys) = not (seen key) && fresh (λ other. bytes_eq key other || seen other) keys
 
@@ -101,7 +101,7 @@ collect-same (suc n) seen others slots tokens same =
     (ap (λ pair. pair >>= collect_rest seen slots n) (new_pair-same seen others tokens same)
     ∙ bind_same (new_pair others tokens) _ _ (λ x. collect-same n _ _ (keep slots x.0.0 x.0.1) x.1 (λ other. ap (λ b. bytes_eq x.0.0 other || b) (same other))))
 
-bytes_eq-comm : (a b : List ℕ) → bytes_eq a b ≡ bytes_eq b a
+pub bytes_eq-comm : (a b : List ℕ) → bytes_eq a b ≡ bytes_eq b a
 bytes_eq-comm a b = same_from_decides (bytes_eq a b) (bytes_eq b a) (bytes_eq-Decides a b) (Decides-like (bytes_eq b a) sym sym (bytes_eq-Decides b a))
 
 -- keys are fresh where none was seen and no two are equal
@@ -115,7 +115,7 @@ not_seen-or name seen (key ∷ keys) = split (bytes_eq name key) (seen key) _ _ 
   split false true all false none e = refl
   split false false all any none e = e
 
-fresh-all_differ : (seen : List ℕ → Bool) (keys : List (List ℕ)) → fresh seen keys ≡ (list_all (λ key. not (seen key)) keys && all_differ keys)
+pub fresh-all_differ : (seen : List ℕ → Bool) (keys : List (List ℕ)) → fresh seen keys ≡ (list_all (λ key. not (seen key)) keys && all_differ keys)
 unfolding all_differ
 fresh-all_differ seen [] = refl
 fresh-all_differ seen (key ∷ keys) =
@@ -215,7 +215,7 @@ keep_all-kept all differ =
     let found : (key : List ℕ) → last_at key None all ≡ value_at key all = λ key. last_at-value_at key all differ None ∙ or_none (value_at key all) in
     rw (keep_all-slots no_metadata all, found (codes "wms_title"), found (codes "wms_abstract"), found (codes "wms_onlineresource"))
 
-none_seen : (keys : List (List ℕ)) → list_all (λ key. not false) keys ≡ true
+pub none_seen : (keys : List (List ℕ)) → list_all (λ key. not false) keys ≡ true
 none_seen [] = refl
 none_seen (key ∷ keys) = none_seen keys
 

@@ -1,7 +1,9 @@
 -- MAP: a map's definition.
-use Rattle.std.specs.Prelude.{ℕ, ◌&&◌, int_lt, if◌then◌else◌, List, [], ◌∷◌, codes, Option, Some, None, filter_map, unwrap_or}
-use Rattle.wf_def.specs.Definition.{Definition}
+use Rattle.std.specs.Prelude.{ℕ, Bool, ◌&&◌, int_lt, nat_le, if◌then◌else◌, List, [], ◌∷◌, length, codes, Option, Some, None, filter_map, unwrap_or}
+use Rattle.wf_def.specs.Definition.{Definition, LayerDefinition}
 use Rattle.wf_def.specs.Extent.{ExtentValue}
+use Rattle.wf_def.specs.Limits.{layer_names, feature_count, point_count}
+use Rattle.wf_def.specs.declared.limits.TheConstants.{MOST_LAYERS, MOST_FEATURES, MOST_POINTS}
 use Rattle.wf_def.specs.declared.choice.Projection.{Projection}
 use Rattle.wf_def.specs.declared.choice.Projection.TheVariants.{Epsg4326, Epsg3857}
 use Rattle.wf_mapfile.specs.declared.keyword.MapKeyword.{MapKeyword}
@@ -10,7 +12,9 @@ use Rattle.wf_mapfile.specs.Token.{Token}
 use Rattle.wf_mapfile.specs.Grammar.{◌>>=◌, choice, text, number, end, block, at_most_one, exactly_one}
 use Rattle.wf_mapfile.specs.Color.{color}
 use Rattle.wf_mapfile.specs.declared.slots.Metadata as kept
+use Rattle.wf_mapfile.specs.Metadata.{all_differ}
 use Rattle.wf_mapfile.specs.Web.{web, no_metadata}
+use Rattle.wf_mapfile.specs.Layer.{layer}
 
 -- what a keyword of MAP says; the last six are dropped
 pub data MapItem : Type 0 where
@@ -18,6 +22,7 @@ pub data MapItem : Type 0 where
   Extent : ExtentValue → MapItem
   Projected : Projection → MapItem
   Web : kept.Metadata → MapItem
+  Layer : (List ℕ × LayerDefinition) → MapItem
   Size : MapItem
   ImageColor : MapItem
   Units : MapItem
@@ -31,6 +36,7 @@ map_keyword word = choice (
     (codes "EXTENT", keyword.Extent) ∷
     (codes "PROJECTION", keyword.Projection) ∷
     (codes "WEB", keyword.Web) ∷
+    (codes "LAYER", keyword.Layer) ∷
     (codes "SIZE", keyword.Size) ∷
     (codes "IMAGECOLOR", keyword.ImageColor) ∷
     (codes "UNITS", keyword.Units) ∷
@@ -81,6 +87,9 @@ map_item keyword.Projection tokens = do
 map_item keyword.Web tokens = do
   x ← web tokens
   Some (Web x.0, x.1)
+map_item keyword.Layer tokens = do
+  x ← layer tokens
+  Some (Layer x.0, x.1)
 map_item keyword.Size tokens = do
   x ← two_numbers tokens
   Some (Size, x.1)
@@ -116,6 +125,10 @@ abbrev pub web_of : MapItem → Option kept.Metadata
 web_of (Web x) = Some x
 web_of _ = None
 
+abbrev pub layer_of : MapItem → Option (List ℕ × LayerDefinition)
+layer_of (Layer x) = Some x
+layer_of _ = None
+
 abbrev pub size_of : MapItem → Option (Unit {0})
 size_of Size = Some tt
 size_of _ = None
@@ -142,31 +155,42 @@ shape_path_of _ = None
 
 -- a map's definition from what was said, with defaults for what wasn't: the name is `map`, the title is the
 -- name, the abstract is empty
-unfoldable pub definition : Option (List ℕ) → ExtentValue → Projection → kept.Metadata → Definition
-definition name extent projection web = let name = unwrap_or name (codes "map") in record {
+unfoldable pub definition : Option (List ℕ) → ExtentValue → Projection → kept.Metadata → List (List ℕ × LayerDefinition) → Definition
+definition name extent projection web layers = let name = unwrap_or name (codes "map") in record {
   name = name;
   title = unwrap_or web.title name;
   abstract_text = unwrap_or web.abstract_text [];
   address = unwrap_or web.address (codes "http://localhost/wms?");
   extent = extent;
   projection = projection;
-  layers = [];
+  layers = layers;
 }
 
--- each keyword comes at most once, EXTENT and PROJECTION must come
+-- at most so many layers, of unlike names, with at most so many features and points in all of them
+unfoldable pub are_layers : List (List ℕ × LayerDefinition) → Bool
+are_layers layers =
+    nat_le (length layers) MOST_LAYERS && all_differ (layer_names layers) &&
+    nat_le (feature_count layers) MOST_FEATURES && nat_le (point_count layers) MOST_POINTS
+
+-- what LAYER said, which may come again
+unfoldable pub layers_of : List (List ℕ × LayerDefinition) → Option (List (List ℕ × LayerDefinition))
+layers_of layers = if are_layers layers then Some layers else None
+
+-- each keyword but LAYER comes at most once, EXTENT and PROJECTION must come
 unfoldable pub map_of : List MapItem → Option Definition
 map_of items = do
   name ← at_most_one (filter_map name_of items)
   extent ← exactly_one (filter_map extent_of items)
   projection ← exactly_one (filter_map projection_of items)
   web ← at_most_one (filter_map web_of items)
+  layers ← layers_of (filter_map layer_of items)
   size ← at_most_one (filter_map size_of items)
   image_color ← at_most_one (filter_map image_color_of items)
   units ← at_most_one (filter_map units_of items)
   status ← at_most_one (filter_map status_of items)
   image_type ← at_most_one (filter_map image_type_of items)
   shape_path ← at_most_one (filter_map shape_path_of items)
-  Some (definition name extent projection (unwrap_or web no_metadata))
+  Some (definition name extent projection (unwrap_or web no_metadata) layers)
 
 -- what follows the word MAP, up to its END
 unfoldable pub map : List Token → Option (Definition × List Token)

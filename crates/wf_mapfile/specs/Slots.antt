@@ -1,8 +1,9 @@
 -- Blocks read in one pass: what each keyword does to the slots, and what the slots say in the end.
-use Rattle.std.specs.Prelude.{ℕ, zero, suc, Bool, ◌||◌, if◌then◌else◌, List, codes, Option, Some, None, is_some, unwrap_or}
+use Rattle.std.specs.Prelude.{ℕ, zero, suc, Bool, ◌||◌, nat_lt, if◌then◌else◌, List, length, codes, Option, Some, None, is_some, unwrap_or}
 use Rattle.std.specs.Option.{option_or}
 use Rattle.std.specs.Str.{bytes_eq, str_to_ascii_lowercase}
 use Rattle.wf_def.specs.Definition.{Definition}
+use Rattle.wf_def.specs.declared.limits.TheConstants.{MOST_LAYERS}
 use Rattle.wf_mapfile.specs.declared.keyword.WebKeyword.{WebKeyword}
 use Rattle.wf_mapfile.specs.declared.keyword.WebKeyword.TheVariants as webs
 use Rattle.wf_mapfile.specs.declared.keyword.MapKeyword.{MapKeyword}
@@ -15,6 +16,7 @@ use Rattle.wf_mapfile.specs.Grammar.{◌>>=◌, text, end}
 use Rattle.wf_mapfile.specs.Color.{color}
 use Rattle.wf_mapfile.specs.Metadata.{metadata}
 use Rattle.wf_mapfile.specs.Web.{web, web_keyword, no_metadata}
+use Rattle.wf_mapfile.specs.Room.{behind, layer_behind}
 use Rattle.wf_mapfile.specs.Map.{extent, projection, two_numbers, map_keyword, definition}
 
 -- a pair's value goes to its key's slot, if there is one
@@ -58,6 +60,8 @@ map_take maps.Name slots tokens = once slots.name text (λ x. record slots { nam
 map_take maps.Extent slots tokens = once slots.extent extent (λ x. record slots { extent = Some x }) tokens
 map_take maps.Projection slots tokens = once slots.projection projection (λ x. record slots { projection = Some x }) tokens
 map_take maps.Web slots tokens = once slots.web web (λ x. record slots { web = Some x }) tokens
+map_take maps.Layer slots tokens =
+    if nat_lt (length slots.layers.layers) MOST_LAYERS then (layer_behind slots.layers tokens >>= λ x. Some (record slots { layers = behind slots.layers x.0 }, x.1)) else None
 map_take maps.Size slots tokens = once slots.size two_numbers (λ _. record slots { size = Some tt }) tokens
 map_take maps.ImageColor slots tokens = once slots.image_color color (λ _. record slots { image_color = Some tt }) tokens
 map_take maps.Units slots tokens = once slots.units text (λ _. record slots { units = Some tt }) tokens
@@ -72,4 +76,4 @@ unfoldable pub map_filled : MapSlots → Option Definition
 map_filled slots = do
   extent ← slots.extent
   projection ← slots.projection
-  Some (definition slots.name extent projection (unwrap_or slots.web no_metadata))
+  Some (definition slots.name extent projection (unwrap_or slots.web no_metadata) slots.layers.layers)

@@ -5,6 +5,11 @@ ghost use Rattle.wf_mapfile.specs.Grammar.{is_end};
 ghost use Rattle.wf_mapfile.specs.Web.{web_keyword};
 ghost use Rattle.wf_mapfile.specs.Map.{map_keyword, projection_named};
 
+pub mod class;
+pub mod label;
+pub mod layer;
+pub mod style;
+
 use crate::choice::choose;
 use wf_def::choice::Projection;
 
@@ -19,6 +24,8 @@ pub enum MapKeyword {
     Projection,
     /// The block of what the map tells the web.
     Web,
+    /// A block of features.
+    Layer,
     /// The size of a picture, dropped.
     Size,
     /// The colour of a background, dropped.
@@ -86,6 +93,7 @@ pub fn map_keyword(word: &[u8]) -> Option<MapKeyword>
             ("EXTENT", MapKeyword::Extent),
             ("PROJECTION", MapKeyword::Projection),
             ("WEB", MapKeyword::Web),
+            ("LAYER", MapKeyword::Layer),
             ("SIZE", MapKeyword::Size),
             ("IMAGECOLOR", MapKeyword::ImageColor),
             ("UNITS", MapKeyword::Units),

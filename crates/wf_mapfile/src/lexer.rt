@@ -44,7 +44,7 @@ fn ends_line(byte: u8) -> bool
 }
 
 #[tactic(auto, unfolding(crate::specs::Token::is_slash))]
-fn is_slash(byte: u8) -> bool
+pub fn is_slash(byte: u8) -> bool
     ensures { result ≡ is_slash byte }
 {
     byte == b'/'

@@ -9,21 +9,30 @@
 //! not proved. It says nothing of files or of how a definition is written (wf_canon).
 //!
 //! The way through it: `lexer` (bytes to tokens), `parser` (readers of tokens), `block` (keywords up to END, for any block), then
-//! one module a block, each keyword filling its slot of `slots`.
+//! one module a block (`map`, `web`, `metadata`, `layer`, `class`, `style`, `label`, `feature`), each keyword filling its slot of
+//! `slots`. `layers` puts the layers into the map in their order, and `room` counts what the map may still hold.
 #![tactic(auto)]
 
 mod block;
 mod choice;
+mod class;
 mod color;
+mod default;
 pub mod fault;
+mod feature;
 mod keyword;
+mod label;
+mod layer;
+mod layers;
 mod lexeme;
 mod lexer;
 mod map;
 mod metadata;
 mod parser;
 mod reader;
+mod room;
 mod slots;
+mod style;
 mod token;
 mod web;
 

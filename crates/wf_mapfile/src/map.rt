@@ -1,13 +1,15 @@
 //! MAP: a map's definition.
-ghost use Rattle.std.specs.Prelude.{◌≡◌, None, IfOk, unwrap_or};
+ghost use Rattle.std.specs.Prelude.{◌≡◌, [], None, IfOk, MatchResult, true, false, length, nat_lt, unwrap_or};
 ghost use Rattle.wf_def.specs.Text.{IsText};
+ghost use Rattle.wf_def.specs.declared.limits.TheConstants.{MOST_FEATURES, MOST_LAYERS, MOST_POINTS};
 ghost use Rattle.wf_mapfile.specs.Map.{extent, map, projection, two_numbers};
-ghost use Rattle.wf_mapfile.specs.Reading.{Gives};
+ghost use Rattle.wf_mapfile.specs.Reading.{Gives, is_memory};
 ghost use Rattle.wf_mapfile.specs.Slots.{map_filled};
 
 use crate::block::{Slots, fill_block, vacant};
 use crate::fault::MapFault;
 use crate::keyword::{MapKeyword, map_keyword, projection_named};
+use crate::layers::Layers;
 use crate::parser::Parser;
 use crate::slots::{MapSlots, Metadata};
 use crate::token::Token;
@@ -48,6 +50,11 @@ impl Slots for MapSlots {
                 vacant(&self.web, place)?;
                 self.web = Some(parser.web()?);
             }
+            Some(MapKeyword::Layer) => {
+                layer_room(&self.layers)?;
+                let (name, layer) = parser.layer(&self.layers)?;
+                self.layers.push(name, layer)?;
+            }
             Some(MapKeyword::Size) => {
                 vacant(&self.size, place)?;
                 parser.two_numbers()?;
@@ -84,15 +91,26 @@ impl Slots for MapSlots {
     }
 }
 
+/// Refuses another layer where there is no room for it.
+fn layer_room(layers: &Layers) -> Result<(), MapFault>
+    ensures { MatchResult result (λ _. nat_lt (length layers.now.layers) MOST_LAYERS ≡ true) (λ e. (nat_lt (length layers.now.layers) MOST_LAYERS ≡ false) × (is_memory e ≡ false)) }
+{
+    if layers.is_full() {
+        return Err(MapFault::TooMany);
+    }
+    Ok(())
+}
+
 impl MapSlots {
-    fn new() -> Self
-        ensures { result ≡ record { name = None; extent = None; projection = None; web = None; size = None; image_color = None; units = None; status = None; image_type = None; shape_path = None } }
+    fn new(alloc: Global) -> Self
+        ensures { result ≡ record { name = None; extent = None; projection = None; web = None; layers = record { layers = []; room = record { features = MOST_FEATURES; points = MOST_POINTS } }; size = None; image_color = None; units = None; status = None; image_type = None; shape_path = None } }
     {
         MapSlots {
             name: None,
             extent: None,
             projection: None,
             web: None,
+            layers: Layers::new(alloc),
             size: None,
             image_color: None,
             units: None,
@@ -112,6 +130,7 @@ impl MapSlots {
             extent,
             projection,
             web,
+            layers,
             size: _,
             image_color: _,
             units: _,
@@ -136,12 +155,21 @@ impl MapSlots {
         };
         let abstract_text = text_or(alloc, abstract_text, "")?;
         let address = text_or(alloc, address, DEFAULT_ADDRESS)?;
-        Ok(MapDef::new(name, title, abstract_text, address, extent, projection))
+        let map = MapDef::new(
+            alloc,
+            name,
+            title,
+            abstract_text,
+            address,
+            extent,
+            projection,
+        );
+        Ok(layers.into_map(map)?)
     }
 }
 
 /// The text, or else the default.
-fn text_or(alloc: Global, text: Option<Text>, default: &str) -> Result<Text, AllocError>
+pub fn text_or(alloc: Global, text: Option<Text>, default: &str) -> Result<Text, AllocError>
     requires { IsText default.now }
     ensures { IfOk result (λ t. t ≡ unwrap_or text default.now) }
 {
@@ -157,7 +185,7 @@ impl Parser<'_> {
     pub fn map(&mut self) -> Result<MapDef, MapFault>
         ensures { Gives (λ d. (d, self.new)) result (map self.old) }
     {
-        let mut slots = MapSlots::new();
+        let mut slots = MapSlots::new(self.alloc());
         fill_block(self, &mut slots)?;
         slots.filled(self.alloc())
     }

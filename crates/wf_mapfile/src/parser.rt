@@ -1,5 +1,6 @@
 //! The parser: readers of the tokens that are left.
-ghost use Rattle.std.specs.Prelude.{◌≡◌, ◌∷◌, [], drop, false, is_some, length, MatchOption, MatchResult};
+ghost use Rattle.std.specs.Prelude.{◌≡◌, ◌∷◌, [], drop, false, is_some, length, MatchOption, MatchResult, Some, None, if◌then◌else◌};
+ghost use Rattle.wf_def.specs.Text.{is_text};
 ghost use Rattle.wf_mapfile.specs.Token.{token_value, token_values};
 ghost use Rattle.wf_mapfile.specs.Reading.{Gives, is_memory};
 ghost use Rattle.wf_mapfile.specs.Grammar.{argument, end, number, text, whole, word};
@@ -159,11 +160,18 @@ impl<'a> Parser<'a> {
         ensures { Gives (λ t. (t, self.new)) result (text self.old) }
     {
         let token = self.argument()?;
-        match Text::new(self.alloc, token.text) {
+        self.text_at(token.text, token.place)
+    }
+
+    /// What a token says, as a text.
+    pub fn text_at(&self, bytes: &[u8], place: usize) -> Result<Text, MapFault>
+        ensures { Gives (λ t. t) result (if is_text bytes.now then Some bytes.now else None) }
+    {
+        match Text::new(self.alloc, bytes) {
             Ok(text) => Ok(text),
             Err(TextFault::OutOfMemory) => Err(MapFault::Memory),
-            Err(TextFault::TooLong) => Err(MapFault::OutOfRange(token.place)),
-            Err(_) => Err(MapFault::BadToken(token.place)),
+            Err(TextFault::TooLong) => Err(MapFault::OutOfRange(place)),
+            Err(_) => Err(MapFault::BadToken(place)),
         }
     }
 

@@ -1,5 +1,11 @@
 //! What the keywords of the blocks fill, one slot each. A dropped keyword's slot tells that it came.
 
+pub mod class;
+pub mod label;
+pub mod layer;
+pub mod style;
+
+use crate::layers::Layers;
 use wf_def::choice::Projection;
 use wf_def::extent::Extent;
 use wf_def::text::Text;
@@ -37,6 +43,8 @@ pub struct MapSlots {
     pub projection: Option<Projection>,
     /// What the map tells the web.
     pub web: Option<Metadata>,
+    /// The layers.
+    pub layers: Layers,
     /// The size of a picture.
     pub size: Option<()>,
     /// The colour of a background.

@@ -1,6 +1,6 @@
 use super::*;
 use std::alloc::Global;
-use std::test::Fail;
+use std::process::Abort;
 use wf_ballot::{Ballot, NodeId, Slot};
 use wf_canon::Canon;
 
@@ -36,41 +36,40 @@ fn text_of(record: &Record) -> Option<&[u8]> {
     }
 }
 
-fn canon_a(alloc: Global) -> Result<Canon, Fail> {
-    Ok(Canon::from_bytes(alloc, MAP_A.as_bytes()).map_err(|_| "a canonical text")?)
+fn canon_a(rt: &impl Abort, alloc: Global) -> Canon {
+    Canon::from_bytes(alloc, MAP_A.as_bytes()).expect(rt, "a canonical text")
+}
+
+/// Whether the record's copy has this kind, these numbers and this text.
+fn copies(
+    rt: &impl Abort,
+    record: Record,
+    want: (&'static str, u32, u32, u8),
+    text: Option<&[u8]>,
+) -> bool {
+    let copy = record.copy().expect(rt, "memory");
+    numbers(&copy) == want && text_of(&copy) == text
 }
 
 #[test]
-fn a_copy_has_the_kind_the_numbers_and_the_definition(rt: HostRuntime) -> Result<(), Fail> {
-    let slot = Slot::new(4096).ok_or("a slot")?;
-    let node = NodeId::new(63).ok_or("a node")?;
-    let ballot = Ballot::new(7, node).ok_or("a ballot")?;
+fn a_copy_has_the_kind_and_the_numbers(rt: HostRuntime) {
+    let slot = Slot::new(4096).expect(&rt, "a slot");
+    let node = NodeId::new(63).expect(&rt, "a node");
+    let ballot = Ballot::new(7, node).expect(&rt, "a ballot");
+    let tried = Record::Tried(4_294_967_295);
+    assert!(rt; copies(&rt, tried, ("tried", 4_294_967_295, 0, 0), None));
+    let promised = Record::Promised(slot, ballot);
+    assert!(rt; copies(&rt, promised, ("promised", 4096, 7, 63), None));
+}
+
+#[test]
+fn a_copy_has_the_definition(rt: HostRuntime) {
+    let slot = Slot::new(4096).expect(&rt, "a slot");
+    let node = NodeId::new(63).expect(&rt, "a node");
+    let ballot = Ballot::new(7, node).expect(&rt, "a ballot");
     let text = Some(MAP_A.as_bytes());
-    for (record, want, text) in [
-        (
-            Record::Tried(4_294_967_295),
-            ("tried", 4_294_967_295, 0, 0),
-            None,
-        ),
-        (
-            Record::Promised(slot, ballot),
-            ("promised", 4096, 7, 63),
-            None,
-        ),
-        (
-            Record::Accepted(slot, ballot, canon_a(rt.alloc())?),
-            ("accepted", 4096, 7, 63),
-            text,
-        ),
-        (
-            Record::Published(slot, canon_a(rt.alloc())?),
-            ("published", 4096, 0, 0),
-            text,
-        ),
-    ] {
-        let copy = record.copy()?;
-        assert_eq!(rt; numbers(&copy), want);
-        assert_eq!(rt; text_of(&copy), text);
-    }
-    Ok(())
+    let accepted = Record::Accepted(slot, ballot, canon_a(&rt, rt.alloc()));
+    assert!(rt; copies(&rt, accepted, ("accepted", 4096, 7, 63), text));
+    let published = Record::Published(slot, canon_a(&rt, rt.alloc()));
+    assert!(rt; copies(&rt, published, ("published", 4096, 0, 0), text));
 }

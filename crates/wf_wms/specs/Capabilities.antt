@@ -105,6 +105,7 @@ layers d =
     ++ crs_lines d.projection
     ++ world
     ++ box_lines d.projection d.extent
+    ++ flat_map layer_line d.layers
     ++ line (codes "</Layer>")
 
 -- the first two lines: the document's element has the update sequence (7.2.3.5)

@@ -1,13 +1,14 @@
 //! The service metadata document, block by block. Each call appends its block whole, or answers want
 //! of memory.
-ghost use Rattle.std.specs.Prelude.{◌≡◌, ◌++◌, OnOk, IfOk};
-ghost use Rattle.wf_wms.specs.Capabilities.{start_tag, end_tag, element, online_resource, service, operation, requests, crs_lines, side, box_line, box_lines, layers, opening, capabilities};
+ghost use Rattle.std.specs.Prelude.{◌≡◌, ◌++◌, OnOk, IfOk, flat_map};
+ghost use Rattle.wf_wms.specs.Capabilities.{start_tag, end_tag, element, online_resource, service, operation, requests, crs_lines, side, box_line, box_lines, layer_line, layers, opening, capabilities};
 
 use crate::xml::{write_decimal, write_escaped, write_text};
 use std::alloc::{AllocError, Global};
 use wf_canon::write_number;
 use wf_def::choice::Projection;
 use wf_def::extent::Extent;
+use wf_def::layer::Layer;
 use wf_def::map::MapDef;
 use wf_def::micro::Micro;
 use wf_def::text::Text;
@@ -170,6 +171,31 @@ const WORLD: &str = "<EX_GeographicBoundingBox><westBoundLongitude>-180</westBou
 <eastBoundLongitude>180</eastBoundLongitude><southBoundLatitude>-90</southBoundLatitude>\
 <northBoundLatitude>90</northBoundLatitude></EX_GeographicBoundingBox>\n";
 
+// A layer: its name, its title and the one style that each has (OGC 06-042, 7.2.4.6).
+fn write_layer_line(name: &Text, layer: &Layer, document: &mut Vec<u8>) -> Result<(), AllocError>
+    ensures { OnOk result (document.new.items ≡ document.old.items ++ layer_line (name.now, layer.now)) }
+{
+    write_text("<Layer queryable=\"0\">", document)?;
+    write_element("Name", name, document)?;
+    write_element("Title", layer.title(), document)?;
+    write_text(ONE_STYLE, document)?;
+    Ok(())
+}
+
+const ONE_STYLE: &str = "<Style><Name>default</Name><Title>default</Title></Style></Layer>\n";
+
+// A line for each layer, in order.
+#[tactic(auto, using(crate::proofs::LayerLines::one_line_more))]
+fn write_layer_lines(map: &MapDef, document: &mut Vec<u8>) -> Result<(), AllocError>
+    ensures { OnOk result (document.new.items ≡ document.old.items ++ flat_map layer_line map.now.layers) }
+{
+    for i in 0..map.layer_count() {
+        let (name, layer) = map.layer(i);
+        write_layer_line(name, layer, document)?;
+    }
+    Ok(())
+}
+
 // The layers, under the one that stands for the map (OGC 06-042, 7.2.4.5).
 fn write_layers(map: &MapDef, document: &mut Vec<u8>) -> Result<(), AllocError>
     ensures { OnOk result (document.new.items ≡ document.old.items ++ layers map.now) }
@@ -180,6 +206,7 @@ fn write_layers(map: &MapDef, document: &mut Vec<u8>) -> Result<(), AllocError>
     write_text(crs_lines(map.projection()), document)?;
     write_text(WORLD, document)?;
     write_box_lines(map.projection(), map.extent(), document)?;
+    write_layer_lines(map, document)?;
     write_text("</Layer>\n", document)?;
     Ok(())
 }

@@ -22,6 +22,7 @@ fn map_of(
     let [minx, miny, maxx, maxy] = extent;
     let extent = Extent::new(micro(minx)?, micro(miny)?, micro(maxx)?, micro(maxy)?);
     Ok(MapDef::new(
+        alloc,
         Text::new(alloc, b"a")?,
         Text::new(alloc, title)?,
         Text::new(alloc, abstract_text)?,
@@ -377,7 +378,7 @@ fn an_update_sequence_is_its_whole_number(rt: HostRuntime) -> Result<(), Fail> {
                 234,
             ),
             (
-                "REQUEST=GetCapabilities&SERVICE=WMS&UPDATESEQUENCE=%D9%A7",
+                "REQUEST=GetCapabilities&SERVICE=WMS&UPDATESEQUENCE=%EF%BC%97",
                 invalid,
                 234,
             ),

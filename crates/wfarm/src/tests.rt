@@ -2,6 +2,8 @@
 ghost use Rattle.std.specs.Prelude.{◌≤◌};
 ghost use Rattle.wf_wms.specs.declared.update_sequence.TheConstants.{LAST_SEQUENCE};
 
+mod layers;
+
 use crate::arguments::line;
 use crate::fault::RunFault;
 use crate::line::Line;

@@ -1,4 +1,4 @@
-//! When two map definitions are equal: where all their fields are.
+//! When two map definitions are equal: where all their fields are, with the same layers in the same order.
 ghost use Rattle.std.specs.Prelude.{◌≡◌, ◌↔◌, IsTrue};
 ghost use Rattle.std.specs.Cmp.{partial_equiv_from_equiv};
 ghost use Rattle.wf_def.specs.Equality.{definition_eq};
@@ -25,6 +25,7 @@ impl PartialEq for MapDef {
             && self.address == other.address
             && self.extent == other.extent
             && self.projection == other.projection
+            && self.layers.as_slice() == other.layers.as_slice()
     }
 }
 

@@ -102,14 +102,13 @@ fn a_byte_that_no_token_holds_is_m4_at_its_place(rt: HostRuntime) -> Result<(), 
 
 #[test]
 fn what_is_not_wanted_is_m5_at_its_place(rt: HostRuntime) -> Result<(), Fail> {
-    let table: [(&str, &str); 24] = [
+    let table: [(&str, &str); 23] = [
         ("NAP END", "M5 at 0"),
         ("\"MAP\" END", "M5 at 0"),
         ("END", "M5 at 0"),
         ("LAYER END", "M5 at 0"),
         ("MAP INCLUDE \"x\" END", "M5 at 4"),
         ("MAP SYMBOL NAME \"c\" END END", "M5 at 4"),
-        ("MAP LAYER END END", "M5 at 4"),
         ("MAP MAP END END", "M5 at 4"),
         ("MAP \"NAME\" a END", "M5 at 4"),
         ("MAP 'END'", "M5 at 4"),
@@ -133,7 +132,7 @@ fn what_is_not_wanted_is_m5_at_its_place(rt: HostRuntime) -> Result<(), Fail> {
 
 #[test]
 fn each_keyword_in_the_wrong_block_is_m5(rt: HostRuntime) -> Result<(), Fail> {
-    let table: [(&str, &str); 16] = [
+    let table: [(&str, &str); 17] = [
         ("MAP METADATA END END", "M5 at 4"),
         ("MAP IMAGEPATH \"a\" END", "M5 at 4"),
         ("MAP IMAGEURL \"a\" END", "M5 at 4"),
@@ -148,6 +147,7 @@ fn each_keyword_in_the_wrong_block_is_m5(rt: HostRuntime) -> Result<(), Fail> {
         ("MAP WEB IMAGETYPE png END END", "M5 at 8"),
         ("MAP WEB SHAPEPATH a END END", "M5 at 8"),
         ("MAP WEB MAP END END", "M5 at 8"),
+        ("MAP WEB LAYER END END", "M5 at 8"),
         ("MAP PROJECTION NAME a END", "M5 at 15"),
         ("MAP PROJECTION WEB END", "M5 at 15"),
     ];

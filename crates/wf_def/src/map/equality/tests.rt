@@ -26,6 +26,7 @@ fn map(
     let zero = micro(rt, b"0");
     let extent = Extent::new(zero, zero, micro(rt, east), micro(rt, b"1")).expect(rt, "an extent");
     MapDef::new(
+        alloc,
         text(rt, alloc, name),
         text(rt, alloc, title),
         text(rt, alloc, abstract_text),

@@ -1,5 +1,5 @@
 -- The newest entry is the vote that the acceptor shows.
-use Rattle.std.proofs.Common.{◌≡◌, Option, Some, None, refl, sym, ◌∙◌, ap}
+use Rattle.std.proofs.Common.{◌≡◌, Some, None, sym, ◌∙◌, ap}
 use Rattle.std.specs.Option.{option_copied}
 use Rattle.wf_model.specs.Working.{same_ballot}
 use Rattle.wf_model.specs.Table.{votes_at}

@@ -1,0 +1,75 @@
+//! The attributes of features, and the classes that they choose.
+ghost use Rattle.std.specs.Prelude.{◌≡◌, ◌<◌, length, IfSome, option_copied, position, bytes_eq, slice_get};
+ghost use Rattle.wf_def.specs.Attribute.{attribute, attribute_names, attribute_values, matches, class_of};
+
+#[cfg(test)]
+mod tests;
+
+use crate::class::Class;
+use crate::feature::Feature;
+use crate::layer::Layer;
+use crate::text::Text;
+
+impl Layer {
+    /// The feature's value under a name (MapServer mapfile reference, ITEMS): of the values between semicolons, that which stands
+    /// where the name first does among the layer's names between commas. There is none under the empty name, and none where the
+    /// feature has fewer values.
+    pub fn attribute<'a>(&self, feature: &'a Feature, name: &Text) -> Option<&'a [u8]>
+        ensures { option_copied result ≡ attribute self.now.items feature.now.items name.now }
+    {
+        attribute(
+            self.items().as_bytes(),
+            feature.items().as_bytes(),
+            name.as_bytes(),
+        )
+    }
+
+    /// Which class the feature has, by its place among the layer's classes: the first without an expression, or whose expression
+    /// equals the feature's value under the layer's CLASSITEM byte for byte. A feature without a class isn't drawn.
+    #[tactic(auto, unfolding(crate::specs::Attribute::class_of))]
+    pub fn class_of(&self, feature: &Feature) -> Option<usize>
+        ensures class { result ≡ class_of self.now feature.now }
+        ensures within { IfSome result (λ i. i < length self.now.classes) }
+    {
+        let value = self.attribute(feature, self.class_item());
+        self.classes()
+            .iter()
+            .position(|class| matches(class, value))
+    }
+}
+
+/// Whether a feature whose value is this one is of the class.
+fn matches(class: &Class, value: Option<&[u8]>) -> bool
+    ensures { result ≡ matches class.now.expression (option_copied value.entry) }
+{
+    match class.expression() {
+        None => true,
+        Some(expression) => value == Some(expression.as_bytes()),
+    }
+}
+
+/// The value under a name, of names between commas and values between semicolons.
+#[tactic(auto, unfolding(crate::specs::Attribute::attribute))]
+pub fn attribute<'a>(names: &[u8], values: &'a [u8], name: &[u8]) -> Option<&'a [u8]>
+    ensures { option_copied result ≡ attribute names.now values.now name.now }
+{
+    if name.is_empty() {
+        return None;
+    }
+    let place = place_of(names, name)?;
+    value_at(values, place)
+}
+
+/// Where the name first stands among names between commas.
+fn place_of(names: &[u8], name: &[u8]) -> Option<usize>
+    ensures { result ≡ position (bytes_eq name.now) (attribute_names names.now) }
+{
+    names.split(|b| *b == b',').position(|piece| name == piece)
+}
+
+/// The value at a place, of values between semicolons.
+fn value_at(values: &[u8], place: usize) -> Option<&[u8]>
+    ensures { option_copied result ≡ slice_get (attribute_values values.now) place }
+{
+    values.split(|b| *b == b';').nth(place)
+}

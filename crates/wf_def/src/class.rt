@@ -1,0 +1,181 @@
+//! Classes.
+ghost use Rattle.std.specs.Prelude.{◌≡◌, ◌<◌, ◌↔◌, [], ◌∷◌, ◌++◌, length, IsTrue, IfSome, OnOk, OnErr};
+ghost use Rattle.wf_def.specs.Limits.{IsClass, IsStyles, IsLabel};
+ghost use Rattle.wf_def.specs.Text.{IsText};
+
+#[cfg(test)]
+mod tests;
+
+use crate::label::Label;
+use crate::limits::MOST_STYLES;
+use crate::style::Style;
+use crate::text::Text;
+use std::alloc::{AllocError, Global};
+use std::marker::Model;
+
+/// The styles of a class, in the order in which they are drawn: at most 8.
+#[derive(Debug, Drop)]
+pub struct Styles {
+    styles: Vec<Style>,
+}
+
+impl Model for Styles {
+    ghost use Rattle.std.specs.Prelude.{List};
+    ghost use Rattle.wf_def.specs.Definition.{StyleDefinition};
+    ghost use Rattle.wf_def.specs.Limits.{IsStyles};
+
+    ghost Value = { List StyleDefinition };
+
+    ghost view = { λ s. s.styles.items };
+
+    ghost invariant = { λ s. IsStyles s.styles.items };
+}
+
+impl Styles {
+    /// No styles.
+    pub fn new(alloc: Global) -> Self
+        ensures { result ≡ [] }
+    {
+        Styles {
+            styles: Vec::new(alloc),
+        }
+    }
+
+    /// Whether there is no room for another style.
+    pub fn is_full(&self) -> bool
+        ensures full { IsTrue result ↔ (length self.now ≡ MOST_STYLES) }
+        ensures within { IsStyles self.now }
+    {
+        self.styles.len() >= MOST_STYLES
+    }
+
+    /// Puts a style behind the others, which it is drawn over. After want of memory they are as they were.
+    pub fn push(&mut self, style: Style) -> Result<(), AllocError>
+        requires { length self.old < MOST_STYLES }
+        ensures pushed { OnOk result (self.new ≡ self.old ++ style ∷ []) }
+        ensures unchanged { OnErr result (self.new ≡ self.old) }
+    {
+        let _ = style.width();
+        self.styles.push(style)?;
+        Ok(())
+    }
+
+    /// The styles in order.
+    pub fn as_slice(&self) -> &[Style]
+        ensures value { result.now ≡ self.now }
+        ensures within { IsStyles self.now }
+    {
+        &self.styles
+    }
+}
+
+/// Which features are drawn alike, and how (MapServer mapfile reference, CLASS).
+#[derive(Debug, Drop)]
+pub struct Class {
+    name: Text,
+    expression: Option<Text>,
+    styles: Styles,
+    label: Option<Label>,
+}
+
+impl Model for Class {
+    ghost use Rattle.wf_def.specs.Definition.{ClassDefinition};
+    ghost use Rattle.wf_def.specs.Limits.{IsClass};
+
+    ghost Value = { ClassDefinition };
+
+    ghost view = { λ c. record { name = c.name; expression = c.expression; styles = c.styles; label = c.label } };
+
+    ghost invariant = { λ c. IsClass (record { name = c.name; expression = c.expression; styles = c.styles; label = c.label }) };
+}
+
+impl Class {
+    /// The class of the features whose attribute equals the expression, or of all where there is none.
+    pub fn new(name: Text, expression: Option<Text>, styles: Styles, label: Option<Label>) -> Self
+        ensures { result ≡ record { name = name; expression = expression; styles = styles; label = label } }
+    {
+        let _ = name.as_bytes();
+        know_text(&expression);
+        let _ = styles.as_slice();
+        know_label(&label);
+        Class {
+            name,
+            expression,
+            styles,
+            label,
+        }
+    }
+
+    /// What the class is called (NAME).
+    pub fn name(&self) -> &Text
+        ensures value { result.now ≡ self.now.name }
+        ensures within { IsClass self.now }
+    {
+        &self.name
+    }
+
+    /// What the attribute of a feature of this class equals (EXPRESSION).
+    pub fn expression(&self) -> &Option<Text>
+        ensures value { result.now ≡ self.now.expression }
+        ensures within { IsClass self.now }
+    {
+        &self.expression
+    }
+
+    /// How the features are drawn: each style over the one before it (STYLE).
+    pub fn styles(&self) -> &[Style]
+        ensures value { result.now ≡ self.now.styles }
+        ensures within { IsClass self.now }
+    {
+        self.styles.as_slice()
+    }
+
+    /// How the features' texts are drawn, if they are (LABEL).
+    pub fn label(&self) -> Option<Label>
+        ensures value { result ≡ self.now.label }
+        ensures within { IsClass self.now }
+    {
+        self.label
+    }
+}
+
+/// Makes known that what stands in the option is a text.
+fn know_text(text: &Option<Text>)
+    ensures { IfSome text.now IsText }
+{
+    if let Some(text) = text {
+        let _ = text.as_bytes();
+    }
+}
+
+/// Makes known that what stands in the option is a label within the limits.
+fn know_label(label: &Option<Label>)
+    ensures { IfSome label.now IsLabel }
+{
+    if let Some(label) = label {
+        let _ = label.color();
+    }
+}
+
+impl Clone for Styles {
+    ghost is_clone = { λ styles copy. copy ≡ styles };
+
+    fn clone(&self) -> Result<Self, AllocError> {
+        Ok(Styles {
+            styles: self.styles.clone()?,
+        })
+    }
+}
+
+impl Clone for Class {
+    ghost is_clone = { λ class copy. copy ≡ class };
+
+    fn clone(&self) -> Result<Self, AllocError> {
+        Ok(Class {
+            name: self.name.clone()?,
+            expression: self.expression.clone()?,
+            styles: self.styles.clone()?,
+            label: self.label,
+        })
+    }
+}

@@ -1,0 +1,305 @@
+//! Layers.
+ghost use Rattle.std.specs.Prelude.{◌≡◌, ◌<◌, ◌↔◌, [], ◌∷◌, ◌++◌, length, IsTrue, OnOk, OnErr};
+ghost use Rattle.std.specs.List.{list_all};
+ghost use Rattle.wf_def.specs.Layer.{layer_of, has_enough_points};
+ghost use Rattle.wf_def.specs.Limits.{IsLayer, IsLayerName, IsClasses, IsFeatures, least_points};
+
+#[cfg(test)]
+mod tests;
+
+use crate::choice::LayerKind;
+use crate::class::Class;
+use crate::feature::Feature;
+use crate::limits::{MOST_CLASSES, MOST_ITEMS_BYTES};
+use crate::text::Text;
+use std::alloc::{AllocError, Global};
+use std::marker::Model;
+
+/// The classes of a layer, in the order in which they are tried: at most 16.
+#[derive(Debug, Drop)]
+pub struct Classes {
+    classes: Vec<Class>,
+}
+
+impl Model for Classes {
+    ghost use Rattle.std.specs.Prelude.{List};
+    ghost use Rattle.wf_def.specs.Definition.{ClassDefinition};
+    ghost use Rattle.wf_def.specs.Limits.{IsClasses};
+
+    ghost Value = { List ClassDefinition };
+
+    ghost view = { λ c. c.classes.items };
+
+    ghost invariant = { λ c. IsClasses c.classes.items };
+}
+
+impl Classes {
+    /// No classes.
+    pub fn new(alloc: Global) -> Self
+        ensures { result ≡ [] }
+    {
+        Classes {
+            classes: Vec::new(alloc),
+        }
+    }
+
+    /// Whether there is no room for another class.
+    pub fn is_full(&self) -> bool
+        ensures full { IsTrue result ↔ (length self.now ≡ MOST_CLASSES) }
+        ensures within { IsClasses self.now }
+    {
+        self.classes.len() >= MOST_CLASSES
+    }
+
+    /// Puts a class behind the others, which are tried before it. After want of memory they are as they were.
+    pub fn push(&mut self, class: Class) -> Result<(), AllocError>
+        requires { length self.old < MOST_CLASSES }
+        ensures pushed { OnOk result (self.new ≡ self.old ++ class ∷ []) }
+        ensures unchanged { OnErr result (self.new ≡ self.old) }
+    {
+        let _ = class.name();
+        self.classes.push(class)?;
+        Ok(())
+    }
+
+    /// The classes in order.
+    pub fn as_slice(&self) -> &[Class]
+        ensures value { result.now ≡ self.now }
+        ensures within { IsClasses self.now }
+    {
+        &self.classes
+    }
+}
+
+/// The features of a layer, in the order in which they are drawn.
+#[derive(Debug, Drop)]
+pub struct Features {
+    features: Vec<Feature>,
+}
+
+impl Model for Features {
+    ghost use Rattle.std.specs.Prelude.{List};
+    ghost use Rattle.wf_def.specs.Definition.{FeatureDefinition};
+    ghost use Rattle.wf_def.specs.Limits.{IsFeatures};
+
+    ghost Value = { List FeatureDefinition };
+
+    ghost view = { λ f. f.features.items };
+
+    ghost invariant = { λ f. IsFeatures f.features.items };
+}
+
+impl Features {
+    /// No features.
+    pub fn new(alloc: Global) -> Self
+        ensures { result ≡ [] }
+    {
+        Features {
+            features: Vec::new(alloc),
+        }
+    }
+
+    /// Puts a feature behind the others, which it is drawn over. After want of memory they are as they were.
+    pub fn push(&mut self, feature: Feature) -> Result<(), AllocError>
+        ensures pushed { OnOk result (self.new ≡ self.old ++ feature ∷ []) }
+        ensures unchanged { OnErr result (self.new ≡ self.old) }
+    {
+        let _ = feature.text();
+        self.features.push(feature)?;
+        Ok(())
+    }
+
+    /// The features in order.
+    pub fn as_slice(&self) -> &[Feature]
+        ensures value { result.now ≡ self.now }
+        ensures within { IsFeatures self.now }
+    {
+        &self.features
+    }
+}
+
+/// Features of one kind with what they are drawn by; the layer's name stands in the map (MapServer mapfile reference, LAYER).
+#[derive(Debug, Drop)]
+pub struct Layer {
+    kind: LayerKind,
+    title: Text,
+    class_item: Text,
+    label_item: Text,
+    items: Text,
+    classes: Classes,
+    features: Features,
+}
+
+impl Model for Layer {
+    ghost use Rattle.wf_def.specs.Definition.{LayerDefinition};
+    ghost use Rattle.wf_def.specs.Limits.{IsLayer};
+
+    ghost Value = { LayerDefinition };
+
+    ghost view = { λ l. record { kind = l.kind; title = l.title; class_item = l.class_item; label_item = l.label_item; items = l.items; classes = l.classes; features = l.features } };
+
+    ghost invariant = { λ l. IsLayer (record { kind = l.kind; title = l.title; class_item = l.class_item; label_item = l.label_item; items = l.items; classes = l.classes; features = l.features }) };
+}
+
+impl Layer {
+    /// The layer of these parts; `items` are the names of the attributes, between commas. There is none where they are over 994
+    /// bytes, or where a part of a feature has fewer points than the kind needs: 1, 2 for lines, 3 for polygons.
+    #[tactic(auto, unfolding(crate::specs::Layer::layer_of))]
+    pub fn new(
+        kind: LayerKind,
+        title: Text,
+        class_item: Text,
+        label_item: Text,
+        items: Text,
+        classes: Classes,
+        features: Features,
+    ) -> Option<Self>
+        ensures { result ≡ layer_of kind title class_item label_item items classes features }
+    {
+        let _ = title.as_bytes();
+        let _ = class_item.as_bytes();
+        let _ = label_item.as_bytes();
+        let _ = classes.as_slice();
+        if items.as_bytes().len() > MOST_ITEMS_BYTES {
+            return None;
+        }
+        if !all_have_enough_points(kind, features.as_slice()) {
+            return None;
+        }
+        Some(Layer {
+            kind,
+            title,
+            class_item,
+            label_item,
+            items,
+            classes,
+            features,
+        })
+    }
+
+    /// What the features are (TYPE).
+    pub fn kind(&self) -> LayerKind
+        ensures value { result ≡ self.now.kind }
+        ensures within { IsLayer self.now }
+    {
+        self.kind
+    }
+
+    /// The title for readers (OGC 06-042 7.2.4.6.2).
+    pub fn title(&self) -> &Text
+        ensures value { result.now ≡ self.now.title }
+        ensures within { IsLayer self.now }
+    {
+        &self.title
+    }
+
+    /// The name of the attribute that the classes' expressions are compared with; empty where there is none (CLASSITEM).
+    pub fn class_item(&self) -> &Text
+        ensures value { result.now ≡ self.now.class_item }
+        ensures within { IsLayer self.now }
+    {
+        &self.class_item
+    }
+
+    /// The name of the attribute that labels say; empty where there is none (LABELITEM).
+    pub fn label_item(&self) -> &Text
+        ensures value { result.now ≡ self.now.label_item }
+        ensures within { IsLayer self.now }
+    {
+        &self.label_item
+    }
+
+    /// The names of the features' attributes, between commas (PROCESSING "ITEMS=..").
+    pub fn items(&self) -> &Text
+        ensures value { result.now ≡ self.now.items }
+        ensures within { IsLayer self.now }
+    {
+        &self.items
+    }
+
+    /// The classes: a feature is of the first that it matches (CLASS).
+    pub fn classes(&self) -> &[Class]
+        ensures value { result.now ≡ self.now.classes }
+        ensures within { IsLayer self.now }
+    {
+        self.classes.as_slice()
+    }
+
+    /// The features, each drawn over those before it (FEATURE).
+    pub fn features(&self) -> &[Feature]
+        ensures value { result.now ≡ self.now.features }
+        ensures within { IsLayer self.now }
+    {
+        self.features.as_slice()
+    }
+}
+
+/// Whether the text may be a layer's name: it isn't empty and has no comma, since it stands in lists between commas.
+pub fn is_layer_name(name: &Text) -> bool
+    ensures { IsTrue result ↔ IsLayerName name.now }
+{
+    let bytes = name.as_bytes();
+    !bytes.is_empty() && !bytes.contains(&b',')
+}
+
+/// Whether each part of each feature has the points that the kind needs.
+fn all_have_enough_points(kind: LayerKind, features: &[Feature]) -> bool
+    ensures { result ≡ list_all (has_enough_points kind) features.now }
+{
+    features.iter().all(|f| has_enough_points(kind, f))
+}
+
+/// Whether each part has the points that the kind needs.
+fn has_enough_points(kind: LayerKind, feature: &Feature) -> bool
+    ensures { result ≡ has_enough_points kind feature.now }
+{
+    let least = least_points(kind);
+    feature.parts().iter().all(|part| part.len() >= least)
+}
+
+/// How many points a part has at least: a ring needs three.
+fn least_points(kind: LayerKind) -> usize
+    ensures { result ≡ least_points kind }
+{
+    match kind {
+        LayerKind::Points => 1,
+        LayerKind::Lines => 2,
+        LayerKind::Polygons => 3,
+    }
+}
+
+impl Clone for Classes {
+    ghost is_clone = { λ classes copy. copy ≡ classes };
+
+    fn clone(&self) -> Result<Self, AllocError> {
+        Ok(Classes {
+            classes: self.classes.clone()?,
+        })
+    }
+}
+
+impl Clone for Features {
+    ghost is_clone = { λ features copy. copy ≡ features };
+
+    fn clone(&self) -> Result<Self, AllocError> {
+        Ok(Features {
+            features: self.features.clone()?,
+        })
+    }
+}
+
+impl Clone for Layer {
+    ghost is_clone = { λ layer copy. copy ≡ layer };
+
+    fn clone(&self) -> Result<Self, AllocError> {
+        Ok(Layer {
+            kind: self.kind,
+            title: self.title.clone()?,
+            class_item: self.class_item.clone()?,
+            label_item: self.label_item.clone()?,
+            items: self.items.clone()?,
+            classes: self.classes.clone()?,
+            features: self.features.clone()?,
+        })
+    }
+}

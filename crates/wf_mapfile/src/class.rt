@@ -1,0 +1,131 @@
+//! CLASS: which features are drawn alike, and how.
+ghost use Rattle.std.specs.Prelude.{◌≡◌, [], IfOk, MatchResult, None, false, length, nat_lt, true};
+ghost use Rattle.wf_def.specs.declared.limits.TheConstants.{MOST_STYLES};
+ghost use Rattle.wf_mapfile.specs.Class.{begins_pattern, class, expression};
+ghost use Rattle.wf_mapfile.specs.ClassSlots.{class_filled};
+ghost use Rattle.wf_mapfile.specs.Reading.{Gives, is_memory};
+
+#[cfg(test)]
+mod tests;
+
+use crate::block::{Slots, fill_block, vacant};
+use crate::fault::MapFault;
+use crate::keyword::class::{ClassKeyword, class_keyword};
+use crate::lexer::is_slash;
+use crate::map::text_or;
+use crate::parser::Parser;
+use crate::slots::class::ClassSlots;
+use crate::token::{Token, TokenKind};
+use std::alloc::{AllocError, Global};
+use wf_def::class::{Class, Styles};
+use wf_def::text::Text;
+
+impl Slots for ClassSlots {
+    ghost use Rattle.wf_mapfile.specs.ClassSlots.{class_put};
+
+    ghost put = { class_put };
+
+    #[tactic(auto, unfolding(crate::specs::ClassSlots::class_put, crate::specs::ClassSlots::class_take))]
+    fn take(&mut self, keyword: Token<'_>, parser: &mut Parser<'_>) -> Result<(), MapFault> {
+        let place = keyword.place;
+        match class_keyword(keyword.text) {
+            Some(ClassKeyword::Name) => {
+                vacant(&self.name, place)?;
+                self.name = Some(parser.text()?);
+            }
+            Some(ClassKeyword::Expression) => {
+                vacant(&self.expression, place)?;
+                self.expression = Some(parser.expression()?);
+            }
+            Some(ClassKeyword::Style) => {
+                room(&self.styles)?;
+                let style = parser.style()?;
+                self.styles.push(style)?;
+            }
+            Some(ClassKeyword::Label) => {
+                vacant(&self.label, place)?;
+                self.label = Some(parser.label()?);
+            }
+            None => return Err(MapFault::UnexpectedWord(place)),
+        }
+        Ok(())
+    }
+}
+
+/// Refuses another style where there is no room for it.
+fn room(styles: &Styles) -> Result<(), MapFault>
+    ensures { MatchResult result (λ _. nat_lt (length styles.now) MOST_STYLES ≡ true) (λ e. (nat_lt (length styles.now) MOST_STYLES ≡ false) × (is_memory e ≡ false)) }
+{
+    if styles.is_full() {
+        return Err(MapFault::TooMany);
+    }
+    Ok(())
+}
+
+impl ClassSlots {
+    fn new(alloc: Global) -> Self
+        ensures { result ≡ record { name = None; expression = None; styles = []; label = None } }
+    {
+        ClassSlots {
+            name: None,
+            expression: None,
+            styles: Styles::new(alloc),
+            label: None,
+        }
+    }
+
+    /// What the block says in the end, with an empty name where there is none.
+    #[tactic(auto, unfolding(crate::specs::ClassSlots::class_filled, crate::specs::Class::class_definition))]
+    fn filled(self, alloc: Global) -> Result<Class, AllocError>
+        ensures { IfOk result (λ c. c ≡ class_filled self) }
+    {
+        let ClassSlots {
+            name,
+            expression,
+            styles,
+            label,
+        } = self;
+        let name = text_or(alloc, name, "")?;
+        Ok(Class::new(name, expression, styles, label))
+    }
+}
+
+impl Parser<'_> {
+    /// Reads a block up to its END (MapServer mapfile reference, CLASS).
+    #[tactic(auto, using(crate::proofs::ClassLaw::class_read))]
+    pub fn class(&mut self) -> Result<Class, MapFault>
+        ensures { Gives (λ c. (c, self.new)) result (class self.old) }
+    {
+        let mut slots = ClassSlots::new(self.alloc());
+        fill_block(self, &mut slots)?;
+        Ok(slots.filled(self.alloc())?)
+    }
+
+    /// Reads a text to compare with (MapServer mapfile reference, EXPRESSION). A regular expression isn't one.
+    #[tactic(auto, unfolding(crate::specs::Class::expression))]
+    fn expression(&mut self) -> Result<Text, MapFault>
+        ensures { Gives (λ t. (t, self.new)) result (expression self.old) }
+    {
+        if self.begins_pattern() {
+            return Err(MapFault::UnexpectedWord(self.place()));
+        }
+        self.text()
+    }
+
+    /// Whether a regular expression begins here: a word that begins with `/`, outside quotes.
+    #[tactic(auto, unfolding(crate::specs::Class::begins_pattern))]
+    fn begins_pattern(&self) -> bool
+        ensures { result ≡ begins_pattern self.now }
+    {
+        match self.peek() {
+            None => false,
+            Some(token) => match token.kind {
+                TokenKind::Quoted => false,
+                TokenKind::Word => match token.text {
+                    [first, ..] => is_slash(*first),
+                    [] => false,
+                },
+            },
+        }
+    }
+}
