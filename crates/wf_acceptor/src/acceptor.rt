@@ -1,8 +1,9 @@
-ghost use Rattle.std.specs.Prelude.{◌≡◌, None};
-ghost use Rattle.wf_acceptor.specs.Acceptor.{definition_of};
+ghost use Rattle.std.specs.Prelude.{◌≡◌, None, Some, IfOk, OnOk};
+ghost use Rattle.wf_acceptor.specs.Entries.{latest};
+ghost use Rattle.wf_acceptor.specs.Acceptor.{HasRoom, HasRoomFor, definition_of};
 
 use crate::answer::Answer;
-use crate::entries::{add, forget, newest};
+use crate::entries::{add, forget, make_room, newest};
 use crate::same::is_same_record;
 use std::alloc::{AllocError, Global};
 use std::marker::Model;
@@ -13,7 +14,7 @@ use wf_tape::Record;
 
 /// A node's promises and votes. A promise is the ballot below which the node takes part in nothing at a
 /// slot; a vote is the ballot at which it voted there, with the definition.
-#[derive(Debug, Drop)]
+#[derive(Drop)]
 pub struct Acceptor {
     id: NodeId,
     // The last slot that is published.
@@ -163,16 +164,6 @@ impl Acceptor {
         }
     }
 
-    // The vote at the slot, to be reported.
-    fn vote_at(&self, slot: Slot) -> Result<Option<(Ballot, Canon)>, AllocError>
-        ensures { IfOk result (λ vote. vote ≡ latest self.now.votes slot) }
-    {
-        match newest(&self.votes, slot) {
-            Some((ballot, canon)) => Ok(Some((*ballot, canon.copy()?))),
-            None => Ok(None),
-        }
-    }
-
     // An answer without a record.
     fn only_reply(&mut self, reply: Option<Message>) -> Answer
         ensures answer { result ≡ record { entry = None; reply = reply } }
@@ -198,8 +189,9 @@ impl Acceptor {
         ensures ok { OnOk result (self.new ≡ record self.old { prepared = Some (Record.Promised slot ballot) }) }
         ensures err { OnErr result (self.new ≡ self.old) }
     {
-        let vote = self.vote_at(slot)?;
-        self.prepare(Record::Promised(slot, ballot))?;
+        make_room(&mut self.promises)?;
+        let vote = vote_at(&self.votes, slot)?;
+        keep(&mut self.prepared, Record::Promised(slot, ballot));
         Ok(Answer {
             entry: Some(Record::Promised(slot, ballot)),
             reply: Some(Message::Promise(self.id, slot, ballot, vote)),
@@ -215,12 +207,18 @@ impl Acceptor {
         ensures ok { OnOk result (self.new ≡ record self.old { prepared = Some (Record.Accepted slot ballot canon) }) }
         ensures err { OnErr result (self.new ≡ self.old) }
     {
-        let copy = canon.copy()?;
-        self.prepare(Record::Accepted(slot, ballot, copy))?;
-        Ok(Answer {
-            entry: Some(Record::Accepted(slot, ballot, canon)),
-            reply: Some(Message::Accepted(self.id, slot, ballot)),
-        })
+        let entry = Record::Accepted(slot, ballot, canon);
+        // No `?`: the proof of an exit that lets a record go takes each kind of record apart.
+        match self.prepare(&entry) {
+            Ok(()) => Ok(Answer {
+                entry: Some(entry),
+                reply: Some(Message::Accepted(self.id, slot, ballot)),
+            }),
+            Err(fault) => {
+                drop(entry);
+                Err(fault)
+            }
+        }
     }
 
     // Adds the entries of a record of the slot, unless it is published.
@@ -244,10 +242,10 @@ impl Acceptor {
         ensures err { OnErr result (self.new ≡ self.old) }
         ensures prepared { self.old.prepared ≡ Some entry.now → IsOk result }
     {
-        if !self.has_prepared(entry) {
-            self.prepare(entry.copy()?)?;
+        if self.has_prepared(entry) {
+            return Ok(());
         }
-        Ok(())
+        self.prepare(entry)
     }
 
     fn has_prepared(&self, entry: &Record) -> bool
@@ -259,20 +257,14 @@ impl Acceptor {
         }
     }
 
-    // Makes room for the record's entries, and keeps it.
-    fn prepare(&mut self, entry: Record) -> Result<(), AllocError>
-        ensures ok { OnOk result (self.new ≡ record self.old { prepared = Some entry }) }
+    // Makes room for the record's entries, and keeps a copy of it.
+    fn prepare(&mut self, entry: &Record) -> Result<(), AllocError>
+        ensures ok { OnOk result (self.new ≡ record self.old { prepared = Some entry.now }) }
         ensures err { OnErr result (self.new ≡ self.old) }
     {
-        match &entry {
-            Record::Tried(_) | Record::Published(_, _) => {}
-            Record::Promised(_, _) => self.promises.reserve(1)?,
-            Record::Accepted(_, _, _) => {
-                self.promises.reserve(1)?;
-                self.votes.reserve(1)?;
-            }
-        }
-        self.prepared = Some(entry);
+        room_for(&mut self.promises, &mut self.votes, entry)?;
+        let copy = entry.copy()?;
+        keep(&mut self.prepared, copy);
         Ok(())
     }
 
@@ -306,6 +298,13 @@ impl Acceptor {
     }
 }
 
+// Keeps the record, in the place of the one before.
+fn keep(prepared: &mut Option<Record>, entry: Record)
+    ensures { prepared.new ≡ Some entry }
+{
+    *prepared = Some(entry);
+}
+
 // Takes the definition of a vote's record.
 fn take_definition(prepared: &mut Option<Record>) -> Option<Canon>
     ensures value { result ≡ definition_of prepared.old }
@@ -314,5 +313,40 @@ fn take_definition(prepared: &mut Option<Record>) -> Option<Canon>
     match prepared.take() {
         Some(Record::Accepted(_, _, canon)) => Some(canon),
         _ => None,
+    }
+}
+
+// The slot's vote, to be reported.
+fn vote_at(
+    votes: &[(Slot, (Ballot, Canon))],
+    slot: Slot,
+) -> Result<Option<(Ballot, Canon)>, AllocError>
+    ensures { IfOk result (λ vote. vote ≡ latest votes.now slot) }
+{
+    match newest(votes, slot) {
+        Some((ballot, canon)) => Ok(Some((*ballot, canon.copy()?))),
+        None => Ok(None),
+    }
+}
+
+// Makes room for the record's promise and vote.
+fn room_for(
+    promises: &mut Vec<(Slot, Ballot)>,
+    votes: &mut Vec<(Slot, (Ballot, Canon))>,
+    entry: &Record,
+) -> Result<(), AllocError>
+    ensures room { OnOk result (HasRoomFor (HasRoom promises.new) (HasRoom votes.new) (Some entry.now)) }
+    ensures promises { promises.new.items ≡ promises.old.items }
+    ensures votes { votes.new.items ≡ votes.old.items }
+    ensures more_promises { HasRoom promises.old → HasRoom promises.new }
+    ensures more_votes { HasRoom votes.old → HasRoom votes.new }
+{
+    match entry {
+        Record::Tried(_) | Record::Published(_, _) => Ok(()),
+        Record::Promised(_, _) => make_room(promises),
+        Record::Accepted(_, _, _) => {
+            make_room(promises)?;
+            make_room(votes)
+        }
     }
 }

@@ -20,6 +20,3 @@ mod same;
 
 pub use acceptor::Acceptor;
 pub use answer::Answer;
-
-#[cfg(test)]
-mod tests;

@@ -28,6 +28,3 @@ pub use majority::{is_majority, majorities_meet};
 pub use node::{NODES, NodeId};
 pub use sequence::{SEQUENCES, Seq};
 pub use slot::Slot;
-
-#[cfg(test)]
-mod tests;

@@ -19,7 +19,7 @@ use wf_mapfile::read;
 pub const MOST_CANON_BYTES: usize = 32_768;
 
 /// A map definition with its canonical text, which has at most 32,768 bytes.
-#[derive(Debug, Drop)]
+#[derive(Drop)]
 pub struct Canon {
     text: Vec<u8>,
     def: MapDef,

@@ -25,6 +25,3 @@ pub use canon::{Canon, MOST_CANON_BYTES};
 pub use fault::CanonFault;
 pub use law::{canonical_text_means_its_map, number_is_read_again, one_text_one_map};
 pub use number::write_number;
-
-#[cfg(test)]
-mod tests;

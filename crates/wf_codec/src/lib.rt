@@ -28,6 +28,3 @@ pub use fault::DecodeFault;
 pub use frame::{BODY_BYTES, HEADER_BYTES, VERSION};
 pub use law::{none_begins_another, one_spelling};
 pub use message::Message;
-
-#[cfg(test)]
-mod tests;

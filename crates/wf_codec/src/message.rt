@@ -6,7 +6,7 @@ use wf_canon::Canon;
 
 /// What nodes say to one another. A message names no addressee, since the network may hand any message
 /// to any node.
-#[derive(Debug, Drop)]
+#[derive(Drop)]
 pub enum Message {
     /// Asks to promise the ballot at the slot.
     Prepare(Slot, Ballot),

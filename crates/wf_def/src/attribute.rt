@@ -2,9 +2,6 @@
 ghost use Rattle.std.specs.Prelude.{◌≡◌, ◌<◌, length, IfSome, option_copied, position, bytes_eq, slice_get};
 ghost use Rattle.wf_def.specs.Attribute.{attribute, attribute_names, attribute_values, matches, class_of};
 
-#[cfg(test)]
-mod tests;
-
 use crate::class::Class;
 use crate::feature::Feature;
 use crate::layer::Layer;

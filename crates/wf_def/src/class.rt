@@ -3,9 +3,6 @@ ghost use Rattle.std.specs.Prelude.{◌≡◌, ◌<◌, ◌↔◌, [], ◌∷◌
 ghost use Rattle.wf_def.specs.Limits.{IsClass, IsStyles, IsLabel};
 ghost use Rattle.wf_def.specs.Text.{IsText};
 
-#[cfg(test)]
-mod tests;
-
 use crate::label::Label;
 use crate::limits::MOST_STYLES;
 use crate::style::Style;
@@ -14,7 +11,7 @@ use std::alloc::{AllocError, Global};
 use std::marker::Model;
 
 /// The styles of a class, in the order in which they are drawn: at most 8.
-#[derive(Debug, Drop)]
+#[derive(Drop)]
 pub struct Styles {
     styles: Vec<Style>,
 }
@@ -70,7 +67,7 @@ impl Styles {
 }
 
 /// Which features are drawn alike, and how (MapServer mapfile reference, CLASS).
-#[derive(Debug, Drop)]
+#[derive(Drop)]
 pub struct Class {
     name: Text,
     expression: Option<Text>,

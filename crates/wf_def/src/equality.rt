@@ -5,9 +5,6 @@ ghost use Rattle.std.specs.Cmp.Lexicographic.{pointwise, lists_equiv};
 ghost use Rattle.wf_def.specs.Equality.{point_eq, style_eq, label_eq, class_eq, feature_eq, layer_eq};
 ghost use Rattle.wf_def.specs.EqualityLaws.{point_eq_equiv, style_eq_equiv, label_eq_equiv, class_eq_equiv, feature_eq_equiv, layer_eq_equiv};
 
-#[cfg(test)]
-mod tests;
-
 use crate::class::{Class, Styles};
 use crate::feature::{Feature, Part, Parts};
 use crate::label::Label;

@@ -2,14 +2,11 @@
 ghost use Rattle.std.specs.Prelude.{◌≡◌, ◌↔◌, ◌<ℤ◌, IsSome, IfSome};
 ghost use Rattle.wf_def.specs.Extent.{IsExtent};
 
-#[cfg(test)]
-mod tests;
-
 use crate::micro::Micro;
 use std::marker::Model;
 
 /// A box whose minima are below its maxima (MapServer mapfile reference, EXTENT).
-#[derive(Clone, Copy, Debug, PartialEq, Eq, Hash)]
+#[derive(Clone, Copy, PartialEq, Eq, Hash)]
 pub struct Extent {
     minx: Micro,
     miny: Micro,

@@ -3,16 +3,13 @@ ghost use Rattle.std.specs.Prelude.{◌≡◌, [], ◌∷◌, ◌++◌, ◌↔�
 ghost use Rattle.wf_def.specs.Layer.{feature_of};
 ghost use Rattle.wf_def.specs.Limits.{IsPart, IsParts, IsFeature};
 
-#[cfg(test)]
-mod tests;
-
 use crate::point::Point;
 use crate::text::Text;
 use std::alloc::{AllocError, Global};
 use std::marker::Model;
 
 /// A part of a shape: points, in order.
-#[derive(Debug, Drop)]
+#[derive(Drop)]
 pub struct Part {
     points: Vec<Point>,
 }
@@ -75,7 +72,7 @@ impl Part {
 }
 
 /// The parts of a shape, in order.
-#[derive(Debug, Drop)]
+#[derive(Drop)]
 pub struct Parts {
     parts: Vec<Part>,
 }
@@ -137,7 +134,7 @@ impl Parts {
 }
 
 /// A shape with its attributes and its label's text (MapServer mapfile reference, FEATURE).
-#[derive(Debug, Drop)]
+#[derive(Drop)]
 pub struct Feature {
     parts: Parts,
     items: Text,

@@ -2,9 +2,6 @@
 ghost use Rattle.std.specs.Prelude.{◌≡◌};
 ghost use Rattle.wf_def.specs.Limits.{IsLabel};
 
-#[cfg(test)]
-mod tests;
-
 use crate::choice::{LabelPosition, LabelSize};
 use crate::color::Color;
 use crate::limits::{MOST_BUFFER, MOST_PRIORITY};
@@ -13,7 +10,7 @@ use std::alloc::AllocError;
 use std::marker::Model;
 
 /// How the features' texts are drawn (MapServer mapfile reference, LABEL).
-#[derive(Copy, Debug)]
+#[derive(Copy)]
 pub struct Label {
     color: Color,
     size: LabelSize,

@@ -4,19 +4,16 @@ ghost use Rattle.std.specs.List.{list_all};
 ghost use Rattle.wf_def.specs.Layer.{layer_of, has_enough_points};
 ghost use Rattle.wf_def.specs.Limits.{IsLayer, IsLayerName, IsClasses, IsFeatures, least_points};
 
-#[cfg(test)]
-mod tests;
-
 use crate::choice::LayerKind;
 use crate::class::Class;
 use crate::feature::Feature;
 use crate::limits::{MOST_CLASSES, MOST_ITEMS_BYTES};
-use crate::text::Text;
+use crate::text::{Text, clone_both};
 use std::alloc::{AllocError, Global};
 use std::marker::Model;
 
 /// The classes of a layer, in the order in which they are tried: at most 16.
-#[derive(Debug, Drop)]
+#[derive(Drop)]
 pub struct Classes {
     classes: Vec<Class>,
 }
@@ -72,7 +69,7 @@ impl Classes {
 }
 
 /// The features of a layer, in the order in which they are drawn.
-#[derive(Debug, Drop)]
+#[derive(Drop)]
 pub struct Features {
     features: Vec<Feature>,
 }
@@ -119,7 +116,7 @@ impl Features {
 }
 
 /// Features of one kind with what they are drawn by; the layer's name stands in the map (MapServer mapfile reference, LAYER).
-#[derive(Debug, Drop)]
+#[derive(Drop)]
 pub struct Layer {
     kind: LayerKind,
     title: Text,
@@ -292,12 +289,14 @@ impl Clone for Layer {
     ghost is_clone = { λ layer copy. copy ≡ layer };
 
     fn clone(&self) -> Result<Self, AllocError> {
+        let (title, class_item) = clone_both(&self.title, &self.class_item)?;
+        let (label_item, items) = clone_both(&self.label_item, &self.items)?;
         Ok(Layer {
             kind: self.kind,
-            title: self.title.clone()?,
-            class_item: self.class_item.clone()?,
-            label_item: self.label_item.clone()?,
-            items: self.items.clone()?,
+            title,
+            class_item,
+            label_item,
+            items,
             classes: self.classes.clone()?,
             features: self.features.clone()?,
         })

@@ -5,21 +5,19 @@ ghost use Rattle.wf_def.specs.Limits.{IsWithinLimits, IsLayer, IsLayerName, poin
 ghost use Rattle.wf_def.specs.declared.limits.TheConstants.{MOST_LAYERS, MOST_FEATURES, MOST_POINTS};
 
 mod equality;
-#[cfg(test)]
-mod tests;
 
 use crate::choice::Projection;
 use crate::extent::Extent;
 use crate::fault::LayerFault;
 use crate::layer::Layer;
 use crate::micro::Micro;
-use crate::text::Text;
+use crate::text::{Text, clone_both};
 use indexmap::IndexMap;
 use std::alloc::{AllocError, Global};
 use std::marker::Model;
 
 /// What a mapfile says, within the limits (MapServer mapfile reference, MAP).
-#[derive(Debug, Drop)]
+#[derive(Drop)]
 pub struct MapDef {
     name: Text,
     title: Text,
@@ -98,12 +96,18 @@ impl MapDef {
     {
         let _ = layer.kind();
         if self.layers.contains_key(&name) {
+            drop((name, layer));
             return Err(LayerFault::Repeated);
         }
-        match self.layers.insert(name, layer) {
-            Ok(_) => Ok(()),
-            Err(_) => Err(LayerFault::OutOfMemory),
-        }
+        let refused = match self.layers.insert(name, layer) {
+            Ok(old) => {
+                drop(old);
+                return Ok(());
+            }
+            Err(refused) => refused,
+        };
+        drop(refused);
+        Err(LayerFault::OutOfMemory)
     }
 
     /// How many layers there are.
@@ -188,11 +192,13 @@ impl Clone for MapDef {
     ghost is_clone = { λ map copy. copy ≡ map };
 
     fn clone(&self) -> Result<Self, AllocError> {
+        let (name, title) = clone_both(&self.name, &self.title)?;
+        let (abstract_text, address) = clone_both(&self.abstract_text, &self.address)?;
         Ok(MapDef {
-            name: self.name.clone()?,
-            title: self.title.clone()?,
-            abstract_text: self.abstract_text.clone()?,
-            address: self.address.clone()?,
+            name,
+            title,
+            abstract_text,
+            address,
             extent: self.extent,
             projection: self.projection,
             layers: self.layers.clone()?,

@@ -3,16 +3,13 @@ ghost use Rattle.std.specs.Prelude.{◌≡◌, ◌≤◌, ◌↔◌, IsSome, IfS
 ghost use Rattle.wf_def.specs.Micro.{IsMicro};
 ghost use Rattle.wf_def.specs.Number.{number};
 
-#[cfg(test)]
-mod tests;
-
 use crate::fault::NumberFault;
 use crate::limits::MOST_MILLIONTHS;
 use crate::number::Numeral;
 use std::marker::Model;
 
 /// A coordinate, in millionths of a unit, of a magnitude of at most 100,000,000 units.
-#[derive(Clone, Copy, Debug, PartialEq, Eq, Hash, PartialOrd, Ord)]
+#[derive(Clone, Copy, PartialEq, Eq, Hash, PartialOrd, Ord)]
 pub struct Micro {
     millionths: i64,
 }

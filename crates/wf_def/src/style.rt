@@ -2,9 +2,6 @@
 ghost use Rattle.std.specs.Prelude.{◌≡◌};
 ghost use Rattle.wf_def.specs.Limits.{IsStyle};
 
-#[cfg(test)]
-mod tests;
-
 use crate::color::Color;
 use crate::limits::{MOST_SIZE, MOST_WIDTH};
 use crate::whole::Whole;
@@ -12,7 +9,7 @@ use std::alloc::AllocError;
 use std::marker::Model;
 
 /// How a feature is drawn (MapServer mapfile reference, STYLE).
-#[derive(Copy, Debug)]
+#[derive(Copy)]
 pub struct Style {
     color: Option<Color>,
     outline_color: Option<Color>,

@@ -1,17 +1,12 @@
 //! Texts.
 ghost use Rattle.std.specs.Prelude.{◌≡◌, true, false, MatchResult, IfOk, IfErr};
 ghost use Rattle.std.specs.Cmp.{partial_equiv_from_equiv};
-ghost use Rattle.std.specs.Cmp.Lexicographic.{nat_list_eq_equiv};
-ghost use Rattle.std.specs.Cmp.Rules.{hashing};
-ghost use Rattle.std.specs.Hash.{str as str_writes};
+ghost use Rattle.std.specs.Cmp.Lexicographic.{nat_list_eq_equiv, bytes_decides};
+ghost use Rattle.std.specs.Hash.{str as str_writes, same_Alike};
 ghost use Rattle.std.specs.Str.{bytes_eq, chars, is_utf8};
 ghost use Rattle.std.specs.List.{list_all};
-ghost use Rattle.std.proofs.Common.{rules};
 ghost use Rattle.wf_def.specs.Text.{is_text, IsText, is_layout, is_text_character, has_both_quotes, is_memory, IsCauseOf};
 ghost use Rattle.wf_def.specs.declared.fault.TextFault.TheVariants.{NotUtf8};
-
-#[cfg(test)]
-mod tests;
 
 use crate::fault::TextFault;
 use crate::limits::MOST_TEXT_BYTES;
@@ -21,7 +16,7 @@ use std::marker::Model;
 
 /// A text of a map definition: UTF-8 of at most 1,000 bytes, without backslash, without control characters other than TAB, LF and
 /// CR, without U+FFFE and U+FFFF, and not with both kinds of quote.
-#[derive(Debug, Drop)]
+#[derive(Drop)]
 pub struct Text {
     text: String,
 }
@@ -146,6 +141,15 @@ impl Clone for Text {
     }
 }
 
+/// Copies of two texts: a value of many texts is copied pair by pair, so that fewer are let go at each want of memory.
+pub(crate) fn clone_both(first: &Text, second: &Text) -> Result<(Text, Text), AllocError>
+    ensures { IfOk result (λ copies. copies ≡ (first.now, second.now)) }
+{
+    let first = first.clone()?;
+    let second = second.clone()?;
+    Ok((first, second))
+}
+
 impl PartialEq for Text {
     ghost eq = { bytes_eq };
 
@@ -163,7 +167,7 @@ impl Eq for Text {
 impl Hash for Text {
     ghost hash_input = { str_writes };
 
-    ghost respects_eq = { Prim.search (hashing, rules) };
+    ghost respects_eq = { (same_Alike str_writes bytes_decides).fed };
 
     fn hash<H: Hasher>(&self, state: &mut H) {
         self.text.hash(state);

@@ -2,14 +2,11 @@
 ghost use Rattle.std.specs.Prelude.{◌≡◌, ◌↔◌, ◌≤◌, IsSome, IfSome};
 ghost use Rattle.wf_def.specs.Whole.{whole_between};
 
-#[cfg(test)]
-mod tests;
-
 use crate::micro::Micro;
 use std::marker::Model;
 
 /// A whole number from `LEAST` to `MOST`.
-#[derive(Clone, Copy, Debug, PartialEq, Eq, Hash)]
+#[derive(Clone, Copy, PartialEq, Eq, Hash)]
 pub struct Whole<const LEAST: u8, const MOST: u8> {
     number: u8,
 }

@@ -5,14 +5,11 @@ ghost use Rattle.wf_mapfile.specs.Class.{begins_pattern, class, expression};
 ghost use Rattle.wf_mapfile.specs.ClassSlots.{class_filled};
 ghost use Rattle.wf_mapfile.specs.Reading.{Gives, is_memory};
 
-#[cfg(test)]
-mod tests;
-
 use crate::block::{Slots, fill_block, vacant};
 use crate::fault::MapFault;
 use crate::keyword::class::{ClassKeyword, class_keyword};
 use crate::lexer::is_slash;
-use crate::map::text_or;
+use crate::map::text_or_empty;
 use crate::parser::Parser;
 use crate::slots::class::ClassSlots;
 use crate::token::{Token, TokenKind};
@@ -85,7 +82,7 @@ impl ClassSlots {
             styles,
             label,
         } = self;
-        let name = text_or(alloc, name, "")?;
+        let name = text_or_empty(alloc, name)?;
         Ok(Class::new(name, expression, styles, label))
     }
 }

@@ -8,7 +8,7 @@ ghost use Rattle.wf_mapfile.specs.Room.{feature_within, next_point, points_withi
 use crate::block::{Slots, fill_block, vacant};
 use crate::fault::MapFault;
 use crate::keyword::layer::{FeatureKeyword, feature_keyword};
-use crate::map::text_or;
+use crate::map::text_or_empty;
 use crate::parser::Parser;
 use crate::slots::layer::FeatureSlots;
 use crate::token::Token;
@@ -68,8 +68,8 @@ impl FeatureSlots {
             items,
             text,
         } = self;
-        let items = text_or(alloc, items, "")?;
-        let text = text_or(alloc, text, "")?;
+        let items = text_or_empty(alloc, items)?;
+        let text = text_or_empty(alloc, text)?;
         Feature::new(parts, items, text).ok_or(MapFault::Missing)
     }
 }

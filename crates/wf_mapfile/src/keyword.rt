@@ -14,7 +14,7 @@ use crate::choice::choose;
 use wf_def::choice::Projection;
 
 /// The keywords of MAP.
-#[derive(Clone, Copy, Debug, PartialEq, Eq)]
+#[derive(Clone, Copy)]
 pub enum MapKeyword {
     /// The map's name.
     Name,
@@ -41,7 +41,7 @@ pub enum MapKeyword {
 }
 
 /// The keywords of WEB.
-#[derive(Clone, Copy, Debug, PartialEq, Eq)]
+#[derive(Clone, Copy)]
 pub enum WebKeyword {
     /// The block of pairs.
     Metadata,

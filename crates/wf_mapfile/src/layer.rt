@@ -1,23 +1,22 @@
 //! LAYER: features of one kind, with what they are drawn by.
-ghost use Rattle.std.specs.Prelude.{◌≡◌, ◌≤◌, [], None, IfOk, MatchOption, MatchResult, codes, drop, take, true, false, length, nat_lt, sum_by, unwrap_or};
+ghost use Rattle.std.specs.Prelude.{◌≡◌, ◌≤◌, ◌&&◌, [], None, Some, is_some, IfErr, IfOk, MatchOption, MatchResult, codes, drop, take, true, false, length, nat_lt, sum_by, unwrap_or};
 ghost use Rattle.std.specs.Str.{str_eq_ignore_ascii_case};
+ghost use Rattle.wf_def.specs.Layer.{layer_of};
 ghost use Rattle.wf_def.specs.Limits.{has_layer, points_of_feature};
 ghost use Rattle.wf_def.specs.declared.limits.TheConstants.{MOST_CLASSES};
 ghost use Rattle.wf_mapfile.specs.Layer.{attribute_names, layer_kind, layer_name};
-ghost use Rattle.wf_mapfile.specs.LayerSlots.{layer_filled};
+ghost use Rattle.wf_mapfile.specs.LayerSlots.{layer_filled, layer_take};
+ghost use Rattle.wf_mapfile.specs.declared.keyword.layer.LayerKeyword.TheVariants as layers;
 ghost use Rattle.wf_mapfile.specs.Reading.{Gives, is_memory};
 ghost use Rattle.wf_mapfile.specs.Web.{no_metadata};
 ghost use Rattle.wf_mapfile.specs.Room.{layer_behind, new_name};
-
-#[cfg(test)]
-mod tests;
 
 use crate::block::{Slots, fill_block, vacant};
 use crate::fault::MapFault;
 use crate::keyword::is_name;
 use crate::keyword::layer::{LayerKeyword, layer_keyword};
 use crate::layers::{LayerName, Layers};
-use crate::map::text_or;
+use crate::map::text_or_empty;
 use crate::parser::Parser;
 use crate::slots::Metadata;
 use crate::slots::layer::LayerSlots;
@@ -36,14 +35,8 @@ impl Slots for LayerSlots<'_> {
     fn take(&mut self, keyword: Token<'_>, parser: &mut Parser<'_>) -> Result<(), MapFault> {
         let place = keyword.place;
         match layer_keyword(keyword.text) {
-            Some(LayerKeyword::Name) => {
-                vacant(&self.name, place)?;
-                self.name = Some(parser.new_name(self.others)?);
-            }
-            Some(LayerKeyword::Type) => {
-                vacant(&self.kind, place)?;
-                self.kind = Some(parser.layer_kind()?);
-            }
+            Some(LayerKeyword::Name) => return self.take_name(place, parser),
+            Some(LayerKeyword::Type) => return self.take_kind(place, parser),
             Some(LayerKeyword::ClassItem) => {
                 vacant(&self.class_item, place)?;
                 self.class_item = Some(parser.text()?);
@@ -52,26 +45,10 @@ impl Slots for LayerSlots<'_> {
                 vacant(&self.label_item, place)?;
                 self.label_item = Some(parser.text()?);
             }
-            Some(LayerKeyword::Processing) => {
-                vacant(&self.items, place)?;
-                self.items = Some(parser.attribute_names()?);
-            }
-            Some(LayerKeyword::Metadata) => {
-                vacant(&self.metadata, place)?;
-                self.metadata = Some(parser.metadata()?);
-            }
-            Some(LayerKeyword::Class) => {
-                class_room(&self.classes)?;
-                let class = parser.class()?;
-                self.classes.push(class)?;
-            }
-            Some(LayerKeyword::Feature) => {
-                feature_room(self.room.features)?;
-                let feature = parser.feature(self.room.points)?;
-                let room = self.room.behind_feature(&feature);
-                self.features.push(feature)?;
-                self.room = room;
-            }
+            Some(LayerKeyword::Processing) => return self.take_items(place, parser),
+            Some(LayerKeyword::Metadata) => return self.take_metadata(place, parser),
+            Some(LayerKeyword::Class) => return self.take_class(parser),
+            Some(LayerKeyword::Feature) => return self.take_feature(parser),
             Some(LayerKeyword::Status) => {
                 vacant(&self.status, place)?;
                 let _ = parser.text()?;
@@ -89,6 +66,72 @@ impl Slots for LayerSlots<'_> {
             }
             None => return Err(MapFault::UnexpectedWord(place)),
         }
+        Ok(())
+    }
+}
+
+impl LayerSlots<'_> {
+    /// Reads what NAME asks for, and keeps it.
+    #[tactic(auto, unfolding(crate::specs::LayerSlots::layer_take))]
+    fn take_name(&mut self, place: usize, parser: &mut Parser<'_>) -> Result<(), MapFault>
+        ensures { Gives (λ _. (self.new, parser.new)) result (layer_take layers.Name self.old parser.old) }
+    {
+        vacant(&self.name, place)?;
+        self.name = Some(parser.new_name(self.others)?);
+        Ok(())
+    }
+
+    /// Reads what TYPE asks for, and keeps it.
+    #[tactic(auto, unfolding(crate::specs::LayerSlots::layer_take))]
+    fn take_kind(&mut self, place: usize, parser: &mut Parser<'_>) -> Result<(), MapFault>
+        ensures { Gives (λ _. (self.new, parser.new)) result (layer_take layers.Type self.old parser.old) }
+    {
+        vacant(&self.kind, place)?;
+        self.kind = Some(parser.layer_kind()?);
+        Ok(())
+    }
+
+    /// Reads what PROCESSING asks for, and keeps it.
+    #[tactic(auto, unfolding(crate::specs::LayerSlots::layer_take))]
+    fn take_items(&mut self, place: usize, parser: &mut Parser<'_>) -> Result<(), MapFault>
+        ensures { Gives (λ _. (self.new, parser.new)) result (layer_take layers.Processing self.old parser.old) }
+    {
+        vacant(&self.items, place)?;
+        self.items = Some(parser.attribute_names()?);
+        Ok(())
+    }
+
+    /// Reads what METADATA asks for, and keeps it.
+    #[tactic(auto, unfolding(crate::specs::LayerSlots::layer_take))]
+    fn take_metadata(&mut self, place: usize, parser: &mut Parser<'_>) -> Result<(), MapFault>
+        ensures { Gives (λ _. (self.new, parser.new)) result (layer_take layers.Metadata self.old parser.old) }
+    {
+        vacant(&self.metadata, place)?;
+        self.metadata = Some(parser.metadata()?);
+        Ok(())
+    }
+
+    /// Reads what CLASS asks for, and keeps it.
+    #[tactic(auto, unfolding(crate::specs::LayerSlots::layer_take))]
+    fn take_class(&mut self, parser: &mut Parser<'_>) -> Result<(), MapFault>
+        ensures { Gives (λ _. (self.new, parser.new)) result (layer_take layers.Class self.old parser.old) }
+    {
+        class_room(&self.classes)?;
+        let class = parser.class()?;
+        self.classes.push(class)?;
+        Ok(())
+    }
+
+    /// Reads what FEATURE asks for, and keeps it.
+    #[tactic(auto, unfolding(crate::specs::LayerSlots::layer_take))]
+    fn take_feature(&mut self, parser: &mut Parser<'_>) -> Result<(), MapFault>
+        ensures { Gives (λ _. (self.new, parser.new)) result (layer_take layers.Feature self.old parser.old) }
+    {
+        feature_room(self.room.features)?;
+        let feature = parser.feature(self.room.points)?;
+        let room = self.room.behind_feature(&feature);
+        self.features.push(feature)?;
+        self.room = room;
         Ok(())
     }
 }
@@ -128,6 +171,60 @@ fn title_or(metadata: Option<Metadata>, name: &Text) -> Result<Text, AllocError>
     match title {
         Some(title) => Ok(title),
         None => name.clone(),
+    }
+}
+
+/// What a layer must say, and its title.
+#[derive(Drop)]
+struct Heading {
+    name: LayerName,
+    kind: LayerKind,
+    title: Text,
+}
+
+impl Heading {
+    /// The name and the kind, which must be said, and the title.
+    fn new(
+        name: Option<LayerName>,
+        kind: Option<LayerKind>,
+        metadata: Option<Metadata>,
+    ) -> Result<Self, MapFault>
+        ensures ok { IfOk result (λ h. (name ≡ Some h.name) × (kind ≡ Some h.kind) × (h.title ≡ unwrap_or (unwrap_or metadata no_metadata).title h.name)) }
+        ensures missing { IfErr result (λ e. is_memory e ≡ false → (is_some name && is_some kind) ≡ false) }
+    {
+        let name = name.ok_or(MapFault::Missing)?;
+        let kind = kind.ok_or(MapFault::Missing)?;
+        let title = title_or(metadata, name.text())?;
+        Ok(Heading { name, kind, title })
+    }
+}
+
+/// What a layer says of the attributes of its features.
+#[derive(Drop)]
+struct Attributes {
+    class_item: Text,
+    label_item: Text,
+    items: Text,
+}
+
+impl Attributes {
+    /// The texts of the attributes, empty where they weren't said.
+    fn new(
+        alloc: Global,
+        class_item: Option<Text>,
+        label_item: Option<Text>,
+        items: Option<Text>,
+    ) -> Result<Self, AllocError>
+        ensures { IfOk result (λ a. a ≡ record { class_item = unwrap_or class_item []; label_item = unwrap_or label_item []; items = unwrap_or items [] }) }
+    {
+        let class_item = text_or_empty(alloc, class_item)?;
+        let label_item = text_or_empty(alloc, label_item)?;
+        let items = text_or_empty(alloc, items)?;
+        Ok(Attributes {
+            class_item,
+            label_item,
+            items,
+        })
     }
 }
 
@@ -172,17 +269,50 @@ impl<'a> LayerSlots<'a> {
             units: _,
             template: _,
         } = self;
-        let name = name.ok_or(MapFault::Missing)?;
-        let kind = kind.ok_or(MapFault::Missing)?;
-        let title = title_or(metadata, name.text())?;
-        let class_item = text_or(alloc, class_item, "")?;
-        let label_item = text_or(alloc, label_item, "")?;
-        let items = text_or(alloc, items, "")?;
-        let layer = Layer::new(
+        let content = Content {
+            class_item,
+            label_item,
+            items,
+            classes,
+            features,
+        };
+        let Heading { name, kind, title } = Heading::new(name, kind, metadata)?;
+        let layer = content.into_layer(alloc, kind, title)?;
+        Ok((name, layer))
+    }
+}
+
+/// What a layer says besides its name, its kind and its title.
+#[derive(Drop)]
+struct Content {
+    class_item: Option<Text>,
+    label_item: Option<Text>,
+    items: Option<Text>,
+    classes: Classes,
+    features: Features,
+}
+
+impl Content {
+    /// The layer of this kind and title, with empty texts for those that weren't said.
+    fn into_layer(self, alloc: Global, kind: LayerKind, title: Text) -> Result<Layer, MapFault>
+        ensures { Gives (λ l. l) result (layer_of kind title (unwrap_or self.class_item []) (unwrap_or self.label_item []) (unwrap_or self.items []) self.classes self.features) }
+    {
+        let Content {
+            class_item,
+            label_item,
+            items,
+            classes,
+            features,
+        } = self;
+        let Attributes {
+            class_item,
+            label_item,
+            items,
+        } = Attributes::new(alloc, class_item, label_item, items)?;
+        Layer::new(
             kind, title, class_item, label_item, items, classes, features,
         )
-        .ok_or(MapFault::Missing)?;
-        Ok((name, layer))
+        .ok_or(MapFault::Missing)
     }
 }
 

@@ -15,7 +15,7 @@ use wf_def::map::MapDef;
 use wf_def::text::Text;
 
 /// What a layer is called: a text that isn't empty and has no comma.
-#[derive(Debug, Drop)]
+#[derive(Drop)]
 pub struct LayerName {
     text: Text,
 }
@@ -63,7 +63,7 @@ impl LayerName {
 }
 
 /// The layers so far, in order, and how many more features and points may come.
-#[derive(Debug, Drop)]
+#[derive(Drop)]
 pub struct Layers {
     entries: Vec<(LayerName, Layer)>,
     room: Room,

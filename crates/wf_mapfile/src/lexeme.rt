@@ -3,7 +3,7 @@
 use crate::token::{LexFaultKind, TokenKind};
 
 /// One step of the lexer.
-#[derive(Clone, Copy, Debug)]
+#[derive(Clone, Copy)]
 pub enum Lexeme<'a> {
     /// White space or a comment, and what follows it.
     Gap {

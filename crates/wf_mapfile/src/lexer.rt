@@ -331,6 +331,3 @@ pub fn tokenize<'a>(alloc: Global, bytes: &'a [u8]) -> Result<Tokens<'a>, AllocE
         }
     }
 }
-
-#[cfg(test)]
-mod tests;

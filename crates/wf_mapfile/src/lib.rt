@@ -25,7 +25,7 @@ mod label;
 mod layer;
 mod layers;
 mod lexeme;
-mod lexer;
+pub mod lexer;
 mod map;
 mod metadata;
 mod parser;
@@ -33,7 +33,7 @@ mod reader;
 mod room;
 mod slots;
 mod style;
-mod token;
+pub mod token;
 mod web;
 
 pub use reader::{MOST_MAPFILE_BYTES, read};

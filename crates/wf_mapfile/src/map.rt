@@ -1,10 +1,12 @@
 //! MAP: a map's definition.
-ghost use Rattle.std.specs.Prelude.{◌≡◌, [], None, IfOk, MatchResult, true, false, length, nat_lt, unwrap_or};
+ghost use Rattle.std.specs.Prelude.{◌≡◌, [], None, IfOk, MatchResult, true, false, codes, length, nat_lt, unwrap_or};
 ghost use Rattle.wf_def.specs.Text.{IsText};
 ghost use Rattle.wf_def.specs.declared.limits.TheConstants.{MOST_FEATURES, MOST_LAYERS, MOST_POINTS};
-ghost use Rattle.wf_mapfile.specs.Map.{extent, map, projection, two_numbers};
+ghost use Rattle.wf_mapfile.specs.Map.{definition, extent, map, projection, two_numbers};
 ghost use Rattle.wf_mapfile.specs.Reading.{Gives, is_memory};
-ghost use Rattle.wf_mapfile.specs.Slots.{map_filled};
+ghost use Rattle.wf_mapfile.specs.Slots.{map_filled, map_take};
+ghost use Rattle.wf_mapfile.specs.Web.{no_metadata};
+ghost use Rattle.wf_mapfile.specs.declared.keyword.MapKeyword.TheVariants as maps;
 
 use crate::block::{Slots, fill_block, vacant};
 use crate::fault::MapFault;
@@ -38,33 +40,12 @@ impl Slots for MapSlots {
                 vacant(&self.name, place)?;
                 self.name = Some(parser.text()?);
             }
-            Some(MapKeyword::Extent) => {
-                vacant(&self.extent, place)?;
-                self.extent = Some(parser.extent(place)?);
-            }
-            Some(MapKeyword::Projection) => {
-                vacant(&self.projection, place)?;
-                self.projection = Some(parser.projection()?);
-            }
-            Some(MapKeyword::Web) => {
-                vacant(&self.web, place)?;
-                self.web = Some(parser.web()?);
-            }
-            Some(MapKeyword::Layer) => {
-                layer_room(&self.layers)?;
-                let (name, layer) = parser.layer(&self.layers)?;
-                self.layers.push(name, layer)?;
-            }
-            Some(MapKeyword::Size) => {
-                vacant(&self.size, place)?;
-                parser.two_numbers()?;
-                self.size = Some(());
-            }
-            Some(MapKeyword::ImageColor) => {
-                vacant(&self.image_color, place)?;
-                let _ = parser.color()?;
-                self.image_color = Some(());
-            }
+            Some(MapKeyword::Extent) => return self.take_extent(place, parser),
+            Some(MapKeyword::Projection) => return self.take_projection(place, parser),
+            Some(MapKeyword::Web) => return self.take_web(place, parser),
+            Some(MapKeyword::Layer) => return self.take_layer(parser),
+            Some(MapKeyword::Size) => return self.take_size(place, parser),
+            Some(MapKeyword::ImageColor) => return self.take_image_color(place, parser),
             Some(MapKeyword::Units) => {
                 vacant(&self.units, place)?;
                 let _ = parser.text()?;
@@ -87,6 +68,71 @@ impl Slots for MapSlots {
             }
             None => return Err(MapFault::UnexpectedWord(place)),
         }
+        Ok(())
+    }
+}
+
+impl MapSlots {
+    /// Reads what EXTENT asks for, and keeps it.
+    #[tactic(auto, unfolding(crate::specs::Slots::map_take))]
+    fn take_extent(&mut self, place: usize, parser: &mut Parser<'_>) -> Result<(), MapFault>
+        ensures { Gives (λ _. (self.new, parser.new)) result (map_take maps.Extent self.old parser.old) }
+    {
+        vacant(&self.extent, place)?;
+        self.extent = Some(parser.extent(place)?);
+        Ok(())
+    }
+
+    /// Reads what PROJECTION asks for, and keeps it.
+    #[tactic(auto, unfolding(crate::specs::Slots::map_take))]
+    fn take_projection(&mut self, place: usize, parser: &mut Parser<'_>) -> Result<(), MapFault>
+        ensures { Gives (λ _. (self.new, parser.new)) result (map_take maps.Projection self.old parser.old) }
+    {
+        vacant(&self.projection, place)?;
+        self.projection = Some(parser.projection()?);
+        Ok(())
+    }
+
+    /// Reads what WEB asks for, and keeps it.
+    #[tactic(auto, unfolding(crate::specs::Slots::map_take))]
+    fn take_web(&mut self, place: usize, parser: &mut Parser<'_>) -> Result<(), MapFault>
+        ensures { Gives (λ _. (self.new, parser.new)) result (map_take maps.Web self.old parser.old) }
+    {
+        vacant(&self.web, place)?;
+        self.web = Some(parser.web()?);
+        Ok(())
+    }
+
+    /// Reads what LAYER asks for, and keeps it.
+    #[tactic(auto, unfolding(crate::specs::Slots::map_take))]
+    fn take_layer(&mut self, parser: &mut Parser<'_>) -> Result<(), MapFault>
+        ensures { Gives (λ _. (self.new, parser.new)) result (map_take maps.Layer self.old parser.old) }
+    {
+        layer_room(&self.layers)?;
+        let (name, layer) = parser.layer(&self.layers)?;
+        self.layers.push(name, layer)?;
+        Ok(())
+    }
+
+    /// Reads what SIZE asks for, which is dropped.
+    #[tactic(auto, unfolding(crate::specs::Slots::map_take))]
+    fn take_size(&mut self, place: usize, parser: &mut Parser<'_>) -> Result<(), MapFault>
+        ensures { Gives (λ _. (self.new, parser.new)) result (map_take maps.Size self.old parser.old) }
+    {
+        vacant(&self.size, place)?;
+        parser.two_numbers()?;
+        self.size = Some(());
+        Ok(())
+    }
+
+    /// Reads what IMAGECOLOR asks for, which is dropped.
+    #[tactic(auto, unfolding(crate::specs::Slots::map_take))]
+    fn take_image_color(&mut self, place: usize, parser: &mut Parser<'_>) -> Result<(), MapFault>
+        ensures { Gives (λ _. (self.new, parser.new)) result (map_take maps.ImageColor self.old parser.old) }
+    {
+        vacant(&self.image_color, place)?;
+        let _ = parser.color()?;
+        self.image_color = Some(());
         Ok(())
     }
 }
@@ -125,10 +171,12 @@ impl MapSlots {
     fn filled(self, alloc: Global) -> Result<MapDef, MapFault>
         ensures { Gives (λ d. d) result (map_filled self) }
     {
+        let extent = self.extent.ok_or(MapFault::Missing)?;
+        let projection = self.projection.ok_or(MapFault::Missing)?;
         let MapSlots {
             name,
-            extent,
-            projection,
+            extent: _,
+            projection: _,
             web,
             layers,
             size: _,
@@ -138,8 +186,52 @@ impl MapSlots {
             image_type: _,
             shape_path: _,
         } = self;
-        let extent = extent.ok_or(MapFault::Missing)?;
-        let projection = projection.ok_or(MapFault::Missing)?;
+        let map = without_layers(alloc, name, extent, projection, web)?;
+        Ok(layers.into_map(map)?)
+    }
+}
+
+/// The map of this block, before its layers, with defaults for what wasn't said.
+#[tactic(auto, unfolding(crate::specs::Map::definition))]
+fn without_layers(
+    alloc: Global,
+    name: Option<Text>,
+    extent: Extent,
+    projection: Projection,
+    web: Option<Metadata>,
+) -> Result<MapDef, AllocError>
+    ensures { IfOk result (λ map. map ≡ definition name extent projection (unwrap_or web no_metadata) []) }
+{
+    let name = text_or(alloc, name, DEFAULT_NAME)?;
+    let Service {
+        title,
+        abstract_text,
+        address,
+    } = Service::new(alloc, &name, web)?;
+    Ok(MapDef::new(
+        alloc,
+        name,
+        title,
+        abstract_text,
+        address,
+        extent,
+        projection,
+    ))
+}
+
+/// What a map tells of its service.
+#[derive(Drop)]
+struct Service {
+    title: Text,
+    abstract_text: Text,
+    address: Text,
+}
+
+impl Service {
+    /// The texts of the service of a map of this name, with defaults for those that weren't said.
+    fn new(alloc: Global, name: &Text, web: Option<Metadata>) -> Result<Self, AllocError>
+        ensures { IfOk result (λ s. s ≡ record { title = unwrap_or (unwrap_or web no_metadata).title name.now; abstract_text = unwrap_or (unwrap_or web no_metadata).abstract_text []; address = unwrap_or (unwrap_or web no_metadata).address (codes "http://localhost/wms?") }) }
+    {
         let Metadata {
             title,
             abstract_text,
@@ -148,28 +240,29 @@ impl MapSlots {
             Some(web) => web,
             None => Metadata::new(),
         };
-        let name = text_or(alloc, name, DEFAULT_NAME)?;
         let title = match title {
             Some(title) => title,
             None => name.clone()?,
         };
-        let abstract_text = text_or(alloc, abstract_text, "")?;
+        let abstract_text = text_or_empty(alloc, abstract_text)?;
         let address = text_or(alloc, address, DEFAULT_ADDRESS)?;
-        let map = MapDef::new(
-            alloc,
-            name,
+        Ok(Service {
             title,
             abstract_text,
             address,
-            extent,
-            projection,
-        );
-        Ok(layers.into_map(map)?)
+        })
     }
 }
 
+/// The text, or else an empty one.
+pub fn text_or_empty(alloc: Global, text: Option<Text>) -> Result<Text, AllocError>
+    ensures { IfOk result (λ t. t ≡ unwrap_or text []) }
+{
+    text_or(alloc, text, "")
+}
+
 /// The text, or else the default.
-pub fn text_or(alloc: Global, text: Option<Text>, default: &str) -> Result<Text, AllocError>
+fn text_or(alloc: Global, text: Option<Text>, default: &str) -> Result<Text, AllocError>
     requires { IsText default.now }
     ensures { IfOk result (λ t. t ≡ unwrap_or text default.now) }
 {

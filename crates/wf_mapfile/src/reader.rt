@@ -4,9 +4,6 @@ ghost use Rattle.std.specs.Str.{is_utf8};
 ghost use Rattle.wf_mapfile.specs.Meaning.{Means, MeansNothing, file, meaning};
 ghost use Rattle.wf_mapfile.specs.Reading.{Gives, is_memory};
 
-#[cfg(test)]
-mod tests;
-
 use crate::fault::MapFault;
 use crate::keyword::is_name;
 use crate::lexer::tokenize;

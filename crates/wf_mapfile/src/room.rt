@@ -7,7 +7,7 @@ use wf_def::feature::Feature;
 use wf_def::layer::Layer;
 
 /// How many more features and points a map may have.
-#[derive(Clone, Copy, Debug, PartialEq, Eq)]
+#[derive(Clone, Copy)]
 pub struct Room {
     /// Features, over all layers that are still to come.
     pub features: usize,

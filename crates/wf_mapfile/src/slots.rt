@@ -11,7 +11,7 @@ use wf_def::extent::Extent;
 use wf_def::text::Text;
 
 /// What is kept of METADATA (OGC 06-042 7.2.4.2).
-#[derive(Debug, Drop)]
+#[derive(Drop)]
 pub struct Metadata {
     /// The title of the service, for readers.
     pub title: Option<Text>,
@@ -22,7 +22,7 @@ pub struct Metadata {
 }
 
 /// WEB.
-#[derive(Debug, Drop)]
+#[derive(Drop)]
 pub struct WebSlots {
     /// The pairs that are kept.
     pub metadata: Option<Metadata>,
@@ -33,7 +33,7 @@ pub struct WebSlots {
 }
 
 /// MAP.
-#[derive(Debug, Drop)]
+#[derive(Drop)]
 pub struct MapSlots {
     /// What the map is called.
     pub name: Option<Text>,

@@ -3,7 +3,7 @@
 use std::alloc::Global;
 
 /// Whether a token stood in quotes.
-#[derive(Clone, Copy, Debug, PartialEq, Eq)]
+#[derive(Clone, Copy)]
 pub enum TokenKind {
     /// A run of bytes without quotes.
     Word,
@@ -12,7 +12,7 @@ pub enum TokenKind {
 }
 
 /// A token, which borrows the text that it stands in.
-#[derive(Clone, Copy, Debug, PartialEq, Eq)]
+#[derive(Clone, Copy)]
 pub struct Token<'a> {
     /// Whether it stood in quotes.
     pub kind: TokenKind,
@@ -23,7 +23,7 @@ pub struct Token<'a> {
 }
 
 /// Why a text has no tokens.
-#[derive(Clone, Copy, Debug, PartialEq, Eq)]
+#[derive(Clone, Copy)]
 pub enum LexFaultKind {
     /// M4: a quote or a comment that stays open, or a byte that no token may hold.
     BadToken,
@@ -32,7 +32,7 @@ pub enum LexFaultKind {
 }
 
 /// The first fault of a text, from the left.
-#[derive(Clone, Copy, Debug, PartialEq, Eq)]
+#[derive(Clone, Copy)]
 pub struct LexFault {
     /// What is wrong.
     pub kind: LexFaultKind,
@@ -41,7 +41,7 @@ pub struct LexFault {
 }
 
 /// The tokens of a text up to its end, or up to its first fault.
-#[derive(Debug, Drop)]
+#[derive(Drop)]
 pub struct Tokens<'a> {
     /// The tokens, in order.
     pub tokens: Vec<Token<'a>, Global>,

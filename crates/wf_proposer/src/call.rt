@@ -108,9 +108,10 @@ impl Proposer {
             Working::Running(proposal) => {
                 proposal.on_promise(alloc, self.nodes, from, slot, ballot, vote)
             }
-            Working::Idle => Ok(Next::quiet(alloc, Change::Nothing)),
-            Working::Published(_) => Ok(Next::quiet(alloc, Change::Nothing)),
-            Working::Overtaken(_) => Ok(Next::quiet(alloc, Change::Nothing)),
+            _ => {
+                drop(vote);
+                Ok(Next::quiet(alloc, Change::Nothing))
+            }
         }
     }
 

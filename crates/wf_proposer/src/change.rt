@@ -4,7 +4,7 @@ use wf_ballot::Ballot;
 use wf_canon::Canon;
 
 /// What a commit does to the working part.
-#[derive(Debug, Drop)]
+#[derive(Drop)]
 pub enum Change {
     /// Nothing.
     Nothing,

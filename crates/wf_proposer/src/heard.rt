@@ -7,7 +7,7 @@ use std::marker::Model;
 use wf_ballot::{NodeId, is_majority};
 
 /// The nodes whose answer was heard, in the order of hearing.
-#[derive(Debug, Drop)]
+#[derive(Drop)]
 pub struct Heard {
     nodes: Vec<NodeId>,
 }

@@ -24,8 +24,6 @@ mod proposer;
 mod refusal;
 mod row;
 mod standing;
-#[cfg(test)]
-mod tests;
 mod working;
 
 pub use call::same_text_is_equality;

@@ -9,7 +9,7 @@ use wf_tape::Record;
 
 /// What a proposer answers: a record to store, messages to hand out once it is stored, and the working
 /// part to come.
-#[derive(Debug, Drop)]
+#[derive(Drop)]
 pub struct Next {
     entry: Option<Record>,
     messages: Vec<Message>,
@@ -45,13 +45,19 @@ impl Next {
     ) -> Result<Next, AllocError>
         ensures { IfOk result (λ next. next ≡ record { entry = entry; messages = message ∷ []; change = change }) }
     {
-        let mut messages = Vec::new(alloc);
-        messages.push(message)?;
-        Ok(Next {
-            entry,
-            messages,
-            change,
-        })
+        // No `?`: the proof of an exit that lets these go takes each kind of record and change apart.
+        match only(alloc, message) {
+            Ok(messages) => Ok(Next {
+                entry,
+                messages,
+                change,
+            }),
+            Err(fault) => {
+                drop(entry);
+                drop(change);
+                Err(fault)
+            }
+        }
     }
 
     /// The record to store before the commit, if there is one.
@@ -81,4 +87,13 @@ impl Next {
         } = self;
         (entry, messages, change)
     }
+}
+
+/// The one message.
+fn only(alloc: Global, message: Message) -> Result<Vec<Message>, AllocError>
+    ensures { IfOk result (λ messages. messages.items ≡ message ∷ []) }
+{
+    let mut messages = Vec::new(alloc);
+    messages.push(message)?;
+    Ok(messages)
 }

@@ -3,7 +3,7 @@ use wf_ballot::{Ballot, Slot};
 use wf_canon::Canon;
 
 /// A proposal first asks for promises, then for votes.
-#[derive(Clone, Copy, Debug)]
+#[derive(Clone, Copy)]
 pub enum Phase {
     /// It asked for promises.
     Preparing,
@@ -12,7 +12,7 @@ pub enum Phase {
 }
 
 /// A running proposal.
-#[derive(Debug, Drop)]
+#[derive(Drop)]
 pub struct Proposal {
     /// The slot that it is for.
     pub slot: Slot,

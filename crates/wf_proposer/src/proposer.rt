@@ -3,7 +3,7 @@ use std::marker::Model;
 use wf_ballot::NodeId;
 
 /// The proposer of one node: at most one proposal, or how the last one ended.
-#[derive(Debug, Drop)]
+#[derive(Drop)]
 pub struct Proposer {
     pub(crate) node: NodeId,
     pub(crate) nodes: u8,

@@ -45,8 +45,7 @@ impl Proposal {
         let tried = Record::Tried(ballot.round());
         let message = Message::Prepare(slot, ballot);
         let change = Change::Becomes(Working::Running(proposal));
-        let next = Next::says(alloc, Some(tried), message, change)?;
-        Ok(next)
+        Next::says(alloc, Some(tried), message, change)
     }
 
     /// The proposal begins anew, in a round above the one tried and each one told. Its rounds may be used up.
@@ -204,11 +203,30 @@ impl Proposal {
         ensures row { IfOk result (λ next. row_at (Running self.now) next ≡ table.on_promise n (model.Running (proposal_of self.now)) from slot ballot (view_vote vote)) }
     {
         if !self.hears(Phase::Preparing, n, from, slot, ballot) {
+            drop(vote);
             return Ok(Next::quiet(alloc, Change::Nothing));
         }
-        let heard = self.heard.with(from)?;
-        let better = self.improvement(vote);
-        Ok(self.promised(alloc, n, heard, better)?)
+        Ok(self.with_promise(alloc, n, from, vote)?)
+    }
+
+    /// What follows a promise that the proposal waits for.
+    #[tactic(auto, using(crate::proofs::HeardSets::heard_rules), unfolding(wf_model::specs::Table::with_promise))]
+    fn with_promise(
+        &self,
+        alloc: Global,
+        n: u8,
+        from: NodeId,
+        vote: Option<(Ballot, Canon)>,
+    ) -> Result<Next, AllocError>
+        ensures { IfOk result (λ next. row_at (Running self.now) next ≡ table.promised n (table.with_promise (proposal_of self.now) from (view_vote vote))) }
+    {
+        match self.heard.with(from) {
+            Ok(heard) => self.promised(alloc, n, heard, self.improvement(vote)),
+            Err(fault) => {
+                drop(vote);
+                Err(fault)
+            }
+        }
     }
 
     /// What follows once these nodes promised and this vote, if any, is the best.
@@ -225,10 +243,29 @@ impl Proposal {
         if !heard.is_majority(n) {
             return Ok(Next::quiet(alloc, Change::Hears(heard, better)));
         }
-        let canon = self.carried(&better).copy()?;
-        let message = Message::Accept(self.slot, self.ballot, canon);
-        let next = Next::says(alloc, None, message, Change::AsksVotes(better))?;
+        drop(heard);
+        let next = self.asks_votes(alloc, better)?;
         Ok(next)
+    }
+
+    /// Votes are asked for, where this vote, if any, is the best.
+    fn asks_votes(&self, alloc: Global, better: Option<(Ballot, Canon)>) -> Result<Next, AllocError>
+        ensures { IfOk result (λ next. next ≡ record {
+          entry = None;
+          messages = Message.Accept self.now.slot self.now.ballot (model.carried (view_vote (best_now better self.now.best)) self.now.own) ∷ [];
+          change = Change.AsksVotes better;
+        }) }
+    {
+        match self.carried(&better).copy() {
+            Ok(canon) => {
+                let message = Message::Accept(self.slot, self.ballot, canon);
+                Next::says(alloc, None, message, Change::AsksVotes(better))
+            }
+            Err(fault) => {
+                drop(better);
+                Err(fault)
+            }
+        }
     }
 
     /// A node voted: it is heard. Once a majority voted, the definition is published and the proposal ends. An
@@ -260,8 +297,8 @@ impl Proposal {
         if !heard.is_majority(n) {
             return Ok(Next::quiet(alloc, Change::Hears(heard, None)));
         }
-        let next = self.publishes(alloc, self.carried(&None))?;
-        Ok(next)
+        drop(heard);
+        self.publishes(alloc, self.carried(&None))
     }
 
     /// The definition is published, and the proposal ends.
@@ -269,11 +306,12 @@ impl Proposal {
     fn publishes(&self, alloc: Global, canon: &Canon) -> Result<Next, AllocError>
         ensures { IfOk result (λ next. row_at (Running self.now) next ≡ table.stores (table.ended same_text (proposal_of self.now) canon.now) (stored_part.Published self.now.slot canon.now) (Chosen self.now.slot canon.now)) }
     {
-        let published = Record::Published(self.slot, canon.copy()?);
-        let message = Message::Chosen(self.slot, canon.copy()?);
+        let stored = canon.copy()?;
+        let told = canon.copy()?;
+        let published = Record::Published(self.slot, stored);
+        let message = Message::Chosen(self.slot, told);
         let change = Change::Becomes(self.ended(canon));
-        let next = Next::says(alloc, Some(published), message, change)?;
-        Ok(next)
+        Next::says(alloc, Some(published), message, change)
     }
 
     /// A node promised a higher ballot: the highest round told is kept for the next try. It takes no memory.
@@ -307,9 +345,7 @@ impl Working {
     {
         match self {
             Working::Running(proposal) => proposal.hear(heard, vote),
-            Working::Idle => {}
-            Working::Published(_) => {}
-            Working::Overtaken(_) => {}
+            _ => drop((heard, vote)),
         }
     }
 
@@ -318,9 +354,7 @@ impl Working {
     {
         match self {
             Working::Running(proposal) => proposal.ask_votes(vote),
-            Working::Idle => {}
-            Working::Published(_) => {}
-            Working::Overtaken(_) => {}
+            _ => drop(vote),
         }
     }
 

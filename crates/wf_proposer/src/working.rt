@@ -2,7 +2,7 @@ use crate::proposal::Proposal;
 use wf_ballot::Slot;
 
 /// What a proposer holds: at most one proposal, or how the last one ended.
-#[derive(Debug, Drop)]
+#[derive(Drop)]
 pub enum Working {
     /// No proposal yet.
     Idle,

@@ -9,6 +9,3 @@
 mod record;
 
 pub use record::Record;
-
-#[cfg(test)]
-mod tests;

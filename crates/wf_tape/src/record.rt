@@ -5,7 +5,7 @@ use wf_ballot::{Ballot, Slot};
 use wf_canon::Canon;
 
 /// One entry of a node's tape. What a node stored is what its records say, the oldest first.
-#[derive(Debug, Drop)]
+#[derive(Drop)]
 pub enum Record {
     /// The node tries this round: it never begins a proposal in it again.
     Tried(u32),

@@ -26,6 +26,3 @@ pub use description::describe;
 pub use exception::{Exception, Parameter};
 pub use kind::Kind;
 pub use update_sequence::LAST_SEQUENCE;
-
-#[cfg(test)]
-mod tests;

@@ -1,5 +1,5 @@
 /// Where the value of UPDATESEQUENCE stands beside the server's own update sequence.
-#[derive(Clone, Copy, Debug, PartialEq, Eq)]
+#[derive(Clone, Copy)]
 pub enum Standing {
     /// The parameter is absent, or its value is empty.
     Absent,

@@ -4,9 +4,6 @@ ghost use Rattle.std.specs.Cmp.{partial_equiv_from_equiv};
 ghost use Rattle.wf_def.specs.Equality.{definition_eq};
 ghost use Rattle.wf_def.specs.EqualityLaws.{definition_eq_equiv};
 
-#[cfg(test)]
-mod tests;
-
 use super::MapDef;
 
 impl PartialEq for MapDef {

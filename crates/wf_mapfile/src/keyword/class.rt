@@ -5,7 +5,7 @@ ghost use Rattle.wf_mapfile.specs.Class.{class_keyword};
 use crate::choice::choose;
 
 /// The keywords of CLASS.
-#[derive(Clone, Copy, Debug, PartialEq, Eq)]
+#[derive(Clone, Copy)]
 pub enum ClassKeyword {
     /// The class's name.
     Name,

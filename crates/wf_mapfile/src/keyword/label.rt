@@ -5,7 +5,7 @@ ghost use Rattle.wf_mapfile.specs.Label.{label_keyword};
 use crate::choice::choose;
 
 /// The keywords of LABEL.
-#[derive(Clone, Copy, Debug, PartialEq, Eq)]
+#[derive(Clone, Copy)]
 pub enum LabelKeyword {
     /// The letters' colour.
     Color,

@@ -6,7 +6,7 @@ ghost use Rattle.wf_mapfile.specs.Layer.{layer_keyword};
 use crate::choice::choose;
 
 /// The keywords of LAYER.
-#[derive(Clone, Copy, Debug, PartialEq, Eq)]
+#[derive(Clone, Copy)]
 pub enum LayerKeyword {
     /// The layer's name.
     Name,
@@ -33,7 +33,7 @@ pub enum LayerKeyword {
 }
 
 /// The keywords of FEATURE.
-#[derive(Clone, Copy, Debug, PartialEq, Eq)]
+#[derive(Clone, Copy)]
 pub enum FeatureKeyword {
     /// A block of points.
     Points,

@@ -5,7 +5,7 @@ ghost use Rattle.wf_mapfile.specs.Style.{style_keyword};
 use crate::choice::choose;
 
 /// The keywords of STYLE.
-#[derive(Clone, Copy, Debug, PartialEq, Eq)]
+#[derive(Clone, Copy)]
 pub enum StyleKeyword {
     /// What fills a polygon or a marker, and draws a line.
     Color,

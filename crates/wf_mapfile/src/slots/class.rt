@@ -5,7 +5,7 @@ use wf_def::label::Label;
 use wf_def::text::Text;
 
 /// CLASS.
-#[derive(Debug, Drop)]
+#[derive(Drop)]
 pub struct ClassSlots {
     /// What the class is called.
     pub name: Option<Text>,

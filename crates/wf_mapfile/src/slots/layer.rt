@@ -9,7 +9,7 @@ use wf_def::layer::{Classes, Features};
 use wf_def::text::Text;
 
 /// FEATURE.
-#[derive(Debug, Drop)]
+#[derive(Drop)]
 pub struct FeatureSlots {
     /// The parts of the shape.
     pub parts: Parts,
@@ -22,7 +22,7 @@ pub struct FeatureSlots {
 }
 
 /// LAYER.
-#[derive(Debug, Drop)]
+#[derive(Drop)]
 pub struct LayerSlots<'a> {
     /// The layers before this one, whose names are taken.
     pub others: &'a Layers,

@@ -1,0 +1,81 @@
+//! Words between spaces, read from left to right.
+use std::mem;
+use wf_ballot::{Ballot, NodeId, Seq, Slot};
+use wf_table::Unanswered;
+
+/// The words that are left.
+#[derive(Clone, Copy)]
+pub(crate) struct Words<'a> {
+    rest: &'a str,
+}
+
+impl<'a> Words<'a> {
+    pub(crate) fn new(words: &'a str) -> Words<'a> {
+        Words { rest: words }
+    }
+
+    /// The words of an input.
+    pub(crate) fn of(input: &'a [u8]) -> Result<Words<'a>, Unanswered> {
+        match str::from_utf8(input) {
+            Ok(words) => Ok(Words::new(words)),
+            Err(_) => Err(Unanswered::BadWords),
+        }
+    }
+
+    /// The next word; an empty one behind the last.
+    pub(crate) fn word(&mut self) -> &'a str {
+        match self.rest.split_once(' ') {
+            Some((word, rest)) => {
+                self.rest = rest;
+                word
+            }
+            None => mem::replace(&mut self.rest, ""),
+        }
+    }
+
+    pub(crate) fn byte(&mut self) -> Result<u8, Unanswered> {
+        match self.word().parse::<u8>() {
+            Ok(number) => Ok(number),
+            Err(_) => Err(Unanswered::BadWords),
+        }
+    }
+
+    pub(crate) fn short(&mut self) -> Result<u16, Unanswered> {
+        match self.word().parse::<u16>() {
+            Ok(number) => Ok(number),
+            Err(_) => Err(Unanswered::BadWords),
+        }
+    }
+
+    pub(crate) fn round(&mut self) -> Result<u32, Unanswered> {
+        match self.word().parse::<u32>() {
+            Ok(round) => Ok(round),
+            Err(_) => Err(Unanswered::BadWords),
+        }
+    }
+
+    pub(crate) fn count(&mut self) -> Result<usize, Unanswered> {
+        match self.word().parse::<usize>() {
+            Ok(count) => Ok(count),
+            Err(_) => Err(Unanswered::BadWords),
+        }
+    }
+
+    pub(crate) fn node(&mut self) -> Result<NodeId, Unanswered> {
+        NodeId::new(self.byte()?).ok_or(Unanswered::BadWords)
+    }
+
+    pub(crate) fn sequence(&mut self) -> Result<Seq, Unanswered> {
+        Seq::new(self.short()?).ok_or(Unanswered::BadWords)
+    }
+
+    pub(crate) fn slot(&mut self) -> Result<Slot, Unanswered> {
+        Slot::new(self.short()?).ok_or(Unanswered::BadWords)
+    }
+
+    pub(crate) fn ballot(&mut self) -> Result<Ballot, Unanswered> {
+        let round = self.round()?;
+        let node = self.node()?;
+        Ballot::new(round, node).ok_or(Unanswered::BadWords)
+    }
+}

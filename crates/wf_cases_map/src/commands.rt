@@ -1,0 +1,109 @@
+//! Command lines, and the commands on bytes in memory.
+use crate::asked::{Answered, Asked};
+use crate::numbers::write_count;
+use crate::requests::sequence;
+use crate::shown::write_texts;
+use std::alloc::Global;
+use wf_commands::arguments::line;
+use wf_commands::fault::RunFault;
+use wf_commands::line::Line;
+use wf_commands::run::{run_canon, run_caps};
+use wf_table::Unanswered;
+use wf_table::escape::unescape;
+use wf_table::write::{write_line, write_text, write_whole};
+
+// Appends the line for standard error.
+fn write_run_fault(alloc: Global, fault: RunFault, answer: &mut Vec<u8>) -> Answered {
+    let line = fault.to_string(alloc)?;
+    Ok(write_line(line.as_str(), answer)?)
+}
+
+/// `canon`: what the command `canon` writes, or its fault line.
+pub(crate) fn canon(asked: Asked<'_>, answer: &mut Vec<u8>) -> Answered {
+    let mut reader = asked.input;
+    match run_canon(asked.alloc, &mut reader, answer) {
+        Ok(()) => Ok(()),
+        Err(fault) => write_run_fault(asked.alloc, fault, answer),
+    }
+}
+
+fn canon_again(alloc: Global, once: &[u8], answer: &mut Vec<u8>) -> Answered {
+    let mut reader = once;
+    let mut twice = Vec::new(alloc);
+    match run_canon(alloc, &mut reader, &mut twice) {
+        Ok(()) if twice.as_slice() == once => Ok(write_line("the same again", answer)?),
+        Ok(()) => Ok(write_line("another text", answer)?),
+        Err(fault) => write_run_fault(alloc, fault, answer),
+    }
+}
+
+/// `canon_twice`: the length of the canonical text, and whether this text's own canonical text is the same.
+pub(crate) fn canon_twice(asked: Asked<'_>, answer: &mut Vec<u8>) -> Answered {
+    let mut reader = asked.input;
+    let mut once = Vec::new(asked.alloc);
+    if let Err(fault) = run_canon(asked.alloc, &mut reader, &mut once) {
+        return write_run_fault(asked.alloc, fault, answer);
+    }
+    write_count(once.len(), " bytes, ", answer)?;
+    canon_again(asked.alloc, &once, answer)
+}
+
+/// `caps SEQ QUERY`: what the command `caps` writes about the input, or its fault line. QUERY is spelled with escapes.
+pub(crate) fn caps(asked: Asked<'_>, answer: &mut Vec<u8>) -> Answered {
+    let (seq, spelled) = asked.words.split_once(' ').unwrap_or((asked.words, ""));
+    let mut query = Vec::new(asked.alloc);
+    if unescape(spelled, &mut query).is_err() {
+        return Err(Unanswered::BadWords);
+    }
+    let mut reader = asked.input;
+    match run_caps(asked.alloc, &mut reader, answer, sequence(seq)?, &query) {
+        Ok(()) => Ok(()),
+        Err(fault) => write_run_fault(asked.alloc, fault, answer),
+    }
+}
+
+fn write_asked_for(asked_for: Line<'_>, answer: &mut Vec<u8>) -> Answered {
+    match asked_for {
+        Line::Canon => Ok(write_line("canon", answer)?),
+        Line::Caps { seq, query } => {
+            write_text("caps ", answer)?;
+            write_whole(u64::from(seq), answer)?;
+            write_texts(&[" [", query, "]\n"], answer)
+        }
+    }
+}
+
+fn write_command_line(alloc: Global, words: &[&str], answer: &mut Vec<u8>) -> Answered {
+    match line(alloc, words) {
+        Ok(asked_for) => write_asked_for(asked_for, answer),
+        Err(error) => {
+            write_text("refused with status ", answer)?;
+            write_whole(u64::from(error.exit_code().unsigned_abs()), answer)?;
+            Ok(write_line("", answer)?)
+        }
+    }
+}
+
+// The words between the separators; none where there is nothing.
+fn words_of<'a>(alloc: Global, text: &'a str, separator: char) -> Result<Vec<&'a str>, Unanswered> {
+    let mut words = Vec::new(alloc);
+    if !text.is_empty() {
+        for word in text.split(separator) {
+            if words.push(word).is_err() {
+                return Err(Unanswered::Memory);
+            }
+        }
+    }
+    Ok(words)
+}
+
+/// `line`: what a command line asks for, or that it is refused. Its words have spaces between; `line in lines` has a word a line.
+pub(crate) fn command_line(asked: Asked<'_>, answer: &mut Vec<u8>) -> Answered {
+    let text = asked.text()?;
+    let words = match asked.words {
+        "" => words_of(asked.alloc, text, ' ')?,
+        "in lines" => words_of(asked.alloc, text.strip_suffix('\n').unwrap_or(text), '\n')?,
+        _ => return Err(Unanswered::BadWords),
+    };
+    write_command_line(asked.alloc, &words, answer)
+}

@@ -1,0 +1,221 @@
+//! Definitions that are put together by calls.
+ghost use Rattle.std.specs.Prelude.{◌<◌, length};
+
+use crate::asked::{Answered, Asked};
+use crate::mapfiles::write_value;
+use crate::numbers::write_count;
+use crate::shown::write_map;
+use std::alloc::{AllocError, Global};
+use wf_def::attribute::attribute;
+use wf_def::choice::LayerKind;
+use wf_def::class::{Class, Styles};
+use wf_def::feature::{Feature, Part, Parts};
+use wf_def::layer::{Classes, Features, Layer};
+use wf_def::map::MapDef;
+use wf_def::micro::Micro;
+use wf_def::point::Point;
+use wf_def::style::Style;
+use wf_def::text::Text;
+use wf_def::whole::Whole;
+use wf_table::Unanswered;
+use wf_table::write::{write_line, write_text, write_whole};
+
+/// `attribute`: the value of names between commas, values between semicolons and a name, with `|` between the three.
+pub(crate) fn attribute_of_lists(asked: Asked<'_>, answer: &mut Vec<u8>) -> Answered {
+    let (names, rest) = asked.text()?.split_once('|').ok_or(Unanswered::BadWords)?;
+    let (values, name) = rest.split_once('|').ok_or(Unanswered::BadWords)?;
+    write_value(
+        attribute(names.as_bytes(), values.as_bytes(), name.as_bytes()),
+        answer,
+    )
+}
+
+// A style that draws nothing, so wide.
+fn style_of_width(word: &str) -> Result<Style, Unanswered> {
+    let width = word.parse::<u8>().ok().and_then(|width| Whole::new(width));
+    let size = Whole::new(1);
+    match (width, size) {
+        (Some(width), Some(size)) => Ok(Style::new(None, None, width, size)),
+        _ => Err(Unanswered::BadWords),
+    }
+}
+
+// Appends whether there is room for one more, and the widths in their order.
+fn write_styles(styles: &Styles, answer: &mut Vec<u8>) -> Answered {
+    write_text(if styles.is_full() { "full:" } else { "room:" }, answer)?;
+    for style in styles.as_slice() {
+        write_text(" ", answer)?;
+        write_whole(u64::from(style.width()), answer)?;
+    }
+    Ok(write_line("", answer)?)
+}
+
+fn write_copy_of_styles(styles: &Styles, answer: &mut Vec<u8>) -> Answered {
+    match styles.clone() {
+        Ok(copy) => write_styles(&copy, answer),
+        Err(_) => Err(Unanswered::Memory),
+    }
+}
+
+/// `styles`: a copy of the styles of these widths, as far as there is room.
+pub(crate) fn styles(asked: Asked<'_>, answer: &mut Vec<u8>) -> Answered {
+    let mut styles = Styles::new(asked.alloc);
+    for word in asked.text()?.split(' ') {
+        let style = style_of_width(word)?;
+        if !styles.is_full() {
+            styles.push(style)?;
+        }
+    }
+    write_copy_of_styles(&styles, answer)
+}
+
+fn number_in(text: &str) -> Result<usize, Unanswered> {
+    match text.parse::<usize>() {
+        Ok(number) => Ok(number),
+        Err(_) => Err(Unanswered::BadWords),
+    }
+}
+
+fn empty_text(alloc: Global) -> Result<Text, Unanswered> {
+    match Text::new(alloc, b"") {
+        Ok(text) => Ok(text),
+        Err(_) => Err(Unanswered::Memory),
+    }
+}
+
+fn empty_class(alloc: Global) -> Result<Class, Unanswered> {
+    match Text::new(alloc, b"") {
+        Ok(name) => Ok(Class::new(name, None, Styles::new(alloc), None)),
+        Err(_) => Err(Unanswered::Memory),
+    }
+}
+
+fn write_classes(classes: &Classes, answer: &mut Vec<u8>) -> Answered {
+    write_text(
+        if classes.is_full() {
+            "full: "
+        } else {
+            "room: "
+        },
+        answer,
+    )?;
+    write_count(classes.as_slice().len(), "\n", answer)
+}
+
+fn write_copy_of_classes(classes: &Classes, answer: &mut Vec<u8>) -> Answered {
+    match classes.clone() {
+        Ok(copy) => write_classes(&copy, answer),
+        Err(_) => Err(Unanswered::Memory),
+    }
+}
+
+/// `classes`: a copy of so many empty classes, as far as there is room.
+pub(crate) fn classes(asked: Asked<'_>, answer: &mut Vec<u8>) -> Answered {
+    let mut classes = Classes::new(asked.alloc);
+    for _ in 0..number_in(asked.text()?)? {
+        if !classes.is_full() {
+            let class = empty_class(asked.alloc)?;
+            classes.push(class)?;
+        }
+    }
+    write_copy_of_classes(&classes, answer)
+}
+
+fn part_of_points(alloc: Global, count: usize) -> Result<Part, AllocError> {
+    let mut part = Part::new(alloc);
+    for _ in 0..count {
+        if let Some(zero) = Micro::from_millionths(0) {
+            part.push(Point { x: zero, y: zero })?;
+        }
+    }
+    Ok(part)
+}
+
+// Parts of so many points each, as the words say.
+fn parts_of_points(alloc: Global, words: &str) -> Result<Parts, Unanswered> {
+    let mut parts = Parts::new(alloc);
+    for word in words.split_whitespace() {
+        let part = part_of_points(alloc, number_in(word)?)?;
+        parts.push(part)?;
+    }
+    Ok(parts)
+}
+
+fn feature_of_parts(alloc: Global, parts: Parts) -> Result<Option<Feature>, Unanswered> {
+    let items = empty_text(alloc)?;
+    let text = empty_text(alloc)?;
+    Ok(Feature::new(parts, items, text))
+}
+
+fn kind_of(word: &str) -> Result<LayerKind, Unanswered> {
+    match word {
+        "points" => Ok(LayerKind::Points),
+        "lines" => Ok(LayerKind::Lines),
+        "polygons" => Ok(LayerKind::Polygons),
+        _ => Err(Unanswered::BadWords),
+    }
+}
+
+// Whether a layer of the kind can have these attributes and features.
+fn is_layer(
+    alloc: Global,
+    kind: LayerKind,
+    items: Text,
+    features: Features,
+) -> Result<bool, Unanswered> {
+    let title = empty_text(alloc)?;
+    let class_item = empty_text(alloc)?;
+    let label_item = empty_text(alloc)?;
+    let classes = Classes::new(alloc);
+    Ok(Layer::new(
+        kind, title, class_item, label_item, items, classes, features,
+    )
+    .is_some())
+}
+
+fn write_is_layer(is_layer: bool, answer: &mut Vec<u8>) -> Answered {
+    let words = if is_layer { "a layer" } else { "no layer" };
+    Ok(write_line(words, answer)?)
+}
+
+fn layer_of_feature(
+    alloc: Global,
+    kind: LayerKind,
+    feature: Feature,
+    answer: &mut Vec<u8>,
+) -> Answered {
+    let mut features = Features::new(alloc);
+    features.push(feature)?;
+    let items = empty_text(alloc)?;
+    write_is_layer(is_layer(alloc, kind, items, features)?, answer)
+}
+
+/// `shape KIND`: whether a layer of the kind can have one feature, whose parts have so many points.
+pub(crate) fn shape(asked: Asked<'_>, answer: &mut Vec<u8>) -> Answered {
+    let kind = kind_of(asked.words)?;
+    let parts = parts_of_points(asked.alloc, asked.text()?)?;
+    match feature_of_parts(asked.alloc, parts)? {
+        Some(feature) => layer_of_feature(asked.alloc, kind, feature, answer),
+        None => Ok(write_line("no feature", answer)?),
+    }
+}
+
+/// `items`: whether a layer can have this list of attributes.
+pub(crate) fn items(asked: Asked<'_>, answer: &mut Vec<u8>) -> Answered {
+    let features = Features::new(asked.alloc);
+    match Text::new(asked.alloc, asked.input) {
+        Ok(items) => write_is_layer(
+            is_layer(asked.alloc, LayerKind::Points, items, features)?,
+            answer,
+        ),
+        Err(_) => Err(Unanswered::BadWords),
+    }
+}
+
+/// `empty_map`: the map that a farm begins with.
+pub(crate) fn empty_map(asked: Asked<'_>, answer: &mut Vec<u8>) -> Answered {
+    match MapDef::empty(asked.alloc) {
+        Ok(map) => write_map(&map, answer),
+        Err(_) => Err(Unanswered::Memory),
+    }
+}

@@ -1,0 +1,41 @@
+//! Lines that come many times in a row.
+use crate::asked::Answered;
+use crate::numbers::write_count;
+use std::alloc::Global;
+
+/// A line, with its line feed, and how often it came.
+#[derive(Drop)]
+pub(crate) struct Runs {
+    line: Vec<u8>,
+    times: usize,
+}
+
+impl Runs {
+    pub fn new(alloc: Global) -> Self {
+        Runs {
+            line: Vec::new(alloc),
+            times: 0,
+        }
+    }
+
+    /// Appends what came so far, as `3 times: LINE`, where anything did.
+    pub fn write(&self, answer: &mut Vec<u8>) -> Answered {
+        if self.times == 0 {
+            return Ok(());
+        }
+        write_count(self.times, " times: ", answer)?;
+        Ok(answer.extend_from_slice(&self.line)?)
+    }
+
+    /// Takes the next line, and appends what came before where it is another one.
+    pub fn take(&mut self, line: &[u8], answer: &mut Vec<u8>) -> Answered {
+        if self.line.as_slice() != line {
+            self.write(answer)?;
+            self.times = 0;
+            self.line.clear();
+            self.line.extend_from_slice(line)?;
+        }
+        self.times = self.times.saturating_add(1);
+        Ok(())
+    }
+}

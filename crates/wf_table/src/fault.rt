@@ -1,0 +1,77 @@
+//! What can be wrong with a table.
+use crate::questions::Unanswered;
+use std::alloc::AllocError;
+
+/// Why a line of a table can't be taken, or why a case can't be asked.
+#[derive(Clone, Copy)]
+pub enum Fault {
+    /// Memory ran out: nothing is wrong with the table.
+    Memory,
+    /// The line begins with no word that a line begins with.
+    UnknownLine,
+    /// White space at the line's end, which no reader sees.
+    SpaceAtEnd,
+    /// A backslash that begins no escape.
+    BadEscape,
+    /// A `*` line without a number of times.
+    BadCount,
+    /// A row without `=>`.
+    NoArrow,
+    /// A named text that no line above names.
+    UnknownText,
+    /// A second text of one name.
+    NameTaken,
+    /// A line that means nothing at its place.
+    Misplaced,
+    /// A case without `ask`.
+    NoQuestion,
+    /// A case that expects no answer at all.
+    NoAnswer,
+    /// A question that the program doesn't know.
+    UnknownQuestion,
+    /// A question whose further words, or whose input, it can't be asked with.
+    BadWords,
+}
+
+impl Fault {
+    /// The fault in words.
+    pub(crate) fn words(self) -> &'static str {
+        match self {
+            Fault::Memory => "memory ran out",
+            Fault::UnknownLine => "no line of a table begins so",
+            Fault::SpaceAtEnd => "white space at the end of the line",
+            Fault::BadEscape => "a backslash without an escape",
+            Fault::BadCount => "no number of times",
+            Fault::NoArrow => "a row without =>",
+            _ => self.words_of_cases(),
+        }
+    }
+
+    fn words_of_cases(self) -> &'static str {
+        match self {
+            Fault::UnknownText => "no text of this name",
+            Fault::NameTaken => "a second text of this name",
+            Fault::Misplaced => "the line means nothing here",
+            Fault::NoQuestion => "a case without a question",
+            Fault::NoAnswer => "a case without an expected answer",
+            Fault::UnknownQuestion => "no such question",
+            _ => "the question can't be asked so",
+        }
+    }
+}
+
+impl From<AllocError> for Fault {
+    fn from(_error: AllocError) -> Fault {
+        Fault::Memory
+    }
+}
+
+impl From<Unanswered> for Fault {
+    fn from(unanswered: Unanswered) -> Fault {
+        match unanswered {
+            Unanswered::Memory => Fault::Memory,
+            Unanswered::UnknownQuestion => Fault::UnknownQuestion,
+            Unanswered::BadWords => Fault::BadWords,
+        }
+    }
+}

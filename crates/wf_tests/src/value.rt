@@ -1,0 +1,33 @@
+//! The nodes, slots, ballots and definitions of the tests. What found no memory is made once more.
+use std::alloc::Global;
+use std::process::Abort;
+use wf_ballot::{Ballot, NodeId, Slot};
+use wf_canon::Canon;
+
+/// The canonical text of the map that is named `a`, from 0 0 to 4 4 degrees.
+pub const MAP_A: &[u8] =
+    b"MAP\nNAME \"a\"\nEXTENT 0 0 4 4\nPROJECTION\n\"init=epsg:4326\"\nEND\nWEB\nMETADATA\n\"wms_title\" \"a\"\n\"wms_abstract\" \"\"\n\"wms_onlineresource\" \"http://localhost/wms?\"\nEND\nEND\nEND\n";
+
+/// The same of the map that is named `b`.
+pub const MAP_B: &[u8] =
+    b"MAP\nNAME \"b\"\nEXTENT 0 0 4 4\nPROJECTION\n\"init=epsg:4326\"\nEND\nWEB\nMETADATA\n\"wms_title\" \"b\"\n\"wms_abstract\" \"\"\n\"wms_onlineresource\" \"http://localhost/wms?\"\nEND\nEND\nEND\n";
+
+pub fn node(rt: &impl Abort, number: u8) -> NodeId {
+    NodeId::new(number).expect(rt, "a node")
+}
+
+pub fn slot(rt: &impl Abort, number: u16) -> Slot {
+    Slot::new(number).expect(rt, "a slot")
+}
+
+pub fn ballot(rt: &impl Abort, round: u32, number: u8) -> Ballot {
+    Ballot::new(round, node(rt, number)).expect(rt, "a ballot")
+}
+
+/// The definition of a canonical text.
+pub fn map(rt: &impl Abort, alloc: Global, text: &[u8]) -> Canon {
+    match Canon::from_bytes(alloc, text) {
+        Ok(canon) => canon,
+        Err(_) => Canon::from_bytes(alloc, text).expect(rt, "a canonical text"),
+    }
+}

@@ -1,0 +1,92 @@
+#!/usr/bin/env python3
+"""Runs the gate, `rt ci`, and says what each crate cost it.
+
+    python3 tools/gate_cost.py [LOG]
+
+Everything that the gate prints goes to LOG (`gate.log` beside the repository if left out). Then a table of processor
+minutes comes, a line a crate: its proof, its tests and its wrong edits, the longest first; and the whole: minutes on the
+clock, processor minutes, processors. The figures are read from the processes as they run, twice a second, so a line can
+miss a second here and there; the whole is the system's own count. Run it on a clean clone, with nothing beside it.
+"""
+
+import collections
+import os
+import pathlib
+import resource
+import subprocess
+import sys
+import time
+
+TOP = pathlib.Path(__file__).resolve().parent.parent
+TICKS = os.sysconf("SC_CLK_TCK")
+PARTS = ("proof", "tests", "edits")
+
+
+def read(path):
+    try:
+        return pathlib.Path(path).read_bytes()
+    except OSError:
+        return b""
+
+
+def task_of(pid):
+    """The crate and the part of its cost that a process of the gate works on, by its words and its folder."""
+    words = read(f"/proc/{pid}/cmdline").split(b"\0")
+    if b"--crate-name" not in words:
+        return None
+    crate = words[words.index(b"--crate-name") + 1].decode()
+    try:
+        folder = os.readlink(f"/proc/{pid}/cwd")
+    except OSError:
+        return None
+    if "rt-edit-" in folder:
+        return crate, "edits"
+    return crate, "tests" if b"--test" in words else "proof"
+
+
+def look(seen):
+    """Notes each process's task and the processor time that it has used so far."""
+    for name in os.listdir("/proc"):
+        if not name.isdigit():
+            continue
+        stat = read(f"/proc/{name}/stat").rpartition(b") ")[2].split()
+        if len(stat) < 20:
+            continue
+        key = name, stat[19]
+        task = seen[key][0] if key in seen else task_of(name)
+        if task:
+            seen[key] = task, (int(stat[11]) + int(stat[12])) / TICKS / 60
+
+
+def table(seen):
+    cost = collections.defaultdict(lambda: dict.fromkeys(PARTS, 0.0))
+    for (crate, part), minutes in seen.values():
+        cost[crate][part] += minutes
+    rows = sorted(cost.items(), key=lambda it: -sum(it[1].values()))
+    print("| Crate | Proof | Tests | Edits | Sum |\n|---|---|---|---|---|")
+    for crate, parts in rows:
+        figures = " | ".join(f"{parts[it]:.1f}" for it in PARTS)
+        print(f"| `{crate}` | {figures} | {sum(parts.values()):.1f} |")
+
+
+def main():
+    log = pathlib.Path(sys.argv[1]) if len(sys.argv) > 1 else TOP.parent / "gate.log"
+    seen = {}
+    began = time.time()
+    with open(log, "w", encoding="utf-8") as out:
+        gate = subprocess.Popen(["rt", "ci"], cwd=TOP, stdout=out, stderr=subprocess.STDOUT)
+        while gate.poll() is None:
+            look(seen)
+            time.sleep(0.5)
+    used = resource.getrusage(resource.RUSAGE_CHILDREN)
+    table(seen)
+    print(f"\n{log.read_text(encoding='utf-8').rstrip().splitlines()[-1]}")
+    print(
+        f"{(time.time() - began) / 60:.0f} minutes on {os.cpu_count()} processors,"
+        f" {(used.ru_utime + used.ru_stime) / 60:.0f} processor minutes"
+    )
+    return gate.returncode
+
+
+if __name__ == "__main__":
+    sys.exit(main())
