@@ -1,8 +1,8 @@
 #!/usr/bin/env python3
 """Runs each test of a crate with each of its allocations failing in turn.
 
-    (cd crates/wf_acceptor && rt test)
-    python3 tools/fail_allocations.py crates/wf_acceptor
+    (cd crates/wf_tests && rt test)
+    python3 tools/fail_allocations.py crates/wf_tests
 
 A test that repeats a call after want of memory passes whichever allocation fails, if the failed call
 changed nothing. Each test's line says how many allocations it makes, and with how many of them failing

@@ -1,6 +1,5 @@
 -- Writing the digits of a fraction, one place after the other.
-use Rattle.std.proofs.Common.{◌≡◌, ◌≢◌, ℕ, zero, suc, ◌+◌, ◌-◌, ◌/◌, ◌%◌, ◌^◌, ◌<◌, ◌≤◌, List, [], ◌∷◌, ◌++◌, refl, sym, ap, ◌∙◌, append_assoc, arith, lit<}
-use Rattle.std.proofs.lemmas.List.{append-nil}
+use Rattle.std.proofs.Common.{◌≡◌, ◌≢◌, ℕ, zero, suc, ◌+◌, ◌-◌, ◌/◌, ◌%◌, ◌^◌, ◌<◌, ◌≤◌, [], ◌∷◌, refl, ap, ◌∙◌, arith, lit<}
 use Rattle.std.proofs.lemmas.Bool.{ne_eqb}
 use Rattle.std.proofs.Math.Nat.{one-le-pow}
 use Rattle.std.proofs.lemmas.Nat.{mod_below}
@@ -15,23 +14,20 @@ pub fraction_digits-suc : (places parts : ℕ) → parts ≢ 0 → fraction_digi
 unfolding fraction_digits
 fraction_digits-suc places parts h = rw (ne_eqb parts 0 h) refl
 
--- one digit is written
-pub digit_more : (places parts unit : ℕ) (out whole : List ℕ) → 0 < places → parts ≢ 0 → unit ≡ 10 ^ (places - 1) → out ++ fraction_digits places parts ≡ whole
-    → (out ++ (48 + parts / unit) ∷ []) ++ fraction_digits (places - 1) (parts % unit) ≡ whole
-digit_more places parts unit out whole lt h e so_far =
+-- the digit in the first place, and those of the rest
+pub next_digit : (places parts unit : ℕ) → 0 < places → parts ≢ 0 → unit ≡ 10 ^ (places - 1)
+    → fraction_digits places parts ≡ (48 + parts / unit) ∷ fraction_digits (places - 1) (parts % unit)
+next_digit places parts unit lt h e =
     let k : places ≡ suc (places - 1) = omega arith in
-    let split : fraction_digits places parts ≡ (48 + parts / unit) ∷ fraction_digits (places - 1) (parts % unit) =
-    ap (λ (n : ℕ). fraction_digits n parts) k ∙ rw e (fraction_digits-suc (places - 1) parts h) in
-    append_assoc out ((48 + parts / unit) ∷ []) (fraction_digits (places - 1) (parts % unit)) ∙ ap (λ (ds : List ℕ). out ++ ds) (sym split) ∙ so_far
+    ap (λ (n : ℕ). fraction_digits n parts) k ∙ rw e (fraction_digits-suc (places - 1) parts h)
 
 -- the rest is below the next place's unit
 pub rest_below : (parts places unit : ℕ) → unit ≡ 10 ^ places → parts % unit < 10 ^ places
 rest_below parts places unit e = rw e (mod_below parts (10 ^ places) (one-le-pow places 10 (lit< tt)))
 
 -- nothing is left
-pub digits_done : (places parts : ℕ) (out whole : List ℕ) → parts ≡ 0 → out ++ fraction_digits places parts ≡ whole → out ≡ whole
-digits_done places parts out whole e so_far =
-    sym (append-nil out) ∙ ap (λ (ds : List ℕ). out ++ ds) (sym (ap (fraction_digits places) e ∙ fraction_digits-zero places)) ∙ so_far
+pub no_digits : (places parts : ℕ) → parts ≡ 0 → fraction_digits places parts ≡ []
+no_digits places parts e = ap (fraction_digits places) e ∙ fraction_digits-zero places
 
 pub no_place_left : (parts places : ℕ) → places ≤ 0 → parts < 10 ^ places → parts ≡ 0
 no_place_left parts zero le lt = omega arith

@@ -11,4 +11,5 @@ pub mod NumberLaw
 pub mod NumberWord
 pub mod TokenLaw
 pub mod Utf8Law
+pub mod Writing
 pub mod WrittenLaw

@@ -1,94 +1,118 @@
--- A map's text, line after line.
-use Rattle.std.proofs.Common.{◌≡◌, ℕ, ◌+◌, List, [], ◌∷◌, ◌++◌, take, ap, ◌∙◌, append_assoc}
-use Rattle.std.proofs.lemmas.List.{append-nil, take_more}
-use Rattle.std.proofs.lemmas.List.Concat.{flat_map-append}
+-- A map's text, block after block.
+use Rattle.std.proofs.Common.{◌≡◌, ℕ, ◌+◌, List, [], ◌∷◌, ◌++◌, ◌<◌, length, get_or, take, ap, sym, ◌∙◌}
+use Rattle.std.proofs.lemmas.List.{take_more}
 use Rattle.std.specs.List.{flat_map}
-use Rattle.std.specs.Prelude.{codes, slice_get, Some}
+use Rattle.std.specs.Prelude.{codes, map, slice_get, Some}
 use Rattle.std.proofs.lemmas.Option.{slice_get_within, get_or_from_slice_get}
 use Rattle.std.specs.Fmt.{decimal}
-use Rattle.wf_def.specs.Definition.{Definition, LayerDefinition, StyleDefinition, LabelDefinition}
-use Rattle.wf_mapfile.specs.Token.{Token}
-use Rattle.wf_canon.specs.Canon.{line, alone, with_text, with_word, with_key, with_color, when_there, end_line, kind_word, size_word, position_word, force_word, metadata_lines, style_lines, label_lines, class_lines, feature_lines, layer_lines, heading_lines, projection_lines, web_lines, text_of, canon}
+use Rattle.wf_def.specs.Definition.{Definition, LayerDefinition, ClassDefinition, StyleDefinition, FeatureDefinition}
+use Rattle.wf_def.specs.declared.point.Point.{Point}
+use Rattle.wf_canon.specs.declared.draft.Draft.{Draft}
+use Rattle.wf_canon.specs.Canon.{line, alone, with_text, with_word, with_color, when_there, end_line, kind_word, point_line, part_lines, metadata_lines, style_lines, optional_label_lines, class_lines, feature_lines, layer_lines, heading_lines, projection_lines, web_lines, text_of, canon}
+use Rattle.wf_canon.specs.Draft.{Writes}
+use Rattle.wf_canon.proofs.Writing.{both, last_line, lines}
 
-pub text_of-append : (xs ys : List (List Token)) → text_of (xs ++ ys) ≡ text_of xs ++ text_of ys
-text_of-append xs ys = flat_map-append line xs ys
+pub part_written : {a b c d : Draft} (part : List Point)
+    → Writes a (line (alone (codes "POINTS"))) b
+    → Writes b (text_of (map point_line part)) c
+    → Writes c (line end_line) d
+    → Writes a (text_of (part_lines part)) d
+part_written part word points end = both word (lines (map point_line part) (end_line ∷ []) points (last_line end_line end))
 
--- what is written of a map, block by block, is its text
-pub map_written : (d : Definition) (out o1 o2 o3 o4 o5 : List ℕ)
-    → o1 ≡ out ++ text_of (heading_lines d)
-    → o2 ≡ o1 ++ text_of (projection_lines d.projection)
-    → o3 ≡ o2 ++ text_of (web_lines d)
-    → o4 ≡ o3 ++ text_of (flat_map layer_lines d.layers)
-    → o5 ≡ o4 ++ line end_line
-    → o5 ≡ out ++ canon d
+pub feature_written : {a b c d e f : Draft} (feature : FeatureDefinition)
+    → Writes a (line (alone (codes "FEATURE"))) b
+    → Writes b (line (with_text (codes "ITEMS") feature.items)) c
+    → Writes c (line (with_text (codes "TEXT") feature.text)) d
+    → Writes d (text_of (flat_map part_lines feature.parts)) e
+    → Writes e (line end_line) f
+    → Writes a (text_of (feature_lines feature)) f
+feature_written feature word items text parts end =
+    both word (both items (both text (lines (flat_map part_lines feature.parts) (end_line ∷ []) parts (last_line end_line end))))
+
+pub style_written : {a b c d e f g : Draft} (s : StyleDefinition)
+    → Writes a (line (alone (codes "STYLE"))) b
+    → Writes b (text_of (when_there (with_color (codes "COLOR")) s.color)) c
+    → Writes c (text_of (when_there (with_color (codes "OUTLINECOLOR")) s.outline_color)) d
+    → Writes d (line (with_word (codes "WIDTH") (decimal s.width))) e
+    → Writes e (line (with_word (codes "SIZE") (decimal s.size))) f
+    → Writes f (line end_line) g
+    → Writes a (text_of (style_lines s)) g
+style_written s word color outline_color width size end =
+    let first = alone (codes "STYLE") ∷ [] in
+    let second = when_there (with_color (codes "COLOR")) s.color in
+    let third = when_there (with_color (codes "OUTLINECOLOR")) s.outline_color in
+    let last = with_word (codes "WIDTH") (decimal s.width) ∷ with_word (codes "SIZE") (decimal s.size) ∷ end_line ∷ [] in
+    lines ((first ++ second) ++ third) last
+    (lines (first ++ second) third (lines first second (last_line (alone (codes "STYLE")) word) color) outline_color)
+    (both width (both size (last_line end_line end)))
+
+pub class_written : {a b c d e f g : Draft} (k : ClassDefinition)
+    → Writes a (line (alone (codes "CLASS"))) b
+    → Writes b (line (with_text (codes "NAME") k.name)) c
+    → Writes c (text_of (when_there (with_text (codes "EXPRESSION")) k.expression)) d
+    → Writes d (text_of (flat_map style_lines k.styles)) e
+    → Writes e (text_of (optional_label_lines k.label)) f
+    → Writes f (line end_line) g
+    → Writes a (text_of (class_lines k)) g
+class_written k word name expression styles label end =
+    let first = alone (codes "CLASS") ∷ with_text (codes "NAME") k.name ∷ [] in
+    let second = when_there (with_text (codes "EXPRESSION")) k.expression in
+    let third = flat_map style_lines k.styles in
+    let fourth = optional_label_lines k.label in
+    lines (((first ++ second) ++ third) ++ fourth) (end_line ∷ [])
+    (lines ((first ++ second) ++ third) fourth
+    (lines (first ++ second) third (lines first second (both word (last_line (with_text (codes "NAME") k.name) name)) expression) styles) label)
+    (last_line end_line end)
+
+pub layer_written : {a b c d e f g h i j k : Draft} (entry : List ℕ × LayerDefinition)
+    → Writes a (line (alone (codes "LAYER"))) b
+    → Writes b (line (with_text (codes "NAME") entry.0)) c
+    → Writes c (line (with_word (codes "TYPE") (kind_word entry.1.kind))) d
+    → Writes d (line (with_text (codes "CLASSITEM") entry.1.class_item)) e
+    → Writes e (line (with_text (codes "LABELITEM") entry.1.label_item)) f
+    → Writes f (line (with_text (codes "PROCESSING") (codes "ITEMS=" ++ entry.1.items))) g
+    → Writes g (text_of (metadata_lines entry.1.title)) h
+    → Writes h (text_of (flat_map class_lines entry.1.classes)) i
+    → Writes i (text_of (flat_map feature_lines entry.1.features)) j
+    → Writes j (line end_line) k
+    → Writes a (text_of (layer_lines entry)) k
+layer_written entry word name kind class_item label_item items metadata classes features end =
+    let l = entry.1 in
+    let first =
+    alone (codes "LAYER")
+    ∷ with_text (codes "NAME") entry.0
+    ∷ with_word (codes "TYPE") (kind_word l.kind)
+    ∷ with_text (codes "CLASSITEM") l.class_item
+    ∷ with_text (codes "LABELITEM") l.label_item
+    ∷ with_text (codes "PROCESSING") (codes "ITEMS=" ++ l.items)
+    ∷ metadata_lines l.title in
+    let second = flat_map class_lines l.classes in
+    let third = flat_map feature_lines l.features in
+    lines ((first ++ second) ++ third) (end_line ∷ [])
+    (lines (first ++ second) third
+    (lines first second (both word (both name (both kind (both class_item (both label_item (both items metadata)))))) classes) features)
+    (last_line end_line end)
+
+pub map_written : {a b c e f g : Draft} (d : Definition)
+    → Writes a (text_of (heading_lines d)) b
+    → Writes b (text_of (projection_lines d.projection)) c
+    → Writes c (text_of (web_lines d)) e
+    → Writes e (text_of (flat_map layer_lines d.layers)) f
+    → Writes f (line end_line) g
+    → Writes a (canon d) g
 unfolding canon
-map_written d out o1 o2 o3 o4 o5 e1 e2 e3 e4 e5 =
-    rw (e5, e4, e3, e2, e1) (simp (append_assoc, append-nil, text_of-append))
+map_written d heading projection web layers end =
+    let first = heading_lines d in
+    let second = projection_lines d.projection in
+    let third = web_lines d in
+    let fourth = flat_map layer_lines d.layers in
+    lines (((first ++ second) ++ third) ++ fourth) (end_line ∷ [])
+    (lines ((first ++ second) ++ third) fourth (lines (first ++ second) third (lines first second heading projection) web) layers)
+    (last_line end_line end)
 
--- one more of a list is written
-pub one_more : {X : Type 0} (of : X → List (List Token)) (xs : List X) (i : ℕ) (x : X) (out so_far more : List ℕ)
-    → take (i + 1) xs ≡ take i xs ++ x ∷ [] → so_far ≡ out ++ text_of (flat_map of (take i xs)) → more ≡ so_far ++ text_of (of x) → more ≡ out ++ text_of (flat_map of (take (i + 1) xs))
-one_more of xs i x out so_far more next before written =
-    let split : text_of (flat_map of (take i xs ++ x ∷ [])) ≡ text_of (flat_map of (take i xs)) ++ text_of (of x) =
-    ap text_of (flat_map-append of (take i xs) (x ∷ []) ∙ ap (λ (ls : List (List Token)). flat_map of (take i xs) ++ ls) (append-nil (of x))) ∙ text_of-append (flat_map of (take i xs)) (of x) in
-    rw (written, before, next, split) (append_assoc out (text_of (flat_map of (take i xs))) (text_of (of x)))
+-- one more is taken of a list
+pub taken : {X : Type 0} (xs : List X) (i : ℕ) (x : X) → i < length xs → x ≡ get_or xs i x → take (i + 1) xs ≡ take i xs ++ x ∷ []
+taken {X = X} xs i x within is = take_more xs i x within ∙ ap (λ (y : X). take i xs ++ y ∷ []) (sym is)
 
--- what is written of a style, line by line, is its text
-pub style_written : (s : StyleDefinition) (out o1 o2 o3 o4 o5 o6 : List ℕ)
-    → o1 ≡ out ++ line (alone (codes "STYLE"))
-    → o2 ≡ o1 ++ text_of (when_there (with_color (codes "COLOR")) s.color)
-    → o3 ≡ o2 ++ text_of (when_there (with_color (codes "OUTLINECOLOR")) s.outline_color)
-    → o4 ≡ o3 ++ line (with_word (codes "WIDTH") (decimal s.width))
-    → o5 ≡ o4 ++ line (with_word (codes "SIZE") (decimal s.size))
-    → o6 ≡ o5 ++ line end_line
-    → o6 ≡ out ++ text_of (style_lines s)
-style_written s out o1 o2 o3 o4 o5 o6 e1 e2 e3 e4 e5 e6 =
-    rw (e6, e5, e4, e3, e2, e1) (simp (append_assoc, append-nil, text_of-append))
-
--- what is written of a label, line by line, is its text
-pub label_written : (l : LabelDefinition) (out o1 o2 o3 o4 o5 o6 o7 o8 : List ℕ)
-    → o1 ≡ out ++ line (alone (codes "LABEL"))
-    → o2 ≡ o1 ++ line (with_color (codes "COLOR") l.color)
-    → o3 ≡ o2 ++ line (with_word (codes "SIZE") (size_word l.size))
-    → o4 ≡ o3 ++ line (with_word (codes "POSITION") (position_word l.position))
-    → o5 ≡ o4 ++ line (with_word (codes "PRIORITY") (decimal l.priority))
-    → o6 ≡ o5 ++ line (with_word (codes "FORCE") (force_word l.force))
-    → o7 ≡ o6 ++ line (with_word (codes "BUFFER") (decimal l.buffer))
-    → o8 ≡ o7 ++ line end_line
-    → o8 ≡ out ++ text_of (label_lines l)
-label_written l out o1 o2 o3 o4 o5 o6 o7 o8 e1 e2 e3 e4 e5 e6 e7 e8 =
-    rw (e8, e7, e6, e5, e4, e3, e2, e1) (simp (append_assoc, append-nil, text_of-append))
-
--- what is written of what a layer tells the web, line by line, is its text
-pub metadata_written : (title : List ℕ) (out o1 o2 o3 : List ℕ)
-    → o1 ≡ out ++ line (alone (codes "METADATA"))
-    → o2 ≡ o1 ++ line (with_key (codes "wms_title") title)
-    → o3 ≡ o2 ++ line end_line
-    → o3 ≡ out ++ text_of (metadata_lines title)
-metadata_written title out o1 o2 o3 e1 e2 e3 =
-    rw (e3, e2, e1) (simp (append_assoc, append-nil, text_of-append))
-
--- what is written of a layer, line by line and block by block, is its text
-pub layer_written : (entry : List ℕ × LayerDefinition) (out o1 o2 o3 o4 o5 o6 o7 o8 o9 o10 : List ℕ)
-    → o1 ≡ out ++ line (alone (codes "LAYER"))
-    → o2 ≡ o1 ++ line (with_text (codes "NAME") entry.0)
-    → o3 ≡ o2 ++ line (with_word (codes "TYPE") (kind_word entry.1.kind))
-    → o4 ≡ o3 ++ line (with_text (codes "CLASSITEM") entry.1.class_item)
-    → o5 ≡ o4 ++ line (with_text (codes "LABELITEM") entry.1.label_item)
-    → o6 ≡ o5 ++ line (with_text (codes "PROCESSING") (codes "ITEMS=" ++ entry.1.items))
-    → o7 ≡ o6 ++ text_of (metadata_lines entry.1.title)
-    → o8 ≡ o7 ++ text_of (flat_map class_lines entry.1.classes)
-    → o9 ≡ o8 ++ text_of (flat_map feature_lines entry.1.features)
-    → o10 ≡ o9 ++ line end_line
-    → o10 ≡ out ++ text_of (layer_lines entry)
-layer_written entry out o1 o2 o3 o4 o5 o6 o7 o8 o9 o10 e1 e2 e3 e4 e5 e6 e7 e8 e9 e10 =
-    rw (e10, e9, e8, e7, e6, e5, e4, e3, e2, e1) (simp (append_assoc, append-nil, text_of-append))
-
-next_taken : {X : Type 0} (xs : List X) (i : ℕ) (x : X) → slice_get xs i ≡ Some x → take (i + 1) xs ≡ take i xs ++ x ∷ []
+pub next_taken : {X : Type 0} (xs : List X) (i : ℕ) (x : X) → slice_get xs i ≡ Some x → take (i + 1) xs ≡ take i xs ++ x ∷ []
 next_taken {X = X} xs i x here = take_more xs i x (slice_get_within xs i x here) ∙ ap (λ (y : X). take i xs ++ y ∷ []) (get_or_from_slice_get xs i x x here)
-
--- one more of a map's layers is written
-pub layer_more : (layers : List (List ℕ × LayerDefinition)) (i : ℕ) (name : List ℕ) (layer : LayerDefinition) (out so_far more : List ℕ)
-    → slice_get layers i ≡ Some (name, layer) → so_far ≡ out ++ text_of (flat_map layer_lines (take i layers)) → more ≡ so_far ++ text_of (layer_lines (name, layer))
-    → more ≡ out ++ text_of (flat_map layer_lines (take (i + 1) layers))
-layer_more layers i name layer out so_far more here before written = one_more layer_lines layers i (name, layer) out so_far more (next_taken layers i (name, layer) here) before written

@@ -1,5 +1,5 @@
 -- The canonical text of a map means that map.
-use Rattle.std.proofs.Common.{◌≡◌, ℕ, ◌≤◌, Bool, true, false, not, cond, leb, List, [], ◌∷◌, ◌++◌, length, Option, Some, refl, sym, ap, ◌∙◌, arith}
+use Rattle.std.proofs.Common.{◌≡◌, ℕ, ◌<◌, ◌≤◌, Bool, true, false, not, cond, leb, List, [], ◌∷◌, ◌++◌, length, Option, Some, refl, sym, ap, ◌∙◌, arith}
 use Rattle.std.specs.Prelude.{codes}
 use Rattle.std.specs.Str.{is_utf8, bytes_eq}
 use Rattle.std.proofs.lemmas.Slice.Eq.{bytes_eq-Decides}
@@ -12,8 +12,9 @@ use Rattle.wf_mapfile.specs.Grammar.{◌>>=◌, word}
 use Rattle.wf_mapfile.specs.Meaning.{file, meaning, Means, MeansNothing}
 use Rattle.wf_canon.specs.Canon.{line, end_line, map_lines, canon}
 use Rattle.wf_canon.specs.declared.fault.CanonFault.{CanonFault}
-use Rattle.wf_canon.specs.declared.fault.CanonFault.TheVariants.{NotCanonical, Memory}
-use Rattle.wf_canon.specs.Refusal.{HasNoCanon, IsWhyRefused}
+use Rattle.wf_canon.specs.declared.fault.CanonFault.TheVariants.{TooBig, NotCanonical, Memory}
+use Rattle.wf_canon.specs.Saying.{Says}
+use Rattle.wf_canon.specs.Refusal.{HasNoCanon, IsCauseOf, IsWhyRefused, refused_again}
 use Rattle.wf_canon.proofs.Lexing.{tokens_of, lex_text}
 use Rattle.wf_canon.proofs.WrittenLaw.{map_is_written}
 use Rattle.wf_canon.proofs.Utf8Law.{text_of-is_utf8}
@@ -41,6 +42,9 @@ canon_again d h = ap (λ (ts : Option (List Token)). ts >>= file) (tokens_again 
 canon-is_utf8 : (d : Definition) → IsWithinLimits d → is_utf8 (canon d) ≡ true
 unfolding canon
 canon-is_utf8 d h = text_of-is_utf8 (map_lines d) (map_is_written d h)
+
+pub canon_says : (d : Definition) → IsWithinLimits d → Says (canon d) d
+canon_says d h = record { utf8 = canon-is_utf8 d h; said = canon_again d h }
 
 pub canon_means : (d : Definition) → IsWithinLimits d → length (canon d) ≤ 65536 → Means (canon d) d
 unfolding meaning
@@ -71,6 +75,16 @@ other_has_no_canon bytes text def short meant spelled other d h e =
     let means : meaning (canon d) ≡ Some d = canon_means d h short_text in
     let one : some_of def ≡ some_of d = sym meant ∙ sym (ap meaning e) ∙ means in
     other (spelled ∙ ap canon (some_is def d one) ∙ e)
+
+-- a text over the limit isn't within it
+pub long_has_no_canon : (bytes : List ℕ) (def : Definition) → length bytes ≤ 32768 → Means bytes def → 32768 < length (canon def) → HasNoCanon bytes
+long_has_no_canon bytes def short meant long =
+    other_has_no_canon bytes (canon def) def short meant refl (λ same. let e : length (canon def) ≡ length bytes = ap length same in absurd (omega arith))
+
+pub why_refused_again : (fault : CanonFault) (bytes : List ℕ) (def : Definition) → length bytes ≤ 32768 → Means bytes def → IsCauseOf fault def → IsWhyRefused (refused_again fault) bytes
+why_refused_again TooBig bytes def short meant long = long_has_no_canon bytes def short meant long
+why_refused_again NotCanonical bytes def short meant none = absurd none
+why_refused_again Memory bytes def short meant few = tt
 
 pub unlike : (xs ys : List ℕ) → true ≡ not (bytes_eq xs ys) → xs ≡ ys → ⊥
 unlike xs ys e same =

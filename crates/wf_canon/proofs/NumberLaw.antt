@@ -7,7 +7,7 @@ use Rattle.std.specs.Fmt.{decimal}
 use Rattle.std.proofs.lemmas.Bool.{cases_eq, ne_eqb}
 use Rattle.std.proofs.lemmas.Bool.Decides.{nat_tests}
 use Rattle.std.proofs.lemmas.Grind.{fold-append}
-use Rattle.std.proofs.lemmas.List.{append-nil}
+use Rattle.std.proofs.lemmas.List.{append-nil, length-append}
 use Rattle.std.proofs.lemmas.Nat.{mod_below, div_below, div-add-mod'}
 use Rattle.std.proofs.lemmas.Fmt.{digits_decimal, digits_value-decimal, decimal_nonempty, length-decimal-le}
 use Rattle.std.proofs.lemmas.Str.Parse.{IsNumeralModel, IsDigitsTest, FoldsDigits, numerals_by_fold}
@@ -233,3 +233,18 @@ number_again (pos n) most =
 number_again (negsuc n) most =
     let least : nat_abs (negsuc n) ≡ suc n = refl in
     rw (magnitude_is_cut true (suc n) most) (spelled_in_range true (suc n) most)
+
+magnitude_text_short : (n : ℕ) → n ≤ 100000000000000 → length (magnitude_text n) ≤ 16
+unfolding magnitude_text
+magnitude_text_short n most =
+    let spelled = magnitude_is_spelled n most in
+    elim (fraction_text-cases (n % 1000000)) [
+      | inl none ↦ rw (none.0, append-nil (decimal (n / 1000000))) (omega (arith, spelled.few))
+      | inr some ↦ rw (some, length-append (decimal (n / 1000000)) (46 ∷ fraction_digits 6 (n % 1000000))) (omega (arith, spelled.few, spelled.few_behind))
+    ]
+
+-- a number has at most 17 bytes
+pub number_text_short : (m : ℤ) → IsMicro m → length (number_text m) ≤ 17
+unfolding number_text
+number_text_short (pos n) most = let few = magnitude_text_short n most in omega (arith, few)
+number_text_short (negsuc n) most = let few = magnitude_text_short (suc n) most in omega (arith, few)

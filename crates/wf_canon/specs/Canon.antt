@@ -217,8 +217,12 @@ text_of lines = flat_map line lines
 unfoldable pub canon : Definition → List ℕ
 canon d = text_of (map_lines d)
 
--- the text is a map's canonical text, of at most 32,768 bytes
+-- the longest canonical text, in bytes
+abbrev pub most_canon_bytes : ℕ
+most_canon_bytes = 32768
+
+-- the text is a map's canonical text, within the limit
 pub record IsCanon (text : List ℕ) (d : Definition) : Type 0 where
   pub spelled : text ≡ canon d
   pub within : IsWithinLimits d
-  pub short : length text ≤ 32768
+  pub short : length text ≤ most_canon_bytes

@@ -1,3 +1,5 @@
 pub mod Number
 pub mod Canon
+pub mod Draft
+pub mod Saying
 pub mod Refusal

@@ -4,9 +4,10 @@ ghost use Rattle.std.specs.Prelude.{◌≡◌, ◌<◌, ◌≤◌, length, if◌
 ghost use Rattle.wf_def.specs.Limits.{IsWithinLimits};
 ghost use Rattle.wf_mapfile.specs.Meaning.{Means};
 ghost use Rattle.wf_mapfile.specs.Reading.{is_memory};
-ghost use Rattle.wf_canon.specs.Canon.{canon};
-ghost use Rattle.wf_canon.specs.Refusal.{IsCauseOf, IsWhyRefused};
+ghost use Rattle.wf_canon.specs.Canon.{canon, most_canon_bytes};
+ghost use Rattle.wf_canon.specs.Refusal.{IsCauseOf, IsWhyRefused, refused_again};
 
+use crate::draft::Draft;
 use crate::fault::CanonFault;
 use crate::writer::push_map;
 use std::alloc::{AllocError, Global};
@@ -41,13 +42,10 @@ impl Canon {
     /// The canonical text of a definition (`TooBig` exactly where it is over 32,768 bytes).
     pub fn of(alloc: Global, def: &MapDef) -> Result<Self, CanonFault>
         ensures value { IfOk result (λ canonical. canonical ≡ def.now) }
-        ensures short { OnOk result (length (canon def.now) ≤ MOST_CANON_BYTES) }
+        ensures short { OnOk result (length (canon def.now) ≤ most_canon_bytes) }
         ensures cause { IfErr result (λ fault. IsCauseOf fault def.now) }
     {
         let text = text_of(alloc, def)?;
-        if text.len() > MOST_CANON_BYTES {
-            return Err(CanonFault::TooBig);
-        }
         Ok(Canon {
             text,
             def: def.clone()?,
@@ -57,7 +55,7 @@ impl Canon {
     /// The definition that a canonical text means. Bytes over 32,768 are `TooBig`, which is judged first; other bytes that are no
     /// canonical text are `NotCanonical`, also where they are a mapfile.
     pub fn from_bytes(alloc: Global, bytes: &[u8]) -> Result<Self, CanonFault>
-        ensures too_big { MOST_CANON_BYTES < length bytes.now → result ≡ Err CanonFault.TooBig }
+        ensures too_big { most_canon_bytes < length bytes.now → result ≡ Err CanonFault.TooBig }
         ensures value { IfOk result (λ canonical. canon canonical ≡ bytes.now) }
         ensures within { IfOk result IsWithinLimits }
         ensures cause { IfErr result (λ fault. IsWhyRefused fault bytes.now) }
@@ -66,10 +64,7 @@ impl Canon {
             return Err(CanonFault::TooBig);
         }
         let def = definition_of(alloc, bytes)?;
-        let text = text_of(alloc, &def)?;
-        if text.as_slice() != bytes {
-            return Err(CanonFault::NotCanonical);
-        }
+        let text = same_text(alloc, &def, bytes)?;
         Ok(Canon { text, def })
     }
 
@@ -86,7 +81,7 @@ impl Canon {
     /// The text, in UTF-8.
     pub fn text(&self) -> &[u8]
         ensures value { result.now ≡ canon self.now }
-        ensures short { length result.now ≤ MOST_CANON_BYTES }
+        ensures short { length result.now ≤ most_canon_bytes }
         ensures within { IsWithinLimits self.now }
     {
         self.text.as_slice()
@@ -101,19 +96,57 @@ impl Canon {
     }
 }
 
-/// The canonical text of a definition, however long.
-fn text_of(alloc: Global, def: &MapDef) -> Result<Vec<u8>, AllocError>
+/// The canonical text of a definition within the limit, counted before memory is asked for more of it.
+fn text_of(alloc: Global, def: &MapDef) -> Result<Vec<u8>, CanonFault>
     ensures written { IfOk result (λ text. text.items ≡ canon def.now) }
-    ensures within { OnOk result (IsWithinLimits def.now) }
+    ensures short { OnOk result (length (canon def.now) ≤ most_canon_bytes) }
+    ensures within { IsWithinLimits def.now }
+    ensures cause { IfErr result (λ fault. IsCauseOf fault def.now) }
 {
-    let mut text = Vec::new(alloc);
-    push_map(&mut text, def)?;
-    Ok(text)
+    let mut draft = Draft::new(alloc);
+    push_map(&mut draft, def);
+    if draft.is_too_long() {
+        return Err(CanonFault::TooBig);
+    }
+    match draft.finish() {
+        Ok(text) => Ok(text),
+        Err(AllocError) => Err(CanonFault::Memory),
+    }
+}
+
+/// The canonical text of the definition that bytes mean, where it is these bytes.
+fn same_text(alloc: Global, def: &MapDef, bytes: &[u8]) -> Result<Vec<u8>, CanonFault>
+    requires short { length bytes.now ≤ most_canon_bytes }
+    requires meant { Means bytes.now def.now }
+    ensures written { IfOk result (λ text. text.items ≡ canon def.now) }
+    ensures same { IfOk result (λ text. text.items ≡ bytes.now) }
+    ensures within { IsWithinLimits def.now }
+    ensures cause { IfErr result (λ fault. IsWhyRefused fault bytes.now) }
+{
+    match text_of(alloc, def) {
+        Ok(text) => {
+            if text.as_slice() != bytes {
+                return Err(CanonFault::NotCanonical);
+            }
+            Ok(text)
+        }
+        Err(fault) => Err(refused_again(fault)),
+    }
+}
+
+/// What a fault of writing says of bytes within the limit: they are no text that is over it.
+fn refused_again(fault: CanonFault) -> CanonFault
+    ensures { result ≡ refused_again fault }
+{
+    match fault {
+        CanonFault::Memory => CanonFault::Memory,
+        CanonFault::TooBig | CanonFault::NotCanonical => CanonFault::NotCanonical,
+    }
 }
 
 /// The definition that bytes mean, canonical or not. What means nothing is no canonical text.
 fn definition_of(alloc: Global, bytes: &[u8]) -> Result<MapDef, CanonFault>
-    requires { length bytes.now ≤ MOST_CANON_BYTES }
+    requires { length bytes.now ≤ most_canon_bytes }
     ensures meant { IfOk result (λ def. Means bytes.now def) }
     ensures cause { IfErr result (λ fault. IsWhyRefused fault bytes.now) }
 {

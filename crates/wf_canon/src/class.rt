@@ -1,40 +1,39 @@
 //! The canonical text of a class with its styles and its label, appended to what is written so far.
 
-ghost use Rattle.std.specs.Prelude.{◌≡◌, ◌++◌, OnOk};
+ghost use Rattle.std.specs.Prelude.{◌≡◌, ◌++◌};
 ghost use Rattle.std.specs.List.{flat_map};
 ghost use Rattle.wf_canon.specs.Canon.{size_word, position_word, force_word, style_lines, label_lines, optional_label_lines, class_lines, text_of};
+ghost use Rattle.wf_canon.specs.Draft.{Writes};
 
+use crate::draft::Draft;
 use crate::line::{
     push_alone, push_optional_color, push_optional_text, push_with_color, push_with_text,
     push_with_whole, push_with_word,
 };
-use std::alloc::AllocError;
 use wf_def::choice::{LabelPosition, LabelSize};
 use wf_def::class::Class;
 use wf_def::label::Label;
 use wf_def::style::Style;
 
 /// Writes a style.
-pub fn push_style(out: &mut Vec<u8>, style: &Style) -> Result<(), AllocError>
-    ensures { OnOk result (out.new.items ≡ out.old.items ++ text_of (style_lines style.now)) }
+pub fn push_style(out: &mut Draft, style: &Style)
+    ensures { Writes out.old (text_of (style_lines style.now)) out.new }
 {
-    push_alone(out, "STYLE")?;
-    push_optional_color(out, "COLOR", style.color())?;
-    push_optional_color(out, "OUTLINECOLOR", style.outline_color())?;
-    push_with_whole(out, "WIDTH", style.width())?;
-    push_with_whole(out, "SIZE", style.size())?;
-    push_alone(out, "END")?;
-    Ok(())
+    push_alone(out, "STYLE");
+    push_optional_color(out, "COLOR", style.color());
+    push_optional_color(out, "OUTLINECOLOR", style.outline_color());
+    push_with_whole(out, "WIDTH", style.width());
+    push_with_whole(out, "SIZE", style.size());
+    push_alone(out, "END");
 }
 
 /// Writes styles, one after the other.
-fn push_styles(out: &mut Vec<u8>, styles: &[Style]) -> Result<(), AllocError>
-    ensures { OnOk result (out.new.items ≡ out.old.items ++ text_of (flat_map style_lines styles.now)) }
+fn push_styles(out: &mut Draft, styles: &[Style])
+    ensures { Writes out.old (text_of (flat_map style_lines styles.now)) out.new }
 {
     for style in styles {
-        push_style(out, style)?;
+        push_style(out, style);
     }
-    Ok(())
 }
 
 /// The word of a size of letters.
@@ -75,39 +74,36 @@ fn force_word(force: bool) -> &'static str
 }
 
 /// Writes a label.
-fn push_label(out: &mut Vec<u8>, label: &Label) -> Result<(), AllocError>
-    ensures { OnOk result (out.new.items ≡ out.old.items ++ text_of (label_lines label.now)) }
+fn push_label(out: &mut Draft, label: &Label)
+    ensures { Writes out.old (text_of (label_lines label.now)) out.new }
 {
-    push_alone(out, "LABEL")?;
-    push_with_color(out, "COLOR", label.color())?;
-    push_with_word(out, "SIZE", size_word(label.size()))?;
-    push_with_word(out, "POSITION", position_word(label.position()))?;
-    push_with_whole(out, "PRIORITY", label.priority())?;
-    push_with_word(out, "FORCE", force_word(label.force()))?;
-    push_with_whole(out, "BUFFER", label.buffer())?;
-    push_alone(out, "END")?;
-    Ok(())
+    push_alone(out, "LABEL");
+    push_with_color(out, "COLOR", label.color());
+    push_with_word(out, "SIZE", size_word(label.size()));
+    push_with_word(out, "POSITION", position_word(label.position()));
+    push_with_whole(out, "PRIORITY", label.priority());
+    push_with_word(out, "FORCE", force_word(label.force()));
+    push_with_whole(out, "BUFFER", label.buffer());
+    push_alone(out, "END");
 }
 
 /// Writes a label, where there is one.
-fn push_optional_label(out: &mut Vec<u8>, label: Option<Label>) -> Result<(), AllocError>
-    ensures { OnOk result (out.new.items ≡ out.old.items ++ text_of (optional_label_lines label)) }
+fn push_optional_label(out: &mut Draft, label: Option<Label>)
+    ensures { Writes out.old (text_of (optional_label_lines label)) out.new }
 {
     if let Some(label) = label {
-        push_label(out, &label)?;
+        push_label(out, &label);
     }
-    Ok(())
 }
 
 /// Writes a class.
-pub fn push_class(out: &mut Vec<u8>, class: &Class) -> Result<(), AllocError>
-    ensures { OnOk result (out.new.items ≡ out.old.items ++ text_of (class_lines class.now)) }
+pub fn push_class(out: &mut Draft, class: &Class)
+    ensures { Writes out.old (text_of (class_lines class.now)) out.new }
 {
-    push_alone(out, "CLASS")?;
-    push_with_text(out, "NAME", class.name().as_bytes())?;
-    push_optional_text(out, "EXPRESSION", class.expression())?;
-    push_styles(out, class.styles())?;
-    push_optional_label(out, class.label())?;
-    push_alone(out, "END")?;
-    Ok(())
+    push_alone(out, "CLASS");
+    push_with_text(out, "NAME", class.name().as_bytes());
+    push_optional_text(out, "EXPRESSION", class.expression());
+    push_styles(out, class.styles());
+    push_optional_label(out, class.label());
+    push_alone(out, "END");
 }

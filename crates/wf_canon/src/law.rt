@@ -7,8 +7,10 @@ ghost use Rattle.wf_def.specs.Micro.{IsMicro};
 ghost use Rattle.wf_def.specs.Number.{number};
 ghost use Rattle.wf_mapfile.specs.Meaning.{Means};
 ghost use Rattle.wf_canon.specs.Number.{number_text};
-ghost use Rattle.wf_canon.specs.Canon.{canon};
-ghost use Rattle.wf_canon.specs.declared.canon.TheConstants.{MOST_CANON_BYTES};
+ghost use Rattle.wf_canon.specs.Canon.{canon, most_canon_bytes};
+ghost use Rattle.wf_canon.specs.Saying.{Says};
+
+use crate::canon::MOST_CANON_BYTES;
 
 /// What is written of a number is read as that number.
 #[tactic(auto, using(crate::proofs::NumberLaw::number_again))]
@@ -19,11 +21,21 @@ pub fn number_is_read_again()
 /// The canonical text of a map means that map.
 #[tactic(auto, using(crate::proofs::MeaningLaw::canon_means))]
 pub fn canonical_text_means_its_map()
-    ensures { (d : Definition) → IsWithinLimits d → length (canon d) ≤ MOST_CANON_BYTES → Means (canon d) d }
+    ensures { (d : Definition) → IsWithinLimits d → length (canon d) ≤ most_canon_bytes → Means (canon d) d }
+{}
+
+/// The canonical text of a map says that map, however long the text is.
+pub fn every_canonical_text_says_its_map()
+    ensures { (d : Definition) → IsWithinLimits d → Says (canon d) d }
 {}
 
 /// Two maps with one canonical text are one map.
 #[tactic(auto, using(crate::proofs::MeaningLaw::one_definition))]
 pub fn one_text_one_map()
     ensures { (d e : Definition) → IsWithinLimits d → IsWithinLimits e → canon d ≡ canon e → d ≡ e }
+{}
+
+/// The constant is the limit that the definitions name.
+pub fn limit_of_canonical_texts()
+    ensures { MOST_CANON_BYTES ≡ most_canon_bytes }
 {}

@@ -8,11 +8,13 @@
 //! a map means that map and that two maps with one text are one map, for every map within the limits. A [`Canon`] is seen as its
 //! definition. It says nothing of which of two mapfiles a user would prefer.
 //!
-//! The way through it: `line` writes the lines of one item, `class`, `feature`, `layer` and `writer` the blocks of these lines.
+//! The way through it: `draft` is a text while it is written, `line` writes the lines of one item, `class`, `feature`, `layer` and
+//! `writer` the blocks of these lines.
 #![tactic(auto)]
 
 mod canon;
 mod class;
+mod draft;
 mod fault;
 mod feature;
 mod law;
@@ -23,5 +25,8 @@ mod writer;
 
 pub use canon::{Canon, MOST_CANON_BYTES};
 pub use fault::CanonFault;
-pub use law::{canonical_text_means_its_map, number_is_read_again, one_text_one_map};
+pub use law::{
+    canonical_text_means_its_map, every_canonical_text_says_its_map, limit_of_canonical_texts,
+    number_is_read_again, one_text_one_map,
+};
 pub use number::write_number;

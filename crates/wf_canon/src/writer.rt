@@ -1,13 +1,14 @@
 //! The canonical text of a map, appended to what is written so far.
 
-ghost use Rattle.std.specs.Prelude.{◌≡◌, ◌++◌, OnOk};
+ghost use Rattle.std.specs.Prelude.{◌≡◌, ◌++◌};
 ghost use Rattle.std.specs.List.{flat_map};
 ghost use Rattle.wf_def.specs.Limits.{IsWithinLimits};
 ghost use Rattle.wf_canon.specs.Canon.{projection_text, heading_lines, projection_lines, web_lines, layer_lines, text_of, canon};
+ghost use Rattle.wf_canon.specs.Draft.{Writes};
 
+use crate::draft::Draft;
 use crate::layer::push_layer;
 use crate::line::{push_alone, push_quoted, push_with_extent, push_with_key, push_with_text};
-use std::alloc::AllocError;
 use wf_def::choice::Projection;
 use wf_def::map::MapDef;
 
@@ -23,61 +24,56 @@ fn projection_text(projection: Projection) -> &'static str
 
 /// Writes the block of the coordinate system.
 #[tactic(auto, unfolding(crate::specs::Canon::line))]
-fn push_projection(out: &mut Vec<u8>, projection: Projection) -> Result<(), AllocError>
-    ensures { OnOk result (out.new.items ≡ out.old.items ++ text_of (projection_lines projection)) }
+fn push_projection(out: &mut Draft, projection: Projection)
+    ensures { Writes out.old (text_of (projection_lines projection)) out.new }
 {
-    push_alone(out, "PROJECTION")?;
-    push_quoted(out, projection_text(projection).as_bytes())?;
-    out.push(b'\n')?;
-    push_alone(out, "END")?;
-    Ok(())
+    push_alone(out, "PROJECTION");
+    push_quoted(out, projection_text(projection).as_bytes());
+    out.push(b"\n");
+    push_alone(out, "END");
 }
 
 /// Writes the block of what the map tells the web.
-fn push_web(out: &mut Vec<u8>, map: &MapDef) -> Result<(), AllocError>
-    ensures { OnOk result (out.new.items ≡ out.old.items ++ text_of (web_lines map.now)) }
+fn push_web(out: &mut Draft, map: &MapDef)
+    ensures { Writes out.old (text_of (web_lines map.now)) out.new }
 {
-    push_alone(out, "WEB")?;
-    push_alone(out, "METADATA")?;
-    push_with_key(out, "wms_title", map.title().as_bytes())?;
-    push_with_key(out, "wms_abstract", map.abstract_text().as_bytes())?;
-    push_with_key(out, "wms_onlineresource", map.address().as_bytes())?;
-    push_alone(out, "END")?;
-    push_alone(out, "END")?;
-    Ok(())
+    push_alone(out, "WEB");
+    push_alone(out, "METADATA");
+    push_with_key(out, "wms_title", map.title().as_bytes());
+    push_with_key(out, "wms_abstract", map.abstract_text().as_bytes());
+    push_with_key(out, "wms_onlineresource", map.address().as_bytes());
+    push_alone(out, "END");
+    push_alone(out, "END");
 }
 
 /// Writes the lines before the first block.
-fn push_heading(out: &mut Vec<u8>, map: &MapDef) -> Result<(), AllocError>
-    ensures written { OnOk result (out.new.items ≡ out.old.items ++ text_of (heading_lines map.now)) }
-    ensures within { OnOk result (IsWithinLimits map.now) }
+fn push_heading(out: &mut Draft, map: &MapDef)
+    ensures written { Writes out.old (text_of (heading_lines map.now)) out.new }
+    ensures within { IsWithinLimits map.now }
 {
-    push_alone(out, "MAP")?;
-    push_with_text(out, "NAME", map.name().as_bytes())?;
-    push_with_extent(out, "EXTENT", map.extent())?;
-    Ok(())
+    push_alone(out, "MAP");
+    push_with_text(out, "NAME", map.name().as_bytes());
+    push_with_extent(out, "EXTENT", map.extent());
 }
 
 /// Writes a map's layers, one after the other.
-fn push_layers(out: &mut Vec<u8>, map: &MapDef) -> Result<(), AllocError>
-    ensures { OnOk result (out.new.items ≡ out.old.items ++ text_of (flat_map layer_lines map.now.layers)) }
+fn push_layers(out: &mut Draft, map: &MapDef)
+    ensures { Writes out.old (text_of (flat_map layer_lines map.now.layers)) out.new }
 {
     for index in 0..map.layer_count() {
         let (name, layer) = map.layer(index);
-        push_layer(out, name, layer)?;
+        push_layer(out, name, layer);
     }
-    Ok(())
 }
 
 /// Writes a map.
-pub(crate) fn push_map(out: &mut Vec<u8>, map: &MapDef) -> Result<(), AllocError>
-    ensures written { OnOk result (out.new.items ≡ out.old.items ++ canon map.now) }
-    ensures within { OnOk result (IsWithinLimits map.now) }
+pub(crate) fn push_map(out: &mut Draft, map: &MapDef)
+    ensures written { Writes out.old (canon map.now) out.new }
+    ensures within { IsWithinLimits map.now }
 {
-    push_heading(out, map)?;
-    push_projection(out, map.projection())?;
-    push_web(out, map)?;
-    push_layers(out, map)?;
-    push_alone(out, "END")?;
-    Ok(())
+    push_heading(out, map);
+    push_projection(out, map.projection());
+    push_web(out, map);
+    push_layers(out, map);
+    push_alone(out, "END");
 }

@@ -1,6 +1,7 @@
 //! What is asked of messages.
 use crate::reading::{tell_beginnings, tell_copy, tell_decoded, tell_fault};
 use crate::spelling::tell_encoded;
+use crate::words::Words;
 use std::alloc::Global;
 use wf_codec::DecodeFault;
 use wf_table::Unanswered;
@@ -17,20 +18,21 @@ pub(crate) fn ask(
         "beginnings" => tell_beginnings(alloc, input, answer),
         "copy" => tell_copy(alloc, input, answer),
         "encode" => tell_encoded(alloc, words, input, answer),
-        "fault" => tell_fault(fault_named(input)?, answer),
+        "fault" => tell_fault(fault_named(Words::of(input)?.word())?, answer),
         _ => Err(Unanswered::UnknownQuestion),
     }
 }
 
-fn fault_named(name: &[u8]) -> Result<DecodeFault, Unanswered> {
-    match name {
-        b"short" => Ok(DecodeFault::Short),
-        b"bad version" => Ok(DecodeFault::BadVersion),
-        b"bad kind" => Ok(DecodeFault::BadKind),
-        b"bad field" => Ok(DecodeFault::BadField),
-        b"not canonical" => Ok(DecodeFault::NotCanonical),
-        b"too long" => Ok(DecodeFault::TooLong),
-        b"memory" => Ok(DecodeFault::Memory),
+/// The fault that a word stands for.
+fn fault_named(word: &str) -> Result<DecodeFault, Unanswered> {
+    match word {
+        "short" => Ok(DecodeFault::Short),
+        "version" => Ok(DecodeFault::BadVersion),
+        "kind" => Ok(DecodeFault::BadKind),
+        "field" => Ok(DecodeFault::BadField),
+        "canonical" => Ok(DecodeFault::NotCanonical),
+        "length" => Ok(DecodeFault::TooLong),
+        "memory" => Ok(DecodeFault::Memory),
         _ => Err(Unanswered::BadWords),
     }
 }

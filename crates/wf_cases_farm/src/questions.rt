@@ -18,7 +18,7 @@
 //! message beginnings        bytes                   how many of their proper beginnings are short
 //! message copy              bytes                   the bytes of a copy of the message
 //! message encode KIND ..    a definition's text     `message ` and the bytes of the message
-//! message fault             a fault's name          the fault as it is printed
+//! message fault             what is at fault        the fault as it is printed
 //! ```
 use crate::{message, number, tries};
 use std::alloc::Global;

@@ -72,7 +72,7 @@ pub(crate) fn tell_copy(
 
 fn tell_copied(message: &Message, answer: &mut Vec<u8>) -> Result<(), Unanswered> {
     match message.copy() {
-        Ok(copy) => tell_spelled(&copy, answer),
+        Ok(copy) => tell_spelled(copy, answer),
         Err(_) => Err(Unanswered::Memory),
     }
 }

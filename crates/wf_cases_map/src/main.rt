@@ -1,7 +1,7 @@
 //! Cases about numbers, texts, definitions, tokens, mapfiles, canonical texts, capabilities and command lines.
 //!
 //! Standard input is a table of cases (`wf_table` has its language); standard output is the report, whose last line has the counts. Each
-//! question is one function, by subject: `numbers`, `texts`, `definitions`, `tokens`, `mapfiles`, `canonical`, `requests`.
+//! question is one function, by subject: `numbers`, `texts`, `definitions`, `tokens`, `mapfiles`, `canonical`, `requests`, `reports`.
 //! `shown` has how definitions are shown.
 //!
 //! It promises nothing but that it runs safely to its end: what the cases show is in the table.
@@ -14,6 +14,7 @@ mod definitions;
 mod mapfiles;
 mod numbers;
 mod questions;
+mod reports;
 mod requests;
 mod runs;
 mod shown;

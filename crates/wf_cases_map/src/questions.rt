@@ -1,6 +1,8 @@
 //! The questions by their names.
 use crate::asked::{Answered, Asked};
-use crate::{canonical, commands, definitions, mapfiles, numbers, requests, tables, texts, tokens};
+use crate::{
+    canonical, commands, definitions, mapfiles, numbers, reports, requests, tables, texts, tokens,
+};
 use std::alloc::Global;
 use wf_table::{Questions, Unanswered};
 
@@ -84,6 +86,7 @@ fn about_requests(question: &str, asked: Asked<'_>, answer: &mut Vec<u8>) -> Ans
     match question {
         "request" => requests::request(asked, answer),
         "caps" => commands::caps(asked, answer),
+        "report" => reports::report_of(asked, answer),
         "line" => commands::command_line(asked, answer),
         "table" => tables::table(asked, answer),
         _ => Err(Unanswered::UnknownQuestion),

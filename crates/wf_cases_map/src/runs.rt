@@ -11,6 +11,7 @@ pub(crate) struct Runs {
 }
 
 impl Runs {
+    /// Before the first line.
     pub fn new(alloc: Global) -> Self {
         Runs {
             line: Vec::new(alloc),

@@ -96,6 +96,7 @@ impl MapDef {
     {
         let _ = layer.kind();
         if self.layers.contains_key(&name) {
+            // Each value is let go by one call: dropped in place, its fields at each way out make the proof long.
             drop((name, layer));
             return Err(LayerFault::Repeated);
         }

@@ -4,14 +4,15 @@ use Rattle.std.proofs.lemmas.Bool.{false≢true}
 use Rattle.wf_ballot.specs.Ballot.{Ballot, below}
 use Rattle.wf_ballot.proofs.Order.{below-irreflexive, not_below-below}
 use Rattle.wf_model.specs.Message.{Vote, Message, Prepare, Promise, Accept, Accepted, Nack}
-use Rattle.wf_model.specs.Stored.{Stored, Record, Promised, published, with_record, put}
+use Rattle.wf_model.specs.Stored.{Stored, Record, Promised, published, promise_at, with_record, put}
 use Rattle.wf_model.specs.Stored as stored_part
 use Rattle.wf_model.specs.Working.{Working}
-use Rattle.wf_model.specs.Table.{store, quiet, says, stores, told, told_from, on_ask, promise_to, prepare_open, on_prepare, votes_at, vote_for, accept_open, on_accept, entries_told}
-use Rattle.wf_model.specs.Chosen.{IsIn}
+use Rattle.wf_model.specs.Table.{store, quiet, says, stores, told, told_from, on_ask, is_above, is_refused, nack, promise_to, prepare_open, on_prepare, votes_at, vote_for, accept_open, on_accept, most_told}
+use Rattle.wf_model.specs.Chosen.{IsIn, Told}
+use Rattle.wf_model.proofs.Put.{put-same}
 use Rattle.wf_law.specs.Laws.{vote_ballots, NotBelow, VoteNotBelow}
 use Rattle.wf_law.proofs.Facts.{Stands, StoredFacts, WorkingFacts, IsKnown, MaySend, NodeFacts, Sends, RowFacts}
-use Rattle.wf_law.proofs.Storing.{LiesBelow, NotAbove, raised, put-same, with_promise, is_promised, store_promised, with_vote, is_accepted, store_accepted}
+use Rattle.wf_law.proofs.Storing.{raised, with_promise, is_promised, store_promised, with_vote, is_accepted, store_accepted}
 use Rattle.wf_law.proofs.Emitting.{WorkingFacts-longer, WorkingFacts-stored, IsAnswer, AreAnswers, answers_unasked, answers_ask, AreTold, told_answers, told_sends, told_are_told, told_from_are_told}
 use Rattle.wf_law.proofs.Ballots.{same_ballot-true}
 
@@ -59,15 +60,17 @@ module _ {V : Type 0} (n i : ℕ) (stored : Stored V) (working : Working V) (sen
   pub ask_facts : (s : ℕ) → RowFacts n i stored sent (on_ask stored working s)
   unfolding on_ask
   ask_facts s =
-      let are : AreTold n sent (told_from stored.history s entries_told) = told_from_are_told n sent stored.history facts.stored.chosen s entries_told in
-      says_facts n i stored sent working (told_from stored.history s entries_told) facts.stored facts.working
-      (told_answers n sent (told_from stored.history s entries_told) are) (told_sends n i stored sent (told_from stored.history s entries_told) facts.is_node are)
+      let are : AreTold n sent (told_from stored.history s most_told) = told_from_are_told n sent stored.history facts.stored.chosen s most_told in
+      says_facts n i stored sent working (told_from stored.history s most_told) facts.stored facts.working
+      (told_answers n sent (told_from stored.history s most_told) are) (told_sends n i stored sent (told_from stored.history s most_told) facts.is_node are)
 
   -- ---- a ballot that comes too late is told so, with the promise
 
   -- Both ballots of a Nack stand in messages: the late one in its own, the promise's where it was asked for.
-  nack_facts : (s : ℕ) (b q : Ballot) → Stands sent b → stored.promises s ≡ Some q → RowFacts n i stored sent (says working (Nack i s b q ∷ []))
-  nack_facts s b q stands promise =
+  nack_facts : (s : ℕ) (b : Ballot) (promise : Option Ballot) → Stands sent b → promise_at stored s ≡ promise → is_refused promise b ≡ true →
+      RowFacts n i stored sent (says working (nack i s b promise))
+  nack_facts s b None stands promise refused = absurd (false≢true refused)
+  nack_facts s b (Some q) stands promise refused =
       let may : MaySend n i stored sent (Nack i s b q) = record {
         is_node = facts.is_node;
         known = λ c is_in. elim is_in [
@@ -82,7 +85,7 @@ module _ {V : Type 0} (n i : ℕ) (stored : Stored V) (working : Working V) (sen
   -- ---- a promise
 
   -- a vote that the promise covered is below the ballot that rises over that promise
-  lower_vote : (promise : Option Ballot) (b c : Ballot) → LiesBelow promise b → NotBelow promise c → below c b ≡ true
+  lower_vote : (promise : Option Ballot) (b c : Ballot) → is_above promise b ≡ true → NotBelow promise c → below c b ≡ true
   lower_vote None b c h k = absurd k
   lower_vote (Some q) b c h k = not_below-below c q b k h
 
@@ -93,7 +96,7 @@ module _ {V : Type 0} (n i : ℕ) (stored : Stored V) (working : Working V) (sen
 
   -- A Promise goes out after its record: the new promise is its ballot, the vote told is the one stored, which is
   -- not below any that this node gave at the open sequence, and is below the ballot that it now promises.
-  promise_may : (s : ℕ) (b : Ballot) → published stored < s → LiesBelow (stored.promises s) b → Stands sent b →
+  promise_may : (s : ℕ) (b : Ballot) → published stored < s → is_above (promise_at stored s) b ≡ true → Stands sent b →
       MaySend n i (with_promise stored s b) sent (Promise i s b (stored.votes s))
   promise_may s b is_open lower stands = record {
     is_node = facts.is_node;
@@ -103,11 +106,11 @@ module _ {V : Type 0} (n i : ℕ) (stored : Stored V) (working : Working V) (sen
       promise = subst (λ o. NotBelow o b) (sym (put-same stored.promises s (Some b) s refl)) (below-irreflexive b);
       told = λ c is_in. facts.stored.voted s c is_in is_open;
       asked = λ v e. facts.stored.vote_asked s v e;
-      lower = λ v e. lower_vote (stored.promises s) b v.ballot lower (facts.stored.vote_within s v e);
+      lower = λ v e. lower_vote (promise_at stored s) b v.ballot lower (facts.stored.vote_within s v e);
     };
   }
 
-  promise_to_facts : (s : ℕ) (b : Ballot) → published stored < s → LiesBelow (stored.promises s) b → IsIn (Prepare s b) sent →
+  promise_to_facts : (s : ℕ) (b : Ballot) → published stored < s → is_above (promise_at stored s) b ≡ true → IsIn (Prepare s b) sent →
       RowFacts n i stored sent (promise_to i stored working s b)
   unfolding promise_to published
   promise_to_facts s b is_open lower is_sent =
@@ -118,27 +121,22 @@ module _ {V : Type 0} (n i : ℕ) (stored : Stored V) (working : Working V) (sen
       (subst (λ x. WorkingFacts i x sent working) e (WorkingFacts-stored i stored (with_promise stored s b) sent working refl refl facts.working))
       tt (subst (λ x. MaySend n i x sent (Promise i s b (stored.votes s))) e (promise_may s b is_open lower stands))
 
-  -- the answer to a Prepare of an open sequence, by how the promise compares
-  compared_prepare : (s : ℕ) (b q : Ballot) (lower higher : Bool) → published stored < s → stored.promises s ≡ Some q → IsIn (Prepare s b) sent →
-      below q b ≡ lower → below b q ≡ higher → RowFacts n i stored sent (prepare_open i stored working s b (Some q))
+  -- the answer to a Prepare of an open sequence, by how its ballot stands to the promise
+  prepare_open_facts : (s : ℕ) (b : Ballot) (promise : Option Ballot) (above refused : Bool) → published stored < s → promise_at stored s ≡ promise → IsIn (Prepare s b) sent →
+      is_above promise b ≡ above → is_refused promise b ≡ refused → RowFacts n i stored sent (prepare_open i stored working s b promise)
   unfolding prepare_open
-  compared_prepare s b q true higher is_open promise is_sent is_lower is_higher =
-      rw is_lower (promise_to_facts s b is_open (subst (λ o. LiesBelow o b) (sym promise) is_lower) is_sent)
-  compared_prepare s b q false true is_open promise is_sent is_lower is_higher =
-      rw (is_lower, is_higher) (nack_facts s b q (record { message = Prepare s b; was_sent = is_sent; is_in = inl refl }) promise)
-  compared_prepare s b q false false is_open promise is_sent is_lower is_higher =
-      rw (is_lower, is_higher) (quiet_facts n i stored sent working facts.stored facts.working)
-
-  prepare_open_facts : (s : ℕ) (b : Ballot) (promise : Option Ballot) → published stored < s → stored.promises s ≡ promise → IsIn (Prepare s b) sent →
-      RowFacts n i stored sent (prepare_open i stored working s b promise)
-  unfolding prepare_open
-  prepare_open_facts s b None is_open promise is_sent = promise_to_facts s b is_open (subst (λ o. LiesBelow o b) (sym promise) tt) is_sent
-  prepare_open_facts s b (Some q) is_open promise is_sent = compared_prepare s b q (below q b) (below b q) is_open promise is_sent refl refl
+  prepare_open_facts s b promise true refused is_open is_promise is_sent e h =
+      rw e (promise_to_facts s b is_open (subst (λ o. is_above o b ≡ true) (sym is_promise) e) is_sent)
+  prepare_open_facts s b promise false true is_open is_promise is_sent e h =
+      rw (e, h) (nack_facts s b promise (record { message = Prepare s b; was_sent = is_sent; is_in = inl refl }) is_promise h)
+  prepare_open_facts s b promise false false is_open is_promise is_sent e h = rw (e, h) (quiet_facts n i stored sent working facts.stored facts.working)
 
   prepare_by : (s : ℕ) (b : Ballot) (is_published : Bool) → nat_le s (published stored) ≡ is_published → IsIn (Prepare s b) sent → RowFacts n i stored sent (on_prepare i stored working s b)
   unfolding on_prepare
   prepare_by s b true e is_sent = rw e (told_facts s)
-  prepare_by s b false e is_sent = rw e (prepare_open_facts s b (stored.promises s) (leb-false s (published stored) e) refl is_sent)
+  prepare_by s b false e is_sent =
+      let promise : Option Ballot = promise_at stored s in
+      rw e (prepare_open_facts s b promise (is_above promise b) (is_refused promise b) (leb-false s (published stored) e) refl is_sent refl refl)
 
   pub prepare_facts : (s : ℕ) (b : Ballot) → IsIn (Prepare s b) sent → RowFacts n i stored sent (on_prepare i stored working s b)
   prepare_facts s b is_sent = prepare_by s b (nat_le s (published stored)) refl is_sent
@@ -146,15 +144,15 @@ module _ {V : Type 0} (n i : ℕ) (stored : Stored V) (working : Working V) (sen
   -- ---- a vote
 
   -- no promise of this node is above a ballot that its present one isn't above
-  kept_order : (s : ℕ) (b : Ballot) → published stored < s → NotAbove (stored.promises s) b → (c : Ballot) (v : Option (Vote V)) → IsIn (Promise i s c v) sent → below b c ≡ false
-  kept_order s b is_open lower c v is_in = raised (stored.promises s) b c lower (facts.stored.promised s c v is_in is_open)
+  kept_order : (s : ℕ) (b : Ballot) → published stored < s → is_refused (promise_at stored s) b ≡ false → (c : Ballot) (v : Option (Vote V)) → Told sent s c v i → below b c ≡ false
+  kept_order s b is_open lower c v is_in = raised (promise_at stored s) b c lower (facts.stored.promised s c v is_in is_open)
 
   accept_known : (s : ℕ) (b : Ballot) (d : V) (kept : Stored V) → IsIn (Accept s b d) sent → (c : Ballot) → IsIn c (b ∷ []) → IsKnown i kept sent c
   accept_known s b d kept is_sent c (inl e) = inr (record { message = Accept s b d; was_sent = is_sent; is_in = inl e })
   accept_known s b d kept is_sent c (inr k) = absurd k
 
   -- the answer is given again where the vote stands at this ballot
-  again_facts : (s : ℕ) (b : Ballot) (d : V) (v : Vote V) → published stored < s → NotAbove (stored.promises s) b → stored.votes s ≡ Some v → v.ballot ≡ b →
+  again_facts : (s : ℕ) (b : Ballot) (d : V) (v : Vote V) → published stored < s → is_refused (promise_at stored s) b ≡ false → stored.votes s ≡ Some v → v.ballot ≡ b →
       IsIn (Accept s b d) sent → RowFacts n i stored sent (says working (Accepted i s b ∷ []))
   again_facts s b d v is_open lower vote same is_sent =
       let may : MaySend n i stored sent (Accepted i s b) = record {
@@ -162,7 +160,7 @@ module _ {V : Type 0} (n i : ℕ) (stored : Stored V) (working : Working V) (sen
         known = accept_known s b d stored is_sent;
         meet = record {
           own = refl;
-          promise = subst (NotBelow (stored.promises s)) same (facts.stored.vote_within s v vote);
+          promise = subst (NotBelow (promise_at stored s)) same (facts.stored.vote_within s v vote);
           vote = subst (λ o. VoteNotBelow o b) (sym vote) (subst (λ c. below c b ≡ false) (sym same) (below-irreflexive b));
           order = kept_order s b is_open lower;
         };
@@ -170,7 +168,7 @@ module _ {V : Type 0} (n i : ℕ) (stored : Stored V) (working : Working V) (sen
       says_facts n i stored sent working (Accepted i s b ∷ []) facts.stored facts.working (tt, tt) (may, tt)
 
   -- A vote goes out after its record: promise and vote are at its ballot then, and no promise of this node is above it.
-  vote_may : (s : ℕ) (b : Ballot) (d : V) → published stored < s → NotAbove (stored.promises s) b → IsIn (Accept s b d) sent →
+  vote_may : (s : ℕ) (b : Ballot) (d : V) → published stored < s → is_refused (promise_at stored s) b ≡ false → IsIn (Accept s b d) sent →
       MaySend n i (with_vote stored s b d) sent (Accepted i s b)
   vote_may s b d is_open lower is_sent = record {
     is_node = facts.is_node;
@@ -183,7 +181,7 @@ module _ {V : Type 0} (n i : ℕ) (stored : Stored V) (working : Working V) (sen
     };
   }
 
-  anew_facts : (s : ℕ) (b : Ballot) (d : V) → published stored < s → NotAbove (stored.promises s) b → IsIn (Accept s b d) sent →
+  anew_facts : (s : ℕ) (b : Ballot) (d : V) → published stored < s → is_refused (promise_at stored s) b ≡ false → IsIn (Accept s b d) sent →
       RowFacts n i stored sent (stores working (stored_part.Accepted s b d) (Accepted i s b))
   unfolding published
   anew_facts s b d is_open lower is_sent =
@@ -193,7 +191,7 @@ module _ {V : Type 0} (n i : ℕ) (stored : Stored V) (working : Working V) (sen
       (subst (λ x. WorkingFacts i x sent working) e (WorkingFacts-stored i stored (with_vote stored s b d) sent working refl refl facts.working))
       tt (subst (λ x. MaySend n i x sent (Accepted i s b)) e (vote_may s b d is_open lower is_sent))
 
-  voted_by : (s : ℕ) (b : Ballot) (d : V) (vote : Option (Vote V)) (again : Bool) → published stored < s → NotAbove (stored.promises s) b → IsIn (Accept s b d) sent →
+  voted_by : (s : ℕ) (b : Ballot) (d : V) (vote : Option (Vote V)) (again : Bool) → published stored < s → is_refused (promise_at stored s) b ≡ false → IsIn (Accept s b d) sent →
       stored.votes s ≡ vote → votes_at vote b ≡ again → RowFacts n i stored sent (vote_for i stored working s b d)
   unfolding vote_for votes_at
   voted_by s b d None true is_open lower is_sent vote e = absurd (false≢true e)
@@ -201,28 +199,26 @@ module _ {V : Type 0} (n i : ℕ) (stored : Stored V) (working : Working V) (sen
       rw (vote, e) (again_facts s b d v is_open lower vote (same_ballot-true v.ballot b e) is_sent)
   voted_by s b d vote false is_open lower is_sent is_vote e = rw (is_vote, e) (anew_facts s b d is_open lower is_sent)
 
-  vote_facts : (s : ℕ) (b : Ballot) (d : V) → published stored < s → NotAbove (stored.promises s) b → IsIn (Accept s b d) sent →
+  vote_facts : (s : ℕ) (b : Ballot) (d : V) → published stored < s → is_refused (promise_at stored s) b ≡ false → IsIn (Accept s b d) sent →
       RowFacts n i stored sent (vote_for i stored working s b d)
   vote_facts s b d is_open lower is_sent = voted_by s b d (stored.votes s) (votes_at (stored.votes s) b) is_open lower is_sent refl refl
 
-  compared_accept : (s : ℕ) (b : Ballot) (d : V) (q : Ballot) (lower : Bool) → published stored < s → stored.promises s ≡ Some q → IsIn (Accept s b d) sent →
-      below b q ≡ lower → RowFacts n i stored sent (accept_open i stored working s b d (Some q))
+  -- the answer to an Accept of an open sequence, by how its ballot stands to the promise
+  accept_open_facts : (s : ℕ) (b : Ballot) (d : V) (promise : Option Ballot) (refused : Bool) → published stored < s → promise_at stored s ≡ promise → IsIn (Accept s b d) sent →
+      is_refused promise b ≡ refused → RowFacts n i stored sent (accept_open i stored working s b d promise)
   unfolding accept_open
-  compared_accept s b d q true is_open promise is_sent e =
-      rw e (nack_facts s b q (record { message = Accept s b d; was_sent = is_sent; is_in = inl refl }) promise)
-  compared_accept s b d q false is_open promise is_sent e = rw e (vote_facts s b d is_open (subst (λ o. NotAbove o b) (sym promise) e) is_sent)
-
-  accept_open_facts : (s : ℕ) (b : Ballot) (d : V) (promise : Option Ballot) → published stored < s → stored.promises s ≡ promise → IsIn (Accept s b d) sent →
-      RowFacts n i stored sent (accept_open i stored working s b d promise)
-  unfolding accept_open
-  accept_open_facts s b d None is_open promise is_sent = vote_facts s b d is_open (subst (λ o. NotAbove o b) (sym promise) tt) is_sent
-  accept_open_facts s b d (Some q) is_open promise is_sent = compared_accept s b d q (below b q) is_open promise is_sent refl
+  accept_open_facts s b d promise true is_open is_promise is_sent e =
+      rw e (nack_facts s b promise (record { message = Accept s b d; was_sent = is_sent; is_in = inl refl }) is_promise e)
+  accept_open_facts s b d promise false is_open is_promise is_sent e =
+      rw e (vote_facts s b d is_open (subst (λ o. is_refused o b ≡ false) (sym is_promise) e) is_sent)
 
   accept_by : (s : ℕ) (b : Ballot) (d : V) (is_published : Bool) → nat_le s (published stored) ≡ is_published → IsIn (Accept s b d) sent →
       RowFacts n i stored sent (on_accept i stored working s b d)
   unfolding on_accept
   accept_by s b d true e is_sent = rw e (told_facts s)
-  accept_by s b d false e is_sent = rw e (accept_open_facts s b d (stored.promises s) (leb-false s (published stored) e) refl is_sent)
+  accept_by s b d false e is_sent =
+      let promise : Option Ballot = promise_at stored s in
+      rw e (accept_open_facts s b d promise (is_refused promise b) (leb-false s (published stored) e) refl is_sent refl)
 
   pub accept_facts : (s : ℕ) (b : Ballot) (d : V) → IsIn (Accept s b d) sent → RowFacts n i stored sent (on_accept i stored working s b d)
   accept_facts s b d is_sent = accept_by s b d (nat_le s (published stored)) refl is_sent

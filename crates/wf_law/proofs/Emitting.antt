@@ -3,7 +3,7 @@ use Rattle.std.proofs.Common.{◌≡◌, ℕ, ◌+◌, ◌<◌, ◌≤◌, List,
 use Rattle.std.specs.Prelude.{⊤}
 use Rattle.wf_ballot.specs.Ballot.{Ballot}
 use Rattle.wf_model.specs.Message.{Message, Prepare, Promise, Accept, Accepted, Nack, Chosen, Ask}
-use Rattle.wf_model.specs.Stored.{Stored, published, next_sequence, entry_at}
+use Rattle.wf_model.specs.Stored.{Stored, published, next_sequence, definition_at}
 use Rattle.wf_model.specs.Working.{Phase, Preparing, Accepting, Proposal, Working, Idle, Running, Won, Overtaken, carried}
 use Rattle.wf_model.specs.Table.{told_of, told, told_from}
 use Rattle.wf_model.specs.Chosen.{IsIn, IsChosen}
@@ -191,15 +191,15 @@ AreTold-both : {V : Type 0} (n : ℕ) (sent first second : List (Message V)) →
 AreTold-both n sent [] second h k = k
 AreTold-both n sent (m ∷ rest) second h k = (h.0, AreTold-both n sent rest second h.1 k)
 
-module _ {V : Type 0} (n : ℕ) (sent : List (Message V)) (history : List V) (chosen : (s : ℕ) (d : V) → entry_at history s ≡ Some d → IsChosen n sent s d) where
-  of_entry : (s : ℕ) (entry : Option V) → entry_at history s ≡ entry → AreTold n sent (told_of s entry)
+module _ {V : Type 0} (n : ℕ) (sent : List (Message V)) (history : List V) (chosen : (s : ℕ) (d : V) → definition_at history s ≡ Some d → IsChosen n sent s d) where
+  of_found : (s : ℕ) (found : Option V) → definition_at history s ≡ found → AreTold n sent (told_of s found)
   unfolding told_of
-  of_entry s None e = tt
-  of_entry s (Some d) e = (chosen s d e, tt)
+  of_found s None e = tt
+  of_found s (Some d) e = (chosen s d e, tt)
 
   pub told_are_told : (s : ℕ) → AreTold n sent (told history s)
   unfolding told
-  told_are_told s = of_entry s (entry_at history s) refl
+  told_are_told s = of_found s (definition_at history s) refl
 
   pub told_from_are_told : (s count : ℕ) → AreTold n sent (told_from history s count)
   unfolding told_from

@@ -4,10 +4,10 @@ use Rattle.std.proofs.Common.{◌≡◌, ◌⊎◌, ℕ, ◌<◌, ◌≤◌, tru
 use Rattle.std.specs.Prelude.{⊤}
 use Rattle.wf_ballot.specs.Ballot.{Ballot, below}
 use Rattle.wf_model.specs.Message.{Vote, Message, Prepare, Promise, Accept, Accepted, Nack, Chosen, Ask}
-use Rattle.wf_model.specs.Stored.{Stored, published, next_sequence, entry_at}
+use Rattle.wf_model.specs.Stored.{Stored, published, next_sequence, definition_at, promise_at}
 use Rattle.wf_model.specs.Working.{Phase, Preparing, Accepting, Proposal, Working, Idle, Running, Won, Overtaken, carried}
 use Rattle.wf_model.specs.Table.{Row, store}
-use Rattle.wf_model.specs.Chosen.{IsIn, IsChosen}
+use Rattle.wf_model.specs.Chosen.{IsIn, Told, IsChosen}
 use Rattle.wf_law.specs.Laws.{ballots_of, NotBelow, VotesInOrder, VoteNotBelow, HasPromised, BestIsTold, IsBacked}
 
 -- the ballot stands in a message that was sent
@@ -26,13 +26,13 @@ pub record MessageFacts {V : Type 0} (n : ℕ) (sent : List (Message V)) : Type 
   pub one_accept : (s t : ℕ) (b : Ballot) (c d : V) → IsIn (Accept s b c) sent → IsIn (Accept t b d) sent → (s ≡ t) × (c ≡ d)
   pub backed : (s : ℕ) (b : Ballot) (d : V) → IsIn (Accept s b d) sent → IsBacked n sent s b d
   -- a node that promised at b had told each vote that it gave below b, or a later one
-  pub told : (i s : ℕ) (b c : Ballot) (vote : Option (Vote V)) → IsIn (Promise i s b vote) sent → IsIn (Accepted i s c) sent →
+  pub told : (i s : ℕ) (b c : Ballot) (vote : Option (Vote V)) → Told sent s b vote i → IsIn (Accepted i s c) sent →
       below c b ≡ true → VoteNotBelow vote c
-  pub told_asked : (i s : ℕ) (b : Ballot) (vote : Vote V) → IsIn (Promise i s b (Some vote)) sent → IsAsked sent s vote
-  pub told_below : (i s : ℕ) (b : Ballot) (vote : Vote V) → IsIn (Promise i s b (Some vote)) sent → below vote.ballot b ≡ true
+  pub told_asked : (i s : ℕ) (b : Ballot) (vote : Vote V) → Told sent s b (Some vote) i → IsAsked sent s vote
+  pub told_below : (i s : ℕ) (b : Ballot) (vote : Vote V) → Told sent s b (Some vote) i → below vote.ballot b ≡ true
   pub chosen : (s : ℕ) (d : V) → IsIn (Chosen s d) sent → IsChosen n sent s d
   pub nodes : (message : Message V) (b : Ballot) → IsIn message sent → IsIn b (ballots_of message) → b.node < n
-  pub senders : (i s : ℕ) (b : Ballot) (vote : Option (Vote V)) → IsIn (Promise i s b vote) sent → i < n
+  pub senders : (i s : ℕ) (b : Ballot) (vote : Option (Vote V)) → Told sent s b vote i → i < n
   pub voters : (i s : ℕ) (b : Ballot) → IsIn (Accepted i s b) sent → i < n
   pub in_order : VotesInOrder sent
 
@@ -42,17 +42,17 @@ pub record StoredFacts {V : Type 0} (n i : ℕ) (stored : Stored V) (sent : List
   -- each ballot of node i in a message is of a round that it tried
   pub tried : (message : Message V) (b : Ballot) → IsIn message sent → IsIn b (ballots_of message) → b.node ≡ i → b.round ≤ stored.tried
   -- promises and votes are of open sequences alone
-  pub open_promises : (s : ℕ) → s ≤ published stored → stored.promises s ≡ None
+  pub open_promises : (s : ℕ) → s ≤ published stored → promise_at stored s ≡ None
   pub open_votes : (s : ℕ) → s ≤ published stored → stored.votes s ≡ None
   -- at an open sequence node i still has what it sent, or a later one
-  pub promised : (s : ℕ) (b : Ballot) (vote : Option (Vote V)) → IsIn (Promise i s b vote) sent → published stored < s → NotBelow (stored.promises s) b
-  pub accepted : (s : ℕ) (b : Ballot) → IsIn (Accepted i s b) sent → published stored < s → NotBelow (stored.promises s) b
+  pub promised : (s : ℕ) (b : Ballot) (vote : Option (Vote V)) → Told sent s b vote i → published stored < s → NotBelow (promise_at stored s) b
+  pub accepted : (s : ℕ) (b : Ballot) → IsIn (Accepted i s b) sent → published stored < s → NotBelow (promise_at stored s) b
   pub voted : (s : ℕ) (b : Ballot) → IsIn (Accepted i s b) sent → published stored < s → VoteNotBelow (stored.votes s) b
   -- a stored vote was asked for and isn't above the promise, whose ballot stands in a message
   pub vote_asked : (s : ℕ) (vote : Vote V) → stored.votes s ≡ Some vote → IsAsked sent s vote
-  pub vote_within : (s : ℕ) (vote : Vote V) → stored.votes s ≡ Some vote → NotBelow (stored.promises s) vote.ballot
-  pub promise_stands : (s : ℕ) (b : Ballot) → stored.promises s ≡ Some b → Stands sent b
-  pub chosen : (s : ℕ) (d : V) → entry_at stored.history s ≡ Some d → IsChosen n sent s d
+  pub vote_within : (s : ℕ) (vote : Vote V) → stored.votes s ≡ Some vote → NotBelow (promise_at stored s) vote.ballot
+  pub promise_stands : (s : ℕ) (b : Ballot) → promise_at stored s ≡ Some b → Stands sent b
+  pub chosen : (s : ℕ) (d : V) → definition_at stored.history s ≡ Some d → IsChosen n sent s d
 
 -- ---- the running proposal
 
@@ -89,7 +89,7 @@ IsKnown i stored sent b = ((b.node ≡ i) × (b.round ≤ stored.tried)) ⊎ Sta
 
 pub record MayPromise {V : Type 0} (i : ℕ) (stored : Stored V) (sent : List (Message V)) (sender s : ℕ) (b : Ballot) (vote : Option (Vote V)) : Type 0 where
   pub own : sender ≡ i
-  pub promise : NotBelow (stored.promises s) b
+  pub promise : NotBelow (promise_at stored s) b
   pub told : (c : Ballot) → IsIn (Accepted i s c) sent → VoteNotBelow vote c
   pub asked : (v : Vote V) → vote ≡ Some v → IsAsked sent s v
   pub lower : (v : Vote V) → vote ≡ Some v → below v.ballot b ≡ true
@@ -101,9 +101,9 @@ pub record MayAsk {V : Type 0} (n i : ℕ) (sent : List (Message V)) (s : ℕ) (
 
 pub record MayVote {V : Type 0} (i : ℕ) (stored : Stored V) (sent : List (Message V)) (sender s : ℕ) (b : Ballot) : Type 0 where
   pub own : sender ≡ i
-  pub promise : NotBelow (stored.promises s) b
+  pub promise : NotBelow (promise_at stored s) b
   pub vote : VoteNotBelow (stored.votes s) b
-  pub order : (c : Ballot) (v : Option (Vote V)) → IsIn (Promise i s c v) sent → below b c ≡ false
+  pub order : (c : Ballot) (v : Option (Vote V)) → Told sent s c v i → below b c ≡ false
 
 -- what a message of each kind must meet
 abbrev pub IsMeet : {V : Type 0} → ℕ → ℕ → Stored V → List (Message V) → Message V → Type 0

@@ -8,6 +8,7 @@ use Rattle.wf_model.specs.Table as table
 use Rattle.wf_model.specs.Table.{Row, store}
 use Rattle.wf_model.specs.World.{Node, World, Event, Propose, Retry, CatchUp, Deliver, Stop, Restart, Torn, Kept, Before, After, Turn, stored_after, kept_part, with_node, after_turn, after_torn, stop_running, after_stop, restart_stopped, after_restart, turn, happens, steps, start, after}
 use Rattle.wf_model.specs.Chosen.{history_of, history}
+use Rattle.wf_model.proofs.Steps.{steps_in_turn}
 use Rattle.wf_law.specs.Laws.{IsBeginning}
 use Rattle.wf_law.proofs.Worlds.{get-set_same, get-set_other, WorldFacts, SomeTurnFacts, turn_facts, happens_facts, after_facts}
 
@@ -119,16 +120,10 @@ module _ {V : Type 0} (same : V → V → Bool) (n : ℕ) where
       begins_through (history w j) (history (happens same w event) j) (history (steps same (happens same w event) rest) j)
       (happens_grows w event facts j) (steps_grow (happens same w event) rest (happens_facts same n w event facts) j)
 
-  -- a run and then another is one run
-  steps-append : (w : World V) (events more : List (Event V)) → steps same w (events ++ more) ≡ steps same (steps same w events) more
-  unfolding steps
-  steps-append w [] more = refl
-  steps-append w (event ∷ rest) more = steps-append (happens same w event) rest more
-
   pub history_grows : (i : ℕ) (events more : List (Event V)) → IsBeginning (history (after same n events) i) (history (after same n (events ++ more)) i)
   unfolding after
   history_grows i events more =
-      subst (λ (x : World V). IsBeginning (history (steps same (start n) events) i) (history x i)) (sym (steps-append (start n) events more))
+      subst (λ (x : World V). IsBeginning (history (steps same (start n) events) i) (history x i)) (sym (steps_in_turn V same (start n) events more))
       (steps_grow (steps same (start n) events) more (run_facts events) i)
     where
       run_facts : (list : List (Event V)) → WorldFacts n (steps same (start n) list)

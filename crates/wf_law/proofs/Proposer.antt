@@ -9,8 +9,8 @@ use Rattle.wf_ballot.specs.Sequence.{last_sequence}
 use Rattle.wf_model.specs.Message.{Vote, Message, Prepare, Promise, Accept, Accepted, Nack, Chosen, Ask}
 use Rattle.wf_model.specs.Stored.{Stored, Tried, Published, published, next_sequence, with_record}
 use Rattle.wf_model.specs.Working.{Phase, Preparing, Accepting, Proposal, Working, Idle, Running, Won, Overtaken, nobody, and_node, better, carried, is_at}
-use Rattle.wf_model.specs.Table.{Input, Propose, Retry, CatchUp, Deliver, store, says, stores, round_known, begin_at, on_propose, on_retry, on_catch_up, hears, with_promise, asking_votes, promised, on_promise, with_vote, on_nack, ended, ends, voted, on_accepted, on_chosen, on_message, row}
-use Rattle.wf_model.specs.Chosen.{IsIn, IsChosen}
+use Rattle.wf_model.specs.Table.{Row, Input, Propose, Retry, CatchUp, Deliver, store, says, stores, when_running, round_known, begin_at, on_propose, on_retry, on_catch_up, hears, with_promise, asking_votes, promised, on_promise, with_vote, on_nack, ended, ends, voted, on_accepted, on_chosen, on_message, row}
+use Rattle.wf_model.specs.Chosen.{IsIn, Told, IsChosen}
 use Rattle.wf_law.specs.Laws.{IsWithin, HasPromised, IsTold, BestIsTold, IsCarried}
 use Rattle.wf_law.proofs.Members.{member-split, member-last}
 use Rattle.wf_law.proofs.Facts.{StoredFacts, PreparingFacts, AcceptingFacts, PhaseFacts, ProposalFacts, WorkingFacts, IsKnown, MaySend, NodeFacts, IsOwnAsk, RowFacts}
@@ -47,20 +47,20 @@ within_better (Some best) None (Some old) h = h
 within_better (Some best) (Some vote) (Some old) h = kept_within best vote old (below best.ballot vote.ballot) refl h
 
 module _ {V : Type 0} (sent : List (Message V)) (s : ℕ) (b : Ballot) (nodes : ℕ → Bool) (sender : ℕ) where
-  told_by : (vote : Vote V) → IsIn (Promise sender s b (Some vote)) sent → IsTold sent s b (and_node nodes sender) vote
+  told_by : (vote : Vote V) → Told sent s b (Some vote) sender → IsTold sent s b (and_node nodes sender) vote
   told_by vote said = record { teller = sender; is_member = and_node-self nodes sender; said = said }
 
   still_told : (vote : Vote V) → IsTold sent s b nodes vote → IsTold sent s b (and_node nodes sender) vote
   still_told vote h = record { teller = h.teller; is_member = and_node-old nodes sender h.teller h.is_member; said = h.said }
 
-  told_higher : (best vote : Vote V) (higher : Bool) → below best.ballot vote.ballot ≡ higher → IsTold sent s b nodes best → IsIn (Promise sender s b (Some vote)) sent →
+  told_higher : (best vote : Vote V) (higher : Bool) → below best.ballot vote.ballot ≡ higher → IsTold sent s b nodes best → Told sent s b (Some vote) sender →
       BestIsTold sent s b (and_node nodes sender) (better (Some best) (Some vote))
   unfolding better
   told_higher best vote true e h said = rw e (told_by vote said)
   told_higher best vote false e h said = rw e (still_told best h)
 
   -- the best vote was told by a node that is heard
-  told_better : (best vote : Option (Vote V)) → BestIsTold sent s b nodes best → IsIn (Promise sender s b vote) sent →
+  told_better : (best vote : Option (Vote V)) → BestIsTold sent s b nodes best → Told sent s b vote sender →
       BestIsTold sent s b (and_node nodes sender) (better best vote)
   unfolding better
   told_better None None h said = tt
@@ -74,6 +74,15 @@ carried_is None own = tt
 carried_is (Some best) own = refl
 
 module _ {V : Type 0} (n i : ℕ) (stored : Stored V) (sent : List (Message V)) where
+  -- ---- the row of a proposal, which only a running one has
+
+  when_running_facts : (working : Working V) (row_of : Proposal V → Row V) → NodeFacts n i stored working sent →
+      ((p : Proposal V) → NodeFacts n i stored (Running p) sent → RowFacts n i stored sent (row_of p)) → RowFacts n i stored sent (when_running working row_of)
+  when_running_facts Idle row_of facts of_running = quiet_facts n i stored sent Idle facts.stored facts.working
+  when_running_facts (Running p) row_of facts of_running = of_running p facts
+  when_running_facts (Won t) row_of facts of_running = quiet_facts n i stored sent (Won t) facts.stored facts.working
+  when_running_facts (Overtaken t) row_of facts of_running = quiet_facts n i stored sent (Overtaken t) facts.stored facts.working
+
   -- ---- a proposal begins
 
   -- the proposal that begins at a round
@@ -133,7 +142,7 @@ module _ {V : Type 0} (n i : ℕ) (stored : Stored V) (sent : List (Message V)) 
 
   -- Who was heard before told a vote within the best one before, so within the better one; who is heard now told
   -- its vote, and the better one isn't below it.
-  with_promise_facts : (p : Proposal V) (sender : ℕ) (vote : Option (Vote V)) → PreparingFacts sent p → IsIn (Promise sender p.sequence p.ballot vote) sent →
+  with_promise_facts : (p : Proposal V) (sender : ℕ) (vote : Option (Vote V)) → PreparingFacts sent p → Told sent p.sequence p.ballot vote sender →
       PreparingFacts sent (with_promise p sender vote)
   unfolding with_promise
   with_promise_facts p sender vote facts said = record {
@@ -192,7 +201,7 @@ module _ {V : Type 0} (n i : ℕ) (stored : Stored V) (sent : List (Message V)) 
   promised_by p false is_node facts proposal preparing e = rw e (quiet_facts n i stored sent (Running p) facts proposal)
 
   heard_promise : (p : Proposal V) (sender : ℕ) (vote : Option (Vote V)) → i < n → StoredFacts n i stored sent → ProposalFacts i stored sent p →
-      p.phase ≡ Preparing → IsIn (Promise sender p.sequence p.ballot vote) sent → RowFacts n i stored sent (promised n (with_promise p sender vote))
+      p.phase ≡ Preparing → Told sent p.sequence p.ballot vote sender → RowFacts n i stored sent (promised n (with_promise p sender vote))
   unfolding with_promise
   heard_promise p sender vote is_node facts proposal in_phase said =
       let preparing : PreparingFacts sent p = subst (PhaseFacts sent p) in_phase proposal.phase in
@@ -203,22 +212,20 @@ module _ {V : Type 0} (n i : ℕ) (stored : Stored V) (sent : List (Message V)) 
       promised_by q (is_majority_of (count_nodes n q.heard) n) is_node facts proposal' preparing' refl
 
   promise_by : (p : Proposal V) (sender s : ℕ) (b : Ballot) (vote : Option (Vote V)) (is_heard : Bool) → NodeFacts n i stored (Running p) sent →
-      hears n p Preparing sender s b ≡ is_heard → IsIn (Promise sender s b vote) sent → RowFacts n i stored sent (on_promise n (Running p) sender s b vote)
+      hears n p Preparing sender s b ≡ is_heard → Told sent s b vote sender → RowFacts n i stored sent (on_promise n (Running p) sender s b vote)
   unfolding on_promise
   promise_by p sender s b vote true facts e said =
       let h : Heard n p Preparing sender s b = hears-true n p Preparing sender s b e in
-      let said' : IsIn (Promise sender p.sequence p.ballot vote) sent =
-      subst (λ x. IsIn (Promise sender x p.ballot vote) sent) (sym h.at_sequence) (subst (λ x. IsIn (Promise sender s x vote) sent) (sym h.at_ballot) said) in
+      let said' : Told sent p.sequence p.ballot vote sender =
+      subst (λ x. Told sent x p.ballot vote sender) (sym h.at_sequence) (subst (λ x. Told sent s x vote sender) (sym h.at_ballot) said) in
       rw e (heard_promise p sender vote facts.is_node facts.stored facts.working h.in_phase said')
   promise_by p sender s b vote false facts e said = rw e (quiet_facts n i stored sent (Running p) facts.stored facts.working)
 
   promise_facts : (working : Working V) (sender s : ℕ) (b : Ballot) (vote : Option (Vote V)) → NodeFacts n i stored working sent →
-      IsIn (Promise sender s b vote) sent → RowFacts n i stored sent (on_promise n working sender s b vote)
+      Told sent s b vote sender → RowFacts n i stored sent (on_promise n working sender s b vote)
   unfolding on_promise
-  promise_facts Idle sender s b vote facts said = quiet_facts n i stored sent Idle facts.stored facts.working
-  promise_facts (Running p) sender s b vote facts said = promise_by p sender s b vote (hears n p Preparing sender s b) facts refl said
-  promise_facts (Won t) sender s b vote facts said = quiet_facts n i stored sent (Won t) facts.stored facts.working
-  promise_facts (Overtaken t) sender s b vote facts said = quiet_facts n i stored sent (Overtaken t) facts.stored facts.working
+  promise_facts working sender s b vote facts said =
+      when_running_facts working _ facts (λ p facts. promise_by p sender s b vote (hears n p Preparing sender s b) facts refl said)
 
   -- ---- a Nack comes
 
@@ -243,12 +250,9 @@ module _ {V : Type 0} (n i : ℕ) (stored : Stored V) (sent : List (Message V)) 
 
   nack_facts : (working : Working V) (s : ℕ) (b q : Ballot) → NodeFacts n i stored working sent → RowFacts n i stored sent (on_nack working s b q)
   unfolding on_nack
-  nack_facts Idle s b q facts = quiet_facts n i stored sent Idle facts.stored facts.working
-  nack_facts (Running p) s b q facts = nack_by p s b q (is_at p s b) facts refl
-  nack_facts (Won t) s b q facts = quiet_facts n i stored sent (Won t) facts.stored facts.working
-  nack_facts (Overtaken t) s b q facts = quiet_facts n i stored sent (Overtaken t) facts.stored facts.working
+  nack_facts working s b q facts = when_running_facts working _ facts (λ p facts. nack_by p s b q (is_at p s b) facts refl)
 
-  -- ---- begin, begin anew, ask for the next entry
+  -- ---- begin, begin anew, ask for the next definition
 
   propose_facts : (own : V) → i < n → StoredFacts n i stored sent → RowFacts n i stored sent (on_propose i stored own)
   unfolding on_propose
@@ -256,10 +260,7 @@ module _ {V : Type 0} (n i : ℕ) (stored : Stored V) (sent : List (Message V)) 
 
   retry_facts : (working : Working V) → NodeFacts n i stored working sent → RowFacts n i stored sent (on_retry i stored working)
   unfolding on_retry round_known
-  retry_facts Idle facts = quiet_facts n i stored sent Idle facts.stored facts.working
-  retry_facts (Running p) facts = begin_facts p.own (max stored.tried p.seen + 1) facts.is_node (omega arith) facts.stored
-  retry_facts (Won t) facts = quiet_facts n i stored sent (Won t) facts.stored facts.working
-  retry_facts (Overtaken t) facts = quiet_facts n i stored sent (Overtaken t) facts.stored facts.working
+  retry_facts working facts = when_running_facts working _ facts (λ p facts. begin_facts p.own (max stored.tried p.seen + 1) facts.is_node (omega arith) facts.stored)
 
   asks_next : (working : Working V) → NodeFacts n i stored working sent → RowFacts n i stored sent (says working (Ask (next_sequence stored) ∷ []))
   asks_next working facts =
@@ -350,10 +351,8 @@ module _ {V : Type 0} (n i : ℕ) (stored : Stored V) (sent : List (Message V)) 
     accepted_facts : (working : Working V) (sender s : ℕ) (b : Ballot) → NodeFacts n i stored working sent →
         IsIn (Accepted sender s b) sent → RowFacts n i stored sent (on_accepted same n working sender s b)
     unfolding on_accepted
-    accepted_facts Idle sender s b facts said = quiet_facts n i stored sent Idle facts.stored facts.working
-    accepted_facts (Running p) sender s b facts said = accepted_by p sender s b (hears n p Accepting sender s b) facts refl said
-    accepted_facts (Won t) sender s b facts said = quiet_facts n i stored sent (Won t) facts.stored facts.working
-    accepted_facts (Overtaken t) sender s b facts said = quiet_facts n i stored sent (Overtaken t) facts.stored facts.working
+    accepted_facts working sender s b facts said =
+        when_running_facts working _ facts (λ p facts. accepted_by p sender s b (hears n p Accepting sender s b) facts refl said)
 
     publishes : (working : Working V) (s : ℕ) (d : V) → NodeFacts n i stored working sent → s ≡ next_sequence stored → IsIn (Chosen s d) sent →
         RowFacts n i stored sent (record { entry = Some (Published s d); messages = []; working = ends same working d })

@@ -1,68 +1,46 @@
 -- A record is stored, with no message out, and what its node stored keeps its facts. This is a torn step too.
-use Rattle.std.proofs.Common.{◌≡◌, ◌⊎◌, ℕ, zero, suc, ◌+◌, ◌<◌, ◌≤◌, true, false, List, [], ◌∷◌, ◌++◌, length, slice_get, Option, Some, None, refl, sym, ap, subst, inl, inr, arith, length-append, eq-eqb, ne_eqb, lt-ltb}
-use Rattle.std.specs.Prelude.{⊤}
+use Rattle.std.proofs.Common.{◌≡◌, ◌⊎◌, ℕ, zero, suc, ◌+◌, ◌<◌, ◌≤◌, true, false, List, [], ◌∷◌, ◌++◌, length, slice_get, Option, Some, None, refl, sym, ap, subst, inl, inr, arith, length-append, lt-ltb}
 use Rattle.std.proofs.lemmas.Bool.{cases_eq}
 use Rattle.std.proofs.lemmas.Option.{none-some, same_Some}
 use Rattle.wf_ballot.specs.Ballot.{Ballot, below}
 use Rattle.wf_ballot.proofs.Order.{below-irreflexive, below-asymmetric, not_below-transitive}
 use Rattle.wf_model.specs.Message.{Vote, Message, Accept}
-use Rattle.wf_model.specs.Stored.{Stored, Tried, Promised, Accepted, Published, published, entry_at, put, with_record}
+use Rattle.wf_model.specs.Stored.{Stored, Tried, Promised, Accepted, Published, published, definition_at, put, promise_at, with_record}
+use Rattle.wf_model.specs.Table.{is_above, is_refused}
 use Rattle.wf_model.specs.Chosen.{IsIn, IsChosen}
+use Rattle.wf_model.proofs.Put.{put-same, put-other, at_put}
 use Rattle.wf_law.specs.Laws.{NotBelow, VoteNotBelow}
 use Rattle.wf_law.proofs.Facts.{Stands, IsAsked, StoredFacts}
 
--- ---- a function that is changed at one place
-
-pub put-same : {A : Type 0} (f : ℕ → Option A) (s : ℕ) (x : Option A) (t : ℕ) → t ≡ s → put f s x t ≡ x
-unfolding put
-put-same f s x t e = rw (eq-eqb t s e) refl
-
-put-other : {A : Type 0} (f : ℕ → Option A) (s : ℕ) (x : Option A) (t : ℕ) → (t ≡ s → ⊥) → put f s x t ≡ f t
-unfolding put
-put-other f s x t differs = rw (ne_eqb t s differs) refl
-
--- what holds of the new value, and of each old one, holds everywhere
-at_put : {A : Type 0} (P : Option A → Type 0) (f : ℕ → Option A) (s : ℕ) (x : Option A) (t : ℕ) → (t ≡ s → P x) → ((t ≡ s → ⊥) → P (f t)) → P (put f s x t)
-at_put P f s x t new old =
-    elim (cases_eq t s) [ inl e ↦ subst P (sym (put-same f s x t e)) (new e) | inr differs ↦ subst P (sym (put-other f s x t differs)) (old differs) ]
-
 -- ---- promises rise
 
--- there is no promise, or one below b; there is none, or one that isn't above b
-abbrev pub LiesBelow : Option Ballot → Ballot → Type 0
-LiesBelow None b = ⊤
-LiesBelow (Some q) b = below q b ≡ true
-
-abbrev pub NotAbove : Option Ballot → Ballot → Type 0
-NotAbove None b = ⊤
-NotAbove (Some q) b = below b q ≡ false
-
-pub NotAbove-from_below : (promise : Option Ballot) (b : Ballot) → LiesBelow promise b → NotAbove promise b
-NotAbove-from_below None b h = tt
-NotAbove-from_below (Some q) b h = below-asymmetric q b h
+-- a ballot above the promise isn't below it
+pub is_above-not_refused : (promise : Option Ballot) (b : Ballot) → is_above promise b ≡ true → is_refused promise b ≡ false
+is_above-not_refused None b h = refl
+is_above-not_refused (Some q) b h = below-asymmetric q b h
 
 -- a promise that wasn't below c is replaced by one that isn't either
-pub raised : (promise : Option Ballot) (b c : Ballot) → NotAbove promise b → NotBelow promise c → below b c ≡ false
+pub raised : (promise : Option Ballot) (b c : Ballot) → is_refused promise b ≡ false → NotBelow promise c → below b c ≡ false
 raised None b c h k = absurd k
 raised (Some q) b c h k = not_below-transitive c q b k h
 
 -- ---- the published list grows
 
-entry-last : {A : Type 0} (xs : List A) (x : A) (k : ℕ) (y : A) → slice_get (xs ++ x ∷ []) k ≡ Some y → (slice_get xs k ≡ Some y) ⊎ ((k ≡ length xs) × (x ≡ y))
-entry-last [] x zero y e = inr (refl, same_Some x y e)
-entry-last [] x (suc k) y e = absurd (none-some y e)
-entry-last (z ∷ xs) x zero y e = inl e
-entry-last (z ∷ xs) x (suc k) y e = moved (entry-last xs x k y e)
+get-last : {A : Type 0} (xs : List A) (x : A) (k : ℕ) (y : A) → slice_get (xs ++ x ∷ []) k ≡ Some y → (slice_get xs k ≡ Some y) ⊎ ((k ≡ length xs) × (x ≡ y))
+get-last [] x zero y e = inr (refl, same_Some x y e)
+get-last [] x (suc k) y e = absurd (none-some y e)
+get-last (z ∷ xs) x zero y e = inl e
+get-last (z ∷ xs) x (suc k) y e = moved (get-last xs x k y e)
   where
     moved : (slice_get xs k ≡ Some y) ⊎ ((k ≡ length xs) × (x ≡ y)) → (slice_get xs k ≡ Some y) ⊎ ((suc k ≡ suc (length xs)) × (x ≡ y))
     moved (inl h) = inl h
     moved (inr h) = inr (ap suc h.0, h.1)
 
-entry_at-last : {V : Type 0} (history : List V) (d : V) (t : ℕ) (e : V) → entry_at (history ++ d ∷ []) t ≡ Some e →
-    (entry_at history t ≡ Some e) ⊎ ((t ≡ length history + 1) × (d ≡ e))
-unfolding entry_at
-entry_at-last history d zero e h = inl h
-entry_at-last history d (suc k) e h = moved (entry-last history d k e h)
+definition_at-last : {V : Type 0} (history : List V) (d : V) (t : ℕ) (e : V) → definition_at (history ++ d ∷ []) t ≡ Some e →
+    (definition_at history t ≡ Some e) ⊎ ((t ≡ length history + 1) × (d ≡ e))
+unfolding definition_at
+definition_at-last history d zero e h = inl h
+definition_at-last history d (suc k) e h = moved (get-last history d k e h)
   where
     moved : (slice_get history k ≡ Some e) ⊎ ((k ≡ length history) × (d ≡ e)) → (slice_get history k ≡ Some e) ⊎ ((suc k ≡ length history + 1) × (d ≡ e))
     moved (inl old) = inl old
@@ -110,12 +88,12 @@ module _ {V : Type 0} (n i : ℕ) (stored : Stored V) (sent : List (Message V)) 
 
   -- At s the promise is b now, which was above the one there: what that one wasn't below, b isn't below either.
   -- Elsewhere nothing changed.
-  promised_facts : (s : ℕ) (b : Ballot) → published stored < s → LiesBelow (stored.promises s) b → Stands sent b → StoredFacts n i stored sent →
+  promised_facts : (s : ℕ) (b : Ballot) → published stored < s → is_above (promise_at stored s) b ≡ true → Stands sent b → StoredFacts n i stored sent →
       StoredFacts n i (with_promise stored s b) sent
   unfolding published
   promised_facts s b is_open lower stands facts =
-      let up : (c : Ballot) (t : ℕ) → t ≡ s → NotBelow (stored.promises t) c → below b c ≡ false =
-      λ c t e h. raised (stored.promises s) b c (NotAbove-from_below (stored.promises s) b lower) (subst (λ x. NotBelow (stored.promises x) c) e h) in
+      let up : (c : Ballot) (t : ℕ) → t ≡ s → NotBelow (promise_at stored t) c → below b c ≡ false =
+      λ c t e h. raised (promise_at stored s) b c (is_above-not_refused (promise_at stored s) b lower) (subst (λ x. NotBelow (promise_at stored x) c) e h) in
       record {
         tried = facts.tried;
         open_promises = λ t closed. at_put (λ o. o ≡ None) stored.promises s (Some b) t (λ e. absurd (omega arith)) (λ _. facts.open_promises t closed);
@@ -133,20 +111,20 @@ module _ {V : Type 0} (n i : ℕ) (stored : Stored V) (sent : List (Message V)) 
         chosen = facts.chosen;
       }
 
-  pub store_promised : (s : ℕ) (b : Ballot) → published stored < s → LiesBelow (stored.promises s) b → Stands sent b → StoredFacts n i stored sent →
+  pub store_promised : (s : ℕ) (b : Ballot) → published stored < s → is_above (promise_at stored s) b ≡ true → Stands sent b → StoredFacts n i stored sent →
       StoredFacts n i (with_record stored (Promised s b)) sent
   store_promised s b is_open lower stands facts =
       subst (λ x. StoredFacts n i x sent) (sym (is_promised stored s b is_open)) (promised_facts s b is_open lower stands facts)
 
   -- At s promise and vote are at b now, and the promise there wasn't above b: what it wasn't below, b isn't below
   -- either. Elsewhere nothing changed.
-  accepted_facts : (s : ℕ) (b : Ballot) (d : V) → published stored < s → NotAbove (stored.promises s) b → IsIn (Accept s b d) sent → StoredFacts n i stored sent →
+  accepted_facts : (s : ℕ) (b : Ballot) (d : V) → published stored < s → is_refused (promise_at stored s) b ≡ false → IsIn (Accept s b d) sent → StoredFacts n i stored sent →
       StoredFacts n i (with_vote stored s b d) sent
   unfolding published
   accepted_facts s b d is_open lower asked facts =
       let vote : Vote V = record { ballot = b; definition = d } in
-      let up : (c : Ballot) (t : ℕ) → t ≡ s → NotBelow (stored.promises t) c → below b c ≡ false =
-      λ c t e h. raised (stored.promises s) b c lower (subst (λ x. NotBelow (stored.promises x) c) e h) in
+      let up : (c : Ballot) (t : ℕ) → t ≡ s → NotBelow (promise_at stored t) c → below b c ≡ false =
+      λ c t e h. raised (promise_at stored s) b c lower (subst (λ x. NotBelow (promise_at stored x) c) e h) in
       record {
         tried = facts.tried;
         open_promises = λ t closed. at_put (λ o. o ≡ None) stored.promises s (Some b) t (λ e. absurd (omega arith)) (λ _. facts.open_promises t closed);
@@ -172,7 +150,7 @@ module _ {V : Type 0} (n i : ℕ) (stored : Stored V) (sent : List (Message V)) 
         chosen = facts.chosen;
       }
 
-  pub store_accepted : (s : ℕ) (b : Ballot) (d : V) → published stored < s → NotAbove (stored.promises s) b → IsIn (Accept s b d) sent → StoredFacts n i stored sent →
+  pub store_accepted : (s : ℕ) (b : Ballot) (d : V) → published stored < s → is_refused (promise_at stored s) b ≡ false → IsIn (Accept s b d) sent → StoredFacts n i stored sent →
       StoredFacts n i (with_record stored (Accepted s b d)) sent
   store_accepted s b d is_open lower asked facts =
       subst (λ x. StoredFacts n i x sent) (sym (is_accepted stored s b d is_open)) (accepted_facts s b d is_open lower asked facts)
@@ -182,7 +160,7 @@ module _ {V : Type 0} (n i : ℕ) (stored : Stored V) (sent : List (Message V)) 
   same_sequence s t first second = omega arith
 
   -- The sequence is published, so nothing is asked of its promise and vote any more, and they are gone. Elsewhere
-  -- nothing changed, and the entry that is new is chosen.
+  -- nothing changed, and the definition that is new is chosen.
   pub store_published : (s : ℕ) (d : V) → s ≡ published stored + 1 → IsChosen n sent s d → StoredFacts n i stored sent → StoredFacts n i (with_record stored (Published s d)) sent
   unfolding with_record
   store_published s d is_next is_chosen facts =
@@ -204,7 +182,7 @@ module _ {V : Type 0} (n i : ℕ) (stored : Stored V) (sent : List (Message V)) 
               (facts.vote_within t v (rw (put-other stored.votes s None t differs) at h))
         ];
         promise_stands = λ t c. at_put (λ o. o ≡ Some c → Stands sent c) stored.promises s None t (λ e h. absurd (none-some c h)) (λ _. facts.promise_stands t c);
-        chosen = λ t e h. elim (entry_at-last stored.history d t e h) [
+        chosen = λ t e h. elim (definition_at-last stored.history d t e h) [
           | inl old ↦ facts.chosen t e old
           | inr new ↦ subst (IsChosen n sent t) new.1 (subst (λ x. IsChosen n sent x d) (same_sequence s t is_next new.0) is_chosen)
         ];

@@ -4,7 +4,7 @@ use Rattle.std.proofs.lemmas.Bool.{cases_lt}
 use Rattle.std.proofs.lemmas.Option.{none-some, same_Some}
 use Rattle.wf_ballot.specs.Ballot.{Ballot}
 use Rattle.wf_model.specs.Message.{Message, Prepare, Promise, Accept, Accepted, Nack, Chosen, Ask}
-use Rattle.wf_model.specs.Stored.{Stored, published, entry_at}
+use Rattle.wf_model.specs.Stored.{Stored, published, definition_at, promise_at}
 use Rattle.wf_model.specs.Working.{Working, Idle, Running, Won, Overtaken}
 use Rattle.wf_model.specs.Table as table
 use Rattle.wf_model.specs.Table.{Action, store}
@@ -129,7 +129,7 @@ own_ballots V = record {
 
 module _ {V : Type 0} (n : ℕ) (w : World V) (facts : WorldFacts n w) where
   -- a node of the farm is bound, published or not
-  bound : (i s : ℕ) (b : Ballot) → i < n → ((stored : Stored V) → StoredFacts n i stored w.sent → published stored < s → NotBelow (stored.promises s) b) → IsBound w i s b
+  bound : (i s : ℕ) (b : Ballot) → i < n → ((stored : Stored V) → StoredFacts n i stored w.sent → published stored < s → NotBelow (promise_at stored s) b) → IsBound w i s b
   bound i s b is_node open_case =
       let within : i < length w.nodes = subst (λ k. i < k) (sym facts.size) is_node in
       let (node, is_there) = found w.nodes i within in
@@ -173,24 +173,24 @@ promised_majority V = λ same n events. promised_majority_in n (after same n eve
 -- ---- agreement
 
 module _ {V : Type 0} (n : ℕ) (w : World V) (facts : WorldFacts n w) where
-  nothing_published : (s : ℕ) (d : V) → entry_at {V = V} [] s ≡ Some d → ⊥
-  unfolding entry_at
+  nothing_published : (s : ℕ) (d : V) → definition_at {V = V} [] s ≡ Some d → ⊥
+  unfolding definition_at
   nothing_published zero d e = none-some d e
   nothing_published (suc k) d e = none-some d e
 
-  entry_chosen : (i s : ℕ) (d : V) (node : Option (Node V)) → slice_get w.nodes i ≡ node → entry_at (history_of node) s ≡ Some d → IsChosen n w.sent s d
+  entry_chosen : (i s : ℕ) (d : V) (node : Option (Node V)) → slice_get w.nodes i ≡ node → definition_at (history_of node) s ≡ Some d → IsChosen n w.sent s d
   unfolding history_of
   entry_chosen i s d None is_there e = absurd (nothing_published s d e)
   entry_chosen i s d (Some node) is_there e =
       let member : MemberFacts n i w.sent node = facts.nodes i node is_there in
       member.stored.chosen s d e
 
-  published_chosen : (i s : ℕ) (d : V) → entry_at (history w i) s ≡ Some d → IsChosen n w.sent s d
+  published_chosen : (i s : ℕ) (d : V) → definition_at (history w i) s ≡ Some d → IsChosen n w.sent s d
   unfolding history
   published_chosen i s d e = entry_chosen i s d (slice_get w.nodes i) refl e
 
   definition_chosen : (empty : V) (i k : ℕ) (d : V) → definition empty w i (suc k) ≡ Some d → IsChosen n w.sent (suc k) d
-  unfolding definition entry_at
+  unfolding definition definition_at
   definition_chosen empty i k d e = published_chosen i (suc k) d e
 
   same_definition : (empty : V) (i j s : ℕ) (c d : V) → definition empty w i s ≡ Some c → definition empty w j s ≡ Some d → c ≡ d

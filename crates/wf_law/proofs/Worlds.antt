@@ -5,7 +5,7 @@ use Rattle.std.proofs.Math.ListN.{length-replicate}
 use Rattle.std.proofs.lemmas.Bool.{cases_eq}
 use Rattle.std.proofs.lemmas.Option.{none-some, same_Some, slice_get_within}
 use Rattle.wf_model.specs.Message.{Message}
-use Rattle.wf_model.specs.Stored.{Stored, nothing_stored, entry_at}
+use Rattle.wf_model.specs.Stored.{Stored, nothing_stored, definition_at}
 use Rattle.wf_model.specs.Working.{Working, Idle}
 use Rattle.wf_model.specs.Table as table
 use Rattle.wf_model.specs.Table.{Action, Input, refusal, row, store}
@@ -56,8 +56,8 @@ is_node n w facts i node e = subst (λ k. i < k) facts.size (slice_get_within w.
 
 -- ---- the first world
 
-nothing_at : {V : Type 0} (s : ℕ) (d : V) → entry_at {V = V} [] s ≡ Some d → ⊥
-unfolding entry_at
+nothing_at : {V : Type 0} (s : ℕ) (d : V) → definition_at {V = V} [] s ≡ Some d → ⊥
+unfolding definition_at
 nothing_at zero d e = none-some d e
 nothing_at (suc k) d e = none-some d e
 

@@ -3,11 +3,11 @@ use Rattle.std.specs.Prelude.{◌≡◌, ◌⊎◌, ℕ, ◌≤◌, Bool, true, 
 use Rattle.wf_ballot.specs.Ballot.{Ballot, below}
 use Rattle.wf_ballot.specs.Majority.{Majority}
 use Rattle.wf_model.specs.Message.{Vote, Message, Prepare, Promise, Accept, Accepted, Nack, Chosen, Ask}
-use Rattle.wf_model.specs.Stored.{Stored, published, entry_at}
+use Rattle.wf_model.specs.Stored.{Stored, published, definition_at, promise_at}
 use Rattle.wf_model.specs.Working.{Proposal, Working, Running}
 use Rattle.wf_model.specs.World as world
 use Rattle.wf_model.specs.World.{Node, World, Event, after, happens}
-use Rattle.wf_model.specs.Chosen.{IsIn, Voted, IsChosen, history, definition}
+use Rattle.wf_model.specs.Chosen.{IsIn, Voted, Told, IsChosen, history, definition}
 
 -- ---- ballots belong to their nodes
 
@@ -26,14 +26,14 @@ ballots_of (Chosen s d) = []
 ballots_of (Ask s) = []
 
 -- node i is there, with this stored part
-pub record HasStored {V : Type 0} (w : World V) (i : ℕ) (stored : Stored V) : Type 0 where
+pub record NodeHas {V : Type 0} (w : World V) (i : ℕ) (stored : Stored V) : Type 0 where
   pub working : Option (Working V)
   pub is_there : slice_get w.nodes i ≡ Some (record { stored = stored; working = working })
 
 -- the ballot's node tried its round, or a later one
 pub record IsTried {V : Type 0} (w : World V) (b : Ballot) : Type 0 where
   pub stored : Stored V
-  pub node : HasStored w b.node stored
+  pub node : NodeHas w b.node stored
   pub tried : b.round ≤ stored.tried
 
 -- node i runs a proposal at this sequence and ballot
@@ -81,8 +81,8 @@ NotBelow (Some promise) b = below promise b ≡ false
 -- node i published s, or still has a promise at s that isn't below b
 pub record IsBound {V : Type 0} (w : World V) (i s : ℕ) (b : Ballot) : Type 0 where
   pub stored : Stored V
-  pub node : HasStored w i stored
-  pub bound : (s ≤ published stored) ⊎ NotBelow (stored.promises s) b
+  pub node : NodeHas w i stored
+  pub bound : (s ≤ published stored) ⊎ NotBelow (promise_at stored s) b
 
 -- no vote below a promise of that node goes out among the messages after it
 abbrev pub NoVoteBelow : {V : Type 0} → Message V → List (Message V) → Type 0
@@ -94,11 +94,11 @@ VotesInOrder [] = ⊤
 VotesInOrder (message ∷ later) = NoVoteBelow message later × VotesInOrder later
 
 pub record KeptPromisesIn {V : Type 0} (w : World V) : Type 0 where
-  pub promised : (i s : ℕ) (b : Ballot) (vote : Option (Vote V)) → IsIn (Promise i s b vote) w.sent → IsBound w i s b
+  pub promised : (i s : ℕ) (b : Ballot) (vote : Option (Vote V)) → Told w.sent s b vote i → IsBound w i s b
   pub accepted : (i s : ℕ) (b : Ballot) → IsIn (Accepted i s b) w.sent → IsBound w i s b
   pub in_order : VotesInOrder w.sent
-  pub stored_vote : (i s : ℕ) (stored : Stored V) (vote : Vote V) → HasStored w i stored → stored.votes s ≡ Some vote → IsIn (Accept s vote.ballot vote.definition) w.sent
-  pub told_vote : (i s : ℕ) (b : Ballot) (vote : Vote V) → IsIn (Promise i s b (Some vote)) w.sent → IsIn (Accept s vote.ballot vote.definition) w.sent
+  pub stored_vote : (i s : ℕ) (stored : Stored V) (vote : Vote V) → NodeHas w i stored → stored.votes s ≡ Some vote → IsIn (Accept s vote.ballot vote.definition) w.sent
+  pub told_vote : (i s : ℕ) (b : Ballot) (vote : Vote V) → Told w.sent s b (Some vote) i → IsIn (Accept s vote.ballot vote.definition) w.sent
 
 -- A node keeps what it promised: it stays bound until the sequence is published, it doesn't vote below its
 -- promise, and each vote that it keeps or tells was asked for.
@@ -120,14 +120,14 @@ IsWithin (Some vote) best = VoteNotBelow best vote.ballot
 -- node i promised at the sequence and ballot, and told a vote not above the best one
 pub record HasPromised {V : Type 0} (sent : List (Message V)) (s : ℕ) (b : Ballot) (best : Option (Vote V)) (i : ℕ) : Type 0 where
   pub vote : Option (Vote V)
-  pub said : IsIn (Promise i s b vote) sent
+  pub said : Told sent s b vote i
   pub within : IsWithin vote best
 
 -- one of these nodes told the vote
 pub record IsTold {V : Type 0} (sent : List (Message V)) (s : ℕ) (b : Ballot) (nodes : ℕ → Bool) (vote : Vote V) : Type 0 where
   pub teller : ℕ
   pub is_member : nodes teller ≡ true
-  pub said : IsIn (Promise teller s b (Some vote)) sent
+  pub said : Told sent s b (Some vote) teller
 
 -- the best vote, where there is one, was told by one of these nodes
 abbrev pub BestIsTold : {V : Type 0} → List (Message V) → ℕ → Ballot → (ℕ → Bool) → Option (Vote V) → Type 0
@@ -162,7 +162,7 @@ IsBeginning {A} xs ys = (rest : List A) × (xs ++ rest ≡ ys)
 
 pub record AgreementIn {V : Type 0} (n : ℕ) (w : World V) : Type 0 where
   pub one_chosen : (s : ℕ) (c d : V) → IsChosen n w.sent s c → IsChosen n w.sent s d → c ≡ d
-  pub published_is_chosen : (i s : ℕ) (d : V) → entry_at (history w i) s ≡ Some d → IsChosen n w.sent s d
+  pub published_is_chosen : (i s : ℕ) (d : V) → definition_at (history w i) s ≡ Some d → IsChosen n w.sent s d
   pub told_is_chosen : (s : ℕ) (d : V) → IsIn (Chosen s d) w.sent → IsChosen n w.sent s d
   pub same_definition : (empty : V) (i j s : ℕ) (c d : V) → definition empty w i s ≡ Some c → definition empty w j s ≡ Some d → c ≡ d
 

@@ -1,6 +1,6 @@
 //! The law of agreement, over the definitions of `wf_model` alone: for every number of nodes and every list
 //! of proposals, retries, deliveries, losses, repeats, reorderings, stops, restarts and torn steps, no two
-//! nodes publish different definitions under one sequence, and no list ever loses an entry.
+//! nodes publish different definitions under one sequence, and no list ever loses a definition.
 //!
 //! **Model.** `wf_model`'s worlds and events. `specs/Laws.antt` has the statements, which say of the world
 //! after any events what holds there.
@@ -33,7 +33,7 @@ pub fn promised_majority<V>()
 {}
 
 /// One definition at most is chosen for a sequence; what is published or told as chosen is chosen; so nodes
-/// that both have an entry of a sequence have the same one; and lists only grow.
+/// that both published a sequence have the same definition there; and lists only grow.
 pub fn agreement<V>()
     ensures { Agreement V }
 {}

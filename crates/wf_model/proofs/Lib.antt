@@ -1,3 +1,5 @@
 mod Folds
+pub mod Put
 mod Rows
 mod Runs
+pub mod Steps

@@ -1,13 +1,13 @@
 -- Each row's record fits what its node stored.
-use Rattle.std.proofs.Common.{◌≡◌, ℕ, ◌+◌, ◌==◌, nat_lt, nat_le, max, Bool, true, false, cond, List, [], ◌∷◌, Option, Some, None, refl, sym, subst, eq-eqb}
-use Rattle.wf_ballot.specs.Ballot.{Ballot, below}
+use Rattle.std.proofs.Common.{◌≡◌, ℕ, ◌+◌, ◌==◌, nat_lt, nat_le, max, Bool, true, false, cond, List, [], ◌∷◌, Option, refl, sym, subst, eq-eqb}
+use Rattle.wf_ballot.specs.Ballot.{Ballot}
 use Rattle.wf_ballot.specs.Majority.{count_nodes, is_majority_of}
 use Rattle.wf_ballot.specs.Sequence.{last_sequence}
 use Rattle.wf_model.specs.Message.{Vote, Message, Prepare, Promise, Accept, Accepted, Nack, Chosen, Ask}
 use Rattle.wf_model.specs.Stored as stored_part
-use Rattle.wf_model.specs.Stored.{Stored, Record, Tried, Promised, Published, published, next_sequence, with_record, fits}
+use Rattle.wf_model.specs.Stored.{Stored, Record, Tried, Promised, Published, published, next_sequence, promise_at, with_record, fits}
 use Rattle.wf_model.specs.Working.{Proposal, Working, Idle, Running, Won, Overtaken, Preparing, Accepting, carried, is_at}
-use Rattle.wf_model.specs.Table.{Input, Propose, Retry, CatchUp, Deliver, store, quiet, says, stores, round_known, begin_at, on_propose, on_retry, on_catch_up, told, told_from, on_ask, entries_told, promise_to, prepare_open, on_prepare, votes_at, vote_for, accept_open, on_accept, hears, with_promise, asking_votes, promised, on_promise, with_vote, on_nack, ended, ends, voted, on_accepted, on_chosen, on_message, row}
+use Rattle.wf_model.specs.Table.{Row, Input, Propose, Retry, CatchUp, Deliver, store, quiet, says, stores, when_running, round_known, begin_at, on_propose, on_retry, on_catch_up, told, told_from, on_ask, most_told, is_above, is_refused, nack, promise_to, prepare_open, on_prepare, votes_at, vote_for, accept_open, on_accept, hears, with_promise, asking_votes, promised, on_promise, with_vote, on_nack, ended, ends, voted, on_accepted, on_chosen, on_message, row}
 use Rattle.wf_model.specs.Fits.{IsForNext, RowFits, RecordsFit}
 
 module _ {V : Type 0} (stored : Stored V) where
@@ -20,6 +20,14 @@ module _ {V : Type 0} (stored : Stored V) where
   says_fits : (working : Working V) (messages : List (Message V)) → IsForNext stored working → RowFits stored (says working messages)
   unfolding says store
   says_fits working messages next = record { fits = tt; for_next = next }
+
+  -- the row of a proposal, which only a running one has
+  when_running_fits : (working : Working V) (row_of : Proposal V → Row V) → IsForNext stored working →
+      ((p : Proposal V) → p.sequence ≡ next_sequence stored → RowFits stored (row_of p)) → RowFits stored (when_running working row_of)
+  when_running_fits Idle row_of next fit = quiet_fits Idle tt
+  when_running_fits (Running p) row_of next fit = fit p next
+  when_running_fits (Won s) row_of next fit = quiet_fits (Won s) tt
+  when_running_fits (Overtaken s) row_of next fit = quiet_fits (Overtaken s) tt
 
   -- a record of a promise or a vote publishes nothing
   promised_stays : (s : ℕ) (b : Ballot) (is_open : Bool) → nat_lt (published stored) s ≡ is_open → published (with_record stored (Promised s b)) ≡ published stored
@@ -49,24 +57,18 @@ module _ {V : Type 0} (stored : Stored V) where
     for_next = still_next (with_record stored (Promised s b)) working (promised_stays s b (nat_lt (published stored) s) refl) next;
   }
 
-  compared_fits : (me : ℕ) (working : Working V) (s : ℕ) (b q : Ballot) (lower higher : Bool) → IsForNext stored working → below q b ≡ lower → below b q ≡ higher →
-      RowFits stored (prepare_open me stored working s b (Some q))
+  prepare_open_fits : (me : ℕ) (working : Working V) (s : ℕ) (b : Ballot) (promise : Option Ballot) (above refused : Bool) → IsForNext stored working →
+      is_above promise b ≡ above → is_refused promise b ≡ refused → RowFits stored (prepare_open me stored working s b promise)
   unfolding prepare_open
-  compared_fits me working s b q true higher next e h = rw e (promise_fits me working s b next)
-  compared_fits me working s b q false true next e h = rw (e, h) (says_fits working (Nack me s b q ∷ []) next)
-  compared_fits me working s b q false false next e h = rw (e, h) (quiet_fits working next)
-
-  prepare_open_fits : (me : ℕ) (working : Working V) (s : ℕ) (b : Ballot) (promise : Option Ballot) → IsForNext stored working →
-      RowFits stored (prepare_open me stored working s b promise)
-  unfolding prepare_open
-  prepare_open_fits me working s b None next = promise_fits me working s b next
-  prepare_open_fits me working s b (Some q) next = compared_fits me working s b q (below q b) (below b q) next refl refl
+  prepare_open_fits me working s b promise true refused next e h = rw e (promise_fits me working s b next)
+  prepare_open_fits me working s b promise false true next e h = rw (e, h) (says_fits working (nack me s b promise) next)
+  prepare_open_fits me working s b promise false false next e h = rw (e, h) (quiet_fits working next)
 
   prepare_fits : (me : ℕ) (working : Working V) (s : ℕ) (b : Ballot) (is_published : Bool) → IsForNext stored working → nat_le s (published stored) ≡ is_published →
       RowFits stored (on_prepare me stored working s b)
   unfolding on_prepare
   prepare_fits me working s b true next e = rw e (says_fits working (told stored.history s) next)
-  prepare_fits me working s b false next e = rw e (prepare_open_fits me working s b (stored.promises s) next)
+  prepare_fits me working s b false next e = rw e (prepare_open_fits me working s b (promise_at stored s) (is_above (promise_at stored s) b) (is_refused (promise_at stored s) b) next refl refl)
 
   vote_fits : (me : ℕ) (working : Working V) (s : ℕ) (b : Ballot) (d : V) (again : Bool) → IsForNext stored working → votes_at (stored.votes s) b ≡ again →
       RowFits stored (vote_for me stored working s b d)
@@ -77,23 +79,17 @@ module _ {V : Type 0} (stored : Stored V) where
     for_next = still_next (with_record stored (stored_part.Accepted s b d)) working (accepted_stays s b d (nat_lt (published stored) s) refl) next;
   })
 
-  compared_accept_fits : (me : ℕ) (working : Working V) (s : ℕ) (b : Ballot) (d : V) (q : Ballot) (lower : Bool) → IsForNext stored working → below b q ≡ lower →
-      RowFits stored (accept_open me stored working s b d (Some q))
+  accept_open_fits : (me : ℕ) (working : Working V) (s : ℕ) (b : Ballot) (d : V) (promise : Option Ballot) (refused : Bool) → IsForNext stored working →
+      is_refused promise b ≡ refused → RowFits stored (accept_open me stored working s b d promise)
   unfolding accept_open
-  compared_accept_fits me working s b d q true next e = rw e (says_fits working (Nack me s b q ∷ []) next)
-  compared_accept_fits me working s b d q false next e = rw e (vote_fits me working s b d (votes_at (stored.votes s) b) next refl)
-
-  accept_open_fits : (me : ℕ) (working : Working V) (s : ℕ) (b : Ballot) (d : V) (promise : Option Ballot) → IsForNext stored working →
-      RowFits stored (accept_open me stored working s b d promise)
-  unfolding accept_open
-  accept_open_fits me working s b d None next = vote_fits me working s b d (votes_at (stored.votes s) b) next refl
-  accept_open_fits me working s b d (Some q) next = compared_accept_fits me working s b d q (below b q) next refl
+  accept_open_fits me working s b d promise true next e = rw e (says_fits working (nack me s b promise) next)
+  accept_open_fits me working s b d promise false next e = rw e (vote_fits me working s b d (votes_at (stored.votes s) b) next refl)
 
   accept_fits : (me : ℕ) (working : Working V) (s : ℕ) (b : Ballot) (d : V) (is_published : Bool) → IsForNext stored working → nat_le s (published stored) ≡ is_published →
       RowFits stored (on_accept me stored working s b d)
   unfolding on_accept
   accept_fits me working s b d true next e = rw e (says_fits working (told stored.history s) next)
-  accept_fits me working s b d false next e = rw e (accept_open_fits me working s b d (stored.promises s) next)
+  accept_fits me working s b d false next e = rw e (accept_open_fits me working s b d (promise_at stored s) (is_refused (promise_at stored s) b) next refl)
 
   -- ---- the proposer
 
@@ -101,12 +97,10 @@ module _ {V : Type 0} (stored : Stored V) where
   unfolding begin_at stores store fits with_record next_sequence published
   begin_fits me own round = record { fits = refl; for_next = refl }
 
-  retry_fits : (me : ℕ) (working : Working V) → RowFits stored (on_retry me stored working)
+  retry_fits : (me : ℕ) (working : Working V) → IsForNext stored working → RowFits stored (on_retry me stored working)
   unfolding on_retry
-  retry_fits me Idle = quiet_fits Idle tt
-  retry_fits me (Running p) = begin_fits me p.own (round_known stored p + 1)
-  retry_fits me (Won s) = quiet_fits (Won s) tt
-  retry_fits me (Overtaken s) = quiet_fits (Overtaken s) tt
+  retry_fits me working next =
+      when_running_fits working (λ p. begin_at me stored p.own (round_known stored p + 1)) next (λ p _. begin_fits me p.own (round_known stored p + 1))
 
   catch_up_fits : (working : Working V) (more : Bool) → IsForNext stored working → nat_lt (published stored) last_sequence ≡ more → RowFits stored (on_catch_up stored working)
   unfolding on_catch_up
@@ -129,10 +123,7 @@ module _ {V : Type 0} (stored : Stored V) where
 
   promises_fit : (n : ℕ) (working : Working V) (sender s : ℕ) (b : Ballot) (vote : Option (Vote V)) → IsForNext stored working → RowFits stored (on_promise n working sender s b vote)
   unfolding on_promise
-  promises_fit n Idle sender s b vote next = quiet_fits Idle tt
-  promises_fit n (Running p) sender s b vote next = promise_by n p sender s b vote (hears n p Preparing sender s b) next refl
-  promises_fit n (Won t) sender s b vote next = quiet_fits (Won t) tt
-  promises_fit n (Overtaken t) sender s b vote next = quiet_fits (Overtaken t) tt
+  promises_fit n working sender s b vote next = when_running_fits working _ next (λ p next. promise_by n p sender s b vote (hears n p Preparing sender s b) next refl)
 
   nack_by : (p : Proposal V) (s : ℕ) (b q : Ballot) (is_its : Bool) → p.sequence ≡ next_sequence stored → is_at p s b ≡ is_its → RowFits stored (on_nack (Running p) s b q)
   unfolding on_nack
@@ -141,10 +132,7 @@ module _ {V : Type 0} (stored : Stored V) where
 
   nacks_fit : (working : Working V) (s : ℕ) (b q : Ballot) → IsForNext stored working → RowFits stored (on_nack working s b q)
   unfolding on_nack
-  nacks_fit Idle s b q next = quiet_fits Idle tt
-  nacks_fit (Running p) s b q next = nack_by p s b q (is_at p s b) next refl
-  nacks_fit (Won t) s b q next = quiet_fits (Won t) tt
-  nacks_fit (Overtaken t) s b q next = quiet_fits (Overtaken t) tt
+  nacks_fit working s b q next = when_running_fits working _ next (λ p next. nack_by p s b q (is_at p s b) next refl)
 
   -- ---- what publishes
 
@@ -183,10 +171,7 @@ module _ {V : Type 0} (stored : Stored V) where
 
     votes_fit : (n : ℕ) (working : Working V) (sender s : ℕ) (b : Ballot) → IsForNext stored working → RowFits stored (on_accepted same n working sender s b)
     unfolding on_accepted
-    votes_fit n Idle sender s b next = quiet_fits Idle tt
-    votes_fit n (Running p) sender s b next = vote_by n p sender s b (hears n p Accepting sender s b) next refl
-    votes_fit n (Won t) sender s b next = quiet_fits (Won t) tt
-    votes_fit n (Overtaken t) sender s b next = quiet_fits (Overtaken t) tt
+    votes_fit n working sender s b next = when_running_fits working _ next (λ p next. vote_by n p sender s b (hears n p Accepting sender s b) next refl)
 
     chosen_fits : (working : Working V) (s : ℕ) (d : V) (is_next is_later : Bool) → IsForNext stored working → (s == next_sequence stored) ≡ is_next →
         nat_lt (next_sequence stored) s ≡ is_later → RowFits stored (on_chosen same stored working s d)
@@ -205,12 +190,12 @@ module _ {V : Type 0} (stored : Stored V) where
     message_fits n me working (Accepted sender s b) next = votes_fit n working sender s b next
     message_fits n me working (Nack sender s b q) next = nacks_fit working s b q next
     message_fits n me working (Chosen s d) next = chosen_fits working s d (s == next_sequence stored) (nat_lt (next_sequence stored) s) next refl refl
-    message_fits n me working (Ask s) next = says_fits working (told_from stored.history s entries_told) next
+    message_fits n me working (Ask s) next = says_fits working (told_from stored.history s most_told) next
 
     pub row_fits : (n me : ℕ) (working : Working V) (input : Input V) → IsForNext stored working → RowFits stored (row same n me stored working input)
     unfolding row on_propose
     row_fits n me working (Propose d) next = begin_fits me d (stored.tried + 1)
-    row_fits n me working Retry next = retry_fits me working
+    row_fits n me working Retry next = retry_fits me working next
     row_fits n me working CatchUp next = catch_up_fits working (nat_lt (published stored) last_sequence) next refl
     row_fits n me working (Deliver m) next = message_fits n me working m next
 

@@ -2,16 +2,17 @@
 use Rattle.std.proofs.Common.{◌≡◌, ℕ, [], ◌∷◌, refl, Some}
 use Rattle.wf_ballot.specs.Ballot.{below}
 use Rattle.wf_ballot.specs.Majority.{count_nodes, is_majority_of}
-use Rattle.wf_model.specs.Stored.{nothing_stored, published, next_sequence, entry_at, put, with_record}
+use Rattle.wf_model.specs.Message.{Prepare, Promise, Accept, Accepted, Nack, Chosen, Ask}
+use Rattle.wf_model.specs.Stored.{nothing_stored, published, next_sequence, definition_at, put, with_record}
 use Rattle.wf_model.specs.Working.{nobody, and_node, better, carried, same_ballot, same_phase, is_at}
 use Rattle.wf_model.specs.Table.{Busy, SequenceFull, RoundsFull, NothingToRetry, store, quiet, says, stores, rounds_full, round_known, refuse_proposal, refuse_retry, refusal, begin_at, on_propose, on_retry, on_catch_up, told_of, told, told_from, on_ask, promise_to, prepare_open, on_prepare, votes_at, vote_for, accept_open, on_accept, hears, with_promise, asking_votes, promised, on_promise, with_vote, on_nack, ended, ends, voted, on_accepted, on_chosen, on_message, row}
-use Rattle.wf_model.specs.World.{refusal_running, refusal_of, refused_at, refused, Propose, Retry, Before, After, delivered, input_of, stored_after, kept_part, with_node, after_turn, after_torn, stop_running, after_stop, restart_stopped, after_restart, turn_running, turn_of, turn, happens, steps, start, after}
+use Rattle.wf_model.specs.World.{refusal_running, refusal_of, refused_at, refused, Propose, Retry, CatchUp, Before, After, delivered, input_of, stored_after, kept_part, with_node, after_turn, after_torn, stop_running, after_stop, restart_stopped, after_restart, turn_running, turn_of, turn, happens, steps, start, after}
 use Rattle.wf_model.specs.Chosen.{history_of, history, definition}
-use Rattle.wf_model.specs.Examples.{full_history, full_rounds, only, a, b, empty, same_map, histories, Runs, PublishedAt, OvertakenAt, standing_of, standing, run, Leaves, none, just, to_each, pump, thrice_back, alone, three_pumped, two_of_four, three_of_four, half_accepted, comes_back, taken_over, repeated, torn, torn_then}
+use Rattle.wf_model.specs.Examples.{full_history, full_rounds, only, a, b, empty, same_map, histories, Runs, PublishedAt, OvertakenAt, standing_of, standing, run, Leaves, none, just, to_each, pump, thrice_back, alone, three_pumped, two_of_four, three_of_four, half_accepted, comes_back, taken_over, voted_once, late_accept, two_told, old_accept, outrun, behind, catches_up, new_round, repeated, torn, torn_then, sent_from, ballot, vote}
 
 -- opens all that a run computes with
 abbrev computed : ℕ
-unfolding below count_nodes is_majority_of nothing_stored published next_sequence entry_at put with_record nobody and_node better carried same_ballot same_phase is_at store quiet says stores rounds_full round_known refuse_proposal refuse_retry refusal begin_at on_propose on_retry on_catch_up told_of told told_from on_ask promise_to prepare_open on_prepare votes_at vote_for accept_open on_accept hears with_promise asking_votes promised on_promise with_vote on_nack ended ends voted on_accepted on_chosen on_message row delivered input_of stored_after kept_part with_node after_turn after_torn stop_running after_stop restart_stopped after_restart turn_running turn_of turn happens steps start after history_of history definition same_map histories standing_of standing to_each pump thrice_back alone three_pumped two_of_four three_of_four half_accepted comes_back taken_over repeated torn torn_then refusal_running refusal_of refused_at refused full_history full_rounds only
+unfolding below count_nodes is_majority_of nothing_stored published next_sequence definition_at put with_record nobody and_node better carried same_ballot same_phase is_at store quiet says stores rounds_full round_known refuse_proposal refuse_retry refusal begin_at on_propose on_retry on_catch_up told_of told told_from on_ask promise_to prepare_open on_prepare votes_at vote_for accept_open on_accept hears with_promise asking_votes promised on_promise with_vote on_nack ended ends voted on_accepted on_chosen on_message row delivered input_of stored_after kept_part with_node after_turn after_torn stop_running after_stop restart_stopped after_restart turn_running turn_of turn happens steps start after history_of history definition same_map histories standing_of standing to_each pump thrice_back alone three_pumped two_of_four three_of_four half_accepted comes_back taken_over voted_once late_accept two_told old_accept outrun behind catches_up new_round repeated torn torn_then sent_from refusal_running refusal_of refused_at refused full_history full_rounds only
 computed = 0
 
 pub alone_leaves : Leaves 1 alone (just a ∷ []) 5
@@ -45,6 +46,62 @@ taken_over_leaves = (refl, refl)
 pub repeated_leaves : Leaves 3 repeated (just a ∷ just a ∷ just a ∷ []) 27
 unfolding computed
 repeated_leaves = (refl, refl)
+
+pub voted_once_leaves : Leaves 3 voted_once (none ∷ none ∷ none ∷ []) 6
+unfolding computed
+voted_once_leaves = (refl, refl)
+
+pub voted_once_answers : sent_from (run 3 voted_once) 4 ≡ Accepted 0 1 (ballot 1 0) ∷ Accepted 0 1 (ballot 1 0) ∷ []
+unfolding computed
+voted_once_answers = refl
+
+pub late_accept_leaves : Leaves 3 late_accept (none ∷ just b ∷ none ∷ []) 13
+unfolding computed
+late_accept_leaves = (refl, refl)
+
+pub late_accept_answers : sent_from (run 3 late_accept) 11 ≡ Accepted 0 1 (ballot 1 0) ∷ Nack 2 1 (ballot 1 0) (ballot 1 1) ∷ []
+unfolding computed
+late_accept_answers = refl
+
+pub two_told_asks : sent_from (run 3 two_told) 14 ≡ Promise 2 1 (ballot 2 0) (Some (vote 1 1 b)) ∷ Promise 0 1 (ballot 2 0) (Some (vote 1 0 a)) ∷ Accept 1 (ballot 2 0) b ∷ []
+unfolding computed
+two_told_asks = refl
+
+pub old_accept_answers : sent_from (run 3 old_accept) 16 ≡ Accept 1 (ballot 2 0) b ∷ Nack 0 1 (ballot 1 0) (ballot 2 0) ∷ []
+unfolding computed
+old_accept_answers = refl
+
+pub outrun_asks : sent_from (run 3 outrun) 4 ≡ Prepare 1 (ballot 1 0) ∷ Nack 2 1 (ballot 1 0) (ballot 3 1) ∷ Prepare 1 (ballot 4 0) ∷ []
+unfolding computed
+outrun_asks = refl
+
+pub behind_leaves : Leaves 3 behind ((a ∷ b ∷ a ∷ []) ∷ (a ∷ b ∷ a ∷ []) ∷ (a ∷ b ∷ a ∷ []) ∷ []) 26
+unfolding computed
+behind_leaves = (refl, refl)
+
+pub behind_asks : sent_from (run 3 behind) 23 ≡ Ask 2 ∷ Chosen 2 b ∷ Chosen 3 a ∷ []
+unfolding computed
+behind_asks = refl
+
+pub catches_up_leaves : Leaves 3 catches_up (just a ∷ just a ∷ just a ∷ []) 9
+unfolding computed
+catches_up_leaves = (refl, refl)
+
+pub catches_up_asks : sent_from (run 3 catches_up) 7 ≡ Ask 1 ∷ Chosen 1 a ∷ []
+unfolding computed
+catches_up_asks = refl
+
+pub caught_up : happens same_map (only full_history) (CatchUp 0) ≡ only full_history
+unfolding computed
+caught_up = refl
+
+pub new_round_leaves : Leaves 2 new_round (none ∷ none ∷ []) 6
+unfolding computed
+new_round_leaves = (refl, refl)
+
+pub new_round_asks : sent_from (run 2 new_round) 3 ≡ Accept 1 (ballot 1 1) b ∷ Accepted 1 1 (ballot 1 1) ∷ Prepare 1 (ballot 2 1) ∷ []
+unfolding computed
+new_round_asks = refl
 
 pub torn_before : Leaves 3 (torn_then Before 3) (just a ∷ just a ∷ just a ∷ []) 12
 unfolding computed

@@ -2,7 +2,7 @@
 use Rattle.std.specs.Prelude.{◌≡◌, ◌⊎◌, ℕ, zero, suc, List, [], ◌∷◌, length, slice_get, Option, Some, None}
 use Rattle.wf_ballot.specs.Ballot.{Ballot}
 use Rattle.wf_ballot.specs.Majority.{Majority}
-use Rattle.wf_model.specs.Message.{Message, Accept, Accepted}
+use Rattle.wf_model.specs.Message.{Vote, Message, Promise, Accept, Accepted}
 use Rattle.wf_model.specs.World.{Node, World}
 
 -- x is in the list
@@ -15,12 +15,16 @@ pub record Voted {V : Type 0} (sent : List (Message V)) (s : ℕ) (b : Ballot) (
   pub said : IsIn (Accepted i s b) sent
   pub asked : IsIn (Accept s b d) sent
 
+-- Node i promised at the ballot, and told this of the sequence: its vote there, or that it has none.
+abbrev pub Told : {V : Type 0} → List (Message V) → ℕ → Ballot → Option (Vote V) → ℕ → Type 0
+Told sent s b vote i = IsIn (Promise i s b vote) sent
+
 -- d is chosen for the sequence: at some ballot a majority of the n nodes voted for it.
 pub record IsChosen {V : Type 0} (n : ℕ) (sent : List (Message V)) (s : ℕ) (d : V) : Type 0 where
   pub ballot : Ballot
   pub majority : Majority n (Voted sent s ballot d)
 
--- the list of a node, running or stopped, and how many definitions it published
+-- the list of a node, running or stopped, and how many definitions are in it
 unfoldable pub history_of : {V : Type 0} → Option (Node V) → List V
 history_of None = []
 history_of (Some node) = node.stored.history

@@ -1,10 +1,11 @@
 -- Worked examples: short runs, with what they leave. Each is proved by computing the run.
-use Rattle.std.specs.Prelude.{◌≡◌, ℕ, zero, suc, Bool, true, false, List, [], ◌∷◌, ◌++◌, length, map, replicate, slice_get, Option, Some, None, option_and_then}
-use Rattle.wf_ballot.specs.Ballot.{last_round}
+use Rattle.std.specs.Prelude.{◌≡◌, ℕ, zero, suc, Bool, true, false, List, [], ◌∷◌, ◌++◌, length, map, replicate, drop, slice_get, Option, Some, None, option_and_then}
+use Rattle.wf_ballot.specs.Ballot.{Ballot, last_round}
 use Rattle.wf_ballot.specs.Sequence.{last_sequence}
+use Rattle.wf_model.specs.Message.{Vote, Message}
 use Rattle.wf_model.specs.Stored.{Stored}
 use Rattle.wf_model.specs.Working.{Working, Idle, Running, Won, Overtaken}
-use Rattle.wf_model.specs.World.{World, Node, Event, Propose, Retry, Deliver, Stop, Restart, Torn, Kept, after}
+use Rattle.wf_model.specs.World.{World, Node, Event, Propose, Retry, CatchUp, Deliver, Stop, Restart, Torn, Kept, after}
 use Rattle.wf_model.specs.Table as table
 
 -- two definitions, and the empty one
@@ -53,6 +54,17 @@ none = []
 abbrev pub just : Map → List Map
 just d = d ∷ []
 
+-- the messages that were sent, from number k on
+unfoldable pub sent_from : World Map → ℕ → List (Message Map)
+sent_from w k = drop k w.sent
+
+-- a ballot, and a vote
+abbrev pub ballot : ℕ → ℕ → Ballot
+ballot round node = record { round = round; node = node }
+
+abbrev pub vote : ℕ → ℕ → Map → Vote Map
+vote round node d = record { ballot = ballot round node; definition = d }
+
 -- ---- deliveries
 
 -- message k to each of the nodes
@@ -86,11 +98,11 @@ two_of_four = Propose 0 a ∷ pump (0 ∷ 1 ∷ []) 0 3
 unfoldable pub three_of_four : List (Event Map)
 three_of_four = two_of_four ++ (Deliver 2 0 ∷ pump (0 ∷ 1 ∷ 2 ∷ 3 ∷ []) 3 7)
 
--- node 0 has an Accept out that one node hears
+-- node 0 has an Accept out that it alone hears, so it voted and no other node did
 unfoldable pub half_accepted : List (Event Map)
 half_accepted = Propose 0 a ∷ Deliver 0 0 ∷ Deliver 1 0 ∷ Deliver 0 1 ∷ Deliver 0 2 ∷ Deliver 0 3 ∷ []
 
--- and stops; another node's proposal is published meanwhile; it comes back, proposes again, and is told
+-- and stops; the two others publish another definition meanwhile; it comes back, proposes again, and is told
 unfoldable pub comes_back : List (Event Map)
 comes_back =
     half_accepted ++ (
@@ -104,6 +116,48 @@ taken_over =
     half_accepted ++ (
     Propose 2 b ∷ Deliver 0 5 ∷ Deliver 2 5 ∷ Deliver 2 6 ∷ Deliver 2 7 ∷ Deliver 0 8 ∷ Deliver 2 8 ∷ Deliver 2 9 ∷ Deliver 2 10 ∷ []
     )
+
+-- its Accept comes to it twice: it answers twice, and one answer's vote isn't counted twice
+unfoldable pub voted_once : List (Event Map)
+voted_once = half_accepted ++ (Deliver 0 3 ∷ Deliver 0 4 ∷ Deliver 0 5 ∷ [])
+
+-- node 0's Accept reaches no one before node 1, with a higher ballot, publishes b; then nodes 0 and 2 hear it
+unfoldable pub late_accept : List (Event Map)
+late_accept =
+    Propose 0 a ∷ Deliver 0 0 ∷ Deliver 1 0 ∷ Deliver 0 1 ∷ Deliver 0 2 ∷
+    Propose 1 b ∷ Deliver 1 4 ∷ Deliver 2 4 ∷ Deliver 1 5 ∷ Deliver 1 6 ∷ Deliver 1 7 ∷ Deliver 2 7 ∷ Deliver 1 8 ∷ Deliver 1 9 ∷
+    Deliver 0 3 ∷ Deliver 2 3 ∷ Deliver 0 11 ∷ Deliver 0 12 ∷ []
+
+-- node 0 tries again, and is told its own vote for a and node 2's for b, which is at the higher ballot
+unfoldable pub two_told : List (Event Map)
+two_told = late_accept ++ (Retry 0 ∷ Deliver 2 13 ∷ Deliver 0 13 ∷ Deliver 0 14 ∷ Deliver 0 15 ∷ [])
+
+-- its first Accept comes to it again: it voted there, and has promised more since
+unfoldable pub old_accept : List (Event Map)
+old_accept = two_told ++ (Deliver 0 3 ∷ [])
+
+-- node 1 tries three rounds, and node 2 hears of the third one alone; node 0 comes with its first one, is refused,
+-- and tries again
+unfoldable pub outrun : List (Event Map)
+outrun = Propose 1 b ∷ Retry 1 ∷ Retry 1 ∷ Deliver 2 2 ∷ Propose 0 a ∷ Deliver 2 4 ∷ Deliver 0 5 ∷ Retry 0 ∷ []
+
+-- two proposals more, that node 2 hears nothing of until it hears of the last one's end, and asks
+unfoldable pub behind : List (Event Map)
+behind =
+    three_pumped ++ (
+    Propose 0 b ∷ (pump (0 ∷ 1 ∷ []) 9 7 ++ (
+    Propose 0 a ∷ (pump (0 ∷ 1 ∷ []) 16 7 ++ (
+    Deliver 2 22 ∷ Deliver 0 23 ∷ Deliver 2 24 ∷ Deliver 2 25 ∷ []))))
+    )
+
+-- two of three nodes publish; the third one heard nothing, and asks by itself
+unfoldable pub catches_up : List (Event Map)
+catches_up = Propose 0 a ∷ (pump (0 ∷ 1 ∷ []) 0 7 ++ (CatchUp 2 ∷ Deliver 1 7 ∷ Deliver 2 8 ∷ []))
+
+-- node 1 asks for votes, stops, comes back and proposes something else
+unfoldable pub new_round : List (Event Map)
+new_round =
+    Propose 1 b ∷ Deliver 1 0 ∷ Deliver 0 0 ∷ Deliver 1 1 ∷ Deliver 1 2 ∷ Deliver 1 3 ∷ Stop 1 ∷ Restart 1 ∷ Propose 1 a ∷ []
 
 -- all messages come three times more, in the wrong order
 unfoldable pub repeated : List (Event Map)

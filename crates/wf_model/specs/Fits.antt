@@ -1,7 +1,8 @@
--- What the rows and the fold keep by themselves: a row's record fits what its node stored, and nothing is
--- stored of a sequence that is published.
-use Rattle.std.specs.Prelude.{◌≡◌, ℕ, ◌≤◌, Bool, true, ⊤, List, Option, Some, None}
-use Rattle.wf_model.specs.Stored.{Stored, Record, published, next_sequence, fits, fold}
+-- What the rows and the fold keep by themselves: a row's record fits what its node stored; no promise and no
+-- vote is stored of a sequence that is published; and where a vote is stored, so is a promise.
+use Rattle.std.specs.Prelude.{◌≡◌, ℕ, ◌≤◌, Bool, true, ⊤, List, Option, Some, None, IsSome}
+use Rattle.wf_model.specs.Message.{Vote}
+use Rattle.wf_model.specs.Stored.{Stored, Record, published, next_sequence, promise_at, fits, fold}
 use Rattle.wf_model.specs.Working.{Working, Idle, Running, Won, Overtaken}
 use Rattle.wf_model.specs.Table.{Row, Input, store, row}
 
@@ -29,9 +30,15 @@ RecordsFit V = (same : V → V → Bool) (n me : ℕ) (stored : Stored V) (worki
 
 -- promises and votes are of sequences above the published list alone
 pub record IsOpenAlone {V : Type 0} (stored : Stored V) : Type 0 where
-  pub promises : (s : ℕ) → s ≤ published stored → stored.promises s ≡ None
+  pub promises : (s : ℕ) → s ≤ published stored → promise_at stored s ≡ None
   pub votes : (s : ℕ) → s ≤ published stored → stored.votes s ≡ None
 
 -- what any list of records folds to has no promise and no vote of a published sequence
 abbrev pub FoldsAreOpen : Type 0 → Type 0
 FoldsAreOpen V = (records : List (Record V)) (stored : Stored V) → fold records ≡ Some stored → IsOpenAlone stored
+
+-- Where any list of records leaves a vote, it leaves a promise too: who writes the vote down again, and then
+-- the promise where that is another ballot, has written down both.
+abbrev pub VotesArePromised : Type 0 → Type 0
+VotesArePromised V = (records : List (Record V)) (stored : Stored V) (s : ℕ) (vote : Vote V) → fold records ≡ Some stored →
+    stored.votes s ≡ Some vote → IsSome (promise_at stored s)

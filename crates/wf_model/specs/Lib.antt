@@ -6,3 +6,4 @@ pub mod World
 pub mod Chosen
 pub mod Examples
 pub mod Fits
+pub mod Steps

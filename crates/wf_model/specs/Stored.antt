@@ -30,9 +30,13 @@ unfoldable pub next_sequence : {V : Type 0} → Stored V → ℕ
 next_sequence stored = published stored + 1
 
 -- the published definition of a sequence, counted from 1
-unfoldable pub entry_at : {V : Type 0} → List V → ℕ → Option V
-entry_at history zero = None
-entry_at history (suc k) = slice_get history k
+unfoldable pub definition_at : {V : Type 0} → List V → ℕ → Option V
+definition_at history zero = None
+definition_at history (suc k) = slice_get history k
+
+-- the promise that holds at a sequence: whoever reads a promise reads it here
+abbrev pub promise_at : {V : Type 0} → Stored V → ℕ → Option Ballot
+promise_at stored s = stored.promises s
 
 -- the function that is x at s, and else as it was
 unfoldable pub put : {A : Type 0} → (ℕ → Option A) → ℕ → Option A → ℕ → Option A

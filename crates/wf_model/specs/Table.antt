@@ -1,24 +1,25 @@
 -- What one step of a node does: the table's rows, one small function each. A row is data: the record to
 -- store, the messages to hand out after that, and the working part to come.
-use Rattle.std.specs.Prelude.{ℕ, zero, suc, ◌+◌, max, Bool, false, not, List, [], ◌∷◌, ◌++◌, Option, Some, None, ◌==◌, nat_lt, nat_le, ◌&&◌, if◌then◌else◌}
+use Rattle.std.specs.Prelude.{ℕ, zero, suc, ◌+◌, max, Bool, true, false, not, List, [], ◌∷◌, ◌++◌, Option, Some, None, ◌==◌, nat_lt, nat_le, ◌&&◌, if◌then◌else◌}
 use Rattle.wf_ballot.specs.Ballot.{last_round, Ballot, below}
 use Rattle.wf_ballot.specs.Sequence.{last_sequence}
 use Rattle.wf_ballot.specs.Majority.{count_nodes, is_majority_of}
 use Rattle.wf_model.specs.Message.{Vote, Message, Prepare, Promise, Accept, Accepted, Nack, Chosen, Ask}
 use Rattle.wf_model.specs.Stored as stored_part
-use Rattle.wf_model.specs.Stored.{Stored, Record, published, next_sequence, entry_at, with_record}
+use Rattle.wf_model.specs.Stored.{Stored, Record, published, next_sequence, definition_at, promise_at, with_record}
 use Rattle.wf_model.specs.Working.{Phase, Preparing, Accepting, Proposal, Working, Idle, Running, Won, Overtaken, nobody, and_node, better, carried, same_ballot, same_phase, is_at}
 
--- how many entries answer one Ask at most
-abbrev pub entries_told : ℕ
-entries_told = 8
+-- how many published definitions answer one Ask at most
+abbrev pub most_told : ℕ
+most_told = 8
 
+-- The entry is the record that the step stores, None where it stores none.
 pub record Row (V : Type 0) : Type 0 where
   pub entry : Option (Record V)
   pub messages : List (Message V)
   pub working : Working V
 
--- what is stored after a row's record, if it has one
+-- what is stored after a row's entry
 unfoldable pub store : {V : Type 0} → Stored V → Option (Record V) → Stored V
 store stored None = stored
 store stored (Some r) = with_record stored r
@@ -33,9 +34,14 @@ says working messages = record { entry = None; messages = messages; working = wo
 unfoldable pub stores : {V : Type 0} → Working V → Record V → Message V → Row V
 stores working r message = record { entry = Some r; messages = message ∷ []; working = working }
 
+-- the row of the running proposal; while none runs, nothing happens
+abbrev pub when_running : {V : Type 0} → Working V → (Proposal V → Row V) → Row V
+when_running (Running proposal) row_of = row_of proposal
+when_running working row_of = quiet working
+
 -- ---- what a node is asked to do
 
--- A proposal, a second try of the running one, a question for the next entry, or a message that is
+-- A proposal, a second try of the running one, a question for the next definition, or a message that is
 -- delivered: `M` is the message itself for a node's step, and its number in an event.
 pub data Action (V M : Type 0) : Type 0 where
   Propose : (definition : V) → Action V M
@@ -97,75 +103,88 @@ unfoldable pub on_propose : {V : Type 0} → ℕ → Stored V → V → Row V
 on_propose me stored own = begin_at me stored own (stored.tried + 1)
 
 unfoldable pub on_retry : {V : Type 0} → ℕ → Stored V → Working V → Row V
-on_retry me stored (Running proposal) = begin_at me stored proposal.own (round_known stored proposal + 1)
-on_retry me stored working = quiet working
+on_retry me stored working = when_running working (λ proposal. begin_at me stored proposal.own (round_known stored proposal + 1))
 
 unfoldable pub on_catch_up : {V : Type 0} → Stored V → Working V → Row V
 on_catch_up stored working =
     if nat_lt (published stored) last_sequence then says working (Ask (next_sequence stored) ∷ []) else quiet working
 
--- ---- published entries are told
+-- ---- published definitions are told
 
--- Chosen for the entry of sequence s, if there is one
+-- Chosen for the published definition of sequence s, if there is one
 unfoldable pub told_of : {V : Type 0} → ℕ → Option V → List (Message V)
 told_of s None = []
 told_of s (Some d) = Chosen s d ∷ []
 
 unfoldable pub told : {V : Type 0} → List V → ℕ → List (Message V)
-told history s = told_of s (entry_at history s)
+told history s = told_of s (definition_at history s)
 
--- Chosen for each entry among the `count` sequences from s on
+-- Chosen for each published definition of the `count` sequences from s on
 unfoldable pub told_from : {V : Type 0} → List V → ℕ → ℕ → List (Message V)
 told_from history s zero = []
 told_from history s (suc count) = told history s ++ told_from history (suc s) count
 
 unfoldable pub on_ask : {V : Type 0} → Stored V → Working V → ℕ → Row V
-on_ask stored working s = says working (told_from stored.history s entries_told)
+on_ask stored working s = says working (told_from stored.history s most_told)
 
 -- ---- the acceptor
 
--- It promises at its first Prepare of a sequence, and at one above its promise, and reports its vote.
+-- the ballot is above the promise, or there is no promise; the ballot is below the promise
+abbrev pub is_above : Option Ballot → Ballot → Bool
+is_above None b = true
+is_above (Some promise) b = below promise b
+
+abbrev pub is_refused : Option Ballot → Ballot → Bool
+is_refused None b = false
+is_refused (Some promise) b = below b promise
+
+-- the Nack that names the promise
+abbrev pub nack : {V : Type 0} → ℕ → ℕ → Ballot → Option Ballot → List (Message V)
+nack me s b None = []
+nack me s b (Some promise) = Nack me s b promise ∷ []
+
+-- It promises, and reports its vote.
 unfoldable pub promise_to : {V : Type 0} → ℕ → Stored V → Working V → ℕ → Ballot → Row V
 promise_to me stored working s b =
     stores working (stored_part.Promised s b) (Promise me s b (stored.votes s))
 
--- a Prepare of a sequence that isn't published, by the promise of that sequence
+-- a Prepare of a sequence that isn't published, by the promise that holds there
 unfoldable pub prepare_open : {V : Type 0} → ℕ → Stored V → Working V → ℕ → Ballot → Option Ballot → Row V
-prepare_open me stored working s b None = promise_to me stored working s b
-prepare_open me stored working s b (Some promise) =
-    if below promise b then promise_to me stored working s b
-    else (if below b promise then says working (Nack me s b promise ∷ []) else quiet working)
+prepare_open me stored working s b promise =
+    if is_above promise b then promise_to me stored working s b
+    else (if is_refused promise b then says working (nack me s b promise)
+    else quiet working)
 
 unfoldable pub on_prepare : {V : Type 0} → ℕ → Stored V → Working V → ℕ → Ballot → Row V
 on_prepare me stored working s b =
     if nat_le s (published stored) then says working (told stored.history s)
-    else prepare_open me stored working s b (stored.promises s)
+    else prepare_open me stored working s b (promise_at stored s)
 
 -- whether the vote was given at this ballot
 unfoldable pub votes_at : {V : Type 0} → Option (Vote V) → Ballot → Bool
 votes_at None b = false
 votes_at (Some vote) b = same_ballot vote.ballot b
 
--- It votes, or repeats its answer where it voted at this ballot.
+-- It repeats its answer where it voted at this ballot, and else it votes.
 unfoldable pub vote_for : {V : Type 0} → ℕ → Stored V → Working V → ℕ → Ballot → V → Row V
 vote_for me stored working s b d =
     if votes_at (stored.votes s) b then says working (Accepted me s b ∷ [])
     else stores working (stored_part.Accepted s b d) (Accepted me s b)
 
--- an Accept of a sequence that isn't published, by the promise of that sequence: none below it gets a vote
+-- an Accept of a sequence that isn't published, by the promise that holds there: none below it gets a vote
 unfoldable pub accept_open : {V : Type 0} → ℕ → Stored V → Working V → ℕ → Ballot → V → Option Ballot → Row V
-accept_open me stored working s b d None = vote_for me stored working s b d
-accept_open me stored working s b d (Some promise) =
-    if below b promise then says working (Nack me s b promise ∷ []) else vote_for me stored working s b d
+accept_open me stored working s b d promise =
+    if is_refused promise b then says working (nack me s b promise)
+    else vote_for me stored working s b d
 
 unfoldable pub on_accept : {V : Type 0} → ℕ → Stored V → Working V → ℕ → Ballot → V → Row V
 on_accept me stored working s b d =
     if nat_le s (published stored) then says working (told stored.history s)
-    else accept_open me stored working s b d (stored.promises s)
+    else accept_open me stored working s b d (promise_at stored s)
 
 -- ---- the proposer
 
--- A proposal hears an answer in its phase, to its sequence and ballot, from a node that it hasn't heard.
+-- A proposal hears an answer in its phase, to its sequence and ballot, from a node below n that it hasn't heard.
 unfoldable pub hears : {V : Type 0} → ℕ → Proposal V → Phase → ℕ → ℕ → Ballot → Bool
 hears n proposal phase sender s b =
     same_phase proposal.phase phase && (is_at proposal s b && (nat_lt sender n && not (proposal.heard sender)))
@@ -185,17 +204,15 @@ promised n proposal =
     else quiet (Running proposal)
 
 unfoldable pub on_promise : {V : Type 0} → ℕ → Working V → ℕ → ℕ → Ballot → Option (Vote V) → Row V
-on_promise n (Running proposal) sender s b vote =
-    if hears n proposal Preparing sender s b then promised n (with_promise proposal sender vote) else quiet (Running proposal)
-on_promise n working sender s b vote = quiet working
+on_promise n working sender s b vote = when_running working (λ proposal.
+    if hears n proposal Preparing sender s b then promised n (with_promise proposal sender vote) else quiet (Running proposal))
 
 unfoldable pub with_vote : {V : Type 0} → Proposal V → ℕ → Proposal V
 with_vote proposal sender = record proposal { heard = and_node proposal.heard sender }
 
 unfoldable pub on_nack : {V : Type 0} → Working V → ℕ → Ballot → Ballot → Row V
-on_nack (Running proposal) s b promise =
-    if is_at proposal s b then quiet (Running (record proposal { seen = max proposal.seen promise.round })) else quiet (Running proposal)
-on_nack working s b promise = quiet working
+on_nack working s b promise = when_running working (λ proposal.
+    if is_at proposal s b then quiet (Running (record proposal { seen = max proposal.seen promise.round })) else quiet (Running proposal))
 
 -- ---- the rows that tell a node's own definition from another's
 
@@ -219,11 +236,10 @@ module _ {V : Type 0} (same : V → V → Bool) where
       else quiet (Running proposal)
 
   unfoldable pub on_accepted : ℕ → Working V → ℕ → ℕ → Ballot → Row V
-  on_accepted n (Running proposal) sender s b =
-      if hears n proposal Accepting sender s b then voted n (with_vote proposal sender) else quiet (Running proposal)
-  on_accepted n working sender s b = quiet working
+  on_accepted n working sender s b = when_running working (λ proposal.
+      if hears n proposal Accepting sender s b then voted n (with_vote proposal sender) else quiet (Running proposal))
 
-  -- A chosen definition is published where its sequence is the next; further on, the entries between are asked for.
+  -- A chosen definition is published where its sequence is the next; further on, the definitions between are asked for.
   unfoldable pub on_chosen : Stored V → Working V → ℕ → V → Row V
   on_chosen stored working s d =
       if s == next_sequence stored then record { entry = Some (stored_part.Published s d); messages = []; working = ends working d }

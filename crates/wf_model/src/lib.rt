@@ -9,18 +9,22 @@
 //! generic in the type of what is agreed on, with a test `same` that tells a proposal's own definition from
 //! another's.
 //!
-//! **Promises.** Each row's record fits what was stored, whatever the messages say, and nothing is stored of
-//! a sequence that is published. Short runs leave what they should, by computing them.
+//! **Promises.** Each row's record fits what was stored, whatever the messages say. Whatever records are
+//! folded, they leave no promise and no vote of a published sequence, and no vote without a promise. The
+//! events of two lists in turn are the events of one, and a refused event changes nothing. Short runs leave
+//! what they should, by computing them.
 //!
 //! **Doesn't.** There is no code here, and no law of agreement: that is `wf_law`'s.
 #![tactic(auto)]
 
 ghost use Rattle.std.specs.Prelude.{◌≡◌, [], ◌∷◌, Some};
 ghost use Rattle.wf_model.specs.Chosen.{definition};
-ghost use Rattle.wf_model.specs.Examples.{a, alone, b, comes_back, empty, full_history, full_rounds, just, none, only, repeated, same_map, run, standing, taken_over, three_of_four, three_pumped, torn, torn_then, two_of_four, Leaves, OvertakenAt, PublishedAt, Runs};
-ghost use Rattle.wf_model.specs.Fits.{FoldsAreOpen, RecordsFit};
+ghost use Rattle.wf_model.specs.Examples.{a, alone, b, ballot, behind, catches_up, comes_back, empty, full_history, full_rounds, just, late_accept, new_round, none, old_accept, only, outrun, repeated, run, same_map, sent_from, standing, taken_over, three_of_four, three_pumped, torn, torn_then, two_of_four, two_told, vote, voted_once, Leaves, OvertakenAt, PublishedAt, Runs};
+ghost use Rattle.wf_model.specs.Fits.{FoldsAreOpen, RecordsFit, VotesArePromised};
+ghost use Rattle.wf_model.specs.Message.{Accept, Accepted, Ask, Chosen, Nack, Prepare, Promise};
+ghost use Rattle.wf_model.specs.Steps.{RefusedChangesNothing, StepsInTurn};
 ghost use Rattle.wf_model.specs.Table.{Busy, NothingToRetry, RoundsFull, SequenceFull};
-ghost use Rattle.wf_model.specs.World.{happens, refused, After, Before, Propose, Retry};
+ghost use Rattle.wf_model.specs.World.{happens, refused, After, Before, CatchUp, Propose, Retry};
 
 /// Each row's record fits what its node stored: what a row publishes is of the next sequence. A running
 /// proposal is for the next sequence, and stays so.
@@ -33,42 +37,79 @@ pub fn folds_are_open<V>()
     ensures { FoldsAreOpen V }
 {}
 
-/// One node is its own majority: five messages, from Prepare to Chosen.
-pub fn one_node()
-    ensures leaves { Leaves 1 alone (just a ∷ []) 5 }
-    ensures proposal { standing (run 1 alone) 0 ≡ PublishedAt 1 }
+/// Whatever records are folded, where they leave a vote they leave a promise.
+pub fn votes_are_promised<V>()
+    ensures { VotesArePromised V }
 {}
 
-/// Of three nodes each hears each message.
-pub fn three_nodes()
-    ensures leaves { Leaves 3 three_pumped (just a ∷ just a ∷ just a ∷ []) 9 }
+/// The events of two lists, one list after the other, are the events of the one list.
+pub fn steps_in_turn<V>()
+    ensures { StepsInTurn V }
 {}
 
+/// A refused event leaves the world as it was, a torn one too.
+pub fn refused_changes_nothing<V>()
+    ensures { RefusedChangesNothing V }
+{}
+
+/// One node is its own majority: five messages, from Prepare to Chosen. Of three nodes each hears each message.
 /// Two of four nodes hear a proposal, which is no majority and publishes nothing; with a third one it is.
-pub fn four_nodes()
-    ensures two { Leaves 4 two_of_four (none ∷ none ∷ none ∷ none ∷ []) 3 }
-    ensures three { Leaves 4 three_of_four (just a ∷ just a ∷ just a ∷ just a ∷ []) 10 }
+pub fn majorities()
+    ensures one { Leaves 1 alone (just a ∷ []) 5 }
+    ensures proposal { standing (run 1 alone) 0 ≡ PublishedAt 1 }
+    ensures three { Leaves 3 three_pumped (just a ∷ just a ∷ just a ∷ []) 9 }
+    ensures two_of_four { Leaves 4 two_of_four (none ∷ none ∷ none ∷ none ∷ []) 3 }
+    ensures three_of_four { Leaves 4 three_of_four (just a ∷ just a ∷ just a ∷ just a ∷ []) 10 }
 {}
 
-/// A proposer stops before anyone votes, another one's definition is published, and the first one comes back
-/// and is told.
+/// A proposer stops when it alone has voted, another one's definition is published, and the first one comes
+/// back and is told. A stop loses a proposal, and not its round: that isn't used again.
 pub fn stopped_proposer()
     ensures leaves { Leaves 3 comes_back (just b ∷ none ∷ just b ∷ []) 14 }
     ensures proposal { standing (run 3 comes_back) 0 ≡ OvertakenAt 1 }
     ensures definition { definition empty (run 3 comes_back) 0 1 ≡ Some b }
+    ensures new_round { Leaves 2 new_round (none ∷ none ∷ []) 6 }
+    ensures asked { sent_from (run 2 new_round) 3 ≡ Accept 1 (ballot 1 1) b ∷ Accepted 1 1 (ballot 1 1) ∷ Prepare 1 (ballot 2 1) ∷ [] }
 {}
 
-/// A node voted for the first proposer's definition, so the second one, which hears of it, publishes that.
+/// A node voted for the first proposer's definition, so the second one, which hears of it, publishes that. Of
+/// two reported votes the one at the higher ballot is taken over, also where the other one is the proposer's
+/// own and is told last.
 pub fn reported_vote()
     ensures leaves { Leaves 3 taken_over (none ∷ none ∷ just a ∷ []) 12 }
     ensures taken { standing (run 3 taken_over) 2 ≡ OvertakenAt 1 }
     ensures other { standing (run 3 taken_over) 0 ≡ Runs }
     ensures definition { definition empty (run 3 taken_over) 2 1 ≡ Some a }
+    ensures two { sent_from (run 3 two_told) 14 ≡
+        Promise 2 1 (ballot 2 0) (Some (vote 1 1 b)) ∷ Promise 0 1 (ballot 2 0) (Some (vote 1 0 a)) ∷ Accept 1 (ballot 2 0) b ∷ [] }
 {}
 
-/// Messages that come again, late and in the wrong order are answered, and change nothing that is published.
+/// An Accept comes late, to a node that has promised a higher ballot: it is refused, with the promise. A vote
+/// there would publish a beside b. So it is where the node voted at that ballot before it promised the higher
+/// one. A Prepare below the promise is refused likewise; its proposer's next try is above the promise's round.
+pub fn refused_ballots()
+    ensures leaves { Leaves 3 late_accept (none ∷ just b ∷ none ∷ []) 13 }
+    ensures accept { sent_from (run 3 late_accept) 11 ≡ Accepted 0 1 (ballot 1 0) ∷ Nack 2 1 (ballot 1 0) (ballot 1 1) ∷ [] }
+    ensures again { sent_from (run 3 old_accept) 16 ≡ Accept 1 (ballot 2 0) b ∷ Nack 0 1 (ballot 1 0) (ballot 2 0) ∷ [] }
+    ensures prepare { sent_from (run 3 outrun) 4 ≡ Prepare 1 (ballot 1 0) ∷ Nack 2 1 (ballot 1 0) (ballot 3 1) ∷ Prepare 1 (ballot 4 0) ∷ [] }
+{}
+
+/// A node that missed two sequences asks for the first of them, is told both, and publishes them in order. A
+/// node that missed all catches up by asking, and asks for nothing once the last sequence is published.
+pub fn node_behind()
+    ensures leaves { Leaves 3 behind ((a ∷ b ∷ a ∷ []) ∷ (a ∷ b ∷ a ∷ []) ∷ (a ∷ b ∷ a ∷ []) ∷ []) 26 }
+    ensures asked { sent_from (run 3 behind) 23 ≡ Ask 2 ∷ Chosen 2 b ∷ Chosen 3 a ∷ [] }
+    ensures caught_up { Leaves 3 catches_up (just a ∷ just a ∷ just a ∷ []) 9 }
+    ensures caught_up_by { sent_from (run 3 catches_up) 7 ≡ Ask 1 ∷ Chosen 1 a ∷ [] }
+    ensures full { happens same_map (only full_history) (CatchUp 0) ≡ only full_history }
+{}
+
+/// Messages that come again, late and in the wrong order are answered, and change nothing that is published. An
+/// Accept that comes twice is answered twice, and its node's vote isn't counted twice.
 pub fn repeated_messages()
     ensures leaves { Leaves 3 repeated (just a ∷ just a ∷ just a ∷ []) 27 }
+    ensures voted_once { Leaves 3 voted_once (none ∷ none ∷ none ∷ []) 6 }
+    ensures answers { sent_from (run 3 voted_once) 4 ≡ Accepted 0 1 (ballot 1 0) ∷ Accepted 0 1 (ballot 1 0) ∷ [] }
 {}
 
 /// A step is torn after its record was stored, or before: either way the node answers again, or not at all,

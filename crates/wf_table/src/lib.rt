@@ -1,7 +1,7 @@
 //! Tables of cases, and the runner that asks them.
 //!
 //! A table is a text of lines. `case NAME` begins a case, `ask WORDS` says the question that is put, `<` lines give its input and `>` lines
-//! the answer that is expected; `row INPUT => ANSWER` is a whole case in one line. [`line`] has all that a line can be, and
+//! the answer that is expected; `for INPUT => ANSWER` is a whole case in one line. [`line`] has all that a line can be, and
 //! [`escape`] how bytes are spelled in it. What the questions are is the program's own affair: it implements [`Questions`].
 //!
 //! [`run_table`] puts each case's question and appends to a report each case whose answer differs, each line of the table that is at

@@ -10,7 +10,7 @@
 //! <* N T              T, N times
 //! <& NAME             a named text
 //! > T  >. T  >* N T  >& NAME      the same, of the expected answer
-//! row INPUT => ANSWER             a case in one line: INPUT is the input, ANSWER and a line feed are expected
+//! for INPUT => ANSWER             a case in one line: INPUT is the input, ANSWER and a line feed are expected
 //! ```
 //!
 //! White space beside a row's INPUT and ANSWER doesn't belong to them.
@@ -90,7 +90,7 @@ fn read_content_line(line: &str) -> Result<Line<'_>, Fault> {
 }
 
 fn line_with_word(line: &str) -> Result<Line<'_>, Fault> {
-    if let Some(rest) = behind(line, "row") {
+    if let Some(rest) = behind(line, "for") {
         return read_row(rest);
     }
     if let Some(words) = behind(line, "ask") {

@@ -12,14 +12,17 @@ pub const MAP_A: &[u8] =
 pub const MAP_B: &[u8] =
     b"MAP\nNAME \"b\"\nEXTENT 0 0 4 4\nPROJECTION\n\"init=epsg:4326\"\nEND\nWEB\nMETADATA\n\"wms_title\" \"b\"\n\"wms_abstract\" \"\"\n\"wms_onlineresource\" \"http://localhost/wms?\"\nEND\nEND\nEND\n";
 
+/// The node of this number.
 pub fn node(rt: &impl Abort, number: u8) -> NodeId {
     NodeId::new(number).expect(rt, "a node")
 }
 
+/// The slot of this number.
 pub fn slot(rt: &impl Abort, number: u16) -> Slot {
     Slot::new(number).expect(rt, "a slot")
 }
 
+/// The ballot of this round and node.
 pub fn ballot(rt: &impl Abort, round: u32, number: u8) -> Ballot {
     Ballot::new(round, node(rt, number)).expect(rt, "a ballot")
 }

@@ -25,4 +25,5 @@ pub use answer::Answer;
 pub use description::describe;
 pub use exception::{Exception, Parameter};
 pub use kind::Kind;
+pub use report::report;
 pub use update_sequence::LAST_SEQUENCE;

@@ -1,8 +1,9 @@
-use Rattle.std.proofs.Common.{◌≡◌, ◌++◌, take}
+use Rattle.std.proofs.Common.{take}
 use Rattle.std.specs.List.{flat_map}
 use Rattle.wf_canon.specs.Canon.{style_lines, text_of}
+use Rattle.wf_canon.specs.Draft.{Writes}
 use Rattle.wf_canon.proofs.class.push_styles.Given as goal
 
 -- what is written so far is what was there, and the first of them
 abbrev pub invariant-loop-style : goal.invariant-loop-style
-invariant-loop-style l = l.out.items ≡ l.initial.out.items ++ text_of (flat_map style_lines (take l.style-index l.styles))
+invariant-loop-style l = Writes l.initial.out (text_of (flat_map style_lines (take l.style-index l.styles))) l.out

@@ -1,8 +1,9 @@
-use Rattle.std.proofs.Common.{◌≡◌, ◌++◌, take}
+use Rattle.std.proofs.Common.{take}
 use Rattle.std.specs.List.{flat_map}
 use Rattle.wf_canon.specs.Canon.{part_lines, text_of}
+use Rattle.wf_canon.specs.Draft.{Writes}
 use Rattle.wf_canon.proofs.feature.push_parts.Given as goal
 
 -- what is written so far is what was there, and the first of them
 abbrev pub invariant-loop-part : goal.invariant-loop-part
-invariant-loop-part l = l.out.items ≡ l.initial.out.items ++ text_of (flat_map part_lines (take l.part-index l.parts))
+invariant-loop-part l = Writes l.initial.out (text_of (flat_map part_lines (take l.part-index l.parts))) l.out

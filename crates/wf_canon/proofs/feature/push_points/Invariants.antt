@@ -1,7 +1,8 @@
-use Rattle.std.proofs.Common.{◌≡◌, ◌++◌, take, map}
+use Rattle.std.proofs.Common.{take, map}
 use Rattle.wf_canon.specs.Canon.{point_line, text_of}
+use Rattle.wf_canon.specs.Draft.{Writes}
 use Rattle.wf_canon.proofs.feature.push_points.Given as goal
 
 -- what is written so far is what was there, and the first of them
 abbrev pub invariant-loop-point : goal.invariant-loop-point
-invariant-loop-point l = l.out.items ≡ l.initial.out.items ++ text_of (map point_line (take l.point-index l.points))
+invariant-loop-point l = Writes l.initial.out (text_of (map point_line (take l.point-index l.points))) l.out

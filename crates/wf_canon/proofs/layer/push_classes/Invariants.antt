@@ -1,8 +1,9 @@
-use Rattle.std.proofs.Common.{◌≡◌, ◌++◌, take}
+use Rattle.std.proofs.Common.{take}
 use Rattle.std.specs.List.{flat_map}
 use Rattle.wf_canon.specs.Canon.{class_lines, text_of}
+use Rattle.wf_canon.specs.Draft.{Writes}
 use Rattle.wf_canon.proofs.layer.push_classes.Given as goal
 
 -- what is written so far is what was there, and the first of them
 abbrev pub invariant-loop-class : goal.invariant-loop-class
-invariant-loop-class l = l.out.items ≡ l.initial.out.items ++ text_of (flat_map class_lines (take l.class-index l.classes))
+invariant-loop-class l = Writes l.initial.out (text_of (flat_map class_lines (take l.class-index l.classes))) l.out

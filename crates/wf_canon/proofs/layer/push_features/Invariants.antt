@@ -1,8 +1,9 @@
-use Rattle.std.proofs.Common.{◌≡◌, ◌++◌, take}
+use Rattle.std.proofs.Common.{take}
 use Rattle.std.specs.List.{flat_map}
 use Rattle.wf_canon.specs.Canon.{feature_lines, text_of}
+use Rattle.wf_canon.specs.Draft.{Writes}
 use Rattle.wf_canon.proofs.layer.push_features.Given as goal
 
 -- what is written so far is what was there, and the first of them
 abbrev pub invariant-loop-feature : goal.invariant-loop-feature
-invariant-loop-feature l = l.out.items ≡ l.initial.out.items ++ text_of (flat_map feature_lines (take l.feature-index l.features))
+invariant-loop-feature l = Writes l.initial.out (text_of (flat_map feature_lines (take l.feature-index l.features))) l.out

@@ -1,6 +1,15 @@
-use Rattle.wf_canon.proofs.MapText.{layer_more}
+use Rattle.std.proofs.Common.{ℕ, List}
+use Rattle.wf_def.specs.Definition.{LayerDefinition}
+use Rattle.wf_canon.specs.Canon.{layer_lines}
+use Rattle.wf_canon.proofs.Writing.{nothing, one_more}
+use Rattle.wf_canon.proofs.MapText.{next_taken}
 use Rattle.wf_canon.proofs.writer.push_layers.Goals as goal
+
+pub loop-index-init : goal.loop-index-init
+loop-index-init c = nothing _
 
 pub loop-index-preserved : goal.loop-index-preserved
 loop-index-preserved c =
-    layer_more c.args.map.now.layers c.loop-index.index c.layer.result.0.now c.layer.result.1.now _ _ _ c.layer.ensures.value c.loop-index.invariant c.in_ok-push_layer.ensures
+    let layers = c.args.map.now.layers in
+    let entry : List ℕ × LayerDefinition = (c.layer.result.0.now, c.layer.result.1.now) in
+    one_more layer_lines layers c.loop-index.index entry (next_taken layers c.loop-index.index entry c.layer.ensures.value) c.loop-index.invariant c.push_layer.ensures

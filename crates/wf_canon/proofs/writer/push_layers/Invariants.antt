@@ -1,8 +1,9 @@
-use Rattle.std.proofs.Common.{◌≡◌, ◌++◌, take}
+use Rattle.std.proofs.Common.{take}
 use Rattle.std.specs.List.{flat_map}
 use Rattle.wf_canon.specs.Canon.{layer_lines, text_of}
+use Rattle.wf_canon.specs.Draft.{Writes}
 use Rattle.wf_canon.proofs.writer.push_layers.Given as goal
 
 -- what is written so far is what was there, and the first of them
 abbrev pub invariant-loop-index : goal.invariant-loop-index
-invariant-loop-index l = l.out.items ≡ l.initial.out.items ++ text_of (flat_map layer_lines (take l.index l.map.layers))
+invariant-loop-index l = Writes l.initial.out (text_of (flat_map layer_lines (take l.index l.map.layers))) l.out

@@ -1,0 +1,8 @@
+use Rattle.wf_canon.proofs.Writing.{both}
+use Rattle.wf_canon.specs.Canon.{line}
+use Rattle.wf_canon.proofs.layer.push_attribute_names.Goals as goal
+
+pub returns : goal.returns
+unfolding line
+returns c =
+    both c.push.ensures (both (rw c.quote_for-quote.ensures at c.push-2.ensures) (both c.push-3.ensures (both (both c.push-4.ensures (rw c.quote_for-quote.ensures at c.push-5.ensures)) c.push-6.ensures)))

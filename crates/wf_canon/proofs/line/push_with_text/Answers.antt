@@ -1,0 +1,8 @@
+use Rattle.wf_canon.proofs.Writing.{both}
+use Rattle.wf_canon.specs.Canon.{line}
+use Rattle.wf_canon.proofs.line.push_with_text.Goals as goal
+
+pub returns : goal.returns
+unfolding line
+returns c =
+    both (rw c.as_bytes.ensures.value at c.push.ensures) (both c.push-2.ensures (both c.push_quoted.ensures c.push-3.ensures))

@@ -1,0 +1,12 @@
+-- What a text of any length says. A mapfile's meaning is this, for texts within the length that is read.
+use Rattle.std.specs.Prelude.{◌≡◌, ℕ, true, List, Some}
+use Rattle.std.specs.Str.{is_utf8}
+use Rattle.wf_def.specs.Definition.{Definition}
+use Rattle.wf_mapfile.specs.Token.{tokens}
+use Rattle.wf_mapfile.specs.Grammar.{◌>>=◌}
+use Rattle.wf_mapfile.specs.Meaning.{file}
+
+-- the bytes are UTF-8, and their tokens are a file of this map
+pub record Says (bytes : List ℕ) (d : Definition) : Type 0 where
+  pub utf8 : is_utf8 bytes ≡ true
+  pub said : (tokens bytes >>= file) ≡ Some d

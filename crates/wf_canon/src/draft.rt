@@ -1,0 +1,67 @@
+//! A canonical text while it is written.
+
+ghost use Rattle.std.specs.Prelude.{◌≡◌, ◌≤◌, ℕ, List, [], nat_lt, IfOk};
+ghost use Rattle.wf_canon.specs.Canon.{most_canon_bytes};
+ghost use Rattle.wf_canon.specs.Draft.{IsDraftOf, Writes};
+
+use crate::canon::MOST_CANON_BYTES;
+use std::alloc::{AllocError, Global};
+
+/// A canonical text while it is written, piece by piece. Its length is counted whether or not memory suffices for its bytes, so a text
+/// over the limit is told from one that memory ran out for.
+#[derive(Drop)]
+pub struct Draft {
+    text: Vec<u8>,
+    /// How many bytes the text has, up to one over the limit.
+    length: usize,
+    /// Whether `text` has them all.
+    is_whole: bool,
+}
+
+impl Draft {
+    /// The empty text.
+    pub fn new(alloc: Global) -> Self
+        ensures { IsDraftOf result [] }
+    {
+        Draft {
+            text: Vec::new(alloc),
+            length: 0,
+            is_whole: true,
+        }
+    }
+
+    /// Writes bytes behind what is there.
+    pub fn push(&mut self, bytes: &[u8])
+        ensures { Writes self.old bytes.now self.new }
+    {
+        let room = MOST_CANON_BYTES.saturating_sub(self.length);
+        if self.length > MOST_CANON_BYTES || bytes.len() > room {
+            self.length = MOST_CANON_BYTES + 1;
+            self.is_whole = false;
+            return;
+        }
+        self.length += bytes.len();
+        if self.is_whole && self.text.extend_from_slice(bytes).is_err() {
+            self.is_whole = false;
+        }
+    }
+
+    /// Whether the text is over the limit.
+    pub fn is_too_long(&self) -> bool
+        ensures { result ≡ nat_lt most_canon_bytes self.now.length }
+    {
+        self.length > MOST_CANON_BYTES
+    }
+
+    /// The text, unless memory ran out.
+    pub fn finish(self) -> Result<Vec<u8>, AllocError>
+        requires { self.length ≤ most_canon_bytes }
+        ensures { (text : List ℕ) → IsDraftOf self text → IfOk result (λ whole. whole.items ≡ text) }
+    {
+        if self.is_whole {
+            Ok(self.text)
+        } else {
+            Err(AllocError)
+        }
+    }
+}

@@ -1,0 +1,58 @@
+-- Runs in turn, and refused events.
+use Rattle.std.proofs.Common.{◌≡◌, ℕ, Bool, List, [], ◌∷◌, ◌++◌, length, slice_get, Option, Some, None, refl, ap}
+use Rattle.std.proofs.lemmas.Option.{none-some}
+use Rattle.wf_model.specs.Stored.{Stored}
+use Rattle.wf_model.specs.Working.{Working}
+use Rattle.wf_model.specs.Table as table
+use Rattle.wf_model.specs.Table.{Action, Input, Refusal, refusal}
+use Rattle.wf_model.specs.World.{Node, World, Event, Propose, Retry, CatchUp, Deliver, Stop, Restart, Torn, Kept, input_of, refusal_running, refusal_of, refused_at, refused, after_turn, after_torn, turn_running, turn_of, turn, happens, steps}
+use Rattle.wf_model.specs.Steps.{StepsInTurn, RefusedChangesNothing}
+
+module _ {V : Type 0} (same : V → V → Bool) where
+  in_turn : (w : World V) (events more : List (Event V)) → steps same w (events ++ more) ≡ steps same (steps same w events) more
+  unfolding steps
+  in_turn w [] more = refl
+  in_turn w (event ∷ rest) more = in_turn (happens same w event) rest more
+
+  -- ---- a refused step is no turn
+
+  not_run : (n i : ℕ) (stored : Stored V) (working : Option (Working V)) (input : Input V) (why : Refusal) →
+      refusal_running stored working input ≡ Some why → turn_running same n i stored working input ≡ None
+  unfolding refusal_running turn_running
+  not_run n i stored None input why e = refl
+  not_run n i stored (Some working) input why e = rw e refl
+
+  no_turn : (n i : ℕ) (node : Option (Node V)) (input : Option (Input V)) (why : Refusal) → refusal_of node input ≡ Some why → turn_of same n i node input ≡ None
+  unfolding refusal_of turn_of
+  no_turn n i None input why e = refl
+  no_turn n i (Some node) None why e = refl
+  no_turn n i (Some node) (Some input) why e = not_run n i node.stored node.working input why e
+
+  module _ (w : World V) (why : Refusal) where
+    turn-none : (i : ℕ) (action : Action V ℕ) → refused_at w i action ≡ Some why → turn same w i action ≡ None
+    unfolding refused_at turn
+    turn-none i action e = no_turn (length w.nodes) i (slice_get w.nodes i) (input_of w.sent action) why e
+
+    step_left : (i : ℕ) (action : Action V ℕ) → refused_at w i action ≡ Some why → after_turn w i (turn same w i action) ≡ w
+    unfolding after_turn
+    step_left i action e = ap (after_turn w i) (turn-none i action e)
+
+    torn_left : (i : ℕ) (action : Action V ℕ) (kept : Kept) → refused_at w i action ≡ Some why → after_torn w i kept (turn same w i action) ≡ w
+    unfolding after_torn
+    torn_left i action kept e = ap (after_torn w i kept) (turn-none i action e)
+
+    left : (event : Event V) → refused w event ≡ Some why → happens same w event ≡ w
+    unfolding refused happens
+    left (Propose i d) e = step_left i (table.Propose d) e
+    left (Retry i) e = step_left i table.Retry e
+    left (CatchUp i) e = step_left i table.CatchUp e
+    left (Deliver i k) e = step_left i (table.Deliver k) e
+    left (Stop i) e = absurd (none-some why e)
+    left (Restart i) e = absurd (none-some why e)
+    left (Torn i action kept) e = torn_left i action kept e
+
+pub steps_in_turn : (V : Type 0) → StepsInTurn V
+steps_in_turn V = λ same w events more. in_turn same w events more
+
+pub refused_changes_nothing : (V : Type 0) → RefusedChangesNothing V
+refused_changes_nothing V = λ same w event why e. left same w why event e
