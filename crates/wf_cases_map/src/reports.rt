@@ -1,7 +1,8 @@
 //! Reports of exceptions, also of those that no request is answered with yet.
 use crate::asked::{Answered, Asked};
 use wf_table::Unanswered;
-use wf_wms::{Exception, Parameter, report};
+use wf_wms::report::report;
+use wf_wms::{Exception, Parameter};
 
 fn parameter_of(name: &str) -> Result<Parameter, Unanswered> {
     match name {
