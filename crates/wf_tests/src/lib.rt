@@ -6,13 +6,9 @@
 #![tactic(auto)]
 
 #[cfg(test)]
-mod acceptor;
-#[cfg(test)]
 mod commands;
 #[cfg(test)]
 mod map;
-#[cfg(test)]
-mod proposer;
 #[cfg(test)]
 mod record;
 #[cfg(test)]
