@@ -44,13 +44,31 @@ def task_of(pid):
     return crate, "tests" if b"--test" in words else "proof"
 
 
-def look(seen):
-    """Notes each process's task and the processor time that it has used so far."""
+def processes():
+    """What the system says of each process: its number, and the fields that follow its name."""
     for name in os.listdir("/proc"):
-        if not name.isdigit():
-            continue
-        stat = read(f"/proc/{name}/stat").rpartition(b") ")[2].split()
-        if len(stat) < 20:
+        stat = read(f"/proc/{name}/stat").rpartition(b") ")[2].split() if name.isdigit() else ()
+        if len(stat) >= 20:
+            yield int(name), stat
+
+
+def descendants(running, gate):
+    """The processes that the gate began, and those that they began: nothing else that runs on the machine counts."""
+    children = collections.defaultdict(list)
+    for number, stat in running.items():
+        children[int(stat[1])].append(number)
+    found = [gate]
+    for number in found:
+        found.extend(children[number])
+    return found
+
+
+def look(seen, gate):
+    """Notes the task of each process of the gate and the processor time that it has used so far."""
+    running = dict(processes())
+    for name in descendants(running, gate):
+        stat = running.get(name)
+        if stat is None:
             continue
         key = name, stat[19]
         task = seen[key][0] if key in seen else task_of(name)
@@ -76,7 +94,7 @@ def main():
     with open(log, "w", encoding="utf-8") as out:
         gate = subprocess.Popen(["rt", "ci"], cwd=TOP, stdout=out, stderr=subprocess.STDOUT)
         while gate.poll() is None:
-            look(seen)
+            look(seen, gate.pid)
             time.sleep(0.5)
     used = resource.getrusage(resource.RUSAGE_CHILDREN)
     table(seen)

@@ -43,7 +43,7 @@ def clauses(text):
             said = []
         elif name and CLAUSE.match(line):
             said.append(line)
-        elif name and said and not re.match(r"^\s*\{\s*$", line):
+        elif name and said and not re.match(r"^\s*\{\}?\s*$", line):
             said.append(line)
         elif name and said:
             yield name, "\n".join(said)

@@ -1,3 +1,3 @@
-pub mod Latest
+pub mod BySlot
 pub mod Applied
 pub mod Answered

@@ -7,7 +7,7 @@ use Rattle.wf_model.specs.Table.{Row}
 use Rattle.wf_def.specs.Definition.{Definition}
 use Rattle.wf_codec.specs.Message as message
 use Rattle.wf_tape.specs.Record as record_
-use Rattle.wf_acceptor.specs.Acceptor.{Acceptor, ActsFor}
+use Rattle.wf_acceptor.specs.Acceptor.{Part, ActsFor}
 use Rattle.wf_acceptor.specs.declared.answer.Answer.{Answer}
 
 -- the answer as a row, at a node that holds this working part
@@ -18,10 +18,10 @@ row_of answer working = record {
   working = working;
 }
 
--- The answer is this row, whatever the node stored and holds for which the acceptor acts.
-abbrev pub Answers : Acceptor → (Stored Definition → Working Definition → Row Definition) → Answer → Type 0
-Answers a row answer = (stored : Stored Definition) (working : Working Definition) → ActsFor a stored → row_of answer working ≡ row stored working
+-- The answer is this row, whatever else the node stored and holds.
+abbrev pub Answers : Part → (Stored Definition → Working Definition → Row Definition) → Answer → Type 0
+Answers part row answer = (stored : Stored Definition) (working : Working Definition) → ActsFor part stored → row_of answer working ≡ row stored working
 
--- The row stores a record, whatever the node stored and holds for which the acceptor acts.
-abbrev pub Stores : Acceptor → (Stored Definition → Working Definition → Row Definition) → Type 0
-Stores a row = (stored : Stored Definition) (working : Working Definition) → ActsFor a stored → IsSome (row stored working).entry
+-- The row stores a record, whatever else the node stored and holds.
+abbrev pub Stores : Part → (Stored Definition → Working Definition → Row Definition) → Type 0
+Stores part row = (stored : Stored Definition) (working : Working Definition) → ActsFor part stored → IsSome (row stored working).entry

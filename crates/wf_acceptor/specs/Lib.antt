@@ -1,3 +1,4 @@
-pub mod Entries
+pub mod Slots
 pub mod Acceptor
+pub mod Prepared
 pub mod Answer

@@ -1,10 +1,11 @@
 ghost use Rattle.std.specs.Prelude.{◌≡◌, None, Some, IfOk, OnOk};
-ghost use Rattle.wf_acceptor.specs.Entries.{latest};
-ghost use Rattle.wf_acceptor.specs.Acceptor.{HasRoom, HasRoomFor, definition_of};
+ghost use Rattle.std.specs.FinMap as map;
+ghost use Rattle.wf_acceptor.specs.Slots.{by_slot, HasRoom};
+ghost use Rattle.wf_acceptor.specs.Prepared.{Takes, definition_of};
 
 use crate::answer::Answer;
-use crate::entries::{add, forget, make_room, newest};
 use crate::same::is_same_record;
+use crate::slots::{add, forget, make_room, newest};
 use std::alloc::{AllocError, Global};
 use std::marker::Model;
 use wf_ballot::{Ballot, NodeId, Slot};
@@ -19,45 +20,53 @@ pub struct Acceptor {
     id: NodeId,
     // The last slot that is published.
     published: Option<Slot>,
-    // The newest entry of a slot is the last one.
+    // The newest value of a slot counts.
     promises: Vec<(Slot, Ballot)>,
     votes: Vec<(Slot, (Ballot, Canon))>,
-    // A record that can be applied without memory: there is room for its entries.
+    // A record that is set aside: there is room for its promise and its vote.
     prepared: Option<Record>,
 }
 
 impl Model for Acceptor {
     ghost use Rattle.std.specs.Prelude.{unwrap_or};
-    ghost use Rattle.wf_acceptor.specs.Acceptor.{Acceptor, HasRoom, HasRoomFor};
+    ghost use Rattle.std.specs.Coded.{codes};
+    ghost use Rattle.std.specs.FinMap as map;
+    ghost use Rattle.wf_acceptor.specs.Slots.{by_slot, HasRoom};
+    ghost use Rattle.wf_acceptor.specs.Acceptor.{Acceptor};
+    ghost use Rattle.wf_acceptor.specs.Prepared.{Takes};
 
     ghost Value = { Acceptor };
 
+    ghost coded = { Prim.hlevel (codes, map.code) };
+
     ghost view = { λ a. record {
-      id = a.id;
-      published = unwrap_or a.published 0;
-      promises = a.promises.items;
-      votes = a.votes.items;
+      part = record {
+        id = a.id;
+        published = unwrap_or a.published 0;
+        promises = by_slot a.promises.items;
+        votes = by_slot a.votes.items;
+      };
       prepared = a.prepared;
     } };
 
-    ghost invariant = { λ a. HasRoomFor (HasRoom a.promises) (HasRoom a.votes) a.prepared };
+    ghost invariant = { λ a. Takes (HasRoom a.promises) (HasRoom a.votes) a.prepared };
 }
 
 impl Acceptor {
-    ghost use Rattle.std.specs.Prelude.{◌≡◌, ◌<◌, ◌↔◌, IsTrue, IfOk, OnOk, OnErr, IsOk, Some, None, [], nat_le, IfSome, IsSome};
-    ghost use Rattle.wf_model.specs.Message.{Vote};
+    ghost use Rattle.std.specs.Prelude.{◌≡◌, ◌<◌, ◌↔◌, IsTrue, IfOk, OnOk, OnErr, IsOk, Some, None, nat_le, IfSome};
+    ghost use Rattle.std.specs.FinMap as map;
     ghost use Rattle.wf_model.specs.Stored.{nothing_stored};
+    ghost use Rattle.wf_model.specs.Table as table;
     ghost use Rattle.wf_model.specs.Table.{on_prepare as prepare_row, on_accept as accept_row, votes_at};
     ghost use Rattle.wf_tape.specs.Record.{view as record_view};
-    ghost use Rattle.wf_codec.specs.Message.{view_vote};
-    ghost use Rattle.wf_acceptor.specs.Entries.{latest};
-    ghost use Rattle.wf_acceptor.specs.Acceptor.{ActsFor, Applies, IsNext, IsPrepared, with_entries, with_entries_at, with_published};
+    ghost use Rattle.wf_acceptor.specs.Acceptor.{promises_of, votes_of, ActsFor, Applies, IsNext, HasRoomFor};
     ghost use Rattle.wf_acceptor.specs.Answer.{Answers, Stores};
+    ghost use Rattle.wf_acceptor.specs.Prepared.{nack_of, with_open, with_entry, with_entry_at, with_published};
 
     /// The acceptor of a node that has stored nothing yet.
     pub fn new(alloc: Global, id: NodeId) -> Acceptor
-        ensures value { result ≡ record { id = id; published = 0; promises = []; votes = []; prepared = None } }
-        ensures acts { ActsFor result nothing_stored }
+        ensures value { result ≡ record { part = record { id = id; published = 0; promises = map.empty; votes = map.empty }; prepared = None } }
+        ensures acts { ActsFor result.part nothing_stored }
     {
         Acceptor {
             id,
@@ -70,7 +79,7 @@ impl Acceptor {
 
     /// Is the slot's definition published? The acceptor answers for no such slot.
     pub fn is_published(&self, slot: Slot) -> bool
-        ensures { result ≡ nat_le slot self.now.published }
+        ensures { result ≡ nat_le slot self.now.part.published }
     {
         match self.published {
             Some(last) => slot.number() <= last.number(),
@@ -82,21 +91,18 @@ impl Acceptor {
     /// promise, and reports its vote; names its promise to one below it; and is silent at its promise.
     /// Memory is wanted for a promise alone.
     pub fn on_prepare(&mut self, slot: Slot, ballot: Ballot) -> Result<Answer, AllocError>
-        requires { self.old.published < slot }
-        ensures row { IfOk result (Answers self.old (λ stored working. prepare_row self.old.id stored working slot ballot)) }
-        ensures ok { IfOk result (λ answer. self.new ≡ record self.old { prepared = answer.entry }) }
+        requires { self.old.part.published < slot }
+        ensures row { IfOk result (Answers self.old.part (λ stored working. prepare_row self.old.part.id stored working slot ballot)) }
+        ensures part { self.new.part ≡ self.old.part }
+        ensures room { IfOk result (λ answer. IfSome answer.entry (HasRoomFor self.new)) }
         ensures err { OnErr result (self.new ≡ self.old) }
-        ensures memory { OnErr result (Stores self.old (λ stored working. prepare_row self.old.id stored working slot ballot)) }
+        ensures memory { OnErr result (Stores self.old.part (λ stored working. prepare_row self.old.part.id stored working slot ballot)) }
     {
-        let Some(promise) = self.promise_at(slot) else {
-            return self.promise(slot, ballot);
-        };
-        if promise.is_below(ballot) {
+        if self.is_above(slot, ballot) {
             return self.promise(slot, ballot);
         }
-        if ballot.is_below(promise) {
-            let nack = Message::Nack(self.id, slot, ballot, promise);
-            return Ok(self.only_reply(Some(nack)));
+        if self.is_refused(slot, ballot) {
+            return Ok(self.refuse(slot, ballot));
         }
         Ok(self.only_reply(None))
     }
@@ -110,17 +116,15 @@ impl Acceptor {
         ballot: Ballot,
         canon: Canon,
     ) -> Result<Answer, AllocError>
-        requires { self.old.published < slot }
-        ensures row { IfOk result (Answers self.old (λ stored working. accept_row self.old.id stored working slot ballot canon)) }
-        ensures ok { IfOk result (λ answer. self.new ≡ record self.old { prepared = answer.entry }) }
+        requires { self.old.part.published < slot }
+        ensures row { IfOk result (Answers self.old.part (λ stored working. accept_row self.old.part.id stored working slot ballot canon)) }
+        ensures part { self.new.part ≡ self.old.part }
+        ensures room { IfOk result (λ answer. IfSome answer.entry (HasRoomFor self.new)) }
         ensures err { OnErr result (self.new ≡ self.old) }
-        ensures memory { OnErr result (Stores self.old (λ stored working. accept_row self.old.id stored working slot ballot canon)) }
+        ensures memory { OnErr result (Stores self.old.part (λ stored working. accept_row self.old.part.id stored working slot ballot canon)) }
     {
-        if let Some(promised) = self.promise_at(slot) {
-            if ballot.is_below(promised) {
-                let nack = Message::Nack(self.id, slot, ballot, promised);
-                return Ok(self.only_reply(Some(nack)));
-            }
+        if self.is_refused(slot, ballot) {
+            return Ok(self.refuse(slot, ballot));
         }
         if self.voted_at(slot, ballot) {
             let accepted = Message::Accepted(self.id, slot, ballot);
@@ -129,34 +133,49 @@ impl Acceptor {
         self.vote(slot, ballot, canon)
     }
 
-    /// Applies a record, as the fold does. It takes no memory for the record that the last answer
-    /// gave, nor for one of a tried round or a published definition. An error changes nothing.
+    /// Applies a record, as the fold does; nothing is set aside then. It takes no memory for the record that
+    /// the last answer gave, nor for one of a tried round or a published definition. An error changes nothing.
     pub fn apply(&mut self, entry: &Record) -> Result<(), AllocError>
-        requires { IsNext self.old entry.now }
-        ensures ok { OnOk result (Applies self.old self.new (record_view entry.now)) }
-        ensures id { self.new.id ≡ self.old.id }
+        requires { IsNext self.old.part entry.now }
+        ensures ok { OnOk result (Applies self.old.part self.new.part (record_view entry.now)) }
+        ensures id { self.new.part.id ≡ self.old.part.id }
+        ensures spent { OnOk result (self.new.prepared ≡ None) }
         ensures err { OnErr result (self.new ≡ self.old) }
-        ensures prepared { IsPrepared self.old entry.now → IsOk result }
+        ensures room { HasRoomFor self.old entry.now → IsOk result }
     {
-        match entry {
-            Record::Tried(_) => self.release(),
-            Record::Promised(slot, _) => self.add_entries(*slot, entry)?,
-            Record::Accepted(slot, _, _) => self.add_entries(*slot, entry)?,
-            Record::Published(slot, _) => self.publish(*slot),
-        }
-        Ok(())
+        self.take_in(entry)
     }
 
     // The promise at the slot.
     fn promise_at(&self, slot: Slot) -> Option<Ballot>
-        ensures { result ≡ latest self.now.promises slot }
+        ensures { result ≡ promises_of self.now.part slot }
     {
         newest(&self.promises, slot).copied()
     }
 
+    // Is the ballot above the promise at the slot? It is where there is none.
+    fn is_above(&self, slot: Slot, ballot: Ballot) -> bool
+        ensures { result ≡ table.is_above (promises_of self.now.part slot) ballot }
+    {
+        match self.promise_at(slot) {
+            Some(promise) => promise.is_below(ballot),
+            None => true,
+        }
+    }
+
+    // Is the ballot below the promise at the slot? It isn't where there is none.
+    fn is_refused(&self, slot: Slot, ballot: Ballot) -> bool
+        ensures { result ≡ table.is_refused (promises_of self.now.part slot) ballot }
+    {
+        match self.promise_at(slot) {
+            Some(promise) => ballot.is_below(promise),
+            None => false,
+        }
+    }
+
     // Is the vote at the slot one at this ballot?
     fn voted_at(&self, slot: Slot, ballot: Ballot) -> bool
-        ensures { result ≡ votes_at (view_vote (latest self.now.votes slot)) ballot }
+        ensures { result ≡ votes_at (votes_of self.now.part slot) ballot }
     {
         match newest(&self.votes, slot) {
             Some((voted, _)) => *voted == ballot,
@@ -173,6 +192,24 @@ impl Acceptor {
         Answer { entry: None, reply }
     }
 
+    // Names the promise, if there is one.
+    fn refuse(&mut self, slot: Slot, ballot: Ballot) -> Answer
+        ensures answer { result ≡ record { entry = None; reply = nack_of self.old.part slot ballot } }
+        ensures after { self.new ≡ record self.old { prepared = None } }
+    {
+        let nack = self.nack(slot, ballot);
+        self.only_reply(nack)
+    }
+
+    fn nack(&self, slot: Slot, ballot: Ballot) -> Option<Message>
+        ensures { result ≡ nack_of self.now.part slot ballot }
+    {
+        match self.promise_at(slot) {
+            Some(promise) => Some(Message::Nack(self.id, slot, ballot, promise)),
+            None => None,
+        }
+    }
+
     // Nothing is set aside any more.
     fn release(&mut self)
         ensures { self.new ≡ record self.old { prepared = None } }
@@ -184,7 +221,7 @@ impl Acceptor {
     fn promise(&mut self, slot: Slot, ballot: Ballot) -> Result<Answer, AllocError>
         ensures answer { IfOk result (λ answer. answer ≡ record {
           entry = Some (Record.Promised slot ballot);
-          reply = Some (Message.Promise self.old.id slot ballot (latest self.old.votes slot));
+          reply = Some (Message.Promise self.old.part.id slot ballot (map.get self.old.part.votes slot));
         }) }
         ensures ok { OnOk result (self.new ≡ record self.old { prepared = Some (Record.Promised slot ballot) }) }
         ensures err { OnErr result (self.new ≡ self.old) }
@@ -202,7 +239,7 @@ impl Acceptor {
     fn vote(&mut self, slot: Slot, ballot: Ballot, canon: Canon) -> Result<Answer, AllocError>
         ensures answer { IfOk result (λ answer. answer ≡ record {
           entry = Some (Record.Accepted slot ballot canon);
-          reply = Some (Message.Accepted self.old.id slot ballot);
+          reply = Some (Message.Accepted self.old.part.id slot ballot);
         }) }
         ensures ok { OnOk result (self.new ≡ record self.old { prepared = Some (Record.Accepted slot ballot canon) }) }
         ensures err { OnErr result (self.new ≡ self.old) }
@@ -221,18 +258,33 @@ impl Acceptor {
         }
     }
 
-    // Adds the entries of a record of the slot, unless it is published.
-    fn add_entries(&mut self, slot: Slot, entry: &Record) -> Result<(), AllocError>
-        ensures ok { OnOk result (self.new ≡ with_entries_at self.old slot entry.now) }
+    // Takes a record in; nothing is set aside then.
+    fn take_in(&mut self, entry: &Record) -> Result<(), AllocError>
+        ensures ok { OnOk result (self.new ≡ record { part = with_entry self.old.part entry.now; prepared = None }) }
         ensures err { OnErr result (self.new ≡ self.old) }
-        ensures prepared { self.old.prepared ≡ Some entry.now → IsOk result }
+        ensures room { HasRoomFor self.old entry.now → IsOk result }
+    {
+        match entry {
+            Record::Tried(_) => self.release(),
+            Record::Promised(slot, _) => self.take_in_at(*slot, entry)?,
+            Record::Accepted(slot, _, _) => self.take_in_at(*slot, entry)?,
+            Record::Published(slot, _) => self.publish(*slot),
+        }
+        Ok(())
+    }
+
+    // Takes in a record of a promise or a vote at the slot, unless it is published.
+    fn take_in_at(&mut self, slot: Slot, entry: &Record) -> Result<(), AllocError>
+        ensures ok { OnOk result (self.new ≡ record { part = with_entry_at self.old.part slot entry.now; prepared = None }) }
+        ensures err { OnErr result (self.new ≡ self.old) }
+        ensures room { self.old.prepared ≡ Some entry.now → IsOk result }
     {
         if self.is_published(slot) {
             self.release();
             return Ok(());
         }
         self.set_aside(entry)?;
-        self.add_prepared();
+        self.take_in_prepared();
         Ok(())
     }
 
@@ -240,7 +292,7 @@ impl Acceptor {
     fn set_aside(&mut self, entry: &Record) -> Result<(), AllocError>
         ensures ok { OnOk result (self.new ≡ record self.old { prepared = Some entry.now }) }
         ensures err { OnErr result (self.new ≡ self.old) }
-        ensures prepared { self.old.prepared ≡ Some entry.now → IsOk result }
+        ensures room { self.old.prepared ≡ Some entry.now → IsOk result }
     {
         if self.has_prepared(entry) {
             return Ok(());
@@ -257,7 +309,7 @@ impl Acceptor {
         }
     }
 
-    // Makes room for the record's entries, and keeps a copy of it.
+    // Makes room for the record's promise and vote, and keeps a copy of it.
     fn prepare(&mut self, entry: &Record) -> Result<(), AllocError>
         ensures ok { OnOk result (self.new ≡ record self.old { prepared = Some entry.now }) }
         ensures err { OnErr result (self.new ≡ self.old) }
@@ -268,9 +320,9 @@ impl Acceptor {
         Ok(())
     }
 
-    // The entries of the record that is prepared become the newest ones.
-    fn add_prepared(&mut self)
-        ensures { IfSome self.old.prepared (λ r. self.new ≡ with_entries self.old r) }
+    // The promise and the vote of the record that is set aside become the newest ones.
+    fn take_in_prepared(&mut self)
+        ensures { IfSome self.old.prepared (λ r. self.new ≡ record { part = with_open self.old.part r; prepared = None }) }
     {
         match &self.prepared {
             Some(Record::Promised(slot, ballot)) => add(&mut self.promises, *slot, *ballot),
@@ -289,7 +341,7 @@ impl Acceptor {
 
     // Forgets the slot's promise and vote, since its definition is published.
     fn publish(&mut self, slot: Slot)
-        ensures { self.new ≡ with_published self.old slot }
+        ensures { self.new ≡ record { part = with_published self.old.part slot; prepared = None } }
     {
         self.published = Some(slot);
         forget(&mut self.promises, slot);
@@ -321,7 +373,7 @@ fn vote_at(
     votes: &[(Slot, (Ballot, Canon))],
     slot: Slot,
 ) -> Result<Option<(Ballot, Canon)>, AllocError>
-    ensures { IfOk result (λ vote. vote ≡ latest votes.now slot) }
+    ensures { IfOk result (λ vote. vote ≡ map.get (by_slot votes.now) slot) }
 {
     match newest(votes, slot) {
         Some((ballot, canon)) => Ok(Some((*ballot, canon.copy()?))),
@@ -335,7 +387,7 @@ fn room_for(
     votes: &mut Vec<(Slot, (Ballot, Canon))>,
     entry: &Record,
 ) -> Result<(), AllocError>
-    ensures room { OnOk result (HasRoomFor (HasRoom promises.new) (HasRoom votes.new) (Some entry.now)) }
+    ensures room { OnOk result (Takes (HasRoom promises.new) (HasRoom votes.new) (Some entry.now)) }
     ensures promises { promises.new.items ≡ promises.old.items }
     ensures votes { votes.new.items ≡ votes.old.items }
     ensures more_promises { HasRoom promises.old → HasRoom promises.new }

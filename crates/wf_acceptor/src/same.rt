@@ -2,7 +2,7 @@
 
 ghost use Rattle.std.specs.Prelude.{◌≡◌, ◌↔◌, IsTrue};
 
-use wf_canon::{Canon, one_text_one_map};
+use wf_canon::Canon;
 use wf_tape::Record;
 
 /// Are the two records equal?
@@ -24,10 +24,9 @@ pub fn is_same_record(a: &Record, b: &Record) -> bool
     }
 }
 
-/// Are the two definitions equal? They are exactly where their canonical texts are.
+/// Are the two definitions equal?
 fn is_same(a: &Canon, b: &Canon) -> bool
     ensures { IsTrue result ↔ (a.now ≡ b.now) }
 {
-    one_text_one_map();
-    a.text() == b.text()
+    *a == *b
 }

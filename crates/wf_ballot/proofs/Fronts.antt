@@ -1,5 +1,5 @@
 -- Fields at the front of bytes: what is read stands there, what stands there is read.
-use Rattle.std.proofs.Common.{◌≡◌, ℕ, ◌+◌, ◌<◌, ◌≤◌, ◌^◌, Bool, true, false, cond, ltb, leb, ◌&&◌, List, [], ◌∷◌, ◌++◌, length, get_or, take, Option, Some, None, refl, sym, ap, subst, ◌∙◌, arith, inl, inr}
+use Rattle.std.proofs.Common.{◌≡◌, ℕ, ◌<◌, ◌^◌, Bool, true, false, cond, ltb, leb, ◌&&◌, List, [], ◌∷◌, ◌++◌, take, Option, Some, None, refl, sym, ap, subst, arith, inl, inr}
 use Rattle.std.proofs.lemmas.Bool.{cases_lt, and_parts, ltb-true, leb-true, lt-ltb, le-leb}
 use Rattle.std.proofs.lemmas.List.{get_or-take, get_or_past, length-take}
 use Rattle.std.proofs.lemmas.Nat.{be_bytes_2, be_bytes_4, from_be_bytes-to_be_bytes_2, from_be_bytes-to_be_bytes_4}
@@ -8,6 +8,7 @@ use Rattle.wf_ballot.specs.Node.{most_nodes, IsNode, node_bytes}
 use Rattle.wf_ballot.specs.Slot.{IsSlot}
 use Rattle.wf_ballot.specs.Sequence.{last_sequence, seq_bytes}
 use Rattle.wf_ballot.specs.Ballot.{Ballot, IsBallot, round_bytes, ballot_bytes}
+use Rattle.wf_ballot.specs.Round.{IsRound}
 use Rattle.wf_ballot.specs.Front.{AreBytes, ReadsFront, front_node, front_slot, front_round, front_ballot}
 
 -- a test that let a value through
@@ -68,9 +69,6 @@ reads_slots = record { stands = slot_stands; read = slot_read }
 
 -- ---- rounds
 
-abbrev pub IsRound : ℕ → Type 0
-IsRound round = (1 ≤ round) × (round < 2 ^ 32)
-
 -- four bytes are their number, and the number is below 2 ^ 32
 pub four_bytes : (a b c d : ℕ) (bytes : List ℕ) → AreBytes (a ∷ b ∷ c ∷ d ∷ bytes) →
     (to_be_bytes w32 (from_be_bytes w32 (a ∷ b ∷ c ∷ d ∷ [])) ≡ a ∷ b ∷ c ∷ d ∷ []) × (from_be_bytes w32 (a ∷ b ∷ c ∷ d ∷ []) < 2 ^ 32)
@@ -90,14 +88,14 @@ round_stands (a ∷ b ∷ c ∷ d ∷ bytes) rest r fits e =
     let k = kept (leb 1 n) (n, bytes) (r, rest) e in
     let number = four_bytes a b c d bytes fits in
     subst (λ (x : ℕ × List ℕ). (a ∷ b ∷ c ∷ d ∷ bytes ≡ to_be_bytes w32 x.0 ++ x.1) × IsRound x.0) k.1
-    (sym (ap (λ (front : List ℕ). front ++ bytes) number.0), (leb-true 1 n k.0, number.1))
+    (sym (ap (λ (front : List ℕ). front ++ bytes) number.0), (record { from_one = leb-true 1 n k.0; to_last = omega (arith, number.1) }))
 
 round_read : (r : ℕ) (rest : List ℕ) → IsRound r → front_round (round_bytes r ++ rest) ≡ Some (r, rest)
 unfolding front_round round_bytes
 round_read r rest is_round =
-    let again : from_be_bytes w32 (to_be_bytes w32 r) ≡ r = from_be_bytes-to_be_bytes_4 r is_round.1 in
+    let again : from_be_bytes w32 (to_be_bytes w32 r) ≡ r = from_be_bytes-to_be_bytes_4 r (omega (arith, is_round.to_last)) in
     let chosen : (n : ℕ) → n ≡ r → cond {A = Option (ℕ × List ℕ)} (leb 1 n) (Some (n, rest)) None ≡ Some (r, rest)
-    = λ n e. rw (e, le-leb 1 r is_round.0) refl in
+    = λ n e. rw (e, le-leb 1 r is_round.from_one) refl in
     chosen (from_be_bytes w32 (to_be_bytes w32 r)) again
 
 pub reads_rounds : ReadsFront IsRound round_bytes front_round

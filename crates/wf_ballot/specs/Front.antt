@@ -1,8 +1,9 @@
 -- A field at the front of bytes: its value and the bytes after it, None where no such field stands there.
-use Rattle.std.specs.Prelude.{◌≡◌, ℕ, ◌<◌, ◌≤◌, ◌^◌, ◌&&◌, nat_lt, nat_le, List, [], ◌∷◌, ◌++◌, slice_index, Option, Some, None, if◌then◌else◌}
+use Rattle.std.specs.Prelude.{◌≡◌, ℕ, ◌<◌, ◌&&◌, nat_lt, nat_le, List, [], ◌∷◌, ◌++◌, slice_index, Option, Some, None, if◌then◌else◌}
 use Rattle.std.specs.Int.{w16, w32, from_be_bytes}
 use Rattle.wf_ballot.specs.Node.{most_nodes, IsNode, node_bytes}
 use Rattle.wf_ballot.specs.Slot.{IsSlot}
+use Rattle.wf_ballot.specs.Round.{IsRound}
 use Rattle.wf_ballot.specs.Sequence.{last_sequence, seq_bytes}
 use Rattle.wf_ballot.specs.Ballot.{Ballot, IsBallot, round_bytes, ballot_bytes}
 
@@ -42,4 +43,4 @@ pub record FieldsAreRead : Type 0 where
   pub nodes : ReadsFront IsNode node_bytes front_node
   pub slots : ReadsFront IsSlot seq_bytes front_slot
   pub ballots : ReadsFront IsBallot ballot_bytes front_ballot
-  pub rounds : ReadsFront (λ round. (1 ≤ round) × (round < 2 ^ 32)) round_bytes front_round
+  pub rounds : ReadsFront IsRound round_bytes front_round

@@ -4,5 +4,6 @@ pub mod Ballot
 pub mod Majority
 pub mod Field
 pub mod Slot
+pub mod Round
 pub mod Front
 pub mod Frame

@@ -1,12 +1,14 @@
-ghost use Rattle.std.specs.Prelude.{◌≡◌, ◌≤◌, IfSome};
+ghost use Rattle.std.specs.Prelude.{◌≡◌, IfSome};
 ghost use Rattle.wf_ballot.specs.Node.{IsNode};
 ghost use Rattle.wf_ballot.specs.Slot.{IsSlot};
 ghost use Rattle.wf_ballot.specs.Ballot.{IsBallot};
+ghost use Rattle.wf_ballot.specs.Round.{IsRound};
 ghost use Rattle.std.specs.Option.{option_map};
 ghost use Rattle.wf_ballot.specs.Front.{front_node, front_slot, front_round, front_ballot, FieldsAreRead};
 
 use crate::ballot::Ballot;
 use crate::node::NodeId;
+use crate::round::Round;
 use crate::slot::Slot;
 
 /// The node at the front of the bytes, and the bytes after it; None where none stands there.
@@ -37,16 +39,13 @@ pub fn split_slot(bytes: &[u8]) -> Option<(Slot, &[u8])>
 
 /// The round at the front of the bytes, and the bytes after it; None where none stands there.
 #[tactic(auto, unfolding(crate::specs::Front::front_round))]
-pub fn split_round(bytes: &[u8]) -> Option<(u32, &[u8])>
+pub fn split_round(bytes: &[u8]) -> Option<(Round, &[u8])>
     ensures value { option_map (λ x. (x.0, x.1.now)) result ≡ front_round bytes.now }
-    ensures in_range { IfSome result (λ x. 1 ≤ x.0) }
+    ensures in_range { IfSome result (λ x. IsRound x.0) }
 {
     match bytes {
         [a, b, c, d, rest @ ..] => {
-            let round = u32::from_be_bytes([*a, *b, *c, *d]);
-            if round < 1 {
-                return None;
-            }
+            let round = Round::new(u32::from_be_bytes([*a, *b, *c, *d]))?;
             Some((round, rest))
         }
         _ => None,

@@ -1,9 +1,9 @@
 //! Nodes, update sequences, ballots and majorities: what the nodes of a farm count in when they agree
 //! on one history of map definitions.
 //!
-//! Its model: a `NodeId`, a `Seq` and a `Slot` (a sequence from 1 on) are seen as their numbers, a `Ballot` as the record of its round
-//! and its node's number (`specs/Ballot.antt`), a set of nodes as a test of numbers that is counted over
-//! the nodes of the farm (`specs/Majority.antt`).
+//! Its model: a `NodeId`, a `Round`, a `Seq` and a `Slot` (a sequence from 1 on) are seen as their
+//! numbers, a `Ballot` as the record of its round and its node's number (`specs/Ballot.antt`), a set of
+//! nodes as a test of numbers that is counted over the nodes of the farm (`specs/Majority.antt`).
 //!
 //! It promises that each value is in its range; that ballots are in one total order, by round, then by
 //! node; that two majorities of the same nodes share a node; and that each value has one spelling in
@@ -18,6 +18,7 @@ mod field;
 mod front;
 mod majority;
 mod node;
+mod round;
 mod sequence;
 mod slot;
 
@@ -26,5 +27,6 @@ pub use field::{field_lengths, fields_tell_apart};
 pub use front::{fields_are_read, split_ballot, split_node, split_round, split_slot};
 pub use majority::{is_majority, majorities_meet};
 pub use node::{NODES, NodeId};
+pub use round::Round;
 pub use sequence::{SEQUENCES, Seq};
 pub use slot::Slot;

@@ -8,7 +8,7 @@ use Rattle.std.proofs.lemmas.List.Elements.{recursion_from_All, filter_map-appen
 use Rattle.wf_def.specs.Definition.{StyleDefinition, LabelDefinition, ClassDefinition}
 use Rattle.wf_def.specs.Limits.{IsColor, IsStyle, IsLabel, IsClass}
 use Rattle.wf_def.specs.Text.{IsText}
-use Rattle.wf_def.specs.declared.limits.TheConstants.{MOST_STYLES, MOST_WIDTH, MOST_SIZE, MOST_PRIORITY, MOST_BUFFER}
+use Rattle.wf_def.specs.Limit.{most_styles, most_width, most_size, most_priority, most_buffer}
 use Rattle.wf_def.specs.declared.color.Color.{Color}
 use Rattle.wf_def.specs.declared.choice.LabelSize.{LabelSize}
 use Rattle.wf_def.specs.declared.choice.LabelSize.TheVariants.{Tiny, Small, Medium, Large, Giant}
@@ -46,8 +46,8 @@ style_items s h =
     (there IsColor (with_color (codes "COLOR")) styles.Colored s.color (λ c i. line_item styles.style_keyword styles.style_item (codes "COLOR") (whole_word c.r ∷ whole_word c.g ∷ whole_word c.b ∷ []) style_keywords.Color (styles.Colored c) refl refl (λ rest. rw (color_again c rest i) refl)) h.color)
     (there IsColor (with_color (codes "OUTLINECOLOR")) styles.Outlined s.outline_color (λ c i. line_item styles.style_keyword styles.style_item (codes "OUTLINECOLOR") (whole_word c.r ∷ whole_word c.g ∷ whole_word c.b ∷ []) style_keywords.OutlineColor (styles.Outlined c) refl refl (λ rest. rw (color_again c rest i) refl)) h.outline_color))
     (both
-    (line_item styles.style_keyword styles.style_item (codes "WIDTH") (whole_word s.width ∷ []) style_keywords.Width (styles.Width s.width) refl refl (λ rest. rw (whole_again 1 MOST_WIDTH s.width rest h.width_least h.width_most (omega (arith, h.width_most))) refl))
-    (line_item styles.style_keyword styles.style_item (codes "SIZE") (whole_word s.size ∷ []) style_keywords.Size (styles.Size s.size) refl refl (λ rest. rw (whole_again 1 MOST_SIZE s.size rest h.size_least h.size_most (omega (arith, h.size_most))) refl)))
+    (line_item styles.style_keyword styles.style_item (codes "WIDTH") (whole_word s.width ∷ []) style_keywords.Width (styles.Width s.width) refl refl (λ rest. rw (whole_again 1 most_width s.width rest h.width_least h.width_most (omega (arith, h.width_most))) refl))
+    (line_item styles.style_keyword styles.style_item (codes "SIZE") (whole_word s.size ∷ []) style_keywords.Size (styles.Size s.size) refl refl (λ rest. rw (whole_again 1 most_size s.size rest h.size_least h.size_most (omega (arith, h.size_most))) refl)))
 
 style_is_said : (color outline_color : Option Color) (width size : ℕ) → styles.style_of (style_said color outline_color width size) ≡ Some (record { color = color; outline_color = outline_color; width = width; size = size })
 unfolding styles.style_of styles.style_definition at_most_one
@@ -119,9 +119,9 @@ label_items l h =
     both (line_item labels.label_keyword labels.label_item (codes "COLOR") (whole_word l.color.r ∷ whole_word l.color.g ∷ whole_word l.color.b ∷ []) label_keywords.Color (labels.Colored l.color) refl refl (λ rest. rw (color_again l.color rest h.color) refl))
     (both (line_item labels.label_keyword labels.label_item (codes "SIZE") (Word (size_word l.size) ∷ []) label_keywords.Size (labels.Size l.size) refl refl (λ rest. rw (size_is_read l.size rest) refl))
     (both (line_item labels.label_keyword labels.label_item (codes "POSITION") (Word (position_word l.position) ∷ []) label_keywords.Position (labels.Position l.position) refl refl (λ rest. rw (position_is_read l.position rest) refl))
-    (both (line_item labels.label_keyword labels.label_item (codes "PRIORITY") (whole_word l.priority ∷ []) label_keywords.Priority (labels.Priority l.priority) refl refl (λ rest. rw (whole_again 1 MOST_PRIORITY l.priority rest h.priority_least h.priority_most (omega (arith, h.priority_most))) refl))
+    (both (line_item labels.label_keyword labels.label_item (codes "PRIORITY") (whole_word l.priority ∷ []) label_keywords.Priority (labels.Priority l.priority) refl refl (λ rest. rw (whole_again 1 most_priority l.priority rest h.priority_least h.priority_most (omega (arith, h.priority_most))) refl))
     (both (line_item labels.label_keyword labels.label_item (codes "FORCE") (Word (force_word l.force) ∷ []) label_keywords.Force (labels.Force l.force) refl refl (λ rest. rw (force_is_read l.force rest) refl))
-    (line_item labels.label_keyword labels.label_item (codes "BUFFER") (whole_word l.buffer ∷ []) label_keywords.Buffer (labels.Buffer l.buffer) refl refl (λ rest. rw (whole_again 0 MOST_BUFFER l.buffer rest (omega arith) h.buffer_most (omega (arith, h.buffer_most))) refl))))))
+    (line_item labels.label_keyword labels.label_item (codes "BUFFER") (whole_word l.buffer ∷ []) label_keywords.Buffer (labels.Buffer l.buffer) refl refl (λ rest. rw (whole_again 0 most_buffer l.buffer rest (omega arith) h.buffer_most (omega (arith, h.buffer_most))) refl))))))
 
 label_is_said : (l : LabelDefinition) → labels.label_of (label_said l) ≡ Some l
 unfolding labels.label_of labels.label_definition at_most_one
@@ -176,9 +176,9 @@ said_apart {A = A} of expression drawn label =
     filter_map-append of (when_said classes.Expression expression ++ map classes.Style drawn) (when_said classes.Label label)
     ∙ ap (λ (is : List A). is ++ filter_map of (when_said classes.Label label)) (filter_map-append of (when_said classes.Expression expression) (map classes.Style drawn))
 
-class_is_said : (name : List ℕ) (expression : Option (List ℕ)) (drawn : List StyleDefinition) (label : Option LabelDefinition) → length drawn ≤ MOST_STYLES
-    → classes.class_of (class_said name expression drawn label) ≡ Some (record { name = name; expression = expression; styles = drawn; label = label })
-unfolding classes.class_of classes.class_definition at_most_one
+class_is_said : (name : List ℕ) (expression : Option (List ℕ)) (drawn : List StyleDefinition) (label : Option LabelDefinition) → length drawn ≤ most_styles
+    → classes.class_of_items (class_said name expression drawn label) ≡ Some (record { name = name; expression = expression; styles = drawn; label = label })
+unfolding classes.class_of_items classes.class_definition at_most_one
 class_is_said name expression drawn label few =
     let said = when_said classes.Expression expression ++ map classes.Style drawn ++ when_said classes.Label label in
     let names : filter_map classes.name_of said ≡ [] =
@@ -193,8 +193,8 @@ class_is_said name expression drawn label few =
     let labels_said : filter_map classes.label_of said ≡ listed label =
     said_apart classes.label_of expression drawn label
     ∙ rw (dropped_there classes.Expression classes.label_of expression (λ t. refl), dropped classes.Style classes.label_of drawn (λ s. refl), kept_there classes.Label classes.label_of label (λ l. refl)) refl in
-    rw (names, expressions, styles_said, labels_said, one_listed expression, one_listed label, all_fit MOST_STYLES drawn few) refl
+    rw (names, expressions, styles_said, labels_said, one_listed expression, one_listed label, all_fit most_styles drawn few) refl
 
 pub class_again : (c : ClassDefinition) → IsClass c → Reads classes.class (class_body c ++ end_line ∷ []) c
 unfolding classes.class
-class_again c h = block_again classes.class_of (class_body c) (class_said c.name c.expression c.styles c.label) c (class_items c h) (class_is_said c.name c.expression c.styles c.label h.styles_most)
+class_again c h = block_again classes.class_of_items (class_body c) (class_said c.name c.expression c.styles c.label) c (class_items c h) (class_is_said c.name c.expression c.styles c.label h.styles_most)

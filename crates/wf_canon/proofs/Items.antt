@@ -9,7 +9,7 @@ use Rattle.std.proofs.lemmas.Bool.Decides.{nat_tests}
 use Rattle.std.proofs.lemmas.List.{length-append, append-nil}
 use Rattle.std.proofs.lemmas.List.Concat.{flat_map-append}
 use Rattle.wf_mapfile.specs.Token.{Token, Word}
-use Rattle.wf_mapfile.specs.Grammar.{is_end, word, items, block, at_most_one}
+use Rattle.wf_mapfile.specs.Grammar.{is_end, word, block_items, block, at_most_one}
 use Rattle.wf_mapfile.specs.Lists.{no_more_than}
 use Rattle.wf_canon.specs.Canon.{alone, end_line, when_there}
 use Rattle.wf_canon.proofs.Lexing.{tokens_of}
@@ -30,8 +30,8 @@ Reads reader lines value = (rest : List Token) → reader (tokens_of lines ++ re
 -- the lines are read as these items of a block, and then the rest is read
 pub record AreItems {K I : Type 0} (keyword : List ℕ → Option K) (item : K → List Token → Option (I × List Token)) (lines : List (List Token)) (said : List I) : Type 0 where
   pub count : length said ≤ length (tokens_of lines)
-  pub step : (most all : ℕ) (rest : List Token) (others : List I) (after : List Token) → all ≡ length said + most → items keyword item most rest ≡ Some (others, after)
-      → items keyword item all (tokens_of lines ++ rest) ≡ Some (said ++ others, after)
+  pub step : (most all : ℕ) (rest : List Token) (others : List I) (after : List Token) → all ≡ length said + most → block_items keyword item most rest ≡ Some (others, after)
+      → block_items keyword item all (tokens_of lines ++ rest) ≡ Some (said ++ others, after)
 
 pub no_items : {K I : Type 0} (keyword : List ℕ → Option K) (item : K → List Token → Option (I × List Token)) → AreItems keyword item [] []
 no_items keyword item = record {
@@ -40,9 +40,9 @@ no_items keyword item = record {
 }
 
 one_more : {K I : Type 0} (keyword : List ℕ → Option K) (item : K → List Token → Option (I × List Token)) (w : List ℕ) (arguments : List Token) (k : K) (said : I) (most : ℕ) (rest : List Token) (others : List I) (after : List Token)
-    → is_end w ≡ false → keyword w ≡ Some k → item k (arguments ++ rest) ≡ Some (said, rest) → items keyword item most rest ≡ Some (others, after)
-    → items keyword item (suc most) (Word w ∷ arguments ++ rest) ≡ Some (said ∷ others, after)
-unfolding items word
+    → is_end w ≡ false → keyword w ≡ Some k → item k (arguments ++ rest) ≡ Some (said, rest) → block_items keyword item most rest ≡ Some (others, after)
+    → block_items keyword item (suc most) (Word w ∷ arguments ++ rest) ≡ Some (said ∷ others, after)
+unfolding block_items word
 one_more keyword item w arguments k said most rest others after other known reads so_far = rw (other, known, reads, so_far) refl
 
 -- a keyword and its arguments, on one line or more
@@ -73,9 +73,9 @@ both {I = I} {keyword = keyword} {item = item} {xs = xs} {ys = ys} {said = said}
   count = rw (length-append said more, tokens_of-append xs ys, length-append (tokens_of xs) (tokens_of ys)) (omega (arith, first.count, second.count));
   step = λ most all rest others after is so_far.
       let sum : all ≡ length said + (length more + most) = omega (arith, is, length-append said more) in
-      let behind : items keyword item (length more + most) (tokens_of ys ++ rest) ≡ Some (more ++ others, after) = second.step most (length more + most) rest others after refl so_far in
-      ap (λ (ts : List Token). items keyword item all (ts ++ rest)) (tokens_of-append xs ys)
-      ∙ ap (items keyword item all) (append_assoc (tokens_of xs) (tokens_of ys) rest)
+      let behind : block_items keyword item (length more + most) (tokens_of ys ++ rest) ≡ Some (more ++ others, after) = second.step most (length more + most) rest others after refl so_far in
+      ap (λ (ts : List Token). block_items keyword item all (ts ++ rest)) (tokens_of-append xs ys)
+      ∙ ap (block_items keyword item all) (append_assoc (tokens_of xs) (tokens_of ys) rest)
       ∙ first.step (length more + most) all (tokens_of ys ++ rest) (more ++ others) after sum behind
       ∙ ap (λ (is : List I). Some (is, after)) (sym (append_assoc said more others));
 }
@@ -99,8 +99,8 @@ there P of said (Some x) reads some = reads x some
 
 -- ---- blocks
 
-items_end : {K I : Type 0} (keyword : List ℕ → Option K) (item : K → List Token → Option (I × List Token)) (most : ℕ) (rest : List Token) → items keyword item (suc most) (Word (codes "END") ∷ rest) ≡ Some ([], rest)
-unfolding items word is_end
+items_end : {K I : Type 0} (keyword : List ℕ → Option K) (item : K → List Token → Option (I × List Token)) (most : ℕ) (rest : List Token) → block_items keyword item (suc most) (Word (codes "END") ∷ rest) ≡ Some ([], rest)
+unfolding block_items word is_end
 items_end keyword item most rest = refl
 
 closed : (body : List (List Token)) (rest : List Token) → tokens_of (body ++ end_line ∷ []) ++ rest ≡ tokens_of body ++ Word (codes "END") ∷ rest

@@ -9,7 +9,7 @@ use Rattle.wf_def.specs.Definition.{ClassDefinition, FeatureDefinition, LayerDef
 use Rattle.wf_def.specs.Layer as definitions
 use Rattle.wf_def.specs.Limits.{IsPoint, IsClass, IsFeature, IsLayer, IsLayerName, HasEnoughPoints, least_points}
 use Rattle.wf_def.specs.Text.{IsText}
-use Rattle.wf_def.specs.declared.limits.TheConstants.{MOST_CLASSES, MOST_ITEMS_BYTES}
+use Rattle.wf_def.specs.Limit.{most_classes, most_items_bytes}
 use Rattle.wf_def.specs.declared.point.Point.{Point}
 use Rattle.wf_def.specs.declared.choice.LayerKind.{LayerKind}
 use Rattle.wf_def.specs.declared.choice.LayerKind.TheVariants.{Points, Lines, Polygons}
@@ -86,8 +86,8 @@ feature_items f h =
     (both (line_item features.feature_keyword features.feature_item (codes "TEXT") (Quoted f.text ∷ []) feature_keywords.Text (features.Text f.text) refl refl (λ rest. rw (text_again f.text rest h.text) refl))
     (each (All IsPoint) part_lines features.Part f.parts part_item (recursion_from_All (All IsPoint) f.parts h.parts)))
 
-feature_is_said : (f : FeatureDefinition) → 1 ≤ length f.parts → features.feature_of (feature_said f) ≡ Some f
-unfolding features.feature_of features.feature_definition definitions.feature_of at_most_one
+feature_is_said : (f : FeatureDefinition) → 1 ≤ length f.parts → features.feature_of_items (feature_said f) ≡ Some f
+unfolding features.feature_of_items features.feature_definition definitions.feature_of at_most_one
 feature_is_said f least =
     let some : ltb 0 (length f.parts) ≡ true = grind (arith, nat_tests) in
     rw (
@@ -99,7 +99,7 @@ feature_is_said f least =
 
 pub feature_again : (f : FeatureDefinition) → IsFeature f → Reads features.feature (feature_body f ++ end_line ∷ []) f
 unfolding features.feature
-feature_again f h = block_again features.feature_of (feature_body f) (feature_said f) f (feature_items f h) (feature_is_said f h.parts_least)
+feature_again f h = block_again features.feature_of_items (feature_body f) (feature_said f) f (feature_items f h) (feature_is_said f h.parts_least)
 
 -- ---- layers
 
@@ -115,8 +115,8 @@ kind_again Points rest = chosen_again layers.layer_kinds (codes "POINT") Points 
 kind_again Lines rest = chosen_again layers.layer_kinds (codes "LINE") Lines rest refl refl
 kind_again Polygons rest = chosen_again layers.layer_kinds (codes "POLYGON") Polygons rest refl refl
 
-names_again : (names : List ℕ) (rest : List Token) → IsText names → length names ≤ 994 → layers.attribute_names (Quoted (codes "ITEMS=" ++ names) ∷ rest) ≡ Some (names, rest)
-unfolding layers.attribute_names
+names_again : (names : List ℕ) (rest : List Token) → IsText names → length names ≤ 994 → layers.processing (Quoted (codes "ITEMS=" ++ names) ∷ rest) ≡ Some (names, rest)
+unfolding layers.processing
 names_again names rest h most = rw (text_again (codes "ITEMS=" ++ names) rest (items_is_text names h most)) refl
 
 abbrev title_only : List ℕ → Metadata
@@ -189,15 +189,15 @@ all_hold P p (x ∷ xs) holds all = rw (holds x all.0) (all_hold P p xs holds al
 enough_points : (kind : LayerKind) (f : FeatureDefinition) → HasEnoughPoints kind f → definitions.has_enough_points kind f ≡ true
 enough_points kind f h = all_hold (λ part. least_points kind ≤ length part) (λ part. leb (least_points kind) (length part)) f.parts (λ part le. grind (arith, nat_tests)) (recursion_from_All (λ part. least_points kind ≤ length part) f.parts h)
 
-layer_is_said : (entry : List ℕ × LayerDefinition) → IsLayer entry.1 → layers.layer_of (layer_said entry) ≡ Some entry
-unfolding layers.layer_of layers.named_layer definitions.layer_of at_most_one exactly_one
+layer_is_said : (entry : List ℕ × LayerDefinition) → IsLayer entry.1 → layers.layer_of_items (layer_said entry) ≡ Some entry
+unfolding layers.layer_of_items layers.named_layer definitions.layer_of at_most_one exactly_one
 layer_is_said entry h =
     let l = entry.1 in
-    let classes : filter_map layers.class_of (map layers.Class l.classes ++ map layers.Feature l.features) ≡ l.classes =
-    said_apart layers.class_of l ∙ rw (kept layers.Class layers.class_of l.classes (λ c. refl), dropped layers.Feature layers.class_of l.features (λ f. refl)) (append-nil l.classes) in
-    let features : filter_map layers.feature_of (map layers.Class l.classes ++ map layers.Feature l.features) ≡ l.features =
-    said_apart layers.feature_of l ∙ rw (dropped layers.Class layers.feature_of l.classes (λ c. refl), kept layers.Feature layers.feature_of l.features (λ f. refl)) refl in
-    let few_items : leb (length l.items) MOST_ITEMS_BYTES ≡ true = grind (arith, nat_tests, h.items_most) in
+    let classes : filter_map layers.said_class (map layers.Class l.classes ++ map layers.Feature l.features) ≡ l.classes =
+    said_apart layers.said_class l ∙ rw (kept layers.Class layers.said_class l.classes (λ c. refl), dropped layers.Feature layers.said_class l.features (λ f. refl)) (append-nil l.classes) in
+    let features : filter_map layers.said_feature (map layers.Class l.classes ++ map layers.Feature l.features) ≡ l.features =
+    said_apart layers.said_feature l ∙ rw (dropped layers.Class layers.said_feature l.classes (λ c. refl), kept layers.Feature layers.said_feature l.features (λ f. refl)) refl in
+    let few_items : leb (length l.items) most_items_bytes ≡ true = grind (arith, nat_tests, h.items_most) in
     let shapes : list_all (definitions.has_enough_points l.kind) l.features ≡ true =
     all_hold (HasEnoughPoints l.kind) (definitions.has_enough_points l.kind) l.features (enough_points l.kind) (recursion_from_All (HasEnoughPoints l.kind) l.features h.shapes) in
     rw (
@@ -212,11 +212,11 @@ layer_is_said entry h =
       said_before layers.template_of l (λ c. refl) (λ f. refl),
       classes,
       features,
-      all_fit MOST_CLASSES l.classes h.classes_most,
+      all_fit most_classes l.classes h.classes_most,
       few_items,
       shapes,
     ) refl
 
 pub layer_again : (entry : List ℕ × LayerDefinition) → IsLayerName entry.0 → IsLayer entry.1 → Reads layers.layer (layer_body entry ++ end_line ∷ []) entry
 unfolding layers.layer
-layer_again entry name h = block_again layers.layer_of (layer_body entry) (layer_said entry) entry (layer_items entry name h) (layer_is_said entry h)
+layer_again entry name h = block_again layers.layer_of_items (layer_body entry) (layer_said entry) entry (layer_items entry name h) (layer_is_said entry h)

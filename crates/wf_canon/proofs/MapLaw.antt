@@ -6,7 +6,7 @@ use Rattle.std.specs.Str.{bytes_eq}
 use Rattle.std.proofs.lemmas.Bool.Decides.{nat_tests}
 use Rattle.wf_def.specs.Definition.{Definition, LayerDefinition}
 use Rattle.wf_def.specs.Limits.{IsWithinLimits, layer_names, feature_count, point_count}
-use Rattle.wf_def.specs.declared.limits.TheConstants.{MOST_LAYERS, MOST_FEATURES, MOST_POINTS}
+use Rattle.wf_def.specs.Limit.{most_layers, most_features, most_points}
 use Rattle.wf_def.specs.Extent.{ExtentValue, IsExtent}
 use Rattle.wf_def.specs.declared.choice.Projection.{Projection}
 use Rattle.wf_def.specs.declared.choice.Projection.TheVariants.{Epsg4326, Epsg3857}
@@ -18,7 +18,7 @@ use Rattle.wf_mapfile.specs.declared.keyword.MapKeyword.TheVariants as keyword
 use Rattle.wf_mapfile.specs.declared.slots.Metadata as slots
 use Rattle.wf_mapfile.specs.Web as webs
 use Rattle.wf_mapfile.specs.Map as mapfile
-use Rattle.wf_mapfile.specs.Map.{map_keyword, map_item, map_of, extent, projection, projection_named, definition, layers_of, are_layers, name_of, extent_of, projection_of, web_of, layer_of, size_of, image_color_of, units_of, status_of, image_type_of, shape_path_of, MapItem, Name, Extent, Projected, Web, Layer}
+use Rattle.wf_mapfile.specs.Map.{map_keyword, map_item, map_of, extent, projection, projection_named, definition, layers_of, are_layers, name_of, extent_of, projection_of, web_of, said_layer, size_of, image_color_of, units_of, status_of, image_type_of, shape_path_of, MapItem, Name, Extent, Projected, Web, Layer}
 use Rattle.wf_canon.specs.Number.{number_text}
 use Rattle.wf_canon.specs.Canon.{projection_text, alone, with_text, with_key, with_extent, end_line, layer_lines, projection_lines, web_lines}
 use Rattle.wf_canon.proofs.KnownText.{title_key, abstract_key, address_key, projection_is_text}
@@ -117,9 +117,9 @@ names_differ (name ∷ names) unlike = rw (none_equal name names unlike.0) (name
 layers_fit : (d : Definition) → IsWithinLimits d → layers_of d.layers ≡ Some d.layers
 unfolding layers_of are_layers
 layers_fit d h =
-    let few : leb (length d.layers) MOST_LAYERS ≡ true = grind (arith, nat_tests, h.layers_most) in
-    let few_features : leb (feature_count d.layers) MOST_FEATURES ≡ true = grind (arith, nat_tests, h.features_most) in
-    let few_points : leb (point_count d.layers) MOST_POINTS ≡ true = grind (arith, nat_tests, h.points_most) in
+    let few : leb (length d.layers) most_layers ≡ true = grind (arith, nat_tests, h.layers_most) in
+    let few_features : leb (feature_count d.layers) most_features ≡ true = grind (arith, nat_tests, h.features_most) in
+    let few_points : leb (point_count d.layers) most_points ≡ true = grind (arith, nat_tests, h.points_most) in
     rw (few, names_differ (layer_names d.layers) h.unlike_names, few_features, few_points) refl
 
 map_is_said : (d : Definition) → IsWithinLimits d → map_of (map_said d) ≡ Some d
@@ -130,7 +130,7 @@ map_is_said d h =
       dropped Layer extent_of d.layers (λ l. refl),
       dropped Layer projection_of d.layers (λ l. refl),
       dropped Layer web_of d.layers (λ l. refl),
-      kept Layer layer_of d.layers (λ l. refl),
+      kept Layer said_layer d.layers (λ l. refl),
       dropped Layer size_of d.layers (λ l. refl),
       dropped Layer image_color_of d.layers (λ l. refl),
       dropped Layer units_of d.layers (λ l. refl),

@@ -1,5 +1,5 @@
 -- The canonical text of a map means that map.
-use Rattle.std.proofs.Common.{◌≡◌, ℕ, ◌<◌, ◌≤◌, Bool, true, false, not, cond, leb, List, [], ◌∷◌, ◌++◌, length, Option, Some, refl, sym, ap, ◌∙◌, arith}
+use Rattle.std.proofs.Common.{◌≡◌, ℕ, ◌<◌, ◌≤◌, Bool, true, false, not, ◌&&◌, cond, leb, nat_le, List, [], ◌∷◌, ◌++◌, length, Option, Some, None, Result, Err, refl, sym, ap, ◌∙◌, arith}
 use Rattle.std.specs.Prelude.{codes}
 use Rattle.std.specs.Str.{is_utf8, bytes_eq}
 use Rattle.std.proofs.lemmas.Slice.Eq.{bytes_eq-Decides}
@@ -9,7 +9,10 @@ use Rattle.wf_def.specs.Definition.{Definition}
 use Rattle.wf_def.specs.Limits.{IsWithinLimits}
 use Rattle.wf_mapfile.specs.Token.{Token, Word, Between, without_mark, tokens, tokens_from}
 use Rattle.wf_mapfile.specs.Grammar.{◌>>=◌, word}
-use Rattle.wf_mapfile.specs.Meaning.{file, meaning, Means, MeansNothing}
+use Rattle.wf_mapfile.specs.Meaning.{file, longest_mapfile, meaning, Means, MeansNothing}
+use Rattle.wf_mapfile.specs.Reading.{IsNotUtf8, is_memory}
+use Rattle.wf_mapfile.specs.declared.fault.MapFault.{MapFault}
+use Rattle.wf_mapfile.specs.declared.fault.MapFault.TheVariants as reading
 use Rattle.wf_canon.specs.Canon.{line, end_line, map_lines, canon}
 use Rattle.wf_canon.specs.declared.fault.CanonFault.{CanonFault}
 use Rattle.wf_canon.specs.declared.fault.CanonFault.TheVariants.{TooBig, NotCanonical, Memory}
@@ -81,17 +84,45 @@ pub long_has_no_canon : (bytes : List ℕ) (def : Definition) → length bytes �
 long_has_no_canon bytes def short meant long =
     other_has_no_canon bytes (canon def) def short meant refl (λ same. let e : length (canon def) ≡ length bytes = ap length same in absurd (omega arith))
 
+unread_if : (within : Bool) (read : Option Definition) → cond (within && false) read None ≡ None
+unread_if true read = refl
+unread_if false read = refl
+
+-- what means a map is UTF-8
+means-is_utf8 : (bytes : List ℕ) (def : Definition) (utf8 : Bool) → is_utf8 bytes ≡ utf8 → Means bytes def → is_utf8 bytes ≡ true
+unfolding meaning
+means-is_utf8 bytes def true is meant = is
+means-is_utf8 bytes def false is meant =
+    let unread : meaning bytes ≡ None = rw is (unread_if (nat_le (length bytes) longest_mapfile) (tokens bytes >>= file)) in
+    let none : None ≡ some_of def = sym unread ∙ meant in
+    absurd (let impossible : ⊥ = cc in impossible)
+
 pub why_refused_again : (fault : CanonFault) (bytes : List ℕ) (def : Definition) → length bytes ≤ 32768 → Means bytes def → IsCauseOf fault def → IsWhyRefused (refused_again fault) bytes
 why_refused_again TooBig bytes def short meant long = long_has_no_canon bytes def short meant long
 why_refused_again NotCanonical bytes def short meant none = absurd none
-why_refused_again Memory bytes def short meant few = tt
+why_refused_again Memory bytes def short meant few = (short, means-is_utf8 bytes def (is_utf8 bytes) refl meant)
 
 pub unlike : (xs ys : List ℕ) → true ≡ not (bytes_eq xs ys) → xs ≡ ys → ⊥
 unlike xs ys e same =
     let eq : bytes_eq xs ys ≡ true = (bytes_eq-Decides xs ys).1 same in
     absurd cc
 
+-- memory is wanted only for UTF-8: other bytes are refused for that
+memory-is_utf8 : (fault : MapFault) (bytes : List ℕ) (utf8 : Bool) → is_utf8 bytes ≡ utf8 → is_memory fault ≡ true
+    → (is_utf8 bytes ≡ false → IsNotUtf8 {X = Definition} (Err fault)) → is_utf8 bytes ≡ true
+memory-is_utf8 fault bytes true is memory none = is
+memory-is_utf8 reading.Memory bytes false is memory none = absurd (none is)
+memory-is_utf8 _ bytes false is memory none = absurd (let impossible : ⊥ = cc in impossible)
+
 -- what the reader's fault says, where it is want of memory and where it isn't
-pub why_unread : (memory : Bool) (fault : CanonFault) (bytes : List ℕ) → length bytes ≤ 32768 → fault ≡ cond memory Memory NotCanonical → (memory ≡ false → MeansNothing bytes) → IsWhyRefused fault bytes
-why_unread true fault bytes short is none = rw is tt
-why_unread false fault bytes short is none = rw is (unread_has_no_canon bytes short (none refl))
+why_unread_by : (memory : Bool) (unread : MapFault) (fault : CanonFault) (bytes : List ℕ) → length bytes ≤ 32768 → is_memory unread ≡ memory
+    → fault ≡ cond memory Memory NotCanonical → (is_utf8 bytes ≡ false → IsNotUtf8 {X = Definition} (Err unread)) → (memory ≡ false → MeansNothing bytes)
+    → IsWhyRefused fault bytes
+why_unread_by true unread fault bytes short kind is utf8 none = rw is (short, memory-is_utf8 unread bytes (is_utf8 bytes) refl kind utf8)
+why_unread_by false unread fault bytes short kind is utf8 none = rw is (unread_has_no_canon bytes short (none refl))
+
+pub why_unread : (unread : MapFault) (fault : CanonFault) (bytes : List ℕ) → length bytes ≤ 32768 → fault ≡ cond (is_memory unread) Memory NotCanonical
+    → (length bytes ≤ longest_mapfile → is_utf8 bytes ≡ false → IsNotUtf8 {X = Definition} (Err unread)) → (is_memory unread ≡ false → MeansNothing bytes)
+    → IsWhyRefused fault bytes
+why_unread unread fault bytes short is utf8 none =
+    why_unread_by (is_memory unread) unread fault bytes short refl is (λ other. utf8 (omega arith) other) none

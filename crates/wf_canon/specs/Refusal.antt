@@ -1,5 +1,6 @@
 -- When a definition or bytes have no canonical text.
-use Rattle.std.specs.Prelude.{◌≡◌, ℕ, ◌<◌, ◌≤◌, List, length}
+use Rattle.std.specs.Prelude.{◌≡◌, ℕ, ◌<◌, ◌≤◌, true, List, length}
+use Rattle.std.specs.Str.{is_utf8}
 use Rattle.wf_def.specs.Definition.{Definition}
 use Rattle.wf_def.specs.Limits.{IsWithinLimits}
 use Rattle.wf_canon.specs.declared.fault.CanonFault.{CanonFault}
@@ -16,11 +17,11 @@ IsCauseOf Memory d = length (canon d) ≤ most_canon_bytes
 abbrev pub HasNoCanon : List ℕ → Type 0
 HasNoCanon bytes = (d : Definition) → IsWithinLimits d → canon d ≡ bytes → ⊥
 
--- why bytes are refused; want of memory says nothing of them
+-- why bytes are refused; the length and UTF-8 are judged without memory, and want of it says nothing more of them
 abbrev pub IsWhyRefused : CanonFault → List ℕ → Type 0
 IsWhyRefused TooBig bytes = most_canon_bytes < length bytes
 IsWhyRefused NotCanonical bytes = HasNoCanon bytes
-IsWhyRefused Memory bytes = Unit {0}
+IsWhyRefused Memory bytes = (length bytes ≤ most_canon_bytes) × (is_utf8 bytes ≡ true)
 
 -- what bytes within the limit are refused for, where the map that they mean has no text of its own: one over the limit is another text
 abbrev pub refused_again : CanonFault → CanonFault

@@ -15,6 +15,7 @@
 mod canon;
 mod class;
 mod draft;
+mod equality;
 mod fault;
 mod feature;
 mod law;

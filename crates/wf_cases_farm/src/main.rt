@@ -1,21 +1,28 @@
-//! Cases of what the nodes of a farm count in and of the bytes of their messages.
+//! Cases of what the nodes of a farm count in, of the bytes of their messages, and of what an acceptor and a
+//! proposer answer to a script of calls.
 //!
 //! A table of cases comes from standard input (`wf_table` has its language), each answer is compared with
 //! the expected one, and what differs is told, with the counts on the last line. [`questions`] has the
 //! questions.
 //!
-//! It promises nothing of its own: the answers are those of `wf_ballot` and `wf_codec`, put into words.
+//! It promises nothing of its own: the answers are those of `wf_ballot`, `wf_codec`, `wf_acceptor` and
+//! `wf_proposer`, put into words.
 #![tactic(auto)]
 
+mod acceptor;
 mod message;
 mod number;
+mod proposer;
 mod questions;
 mod reading;
+mod script;
 mod spelling;
+mod tape;
 mod telling;
 mod tries;
 mod words;
 mod words_of_message;
+mod words_of_record;
 
 use questions::Farm;
 use std::io;

@@ -19,12 +19,19 @@
 //! message copy              bytes                   the bytes of a copy of the message
 //! message encode KIND ..    a definition's text     `message ` and the bytes of the message
 //! message fault             what is at fault        the fault as it is printed
+//! acceptor NODE             a script                what the node's acceptor answers to each call
+//! proposer NODE of NODES    a script                the same of a proposer, in a farm of so many nodes; its standing
+//! tape open                 bytes                   the records in words, or the fault; how many bytes are left
+//! tape torn N               bytes                   how many beginnings from N bytes on open with N bytes left
+//! tape published N          a definition's text     how many records and bytes a tape of N Published opens with
 //! ```
-use crate::{message, number, tries};
+//!
+//! [`crate::script`] has what a script is, [`crate::acceptor`] and [`crate::proposer`] the calls.
+use crate::{acceptor, message, number, proposer, tape, tries};
 use std::alloc::Global;
 use wf_table::{Questions, Unanswered};
 
-/// What is asked of a farm's numbers and messages.
+/// What is asked of a farm's numbers, messages, acceptors and proposers.
 pub(crate) struct Farm;
 
 impl Questions for Farm {
@@ -44,6 +51,9 @@ impl Questions for Farm {
             "round" => tries::ask_round(asked, input, answer),
             "ballot" => tries::ask_ballot(asked, input, answer),
             "message" => message::ask(alloc, asked, input, answer),
+            "acceptor" => acceptor::ask(alloc, asked, input, answer),
+            "proposer" => proposer::ask(alloc, asked, input, answer),
+            "tape" => tape::ask(alloc, asked, input, answer),
             _ => Err(Unanswered::UnknownQuestion),
         }
     }

@@ -14,13 +14,19 @@ pub(crate) fn tell_decoded(
     answer: &mut Vec<u8>,
 ) -> Result<(), Unanswered> {
     match decode(alloc, bytes) {
-        Ok((message, count)) => tell_read(&message, count, answer),
+        Ok((message, count)) => tell_read(message, count, answer),
         Err(DecodeFault::Memory) => Err(Unanswered::Memory),
         Err(fault) => tell_fault(fault, answer),
     }
 }
 
-fn tell_read(message: &Message, count: usize, answer: &mut Vec<u8>) -> Result<(), Unanswered> {
+fn tell_read(message: Message, count: usize, answer: &mut Vec<u8>) -> Result<(), Unanswered> {
+    let told = tell_whole(&message, count, answer);
+    discard(message);
+    told
+}
+
+fn tell_whole(message: &Message, count: usize, answer: &mut Vec<u8>) -> Result<(), Unanswered> {
     write_whole(count as u64, answer)?;
     write_text(" bytes, ", answer)?;
     tell_message(message, answer)
@@ -64,15 +70,20 @@ pub(crate) fn tell_copy(
     answer: &mut Vec<u8>,
 ) -> Result<(), Unanswered> {
     match decode(alloc, bytes) {
-        Ok((message, _)) => tell_copied(&message, answer),
+        Ok((message, _)) => tell_copied(message, answer),
         Err(DecodeFault::Memory) => Err(Unanswered::Memory),
         Err(_) => Err(Unanswered::BadWords),
     }
 }
 
-fn tell_copied(message: &Message, answer: &mut Vec<u8>) -> Result<(), Unanswered> {
-    match message.copy() {
-        Ok(copy) => tell_spelled(copy, answer),
+fn tell_copied(message: Message, answer: &mut Vec<u8>) -> Result<(), Unanswered> {
+    let copied = message.copy();
+    discard(message);
+    match copied {
+        Ok(copy) => tell_spelled(&copy, answer),
         Err(_) => Err(Unanswered::Memory),
     }
 }
+
+// Lets a message go, so that no other function's proof takes it apart.
+fn discard(_message: Message) {}

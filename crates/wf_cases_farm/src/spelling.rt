@@ -29,14 +29,15 @@ pub(crate) fn tell_encoded(
 }
 
 /// Appends the bytes of a message.
-pub(crate) fn tell_spelled(message: Message, answer: &mut Vec<u8>) -> Result<(), Unanswered> {
-    match encode(&message, answer) {
+pub(crate) fn tell_spelled(message: &Message, answer: &mut Vec<u8>) -> Result<(), Unanswered> {
+    match encode(message, answer) {
         Ok(()) => Ok(()),
         Err(_) => Err(Unanswered::Memory),
     }
 }
 
-fn canon_of(alloc: Global, text: &[u8]) -> Result<Canon, Unanswered> {
+/// The definition of a canonical text.
+pub(crate) fn canon_of(alloc: Global, text: &[u8]) -> Result<Canon, Unanswered> {
     match Canon::from_bytes(alloc, text) {
         Ok(canon) => Ok(canon),
         Err(CanonFault::Memory) => Err(Unanswered::Memory),
@@ -47,7 +48,7 @@ fn canon_of(alloc: Global, text: &[u8]) -> Result<Canon, Unanswered> {
 fn prepare(words: &mut Words<'_>, answer: &mut Vec<u8>) -> Result<(), Unanswered> {
     let slot = words.slot()?;
     let ballot = words.ballot()?;
-    tell_spelled(Message::Prepare(slot, ballot), answer)
+    tell_spelled(&Message::Prepare(slot, ballot), answer)
 }
 
 /// A vote has its ballot behind the other words, and a text.
@@ -61,11 +62,11 @@ fn promise(
     let slot = words.slot()?;
     let ballot = words.ballot()?;
     if text.is_empty() {
-        return tell_spelled(Message::Promise(node, slot, ballot, None), answer);
+        return tell_spelled(&Message::Promise(node, slot, ballot, None), answer);
     }
     let voted = words.ballot()?;
     let vote = Some((voted, canon_of(alloc, text)?));
-    tell_spelled(Message::Promise(node, slot, ballot, vote), answer)
+    tell_spelled(&Message::Promise(node, slot, ballot, vote), answer)
 }
 
 fn accept(
@@ -77,14 +78,14 @@ fn accept(
     let slot = words.slot()?;
     let ballot = words.ballot()?;
     let canon = canon_of(alloc, text)?;
-    tell_spelled(Message::Accept(slot, ballot, canon), answer)
+    tell_spelled(&Message::Accept(slot, ballot, canon), answer)
 }
 
 fn accepted(words: &mut Words<'_>, answer: &mut Vec<u8>) -> Result<(), Unanswered> {
     let node = words.node()?;
     let slot = words.slot()?;
     let ballot = words.ballot()?;
-    tell_spelled(Message::Accepted(node, slot, ballot), answer)
+    tell_spelled(&Message::Accepted(node, slot, ballot), answer)
 }
 
 fn nack(words: &mut Words<'_>, answer: &mut Vec<u8>) -> Result<(), Unanswered> {
@@ -92,7 +93,7 @@ fn nack(words: &mut Words<'_>, answer: &mut Vec<u8>) -> Result<(), Unanswered> {
     let slot = words.slot()?;
     let ballot = words.ballot()?;
     let promised = words.ballot()?;
-    tell_spelled(Message::Nack(node, slot, ballot, promised), answer)
+    tell_spelled(&Message::Nack(node, slot, ballot, promised), answer)
 }
 
 fn chosen(
@@ -103,10 +104,10 @@ fn chosen(
 ) -> Result<(), Unanswered> {
     let slot = words.slot()?;
     let canon = canon_of(alloc, text)?;
-    tell_spelled(Message::Chosen(slot, canon), answer)
+    tell_spelled(&Message::Chosen(slot, canon), answer)
 }
 
 fn ask(words: &mut Words<'_>, answer: &mut Vec<u8>) -> Result<(), Unanswered> {
     let slot = words.slot()?;
-    tell_spelled(Message::Ask(slot), answer)
+    tell_spelled(&Message::Ask(slot), answer)
 }

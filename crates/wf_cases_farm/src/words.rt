@@ -33,6 +33,11 @@ impl<'a> Words<'a> {
         }
     }
 
+    /// Is no word left?
+    pub(crate) fn is_empty(&self) -> bool {
+        self.rest.is_empty()
+    }
+
     pub(crate) fn byte(&mut self) -> Result<u8, Unanswered> {
         match self.word().parse::<u8>() {
             Ok(number) => Ok(number),

@@ -1,4 +1,6 @@
-//! Messages in words: the kind and the fields on one line, then the text of a definition.
+//! Messages in words, on one line: the kind and the fields. A definition is `map` and its name in the
+//! script, or else its text, from the next line on.
+use crate::script::Maps;
 use crate::telling::write_printed;
 use std::fmt::Display;
 use wf_ballot::{Ballot, NodeId, Slot};
@@ -7,25 +9,45 @@ use wf_codec::Message;
 use wf_table::Unanswered;
 use wf_table::write::{write_line, write_text};
 
-/// Appends the message in words.
+/// Appends the message in words and a line feed.
 pub(crate) fn tell_message(message: &Message, answer: &mut Vec<u8>) -> Result<(), Unanswered> {
+    write_message(message, Maps::NONE, answer)?;
+    Ok(write_line("", answer)?)
+}
+
+/// Appends the message in words.
+pub(crate) fn write_message(
+    message: &Message,
+    maps: Maps<'_>,
+    answer: &mut Vec<u8>,
+) -> Result<(), Unanswered> {
     match message {
-        Message::Prepare(slot, ballot) => tell_prepare(*slot, *ballot, answer),
+        Message::Prepare(slot, ballot) => write_at("prepare", *slot, *ballot, answer),
         Message::Promise(node, slot, ballot, vote) => {
-            tell_promise(*node, *slot, *ballot, vote, answer)
+            write_from("promise", *node, *slot, *ballot, answer)?;
+            write_vote(vote, maps, answer)
         }
-        Message::Accept(slot, ballot, canon) => tell_accept(*slot, *ballot, canon, answer),
-        Message::Accepted(node, slot, ballot) => tell_accepted(*node, *slot, *ballot, answer),
+        Message::Accept(slot, ballot, canon) => {
+            write_at("accept", *slot, *ballot, answer)?;
+            write_definition(canon, maps, answer)
+        }
+        Message::Accepted(node, slot, ballot) => {
+            write_from("accepted", *node, *slot, *ballot, answer)
+        }
         Message::Nack(node, slot, ballot, promised) => {
-            tell_nack(*node, *slot, *ballot, *promised, answer)
+            write_from("nack", *node, *slot, *ballot, answer)?;
+            write_field(" promised ", *promised, answer)
         }
-        Message::Chosen(slot, canon) => tell_chosen(*slot, canon, answer),
-        Message::Ask(slot) => tell_ask(*slot, answer),
+        Message::Chosen(slot, canon) => {
+            write_field("chosen slot ", *slot, answer)?;
+            write_definition(canon, maps, answer)
+        }
+        Message::Ask(slot) => write_field("ask slot ", *slot, answer),
     }
 }
 
 /// Appends a field's name and its value.
-fn write_field<T: Display + Copy>(
+pub(crate) fn write_field<T: Display + Copy>(
     name: &str,
     value: T,
     answer: &mut Vec<u8>,
@@ -34,82 +56,64 @@ fn write_field<T: Display + Copy>(
     write_printed(value, answer)
 }
 
-/// Ends the line of the fields, and appends the text of a definition.
-fn tell_text(canon: &Canon, answer: &mut Vec<u8>) -> Result<(), Unanswered> {
-    write_line("", answer)?;
-    Ok(answer.extend_from_slice(canon.text())?)
+/// Appends a kind with its slot and ballot.
+pub(crate) fn write_at(
+    kind: &str,
+    slot: Slot,
+    ballot: Ballot,
+    answer: &mut Vec<u8>,
+) -> Result<(), Unanswered> {
+    write_text(kind, answer)?;
+    write_field(" slot ", slot, answer)?;
+    write_field(" ballot ", ballot, answer)
 }
 
-fn tell_prepare(slot: Slot, ballot: Ballot, answer: &mut Vec<u8>) -> Result<(), Unanswered> {
-    write_field("prepare slot ", slot, answer)?;
-    write_field(" ballot ", ballot, answer)?;
-    Ok(write_line("", answer)?)
-}
-
-fn tell_promise(
+/// Appends a kind with the node that says it, its slot and its ballot.
+fn write_from(
+    kind: &str,
     node: NodeId,
     slot: Slot,
     ballot: Ballot,
-    vote: &Option<(Ballot, Canon)>,
     answer: &mut Vec<u8>,
 ) -> Result<(), Unanswered> {
-    write_field("promise node ", node, answer)?;
-    write_field(" slot ", slot, answer)?;
-    write_field(" ballot ", ballot, answer)?;
+    write_text(kind, answer)?;
+    write_field(" node ", node, answer)?;
+    write_at("", slot, ballot, answer)
+}
+
+/// Appends the vote of a promise, if it has one.
+fn write_vote(
+    vote: &Option<(Ballot, Canon)>,
+    maps: Maps<'_>,
+    answer: &mut Vec<u8>,
+) -> Result<(), Unanswered> {
     match vote {
-        None => Ok(write_line("", answer)?),
-        Some((voted, canon)) => tell_vote(*voted, canon, answer),
+        None => Ok(()),
+        Some((voted, canon)) => {
+            write_field(" voted ", *voted, answer)?;
+            write_definition(canon, maps, answer)
+        }
     }
 }
 
-fn tell_vote(voted: Ballot, canon: &Canon, answer: &mut Vec<u8>) -> Result<(), Unanswered> {
-    write_field(" voted ", voted, answer)?;
-    tell_text(canon, answer)
-}
-
-fn tell_accept(
-    slot: Slot,
-    ballot: Ballot,
+/// Appends a definition.
+pub(crate) fn write_definition(
     canon: &Canon,
+    maps: Maps<'_>,
     answer: &mut Vec<u8>,
 ) -> Result<(), Unanswered> {
-    write_field("accept slot ", slot, answer)?;
-    write_field(" ballot ", ballot, answer)?;
-    tell_text(canon, answer)
+    match maps.name_of(canon.text()) {
+        Some(name) => {
+            write_text(" map ", answer)?;
+            Ok(write_text(name, answer)?)
+        }
+        None => write_lines(canon.text(), answer),
+    }
 }
 
-fn tell_accepted(
-    node: NodeId,
-    slot: Slot,
-    ballot: Ballot,
-    answer: &mut Vec<u8>,
-) -> Result<(), Unanswered> {
-    write_field("accepted node ", node, answer)?;
-    write_field(" slot ", slot, answer)?;
-    write_field(" ballot ", ballot, answer)?;
-    Ok(write_line("", answer)?)
-}
-
-fn tell_nack(
-    node: NodeId,
-    slot: Slot,
-    ballot: Ballot,
-    promised: Ballot,
-    answer: &mut Vec<u8>,
-) -> Result<(), Unanswered> {
-    write_field("nack node ", node, answer)?;
-    write_field(" slot ", slot, answer)?;
-    write_field(" ballot ", ballot, answer)?;
-    write_field(" promised ", promised, answer)?;
-    Ok(write_line("", answer)?)
-}
-
-fn tell_chosen(slot: Slot, canon: &Canon, answer: &mut Vec<u8>) -> Result<(), Unanswered> {
-    write_field("chosen slot ", slot, answer)?;
-    tell_text(canon, answer)
-}
-
-fn tell_ask(slot: Slot, answer: &mut Vec<u8>) -> Result<(), Unanswered> {
-    write_field("ask slot ", slot, answer)?;
-    Ok(write_line("", answer)?)
+/// Appends a text's lines, from the next line on, without the last line feed.
+fn write_lines(text: &[u8], answer: &mut Vec<u8>) -> Result<(), Unanswered> {
+    write_line("", answer)?;
+    let last = text.len().saturating_sub(1);
+    Ok(answer.extend_from_slice(&text[..last])?)
 }

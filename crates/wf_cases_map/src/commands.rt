@@ -7,7 +7,8 @@ use std::alloc::Global;
 use wf_commands::arguments::line;
 use wf_commands::fault::RunFault;
 use wf_commands::line::Line;
-use wf_commands::run::{run_canon, run_caps};
+use wf_commands::run::{run_canon, run_caps, run_line};
+use wf_commands::stream::Stream;
 use wf_table::Unanswered;
 use wf_table::escape::unescape;
 use wf_table::write::{write_line, write_text, write_whole};
@@ -18,19 +19,22 @@ fn write_run_fault(alloc: Global, fault: RunFault, answer: &mut Vec<u8>) -> Answ
     Ok(write_line(line.as_str(), answer)?)
 }
 
+// The command `canon` on bytes in memory.
+fn run_canon_on(alloc: Global, input: &[u8], output: &mut Vec<u8>) -> Result<(), RunFault> {
+    run_canon(alloc, &mut Stream::new(input), &mut Stream::new(output))
+}
+
 /// `canon`: what the command `canon` writes, or its fault line.
 pub(crate) fn canon(asked: Asked<'_>, answer: &mut Vec<u8>) -> Answered {
-    let mut reader = asked.input;
-    match run_canon(asked.alloc, &mut reader, answer) {
+    match run_canon_on(asked.alloc, asked.input, answer) {
         Ok(()) => Ok(()),
         Err(fault) => write_run_fault(asked.alloc, fault, answer),
     }
 }
 
 fn canon_again(alloc: Global, once: &[u8], answer: &mut Vec<u8>) -> Answered {
-    let mut reader = once;
     let mut twice = Vec::new(alloc);
-    match run_canon(alloc, &mut reader, &mut twice) {
+    match run_canon_on(alloc, once, &mut twice) {
         Ok(()) if twice.as_slice() == once => Ok(write_line("the same again", answer)?),
         Ok(()) => Ok(write_line("another text", answer)?),
         Err(fault) => write_run_fault(alloc, fault, answer),
@@ -39,9 +43,8 @@ fn canon_again(alloc: Global, once: &[u8], answer: &mut Vec<u8>) -> Answered {
 
 /// `canon_twice`: the length of the canonical text, and whether this text's own canonical text is the same.
 pub(crate) fn canon_twice(asked: Asked<'_>, answer: &mut Vec<u8>) -> Answered {
-    let mut reader = asked.input;
     let mut once = Vec::new(asked.alloc);
-    if let Err(fault) = run_canon(asked.alloc, &mut reader, &mut once) {
+    if let Err(fault) = run_canon_on(asked.alloc, asked.input, &mut once) {
         return write_run_fault(asked.alloc, fault, answer);
     }
     write_count(once.len(), " bytes, ", answer)?;
@@ -55,8 +58,9 @@ pub(crate) fn caps(asked: Asked<'_>, answer: &mut Vec<u8>) -> Answered {
     if unescape(spelled, &mut query).is_err() {
         return Err(Unanswered::BadWords);
     }
-    let mut reader = asked.input;
-    match run_caps(asked.alloc, &mut reader, answer, sequence(seq)?, &query) {
+    let mut source = Stream::new(asked.input);
+    let mut sink = Stream::new(&mut *answer);
+    match run_caps(asked.alloc, &mut source, &mut sink, sequence(seq)?, &query) {
         Ok(()) => Ok(()),
         Err(fault) => write_run_fault(asked.alloc, fault, answer),
     }
@@ -73,14 +77,16 @@ fn write_asked_for(asked_for: Line<'_>, answer: &mut Vec<u8>) -> Answered {
     }
 }
 
+fn write_refusal(status: i32, answer: &mut Vec<u8>) -> Answered {
+    write_text("refused with status ", answer)?;
+    write_whole(u64::from(status.unsigned_abs()), answer)?;
+    Ok(write_line("", answer)?)
+}
+
 fn write_command_line(alloc: Global, words: &[&str], answer: &mut Vec<u8>) -> Answered {
     match line(alloc, words) {
         Ok(asked_for) => write_asked_for(asked_for, answer),
-        Err(error) => {
-            write_text("refused with status ", answer)?;
-            write_whole(u64::from(error.exit_code().unsigned_abs()), answer)?;
-            Ok(write_line("", answer)?)
-        }
+        Err(error) => write_refusal(error.exit_code(), answer),
     }
 }
 
@@ -106,4 +112,30 @@ pub(crate) fn command_line(asked: Asked<'_>, answer: &mut Vec<u8>) -> Answered {
         _ => return Err(Unanswered::BadWords),
     };
     write_command_line(asked.alloc, &words, answer)
+}
+
+// What a command line asks for, done, or that it is refused.
+fn run_words(asked: Asked<'_>, words: &[&str], answer: &mut Vec<u8>) -> Answered {
+    let mut source = Stream::new(asked.input);
+    let mut sink = Stream::new(&mut *answer);
+    let outcome = match line(asked.alloc, words) {
+        Ok(asked_for) => run_line(asked.alloc, asked_for, &mut source, &mut sink),
+        Err(error) => return write_refusal(error.exit_code(), answer),
+    };
+    match outcome {
+        Ok(()) => Ok(()),
+        Err(fault) => write_run_fault(asked.alloc, fault, answer),
+    }
+}
+
+/// `run WORDS`: what the program writes about the input, or its fault line. WORDS are the command line's, spelled with escapes, with `\n` between.
+pub(crate) fn run(asked: Asked<'_>, answer: &mut Vec<u8>) -> Answered {
+    let mut text = Vec::new(asked.alloc);
+    if unescape(asked.words, &mut text).is_err() {
+        return Err(Unanswered::BadWords);
+    }
+    match str::from_utf8(&text) {
+        Ok(text) => run_words(asked, &words_of(asked.alloc, text, '\n')?, answer),
+        Err(_) => Err(Unanswered::BadWords),
+    }
 }

@@ -88,6 +88,7 @@ fn about_requests(question: &str, asked: Asked<'_>, answer: &mut Vec<u8>) -> Ans
         "caps" => commands::caps(asked, answer),
         "report" => reports::report_of(asked, answer),
         "line" => commands::command_line(asked, answer),
+        "run" => commands::run(asked, answer),
         "table" => tables::table(asked, answer),
         _ => Err(Unanswered::UnknownQuestion),
     }

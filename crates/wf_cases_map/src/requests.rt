@@ -1,15 +1,16 @@
 //! Requests and their answers.
 ghost use Rattle.std.specs.Prelude.{◌≤◌, IfOk};
-ghost use Rattle.wf_wms.specs.declared.update_sequence.TheConstants.{LAST_SEQUENCE};
+ghost use Rattle.wf_ballot.specs.Sequence.{last_sequence};
 
 use crate::asked::{Answered, Asked};
 use crate::numbers::write_count;
 use crate::shown::write_texts;
 use std::alloc::Global;
+use wf_ballot::SEQUENCES;
 use wf_def::map::MapDef;
 use wf_table::Unanswered;
 use wf_table::write::write_text;
-use wf_wms::{Answer, Exception, Kind, LAST_SEQUENCE, Parameter, describe};
+use wf_wms::{Answer, Exception, Kind, Parameter, describe};
 
 /// Map `a`: 0 0 4 4 in degrees, with every default.
 const MAP_A: &str = "MAP NAME \"a\" EXTENT 0 0 4 4 PROJECTION \"init=epsg:4326\" END END";
@@ -47,10 +48,10 @@ fn write_summary(given: &Answer, answer: &mut Vec<u8>) -> Answered {
 }
 
 pub(crate) fn sequence(word: &str) -> Result<u16, Unanswered>
-    ensures { IfOk result (λ seq. seq ≤ LAST_SEQUENCE) }
+    ensures { IfOk result (λ seq. seq ≤ last_sequence) }
 {
     match word.parse::<u16>() {
-        Ok(seq) if seq <= LAST_SEQUENCE => Ok(seq),
+        Ok(seq) if seq <= SEQUENCES => Ok(seq),
         _ => Err(Unanswered::BadWords),
     }
 }

@@ -1,12 +1,13 @@
--- What was put together part by part is the spelling.
-use Rattle.std.proofs.Common.{◌≡◌, ℕ, List, [], ◌∷◌, ◌++◌, length, refl, sym, ap, ◌∙◌, append_assoc}
+-- What was put together part by part is the spelling, and how many bytes that has.
+use Rattle.std.proofs.Common.{◌≡◌, ℕ, ◌+◌, List, [], ◌∷◌, ◌++◌, length, refl, ap, ◌∙◌, append_assoc, Result, Ok, Err, arith}
+use Rattle.std.specs.Prelude.{OnErr}
 use Rattle.std.specs.Int.{w32, to_be_bytes}
 use Rattle.wf_ballot.specs.Frame.{frame}
 use Rattle.wf_def.specs.Definition.{Definition}
 use Rattle.wf_model.specs.Message.{Message, Prepare, Promise, Accept, Accepted, Nack, Chosen, Ask}
 use Rattle.wf_codec.specs.Kind.{kind_byte}
 use Rattle.wf_codec.specs.Message.{texts}
-use Rattle.wf_codec.specs.Spelling.{message_version, kind_of, body, text_spelling}
+use Rattle.wf_codec.specs.Spelling.{message_version, header_length, kind_of, body, text_spelling}
 
 -- texts in the definitions' places leave the kind
 pub kind_of-texts : (m : Message Definition) → kind_of (texts m) ≡ kind_of m
@@ -27,3 +28,12 @@ put_together old with_kind with_length new m n same first second third =
     let grouped : new ≡ ((old ++ head) ++ size) ++ body m =
     third ∙ ap (λ (t : List ℕ). t ++ body m) (second ∙ ap (λ (t : List ℕ). t ++ to_be_bytes w32 n) first ∙ ap (λ (k : ℕ). (old ++ head) ++ to_be_bytes w32 k) same) in
     grouped ∙ append_assoc (old ++ head) size (body m) ∙ append_assoc old head (size ++ body m)
+
+pub length-text_spelling : (m : Message (List ℕ)) → length (text_spelling m) ≡ header_length + length (body m)
+unfolding text_spelling frame
+length-text_spelling m = omega arith
+
+-- what holds anyway holds at an error
+pub on_error : {T E P : Type 0} (r : Result T E) → P → OnErr r P
+on_error (Ok x) p = tt
+on_error (Err e) p = p

@@ -1,19 +1,20 @@
 -- The fields of a body: what is read is the message whose body this is, and a message's body is read as it.
-use Rattle.std.proofs.Common.{◌≡◌, ℕ, zero, suc, ◌+◌, ◌≤◌, ◌<◌, Bool, true, false, eqb, ltb, leb, ◌&&◌, ◌||◌, List, [], ◌∷◌, ◌++◌, length, get_or, Option, Some, None, refl, sym, ap, subst, ◌∙◌, append_assoc, length-append, arith, inl, inr}
-use Rattle.std.proofs.lemmas.Bool.{ltb-true, leb-true, eqb-true, lt-ltb, le-leb, eq-eqb, and_parts, and_from, or_cases}
+use Rattle.std.proofs.Common.{◌≡◌, ℕ, zero, suc, ◌+◌, ◌≤◌, ◌<◌, Bool, true, false, eqb, ltb, leb, ◌||◌, List, [], ◌∷◌, ◌++◌, length, Option, Some, None, refl, sym, ap, subst, ◌∙◌, append_assoc, length-append, arith, inl, inr}
+use Rattle.std.proofs.lemmas.Bool.{leb-true, eqb-true, lt-ltb, le-leb, eq-eqb, and_parts, and_from, or_cases}
 use Rattle.std.proofs.lemmas.Option.{option_and_then_some}
 use Rattle.std.proofs.lemmas.List.{append-nil, nil_from_length, get_or-append-add}
-use Rattle.wf_ballot.specs.Node.{IsNode, node_bytes}
+use Rattle.wf_ballot.specs.Node.{node_bytes}
 use Rattle.wf_ballot.specs.Slot.{IsSlot}
 use Rattle.wf_ballot.specs.Sequence.{seq_bytes}
 use Rattle.wf_ballot.specs.Ballot.{Ballot, IsBallot, ballot_bytes}
-use Rattle.wf_ballot.specs.Front.{AreBytes, ReadsFront, front_node, front_slot, front_ballot}
+use Rattle.wf_ballot.specs.Front.{AreBytes, ReadsFront, front_slot, front_ballot}
 use Rattle.wf_ballot.proofs.Fronts.{reads_nodes, reads_slots, reads_ballots}
 use Rattle.wf_ballot.proofs.Spelling.{length-seq_bytes, length-ballot_bytes}
 use Rattle.wf_model.specs.Message.{Message, Prepare, Promise, Accept, Accepted, Nack, Chosen, Ask, Vote}
 use Rattle.wf_codec.specs.declared.kind.Kind.{Kind}
 use Rattle.wf_codec.specs.declared.kind.Kind.TheVariants as kinds
-use Rattle.wf_codec.specs.Kind.{most_text, most_body, can_have, has_text_behind}
+use Rattle.wf_canon.specs.Canon.{most_canon_bytes}
+use Rattle.wf_codec.specs.Kind.{most_body_bytes, can_have, has_text_behind}
 use Rattle.wf_codec.specs.Message.{IsVoteOf, IsMessageOf}
 use Rattle.wf_codec.specs.Spelling.{kind_of, vote_bytes, body}
 use Rattle.wf_codec.specs.Judging.{◌>>=◌, vote_of, fields_of}
@@ -26,7 +27,7 @@ or_right true = refl
 or_right false = refl
 
 text_test : (n fields : ℕ) (text : List ℕ) → n ≡ fields + length text → IsText text → has_text_behind fields n ≡ true
-text_test n fields text e is_text = and_from (ltb fields n) (leb n (fields + most_text)) (lt-ltb fields n (omega (arith, is_text.least))) (le-leb n (fields + most_text) (omega (arith, is_text.most)))
+text_test n fields text e is_text = and_from (ltb fields n) (leb n (fields + most_canon_bytes)) (lt-ltb fields n (omega (arith, is_text.least))) (le-leb n (fields + most_canon_bytes) (omega (arith, is_text.most)))
 
 -- the length of a vote with its mark
 abbrev pub vote_length : Option (Vote (List ℕ)) → ℕ
@@ -89,13 +90,13 @@ can_have_body (Nack i s b q) p = eq-eqb (length (body (Nack i s b q))) 13 (body_
 can_have_body (Chosen s text) p = text_test (length (body (Chosen s text))) 2 text (body_has_length (Chosen s text)) p.1
 can_have_body (Ask s) p = eq-eqb (length (body (Ask s))) 2 (body_has_length (Ask s))
 
-most_behind : (fields n : ℕ) → fields ≤ 14 → has_text_behind fields n ≡ true → n ≤ most_body
+most_behind : (fields n : ℕ) → fields ≤ 14 → has_text_behind fields n ≡ true → n ≤ most_body_bytes
 most_behind fields n small has =
-    let tests = and_parts (ltb fields n) (leb n (fields + most_text)) has in
-    omega (arith, leb-true n (fields + most_text) tests.1)
+    let tests = and_parts (ltb fields n) (leb n (fields + most_canon_bytes)) has in
+    omega (arith, leb-true n (fields + most_canon_bytes) tests.1)
 
 -- no kind has a longer body
-pub body_at_most : (kind : Kind) (n : ℕ) → can_have kind n ≡ true → n ≤ most_body
+pub body_at_most : (kind : Kind) (n : ℕ) → can_have kind n ≡ true → n ≤ most_body_bytes
 unfolding can_have
 body_at_most kinds.Prepare n has = omega (arith, eqb-true n 7 has)
 body_at_most kinds.Promise n has =

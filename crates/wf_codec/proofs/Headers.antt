@@ -1,9 +1,9 @@
 -- The header: a whole frame is split off whatever follows it, what is split off stands there, and a fault stays whatever follows.
-use Rattle.std.proofs.Common.{◌≡◌, ℕ, suc, ◌+◌, ◌≤◌, ◌<◌, ◌^◌, Bool, true, false, cond, eqb, ltb, List, [], ◌∷◌, ◌++◌, length, take, drop, Option, Some, None, Result, Ok, Err, refl, sym, ap, subst, ◌∙◌, length-append, arith, inl, inr}
+use Rattle.std.proofs.Common.{◌≡◌, ℕ, ◌<◌, Bool, true, false, cond, eqb, ltb, List, [], ◌∷◌, ◌++◌, length, take, drop, Option, Some, None, Result, Ok, Err, refl, sym, ap, subst, ◌∙◌, length-append, arith, inl, inr}
 use Rattle.std.proofs.Math.Seq.{take-append_seam}
-use Rattle.std.proofs.lemmas.Bool.{ltb-true, ltb-false, eqb-true, lt-ltb, le-ltb, eq-eqb}
-use Rattle.std.proofs.lemmas.List.{take-append-drop, length-take, take-append-le}
-use Rattle.std.proofs.lemmas.Nat.{be_bytes_4, from_be_bytes-to_be_bytes_4}
+use Rattle.std.proofs.lemmas.Bool.{ltb-true, ltb-false, eqb-true, lt-ltb, le-ltb}
+use Rattle.std.proofs.lemmas.List.{take-append-drop, length-take}
+use Rattle.std.proofs.lemmas.Nat.{from_be_bytes-to_be_bytes_4}
 use Rattle.std.specs.Prelude.{find}
 use Rattle.std.specs.Int.{w32, from_be_bytes, to_be_bytes}
 use Rattle.wf_ballot.specs.Front.{AreBytes}
@@ -12,11 +12,11 @@ use Rattle.wf_ballot.proofs.Fronts.{four_bytes, AreBytes-take}
 use Rattle.wf_codec.specs.declared.kind.Kind.{Kind}
 use Rattle.wf_codec.specs.declared.kind.Kind.TheVariants as kinds
 use Rattle.wf_codec.specs.declared.fault.DecodeFault.{DecodeFault}
-use Rattle.wf_codec.specs.declared.fault.DecodeFault.TheVariants.{Short, BadVersion, BadKind, BadField, TooLong}
-use Rattle.wf_codec.specs.Kind.{most_body, kind_byte, all_kinds, kind_of_byte, can_have}
+use Rattle.wf_codec.specs.declared.fault.DecodeFault.TheVariants.{Short, BadVersion, BadField, TooLong}
+use Rattle.wf_codec.specs.Kind.{most_body_bytes, kind_byte, all_kinds, kind_of_byte, can_have}
 use Rattle.wf_codec.specs.Spelling.{message_version}
 use Rattle.wf_codec.specs.Judging.{body_front, length_front, kind_front, frame_front}
-use Rattle.wf_codec.specs.Law.{stated_length, LacksBody, IsUnfinished}
+use Rattle.wf_codec.specs.Law.{LacksBody, IsUnfinished}
 use Rattle.wf_codec.proofs.Fields.{AreBytes-rest, body_at_most}
 
 -- ---- kinds and their bytes
@@ -51,7 +51,7 @@ body_again : (kind : Kind) (n : ℕ) (bytes rest : List ℕ) → n ≡ length by
 unfolding body_front
 body_again kind n bytes rest same has =
     let front : take n (bytes ++ rest) ≡ bytes = ap (λ (k : ℕ). take k (bytes ++ rest)) same ∙ take-append_seam bytes rest in
-    rw (le-ltb most_body n (body_at_most kind n has), has, le-ltb (length (bytes ++ rest)) n (omega (arith, same, length-append bytes rest)), front) refl
+    rw (le-ltb most_body_bytes n (body_at_most kind n has), has, le-ltb (length (bytes ++ rest)) n (omega (arith, same, length-append bytes rest)), front) refl
 
 pub frame_again : (kind : Kind) (bytes rest : List ℕ) → can_have kind (length bytes) ≡ true → frame_front (frame message_version (kind_byte kind) bytes ++ rest) ≡ Ok (kind, bytes)
 unfolding frame frame_front kind_front length_front
@@ -111,7 +111,7 @@ size_stands (Some k) (a ∷ b ∷ []) kind body fits e = absurd cc
 size_stands (Some k) (a ∷ b ∷ c ∷ []) kind body fits e = absurd cc
 size_stands (Some k) (a ∷ b ∷ c ∷ d ∷ bytes) kind body fits e =
     let n : ℕ = from_be_bytes w32 (a ∷ b ∷ c ∷ d ∷ []) in
-    let stands = tests_passed (ltb most_body n) (can_have k n) (ltb (length bytes) n) (k, take n bytes) (kind, body) e in
+    let stands = tests_passed (ltb most_body_bytes n) (can_have k n) (ltb (length bytes) n) (k, take n bytes) (kind, body) e in
     let number = four_bytes a b c d bytes fits in
     let same_kind : k ≡ kind = ap (λ x. x.0) stands.2 in
     let same_body : take n bytes ≡ body = ap (λ x. x.1) stands.2 in
@@ -159,7 +159,7 @@ length_goes_on (Some k) (a ∷ b ∷ []) more fault e not_short = let short : fa
 length_goes_on (Some k) (a ∷ b ∷ c ∷ []) more fault e not_short = let short : fault ≡ Short = cc in absurd (not_short short)
 length_goes_on (Some k) (a ∷ b ∷ c ∷ d ∷ bytes) more fault e not_short =
     let n : ℕ = from_be_bytes w32 (a ∷ b ∷ c ∷ d ∷ []) in
-    tests_go_on (ltb most_body n) (can_have k n) (ltb (length bytes) n) (ltb (length (bytes ++ more)) n) (k, take n bytes) (k, take n (bytes ++ more)) fault e not_short
+    tests_go_on (ltb most_body_bytes n) (can_have k n) (ltb (length bytes) n) (ltb (length (bytes ++ more)) n) (k, take n bytes) (k, take n (bytes ++ more)) fault e not_short
 
 kind_goes_on : (bytes more : List ℕ) (fault : DecodeFault) → kind_front bytes ≡ Err fault → (fault ≡ Short → ⊥) → kind_front (bytes ++ more) ≡ Err fault
 unfolding kind_front
@@ -192,7 +192,7 @@ length_short kind (a ∷ b ∷ []) e = inl (omega arith)
 length_short kind (a ∷ b ∷ c ∷ []) e = inl (omega arith)
 length_short kind (a ∷ b ∷ c ∷ d ∷ bytes) e =
     let n : ℕ = from_be_bytes w32 (a ∷ b ∷ c ∷ d ∷ []) in
-    let stands = tests_short (ltb most_body n) (can_have kind n) (ltb (length bytes) n) (kind, take n bytes) e in
+    let stands = tests_short (ltb most_body_bytes n) (can_have kind n) (ltb (length bytes) n) (kind, take n bytes) e in
     let few : length bytes < n = ltb-true (length bytes) n stands.1 in
     inr (stands.0, omega (arith, few))
 
@@ -215,7 +215,7 @@ short_is_unfinished (version ∷ byte ∷ bytes) e =
 
 body_is_short : (kind : Kind) (n : ℕ) (bytes : List ℕ) → can_have kind n ≡ true → length bytes < n → body_front kind n bytes ≡ Err Short
 unfolding body_front
-body_is_short kind n bytes has few = rw (le-ltb most_body n (body_at_most kind n has), has, lt-ltb (length bytes) n few) refl
+body_is_short kind n bytes has few = rw (le-ltb most_body_bytes n (body_at_most kind n has), has, lt-ltb (length bytes) n few) refl
 
 length_is_short : (kind : Kind) (bytes : List ℕ) → LacksBody kind bytes → length_front (Some kind) bytes ≡ Err Short
 unfolding length_front

@@ -1,7 +1,8 @@
 -- What decode answers, and what follows for the bytes: the message that stands at their front, that none ever will, or that more
 -- bytes are to come.
-use Rattle.std.proofs.Common.{◌≡◌, ℕ, ◌+◌, ◌≤◌, List, [], ◌∷◌, ◌++◌, length, take, drop, Option, Some, None, Result, Ok, Err, refl, sym, ap, subst, ◌∙◌, append_assoc, length-append, arith}
+use Rattle.std.proofs.Common.{◌≡◌, ℕ, ◌+◌, ◌≤◌, List, ◌++◌, length, take, drop, Option, Some, Result, Ok, Err, refl, sym, ap, subst, ◌∙◌, append_assoc, length-append, arith}
 use Rattle.std.proofs.Math.Seq.{take-append_seam, drop-append_seam}
+use Rattle.std.proofs.lemmas.List.{length-take}
 use Rattle.std.specs.Prelude.{IfOk, IfErr, IsErrOf}
 use Rattle.wf_ballot.specs.Front.{AreBytes}
 use Rattle.wf_ballot.specs.Frame.{frame}
@@ -11,19 +12,16 @@ use Rattle.wf_codec.specs.declared.kind.Kind.{Kind}
 use Rattle.wf_codec.specs.declared.fault.DecodeFault.{DecodeFault}
 use Rattle.wf_codec.specs.declared.fault.DecodeFault.TheVariants.{Short, BadVersion, BadKind, BadField, NotCanonical, TooLong, Memory}
 use Rattle.wf_codec.specs.Kind.{kind_byte}
-use Rattle.wf_codec.specs.Message.{texts, IsMessage}
+use Rattle.wf_codec.specs.Message.{texts, HasDefinition, IsMessage}
 use Rattle.wf_codec.specs.Spelling.{message_version, header_length, kind_of, body, text_spelling, spelling, Spells}
 use Rattle.wf_codec.specs.Judging.{frame_front, fields_of, ReadsAs}
-use Rattle.wf_codec.specs.Law.{OneSpelling, NoneBeginsAnother, BeginsWith, BeginsWithNone, NeverBegins, IsRefusal, IsUnfinished, IsReadAs, IsJudged}
-use Rattle.wf_codec.proofs.Texts.{texts_fit, texts_apart, not_bad}
+use Rattle.wf_codec.specs.Law.{OneSpelling, NoneBeginsAnother, NoneIsEmpty, BeginsWith, BeginsWithNone, NeverBegins, IsRefusal, IsUnfinished, IsReadAs, IsJudged}
+use Rattle.wf_codec.proofs.Texts.{texts_fit, texts_apart, text_is_definition, not_bad}
 use Rattle.wf_codec.proofs.Fields.{can_have_body, fields_again, fields_stand}
-use Rattle.wf_codec.proofs.Headers.{IsFramed, frame_again, frame_stands, frame_goes_on, short_is_unfinished, unfinished_is_short}
+use Rattle.wf_codec.proofs.Encoded.{length-text_spelling}
+use Rattle.wf_codec.proofs.Headers.{frame_again, frame_stands, frame_goes_on, short_is_unfinished, unfinished_is_short}
 
 -- ---- a message at the front
-
-length-text_spelling : (m : Message (List ℕ)) → length (text_spelling m) ≡ header_length + length (body m)
-unfolding text_spelling frame
-length-text_spelling m = omega arith
 
 -- bytes that begin with a message's spelling: the frame that is split off
 frame_of : (m : Message Definition) (spelled after bytes : List ℕ) → Spells m spelled → bytes ≡ spelled ++ after → frame_front bytes ≡ Ok (kind_of (texts m), body (texts m))
@@ -49,6 +47,9 @@ ok x = Ok x
 
 ok_same : (x y : Kind × List ℕ) → ok x ≡ ok y → x ≡ y
 ok_same x y e = cc
+
+pub none_is_empty : NoneIsEmpty
+none_is_empty m bytes spells = omega (arith, ap length spells.spelled, length-text_spelling (texts m))
 
 -- Bytes that begin with both are cut into one frame, and so into one message.
 pub none_begins_another : NoneBeginsAnother
@@ -85,11 +86,21 @@ begins_by view x bytes (Ok found) is fits judged =
       };
     }
 
+-- a count that is at least 1 and at most as many as there are
+counted : (bytes : List ℕ) (m : Message Definition) (k : ℕ) → BeginsWith bytes m k → (1 ≤ k) × (k ≤ length bytes)
+counted bytes m k begins = (omega (arith, none_is_empty m (take k bytes) begins.spells, length-take k bytes), begins.within)
+
 -- what is read stands at the front
 pub begins : {X : Type 0} (view : X → Message Definition) (result : Result (X × ℕ) DecodeFault) (bytes : List ℕ) → AreBytes bytes → IsJudged view result (frame_front bytes) →
     IfOk result (λ x. BeginsWith bytes (view x.0) x.1)
 begins view (Ok x) bytes fits judged = begins_by view x bytes (frame_front bytes) refl fits judged
 begins view (Err e) bytes fits judged = tt
+
+-- what is read has at least one byte, and no more than there are
+pub has_bytes : {X : Type 0} (view : X → Message Definition) (result : Result (X × ℕ) DecodeFault) (bytes : List ℕ) → IfOk result (λ x. BeginsWith bytes (view x.0) x.1) →
+    IfOk result (λ x. (1 ≤ x.1) × (x.1 ≤ length bytes))
+has_bytes view (Ok x) bytes begins = counted bytes (view x.0) x.1 begins
+has_bytes view (Err e) bytes begins = tt
 
 read_by : {X : Type 0} (view : X → Message Definition) (result : Result (X × ℕ) DecodeFault) (m : Message Definition) (k : ℕ) → IsMessage m →
     ReadsAs (λ x. view x.0) result (Some (texts m)) → IfOk result (λ x. x.1 ≡ k) → IsReadAs view result m k
@@ -100,7 +111,7 @@ read_by view (Err BadKind) m k is_message reads count = absurd reads
 read_by view (Err BadField) m k is_message reads count = absurd cc
 read_by view (Err NotCanonical) m k is_message reads count = absurd (not_bad m is_message reads)
 read_by view (Err TooLong) m k is_message reads count = absurd reads
-read_by view (Err Memory) m k is_message reads count = refl
+read_by view (Err Memory) m k is_message reads count = (refl, text_is_definition m reads)
 
 -- a message that stands at the front is read, unless memory runs out
 pub whole_is_read : {X : Type 0} (view : X → Message Definition) (result : Result (X × ℕ) DecodeFault) (bytes : List ℕ) → IsJudged view result (frame_front bytes) →
@@ -174,7 +185,8 @@ unfinished_short view result bytes judged unfinished =
 
 not_read_short : {X : Type 0} (view : X → Message Definition) (result : Result (X × ℕ) DecodeFault) (m : Message Definition) (k : ℕ) → result ≡ Err Short → IsReadAs view result m k → ⊥
 not_read_short {X} view result m k short is_read =
-    let memory : Short ≡ Memory = subst (λ (a : Result (X × ℕ) DecodeFault). IsReadAs view a m k) short is_read in cc
+    let memory : (Short ≡ Memory) × HasDefinition m = subst (λ (a : Result (X × ℕ) DecodeFault). IsReadAs view a m k) short is_read in
+    let same : Short ≡ Memory = memory.0 in cc
 
 -- bytes that are Short don't begin with a message
 pub short_is_none : {X : Type 0} (view : X → Message Definition) (result : Result (X × ℕ) DecodeFault) (bytes : List ℕ) → IsJudged view result (frame_front bytes) → IsErrOf result Short → BeginsWithNone bytes

@@ -1,5 +1,6 @@
 pub mod Texts
 pub mod Fields
 pub mod Headers
-pub mod Judged
 pub mod Encoded
+pub mod Judged
+pub mod Faults

@@ -1,5 +1,5 @@
--- Bytes are judged from left to right, as early as they are there: which fault is found first.
-use Rattle.std.specs.Prelude.{◌≡◌, ℕ, ◌+◌, ◌<◌, ◌⊎◌, nat_lt, ◌==◌, List, [], ◌∷◌, length, take, drop, zero, suc, Bool, true, Option, Some, None, Result, Ok, Err, ok_or, option_and_then, IsSomeAnd, if◌then◌else◌}
+-- How the decoder reads, step by step: the header, the fields, the text. Which fault that answers is said in Fault.antt.
+use Rattle.std.specs.Prelude.{◌≡◌, ℕ, nat_lt, ◌==◌, List, [], ◌∷◌, length, take, zero, suc, Option, Some, None, Result, Ok, Err, option_and_then, IsSome, IsSomeAnd, if◌then◌else◌}
 use Rattle.std.specs.Int.{w32, from_be_bytes}
 use Rattle.wf_ballot.specs.Ballot.{Ballot}
 use Rattle.wf_ballot.specs.Front.{front_node, front_slot, front_ballot}
@@ -10,16 +10,17 @@ use Rattle.wf_codec.specs.declared.kind.Kind.{Kind}
 use Rattle.wf_codec.specs.declared.kind.Kind.TheVariants as kinds
 use Rattle.wf_codec.specs.declared.fault.DecodeFault.{DecodeFault}
 use Rattle.wf_codec.specs.declared.fault.DecodeFault.TheVariants.{Short, BadVersion, BadKind, BadField, NotCanonical, TooLong, Memory}
-use Rattle.wf_codec.specs.Kind.{most_body, kind_of_byte, can_have}
+use Rattle.wf_codec.specs.Kind.{most_body_bytes, kind_of_byte, can_have}
 use Rattle.wf_codec.specs.Spelling.{message_version}
-use Rattle.wf_codec.specs.Message.{view_vote, vote_with, texts, HasText, IsVoteOf, IsMessage}
+use Rattle.wf_codec.specs.Message.{view_vote, vote_with, texts, definition_of, HasDefinition, HasText, IsVoteOf, IsMessage}
+use Rattle.wf_codec.specs.Fault.{IsNoText}
 
 -- ---- the header
 
 -- behind the length: the body, where so many bytes are there
 unfoldable pub body_front : Kind → ℕ → List ℕ → Result (Kind × List ℕ) DecodeFault
 body_front kind n bytes =
-    if nat_lt most_body n then Err TooLong
+    if nat_lt most_body_bytes n then Err TooLong
     else if can_have kind n then (if nat_lt (length bytes) n then Err Short else Ok (kind, take n bytes))
     else Err BadField
 
@@ -91,10 +92,6 @@ fields_of kinds.Ask bytes = do
 
 -- ---- the whole
 
--- no message has this text
-abbrev pub IsNoText : List ℕ → Type 0
-IsNoText text = (d : Definition) → HasText d → canon d ≡ text → ⊥
-
 -- the canonical text of a definition within the limits, no such text, or no memory
 abbrev pub ReadsText : Result Definition DecodeFault → List ℕ → Type 0
 ReadsText (Ok d) text = (canon d ≡ text) × HasText d
@@ -102,25 +99,18 @@ ReadsText (Err NotCanonical) text = IsNoText text
 ReadsText (Err Memory) text = Unit {0}
 ReadsText (Err fault) text = ⊥
 
--- the vote that stands there, and whether its text is canonical
+-- the vote that stands there, and whether its text is canonical; memory runs out only over a text
 abbrev pub ReadsVote : Result (Option (Ballot × Definition)) DecodeFault → Option (Option (Vote (List ℕ))) → Type 0
 ReadsVote (Ok v) vote = (vote ≡ Some (vote_with canon (view_vote v))) × IsVoteOf HasText (view_vote v)
 ReadsVote (Err BadField) vote = vote ≡ None
 ReadsVote (Err NotCanonical) vote = IsSomeAnd vote (λ v. IsSomeAnd v (λ x. IsNoText x.definition))
-ReadsVote (Err Memory) vote = Unit {0}
+ReadsVote (Err Memory) vote = IsSomeAnd vote (λ v. IsSome v)
 ReadsVote (Err fault) vote = ⊥
-
--- the message has a text that is no definition's
-abbrev pub HasBadText : Message (List ℕ) → Type 0
-HasBadText (Promise i s b v) = IsSomeAnd v (λ vote. IsNoText vote.definition)
-HasBadText (Accept s b text) = IsNoText text
-HasBadText (Chosen s text) = IsNoText text
-HasBadText m = ⊥
 
 -- what a function that reads a body returned, seen by view, against the fields that stand there
 abbrev pub ReadsAs : {X : Type 0} → (X → Message Definition) → Result X DecodeFault → Option (Message (List ℕ)) → Type 0
 ReadsAs view (Ok x) fields = (fields ≡ Some (texts (view x))) × IsMessage (view x)
 ReadsAs view (Err BadField) fields = fields ≡ None
-ReadsAs view (Err NotCanonical) fields = IsSomeAnd fields HasBadText
-ReadsAs view (Err Memory) fields = Unit {0}
+ReadsAs view (Err NotCanonical) fields = IsSomeAnd fields (λ m. IsSomeAnd (definition_of m) IsNoText)
+ReadsAs view (Err Memory) fields = IsSomeAnd fields HasDefinition
 ReadsAs view (Err fault) fields = ⊥

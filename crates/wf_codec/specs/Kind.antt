@@ -1,5 +1,6 @@
 -- The seven kinds of message: the byte of each, and the lengths that its body can have.
 use Rattle.std.specs.Prelude.{ℕ, ◌+◌, ◌==◌, ◌&&◌, ◌||◌, nat_lt, nat_le, Bool, List, [], ◌∷◌, Option, find}
+use Rattle.wf_canon.specs.Canon.{most_canon_bytes}
 use Rattle.wf_codec.specs.declared.kind.Kind.{Kind}
 use Rattle.wf_codec.specs.declared.kind.Kind.TheVariants.{Prepare, Promise, Accept, Accepted, Nack, Chosen, Ask}
 
@@ -19,17 +20,13 @@ all_kinds = Prepare ∷ Promise ∷ Accept ∷ Accepted ∷ Nack ∷ Chosen ∷ 
 unfoldable pub kind_of_byte : ℕ → Option Kind
 kind_of_byte byte = find (λ kind. byte == kind_byte kind) all_kinds
 
--- the most bytes of a canonical text
-abbrev pub most_text : ℕ
-most_text = 32768
-
--- a text, which isn't empty, behind so many bytes of other fields
+-- a canonical text, which isn't empty, behind so many bytes of other fields
 abbrev pub has_text_behind : ℕ → ℕ → Bool
-has_text_behind fields n = nat_lt fields n && nat_le n (fields + most_text)
+has_text_behind fields n = nat_lt fields n && nat_le n (fields + most_canon_bytes)
 
--- the most bytes of a body: a Promise with the longest text
-abbrev pub most_body : ℕ
-most_body = 32782
+-- the longest body, in bytes: that of a Promise with the longest text
+abbrev pub most_body_bytes : ℕ
+most_body_bytes = 32782
 
 -- A sequence has 2 bytes, a ballot 5, a node 1, the mark of a vote 1.
 unfoldable pub can_have : Kind → ℕ → Bool

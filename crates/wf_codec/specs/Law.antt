@@ -1,13 +1,15 @@
 -- What message bytes promise: one spelling a message, none of which begins another, and what stands at the front of bytes.
-use Rattle.std.specs.Prelude.{◌≡◌, ℕ, ◌+◌, ◌<◌, ◌≤◌, ◌⊎◌, List, [], ◌∷◌, ◌++◌, length, take, true, Result, Ok, Err, IfOk, MatchResult}
+use Rattle.std.specs.Prelude.{◌≡◌, ℕ, ◌+◌, ◌<◌, ◌≤◌, ◌⊎◌, List, [], ◌∷◌, ◌++◌, length, take, true, Result, Err, IfOk, MatchResult}
 use Rattle.std.specs.Int.{w32, from_be_bytes}
 use Rattle.wf_model.specs.Message.{Message}
 use Rattle.wf_def.specs.Definition.{Definition}
 use Rattle.wf_codec.specs.declared.kind.Kind.{Kind}
+use Rattle.wf_codec.specs.declared.kind.Kind.TheVariants.{Promise}
 use Rattle.wf_codec.specs.declared.fault.DecodeFault.{DecodeFault}
 use Rattle.wf_codec.specs.declared.fault.DecodeFault.TheVariants.{Short, Memory}
 use Rattle.wf_codec.specs.Kind.{kind_byte, can_have}
 use Rattle.wf_codec.specs.Spelling.{message_version, header_length, Spells}
+use Rattle.wf_codec.specs.Message.{HasDefinition}
 use Rattle.wf_codec.specs.Judging.{fields_of, ReadsAs}
 
 -- a message has one spelling
@@ -18,6 +20,15 @@ OneSpelling = (m : Message Definition) (a b : List ℕ) → Spells m a → Spell
 abbrev pub NoneBeginsAnother : Type 0
 NoneBeginsAnother = (m n : Message Definition) (a b after_a after_b : List ℕ) → Spells m a → Spells n b →
     a ++ after_a ≡ b ++ after_b → (m ≡ n) × (a ≡ b) × (after_a ≡ after_b)
+
+-- a spelling has at least one byte
+abbrev pub NoneIsEmpty : Type 0
+NoneIsEmpty = (m : Message Definition) (bytes : List ℕ) → Spells m bytes → 1 ≤ length bytes
+
+-- no kind can have a longer body, and a Promise can have one that is as long
+pub record IsLongestBody (most : ℕ) : Type 0 where
+  pub within : (kind : Kind) (n : ℕ) → can_have kind n ≡ true → n ≤ most
+  pub reached : can_have Promise most ≡ true
 
 -- the first k bytes spell the message
 pub record BeginsWith (bytes : List ℕ) (m : Message Definition) (k : ℕ) : Type 0 where
@@ -53,11 +64,11 @@ IsUnfinished [] = Unit {0}
 IsUnfinished (version ∷ []) = version ≡ message_version
 IsUnfinished (version ∷ byte ∷ bytes) = (version ≡ message_version) × ((kind : Kind) × (byte ≡ kind_byte kind) × LacksBody kind bytes)
 
--- the message and its length, unless memory ran out
+-- the message and its length; a message that carries a definition may be answered by want of memory
 abbrev pub IsReadAs : {X : Type 0} → (X → Message Definition) → Result (X × ℕ) DecodeFault → Message Definition → ℕ → Type 0
-IsReadAs view result m k = MatchResult result (λ x. (view x.0 ≡ m) × (x.1 ≡ k)) (λ e. e ≡ Memory)
+IsReadAs view result m k = MatchResult result (λ x. (view x.0 ≡ m) × (x.1 ≡ k)) (λ e. (e ≡ Memory) × HasDefinition m)
 
--- Which fault is answered: the frame's first one, else the fields' first one, else the text's.
+-- What the decoder's parts make together: the frame's fault, else what the body is read as.
 abbrev pub IsJudged : {X : Type 0} → (X → Message Definition) → Result (X × ℕ) DecodeFault → Result (Kind × List ℕ) DecodeFault → Type 0
 IsJudged view result split = MatchResult split
     (λ frame. ReadsAs (λ x. view x.0) result (fields_of frame.0 frame.1) × IfOk result (λ x. x.1 ≡ header_length + length frame.1))

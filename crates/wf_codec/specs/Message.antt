@@ -1,5 +1,5 @@
 -- A message as the farm's model has it, with definitions or with their canonical texts.
-use Rattle.std.specs.Prelude.{ℕ, ◌≤◌, List, length, Option, option_map, IfSome}
+use Rattle.std.specs.Prelude.{ℕ, ◌≤◌, List, length, Option, Some, None, option_map, IfSome, IsSome}
 use Rattle.wf_ballot.specs.Node.{IsNode}
 use Rattle.wf_ballot.specs.Slot.{IsSlot}
 use Rattle.wf_ballot.specs.Ballot.{Ballot, IsBallot}
@@ -7,8 +7,7 @@ use Rattle.wf_model.specs.Message.{Vote}
 use Rattle.wf_model.specs.Message as model
 use Rattle.wf_def.specs.Definition.{Definition}
 use Rattle.wf_def.specs.Limits.{IsWithinLimits}
-use Rattle.wf_canon.specs.Canon.{canon}
-use Rattle.wf_codec.specs.Kind.{most_text}
+use Rattle.wf_canon.specs.Canon.{canon, most_canon_bytes}
 use Rattle.wf_codec.specs.declared.message.Message.{Message}
 use Rattle.wf_codec.specs.declared.message.Message.TheVariants as code
 
@@ -44,10 +43,24 @@ with_each f (model.Ask s) = model.Ask s
 abbrev pub texts : model.Message Definition → model.Message (List ℕ)
 texts m = with_each canon m
 
+-- the definition that a message carries, or its text: that of a Promise's vote, of an Accept, of a Chosen
+abbrev pub definition_of : {V : Type 0} → model.Message V → Option V
+definition_of (model.Prepare s b) = None
+definition_of (model.Promise i s b v) = option_map (λ vote. vote.definition) v
+definition_of (model.Accept s b d) = Some d
+definition_of (model.Accepted i s b) = None
+definition_of (model.Nack i s b q) = None
+definition_of (model.Chosen s d) = Some d
+definition_of (model.Ask s) = None
+
+-- the message carries a definition
+abbrev pub HasDefinition : {V : Type 0} → model.Message V → Type 0
+HasDefinition m = IsSome (definition_of m)
+
 -- a map whose canonical text has at most 32,768 bytes
 pub record HasText (d : Definition) : Type 0 where
   pub within : IsWithinLimits d
-  pub short : length (canon d) ≤ most_text
+  pub short : length (canon d) ≤ most_canon_bytes
 
 -- the vote's ballot is in its range, and P holds of its definition
 abbrev pub IsVoteOf : {V : Type 0} → (V → Type 0) → Option (Vote V) → Type 0

@@ -1,5 +1,5 @@
 -- The bytes of a message.
-use Rattle.std.specs.Prelude.{◌≡◌, ℕ, ◌≤◌, List, [], ◌∷◌, ◌++◌, take, length, Option, Some, None}
+use Rattle.std.specs.Prelude.{◌≡◌, ℕ, List, [], ◌∷◌, ◌++◌, Option, Some, None}
 use Rattle.wf_ballot.specs.Node.{node_bytes}
 use Rattle.wf_ballot.specs.Sequence.{seq_bytes}
 use Rattle.wf_ballot.specs.Ballot.{ballot_bytes}

@@ -1,7 +1,8 @@
-ghost use Rattle.std.specs.Prelude.{◌≡◌, ◌++◌, ◌↔◌, length, IfOk, IfErr, IsErrOf};
+ghost use Rattle.std.specs.Prelude.{◌≡◌, ◌≤◌, ◌++◌, ◌↔◌, length, IfOk, IfErr, IsErrOf, MatchResult};
 ghost use Rattle.wf_codec.specs.declared.kind.Kind.TheVariants as kinds;
 ghost use Rattle.wf_codec.specs.Message.{view};
 ghost use Rattle.wf_codec.specs.Spelling.{Spells};
+ghost use Rattle.wf_codec.specs.Fault.{first_fault, HasFault, CarriesText};
 ghost use Rattle.wf_codec.specs.Judging.{frame_front, fields_of, vote_of, ReadsAs, ReadsVote, ReadsText};
 ghost use Rattle.wf_codec.specs.Law.{BeginsWith, BeginsWithNone, NeverBegins, IsRefusal, IsUnfinished, IsReadAs, IsJudged};
 
@@ -17,12 +18,19 @@ use wf_canon::{Canon, CanonFault};
 /// right, as early as they are there: the version, the kind, the body's length, whether the body is
 /// whole, its fields, then the text of a definition. What follows the message isn't looked at.
 ///
-/// `Short` says that nothing is wrong so far and that more bytes are to come. `Memory` says nothing of
-/// the bytes. After any other fault no further bytes make a message of them.
+/// The count is in bytes, at least 1 and at most as many as there are.
+///
+/// `Short` says that nothing is wrong so far and that more bytes are to come. `Memory` comes only while
+/// the text of a definition is read, behind the fields of a Promise with a vote, an Accept or a Chosen;
+/// it says nothing of that text. After any other fault no further bytes make a message of them.
 pub fn decode(alloc: Global, bytes: &[u8]) -> Result<(Message, usize), DecodeFault>
-    // What is read stands at the front, and what stands at the front is read, unless memory runs out.
+    // What is read stands at the front, and what stands at the front is read: want of memory excuses only a
+    // message that carries a definition.
     ensures read { IfOk result (λ x. BeginsWith bytes.now (view x.0) x.1) }
     ensures each { (m : _) (spelled after : _) → Spells m spelled → bytes.now ≡ spelled ++ after → IsReadAs view result m (length spelled) }
+
+    // What is read has at least one byte, and no more than there are.
+    ensures count { IfOk result (λ x. (1 ≤ x.1) × (x.1 ≤ length bytes.now)) }
 
     // What is refused never becomes a message, however it goes on.
     ensures refused { IfErr result (λ e. IsRefusal e → NeverBegins bytes.now) }
@@ -30,8 +38,11 @@ pub fn decode(alloc: Global, bytes: &[u8]) -> Result<(Message, usize), DecodeFau
     ensures short { IsErrOf result DecodeFault.Short ↔ IsUnfinished bytes.now }
     ensures none_yet { IsErrOf result DecodeFault.Short → BeginsWithNone bytes.now }
 
-    // Which fault it is: the first one.
-    ensures first { IsJudged view result (frame_front bytes.now) }
+    // Which fault it is: that of the first check that fails.
+    ensures first { MatchResult result (λ x. first_fault bytes.now ≡ None) (λ e. HasFault bytes.now e) }
+
+    // Memory runs out only over a text that the message carries.
+    ensures memory { IsErrOf result DecodeFault.Memory → CarriesText bytes.now }
 {
     judge(alloc, bytes)
 }

@@ -1,4 +1,4 @@
-ghost use Rattle.std.specs.Prelude.{◌≡◌, ◌+◌, ◌≤◌, ◌++◌, length, vec_len, vec_capacity, OnOk, OnErr};
+ghost use Rattle.std.specs.Prelude.{◌≡◌, ◌+◌, ◌<◌, ◌≤◌, ◌++◌, length, vec_len, vec_capacity, OnOk, OnErr};
 ghost use Rattle.wf_codec.specs.Message.{view, view_vote, vote_with, texts, HasText, IsVoteOf, IsMessage};
 ghost use Rattle.wf_codec.specs.Spelling.{kind_of, vote_bytes, body, text_spelling, spelling};
 ghost use Rattle.wf_canon.specs.Canon.{canon};
@@ -10,11 +10,12 @@ use std::alloc::AllocError;
 use wf_ballot::Ballot;
 use wf_canon::Canon;
 
-/// Appends the message's one spelling. An error, where a growth was refused, leaves the bytes as they
-/// were.
+/// Appends the message's one spelling. The one error is want of memory, where the vector's room doesn't
+/// suffice; it leaves the bytes as they were.
 pub fn encode(message: &Message, out: &mut Vec<u8>) -> Result<(), AllocError>
     ensures ok { OnOk result (out.new.items ≡ out.old.items ++ spelling (view message.now)) }
     ensures err { OnErr result (out.new.items ≡ out.old.items) }
+    ensures full { OnErr result (vec_capacity out.old < vec_len out.old + length (spelling (view message.now))) }
     ensures is_message { IsMessage (view message.now) }
 {
     let length = body_length(message);

@@ -14,7 +14,8 @@ pub enum Kind {
 
 impl Kind {
     ghost use Rattle.std.specs.Prelude.{◌≡◌, ◌+◌, ◌^◌, ◌<◌};
-    ghost use Rattle.wf_codec.specs.Kind.{kind_byte, kind_of_byte, most_text, can_have, has_text_behind};
+    ghost use Rattle.wf_canon.specs.Canon.{most_canon_bytes};
+    ghost use Rattle.wf_codec.specs.Kind.{kind_byte, kind_of_byte, can_have, has_text_behind};
 
     /// The kind's byte.
     pub fn byte(self) -> u8
@@ -66,7 +67,7 @@ impl Kind {
 
     /// Does a text stand behind so many bytes of other fields?
     fn has_text_behind(fields: usize, length: usize) -> bool
-        requires { fields + most_text < 2 ^ 64 }
+        requires { fields + most_canon_bytes < 2 ^ 64 }
         ensures { result ≡ has_text_behind fields length }
     {
         fields < length && length <= fields + MOST_CANON_BYTES

@@ -1,4 +1,9 @@
-ghost use Rattle.wf_codec.specs.Law.{OneSpelling, NoneBeginsAnother};
+ghost use Rattle.std.specs.Prelude.{◌≡◌};
+ghost use Rattle.wf_codec.specs.Kind.{most_body_bytes};
+ghost use Rattle.wf_codec.specs.Spelling.{message_version, header_length};
+ghost use Rattle.wf_codec.specs.Law.{OneSpelling, NoneBeginsAnother, NoneIsEmpty, IsLongestBody};
+
+use crate::frame::{BODY_BYTES, HEADER_BYTES, VERSION};
 
 /// A message has one spelling. A law about the definitions: the call does nothing.
 pub fn one_spelling()
@@ -9,4 +14,22 @@ pub fn one_spelling()
 /// definitions: the call does nothing.
 pub fn none_begins_another()
     ensures { NoneBeginsAnother }
+{}
+
+/// A message's spelling has at least one byte. A law about the definitions: the call does nothing.
+pub fn no_spelling_is_empty()
+    ensures { NoneIsEmpty }
+{}
+
+/// The longest body is that of a Promise with the longest text. A law about the definitions: the call
+/// does nothing.
+pub fn longest_body()
+    ensures { IsLongestBody most_body_bytes }
+{}
+
+/// The constants are the numbers that the definitions name. The call does nothing.
+pub fn numbers_of_messages()
+    ensures version { VERSION ≡ message_version }
+    ensures header { HEADER_BYTES ≡ header_length }
+    ensures body { BODY_BYTES ≡ most_body_bytes }
 {}

@@ -1,4 +1,4 @@
-ghost use Rattle.std.specs.Prelude.{◌≡◌, IfOk};
+ghost use Rattle.std.specs.Prelude.{◌≡◌, IfOk, IsSome, OnErr};
 
 use std::alloc::AllocError;
 use wf_ballot::{Ballot, NodeId, Slot};
@@ -25,9 +25,12 @@ pub enum Message {
 }
 
 impl Message {
-    /// An equal message; an error where a growth was refused.
+    ghost use Rattle.wf_codec.specs.Message.{view, HasDefinition};
+
+    /// An equal message. The one error is want of memory, for a message that carries a definition.
     pub fn copy(&self) -> Result<Message, AllocError>
-        ensures { IfOk result (λ m. m ≡ self.now) }
+        ensures copy { IfOk result (λ m. m ≡ self.now) }
+        ensures memory { OnErr result (HasDefinition (view self.now)) }
     {
         Ok(match self {
             Message::Prepare(slot, ballot) => Message::Prepare(*slot, *ballot),
@@ -46,7 +49,8 @@ impl Message {
 }
 
 fn copy_vote(vote: &Option<(Ballot, Canon)>) -> Result<Option<(Ballot, Canon)>, AllocError>
-    ensures { IfOk result (λ v. v ≡ vote.now) }
+    ensures copy { IfOk result (λ v. v ≡ vote.now) }
+    ensures memory { OnErr result (IsSome vote.now) }
 {
     match vote {
         None => Ok(None),

@@ -1,72 +1,158 @@
 //! Reading the command line.
-ghost use Rattle.std.specs.Prelude.{IfOk, IfSome};
-ghost use Rattle.wf_commands.specs.Line.{IsInRange};
+ghost use Rattle.std.specs.Prelude.{◌≡◌, ℕ, IfErr, IfNone, IfOk, IfSome, false, map};
+ghost use Rattle.clap.specs.Matches.{found_of};
+ghost use Rattle.clap.specs.Simple.{app_of, shape_of, subcommand_of, subcommand_rows_of};
+ghost use Rattle.clap.specs.Values.{kind_of};
+ghost use Rattle.clap.specs.Walk.{rows_of, rule_of};
+ghost use Rattle.clap.specs.declared.builder.command.Command.TheViews.{out-Command};
+ghost use Rattle.wf_commands.specs.CommandLine.{Asks, IsCapsOf, IsWhyRefused, PlainCanonIsAsked, PlainCapsIsAsked, program, caps_shape, canon_shape, sequence_rule, query_rule};
+ghost use Rattle.wf_commands.specs.Line.{IsInRange, IsSequence};
+ghost use Rattle.wf_commands.specs.declared.line.Line.{Line};
 
 use crate::line::Line;
 use clap::error::ErrorKind;
 use clap::{Arg, ArgMatches, Command, Error};
 use std::alloc::{AllocError, Global};
 use std::convert::AsStr;
-use wf_wms::LAST_SEQUENCE;
+use wf_ballot::SEQUENCES;
 
-// `caps SEQ QUERY`.
-fn caps_command<'a>(alloc: Global) -> Result<Command<'a>, AllocError> {
-    let seq = Arg::new(alloc, "SEQ")
+const VERSION: &str = "0.1.0";
+
+const CAPS_HELP: &str = "Limits: SEQ is at most 4096, the mapfile has at most 65,536 bytes
+Faults: map fault M1 to M12, read fault";
+
+const CANON_HELP: &str = "Limits: the mapfile has at most 65,536 bytes, its canonical text 32,768
+Faults: map fault M1 to M12, canon fault K1 and K3, read fault";
+
+static NO_WORDS: [&str; 0] = [];
+
+// A function each, and one call after the other: what is built is let go by clap alone.
+fn seq_argument<'a>(alloc: Global) -> Arg<'a>
+    ensures rule { rule_of result ≡ sequence_rule }
+    ensures local { result.global ≡ false }
+{
+    Arg::new(alloc, "SEQ")
+        .value_name("SEQ from 0 to 4096")
         .required(true)
         .value_parser(clap::value_parser!(u16).range(..=4_096))
-        .help("The update sequence of the map, 0 to 4096");
-    let query = Arg::new(alloc, "QUERY").required(true).help(
+        .help("The update sequence of the map")
+}
+
+fn query_argument<'a>(alloc: Global) -> Arg<'a>
+    ensures rule { rule_of result ≡ query_rule }
+    ensures local { result.global ≡ false }
+{
+    Arg::new(alloc, "QUERY").required(true).help(
         "The query string of a WMS request, as SERVICE=WMS&REQUEST=GetCapabilities",
-    );
+    )
+}
+
+// `caps SEQ QUERY`.
+fn caps_command<'a>(alloc: Global) -> Result<Command<'a>, AllocError>
+    ensures { IfOk result (λ command. (shape_of command ≡ caps_shape) × ((out-Command command).has_globals ≡ false)) }
+{
     Command::new(alloc, "caps")
         .about("Answers a WMS request about the mapfile on standard input")
-        .arg(seq)?
-        .arg(query)
+        .after_help(CAPS_HELP)
+        .arg(seq_argument(alloc))?
+        .arg(query_argument(alloc))
+}
+
+// `canon`.
+fn canon_command<'a>(alloc: Global) -> Command<'a>
+    ensures shape { shape_of result ≡ canon_shape }
+    ensures local { (out-Command result).has_globals ≡ false }
+{
+    Command::new(alloc, "canon")
+        .about("Writes the canonical text of the mapfile on standard input")
+        .after_help(CANON_HELP)
 }
 
 // All that the program takes.
-fn command<'a>(alloc: Global) -> Result<Command<'a>, AllocError> {
-    let canon = Command::new(alloc, "canon").about(
-        "Writes the canonical text of the mapfile on standard input",
-    );
+fn command<'a>(alloc: Global) -> Result<Command<'a>, AllocError>
+    ensures { IfOk result (λ command. app_of command ≡ program) }
+{
+    let caps = caps_command(alloc)?;
     Command::new(alloc, "wfarm")
-        .bin_name("wfarm")?
+        .version(VERSION)
         .about("A farm of Web Map Service servers over one history of mapfiles")
         .no_binary_name(true)
         .subcommand_required(true)
-        .subcommand(caps_command(alloc)?)?
-        .subcommand(canon)
+        .subcommand(caps)?
+        .subcommand(canon_command(alloc))?
+        .bin_name("wfarm")
 }
 
-// The usage, and why the words don't fit it.
-fn refusal(alloc: Global, why: &str) -> Result<Error, AllocError> {
-    command(alloc)?.error(ErrorKind::ValueValidation, why)
-}
-
-fn caps<'a>(matches: &ArgMatches<'a>) -> Option<Line<'a>>
-    ensures { IfSome result IsInRange }
+// The usage, and that a command is missing.
+fn refusal(alloc: Global) -> Result<Error, AllocError>
+    ensures { IfOk result (λ error. kind_of error ≡ ErrorKind.ValueValidation) }
 {
-    let seq = matches.get_one::<u16>("SEQ")?;
-    let query = matches.get_str("QUERY")?;
-    if seq > LAST_SEQUENCE {
-        return None;
+    let mut command = command(alloc)?;
+    let refusal = command.error(
+        ErrorKind::ValueValidation,
+        "a command is missing, or a value is out of range",
+    );
+    // A parse of nothing lets go of the command: to drop it here would have all of its parts proved once more.
+    let _ = command.try_get_matches_from(NO_WORDS.as_slice());
+    refusal
+}
+
+// The update sequence that a word stands for.
+fn sequence(word: &str) -> Option<u16>
+    ensures some { IfSome result (IsSequence word.now) }
+    ensures none { IfNone result ((seq : ℕ) → ¬ (IsSequence word.now seq)) }
+{
+    match word.parse::<u16>() {
+        Ok(seq) if seq <= SEQUENCES => Some(seq),
+        _ => None,
     }
+}
+
+// The `caps` line of the words that were found.
+#[tactic(auto, using(crate::proofs::Named::word_in_row))]
+fn caps<'a>(found: &ArgMatches<'a>) -> Option<Line<'a>>
+    ensures some { IfSome result (IsCapsOf (rows_of (found_of found.now))) }
+    ensures none { IfNone result ((line : Line) → ¬ (IsCapsOf (rows_of (found_of found.now)) line)) }
+{
+    let word = found.get_str("SEQ")?;
+    let query = found.get_str("QUERY")?;
+    let seq = sequence(word)?;
     Some(Line::Caps { seq, query })
 }
 
-/// Reads the words of a command line, without the program's name. An error's text is for the user.
-pub fn line<'a, S: AsStr>(alloc: Global, words: &'a [S]) -> Result<Line<'a>, Error>
-    ensures { IfOk result IsInRange }
+// The line that the words which were found ask for.
+fn asked<'a>(matches: &ArgMatches<'a>) -> Option<Line<'a>>
+    ensures some { IfSome result (Asks (subcommand_rows_of matches.now)) }
+    ensures none { IfNone result ((line : Line) → ¬ (Asks (subcommand_rows_of matches.now) line)) }
 {
-    let matches = command(alloc)?.try_get_matches_from(words)?;
-    let asked = match matches.subcommand() {
-        Some(("caps", matches)) => caps(matches),
+    match matches.subcommand() {
+        Some(("caps", found)) => caps(found),
         Some(("canon", _)) => Some(Line::Canon),
         _ => None,
-    };
-    // The command line's parser has made sure of both; its promise ends at a subcommand's door.
-    match asked {
-        Some(line) => Ok(line),
-        None => Err(refusal(alloc, "a command is missing, or a value is out of range")?),
     }
 }
+
+/// Reads the words of a command line, without the program's name. An error's text is for the user.
+///
+/// Which line is asked for is said by the rules of `clap` for the program's own command: what
+/// [`plain_words_are_taken`] says of words without a hyphen first follows from them.
+pub fn line<'a, S: AsStr>(alloc: Global, words: &'a [S]) -> Result<Line<'a>, Error>
+    ensures range { IfOk result IsInRange }
+    ensures asked { IfOk result (Asks (subcommand_of program (map S.text words.entry.now))) }
+    // Words that ask for a line are refused for want of memory alone.
+    ensures refused { IfErr result (λ error. IsWhyRefused (map S.text words.entry.now) (kind_of error)) }
+{
+    let matches = command(alloc)?.try_get_matches_from(words)?;
+    // The command line's parser has made sure of a line; its promise ends at a subcommand's door.
+    match asked(&matches) {
+        Some(line) => Ok(line),
+        None => Err(refusal(alloc)?),
+    }
+}
+
+/// `caps` with an update sequence and a query, and `canon` alone, ask for these lines, where no word
+/// begins with a hyphen.
+pub fn plain_words_are_taken()
+    ensures caps { PlainCapsIsAsked }
+    ensures canon { PlainCanonIsAsked }
+{}

@@ -1,14 +1,20 @@
 //! The commands of `wfarm`: from a command line, an input and an output to a farm of Web Map Service
 //! servers.
 //!
-//! It is thin. [`arguments::line`] reads the words of a command line, [`run::run_caps`] and
-//! [`run::run_canon`] do what these ask for over any reader and writer, and [`program::program`] binds
-//! them to the process. A [`line::Line`] is what is asked for, and a [`fault::RunFault`] why it failed.
+//! It is thin. [`arguments::line`] reads the words of a command line, [`run::run_line`] does what these
+//! ask for over any reader and writer, and [`program::program`] binds the two to the process. A
+//! [`line::Line`] is what is asked for, and a [`fault::RunFault`] why it failed. Readers and writers are
+//! [`stream::Source`] and [`stream::Sink`], which count the calls that failed: [`stream::Stream`] makes
+//! them of those of std.
 //!
-//! It promises that a command line's numbers are within their ranges, that a run that succeeds has
-//! written the whole answer, or the whole canonical text, for what its reader gave, and that each fault
-//! comes only for its cause. What standard input holds, and what became of the bytes behind standard
-//! output, no contract says.
+//! It promises, of [`run::run_line`], that a run that succeeds has written exactly what was asked for:
+//! the answer at that sequence to that query, or the canonical text, for the one map that its input
+//! means; that a fault of a map or a text comes only for that cause, and a read or write fault exactly
+//! where a call has failed; that nothing is written before another fault, and a beginning of the output
+//! before a write fault; and that no more than 65,537 bytes are read. Of [`arguments::line`] it promises
+//! the line that the words ask for, by the rules of the kit's parser of command lines, and that words
+//! that ask for one are refused for want of memory alone. What standard input holds, what became of the
+//! bytes behind standard output, and what text is printed for a refused command line, no contract says.
 #![tactic(auto)]
 
 pub mod arguments;
@@ -16,3 +22,4 @@ pub mod fault;
 pub mod line;
 pub mod program;
 pub mod run;
+pub mod stream;

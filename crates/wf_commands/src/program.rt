@@ -1,55 +1,64 @@
 //! From the command line to the exit status.
-ghost use Rattle.std.specs.Prelude.{◌≡◌, OnOk, OnErr};
+ghost use Rattle.std.specs.Prelude.{◌≡◌, ◌≤◌, Bool};
+ghost use Rattle.std.specs.IoError.{error_kind};
+ghost use Rattle.clap.specs.Values.{kind_of};
 ghost use Rattle.std.specs.Process.{exit_status};
 ghost use Rattle.wf_commands.specs.Line.{IsInRange};
+ghost use Rattle.wf_commands.specs.Ending.{run_status, told, refusal_status, unreadable_status};
 
 use crate::arguments::line;
 use crate::fault::RunFault;
 use crate::line::Line;
-use crate::run::{run_canon, run_caps};
+use crate::run::run_line;
+use crate::stream::Stream;
+use clap::error::ErrorKind;
 use std::process::ExitCode;
 use std::rt::Env;
 use std::{env, io};
 use wf_mapfile::fault::MapFault;
 
+/// The status of a fault, and of a failed write.
+const FAULT: u8 = 1;
+
 /// The status of a bad command line.
 const BAD_COMMAND_LINE: u8 = 2;
 
-// Does what the command line asks for.
+// Does what the command line asks for, from standard input to standard output.
 fn run<R: Input + Print + AllocGlobal>(rt: &R, line: Line<'_>) -> Result<(), RunFault>
     requires { IsInRange line }
 {
-    let mut reader = rt.reader();
-    let mut writer = io::writer(rt);
-    match line {
-        Line::Caps { seq, query } => run_caps(
-            rt.alloc(),
-            &mut reader,
-            &mut writer,
-            seq,
-            query.as_bytes(),
-        ),
-        Line::Canon => run_canon(rt.alloc(), &mut reader, &mut writer),
+    let mut source = Stream::new(rt.reader());
+    let mut sink = Stream::new(io::writer(rt));
+    run_line(rt.alloc(), line, &mut source, &mut sink)
+}
+
+// The fault whose line is written: a failed write has none.
+fn told(outcome: Result<(), RunFault>) -> Option<RunFault>
+    ensures { result ≡ told outcome }
+{
+    match outcome {
+        Ok(()) | Err(RunFault::Write) => None,
+        Err(fault) => Some(fault),
     }
 }
 
-// The status of a run: a failed write has no line.
+// The status of a run, after its line.
 fn status<R: Eprint>(rt: &R, outcome: Result<(), RunFault>) -> ExitCode
-    ensures ok { OnOk outcome (exit_status result ≡ 0) }
-    ensures fault { OnErr outcome (exit_status result ≡ 1) }
+    ensures { exit_status result ≡ run_status outcome }
 {
+    if let Some(fault) = told(outcome) {
+        let _ = eprintln!(rt; "{fault}");
+    }
     match outcome {
         Ok(()) => ExitCode::SUCCESS,
-        Err(RunFault::Write) => ExitCode::FAILURE,
-        Err(fault) => {
-            let _ = eprintln!(rt; "{fault}");
-            ExitCode::FAILURE
-        }
+        Err(_) => ExitCode::FAILURE,
     }
 }
 
 // A command line that can't be read: words that are no text are a bad one.
-fn unreadable<R: Eprint>(rt: &R, error: &io::Error) -> ExitCode {
+fn unreadable<R: Eprint>(rt: &R, error: &io::Error) -> ExitCode
+    ensures { exit_status result ≡ unreadable_status (error_kind error.now) }
+{
     if error.kind() != io::ErrorKind::InvalidData {
         return status(rt, Err(RunFault::Map(MapFault::Memory)));
     }
@@ -57,17 +66,26 @@ fn unreadable<R: Eprint>(rt: &R, error: &io::Error) -> ExitCode {
     ExitCode::from(BAD_COMMAND_LINE)
 }
 
+// The status where no command was run, of whether the text was printed.
+fn refusal_status(kind: ErrorKind, printed: bool) -> u8
+    ensures { result ≡ refusal_status kind printed }
+{
+    match kind {
+        ErrorKind::OutOfMemory => FAULT,
+        ErrorKind::DisplayHelp | ErrorKind::DisplayVersion => { if printed { 0 } else { FAULT } }
+        _ => BAD_COMMAND_LINE,
+    }
+}
+
 // A command line that asks for nothing that the program does, or for help.
-fn refusal<R: Print + Eprint>(rt: &R, error: &clap::Error) -> ExitCode {
-    if error.kind() == clap::error::ErrorKind::OutOfMemory {
+fn refusal<R: Print + Eprint>(rt: &R, error: &clap::Error) -> ExitCode
+    ensures { (printed : Bool) × (exit_status result ≡ refusal_status (kind_of error.now) printed) }
+{
+    if error.kind() == ErrorKind::OutOfMemory {
         return status(rt, Err(RunFault::Map(MapFault::Memory)));
     }
-    let _ = error.print(rt);
-    if error.use_stderr() {
-        ExitCode::from(BAD_COMMAND_LINE)
-    } else {
-        ExitCode::SUCCESS
-    }
+    let printed = error.print(rt).is_ok();
+    ExitCode::from(refusal_status(error.kind(), printed))
 }
 
 // The words of the command line, without the program's name.
@@ -77,7 +95,9 @@ fn words<R: Env + AllocGlobal>(rt: &R) -> io::Result<Vec<String>> {
 
 /// Reads the command line, does what it asks for and answers the exit status: 0; 1 for a fault, with
 /// one line on standard error, but none for a failed write; 2 for a bad command line.
-pub fn program<R: Env + Input + Print + Eprint + AllocGlobal>(rt: &R) -> ExitCode {
+pub fn program<R: Env + Input + Print + Eprint + AllocGlobal>(rt: &R) -> ExitCode
+    ensures { exit_status result ≤ 2 }
+{
     let words = match words(rt) {
         Ok(words) => words,
         Err(error) => return unreadable(rt, &error),

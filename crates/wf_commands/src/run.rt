@@ -1,30 +1,45 @@
 //! The commands, over any reader and writer.
-ghost use Rattle.std.specs.Prelude.{◌≡◌, ◌≤◌, IfOk, IfErr, IfSome, OnOk};
-ghost use Rattle.std.specs.Io.KnownBytes.{Appends, Keeps};
-ghost use Rattle.wf_mapfile.specs.Meaning.{Means};
+ghost use Rattle.std.specs.Prelude.{◌≡◌, ◌+◌, ◌≤◌, IfOk, IfErr, IfSome};
+ghost use Rattle.wf_def.specs.Limits.{IsWithinLimits};
+ghost use Rattle.wf_mapfile.specs.Meaning.{Means, longest_mapfile};
 ghost use Rattle.wf_canon.specs.Canon.{canon};
+ghost use Rattle.wf_canon.specs.Refusal.{IsCauseOf};
 ghost use Rattle.wf_wms.specs.Answer.{description};
-ghost use Rattle.wf_commands.specs.Run.{MeansOne, StandsFor, IsReadingFault, IsDescribingFault, IsSpellingFault, IsRunFault, IsBeforeWriting};
+ghost use Rattle.wf_ballot.specs.Sequence.{last_sequence};
+ghost use Rattle.wf_commands.specs.Line.{IsInRange};
+ghost use Rattle.wf_commands.specs.Reading.{TakesUpTo};
+ghost use Rattle.wf_commands.specs.Run.{most_input_bytes, judged, output, IsRefused, IsInputFault, IsMapFault, IsReadingFault, IsWriting, IsOutcome, CountsReads, CountsWrites};
 
 use crate::fault::RunFault;
+use crate::line::Line;
+use crate::stream::{Sink, Source, read_up_to, write_all};
 use std::alloc::Global;
-use std::io::{ErrorKind, Read, Write};
+use std::io::ErrorKind;
+use wf_ballot::SEQUENCES;
 use wf_canon::Canon;
 use wf_def::map::MapDef;
 use wf_mapfile::fault::MapFault;
-use wf_wms::{LAST_SEQUENCE, describe};
+use wf_wms::describe;
 
-/// How much of the input is read: one byte more than the longest mapfile has.
-pub const MOST_INPUT_BYTES: u64 = 65_537;
+/// How much of the input is read, in bytes: one more than the longest mapfile has.
+pub const MOST_INPUT_BYTES: usize = 65_537;
+
+/// The limits of the code are those of the definitions.
+pub fn limits_are_as_defined()
+    ensures input { MOST_INPUT_BYTES ≡ most_input_bytes }
+    ensures one_more { most_input_bytes ≡ longest_mapfile + 1 }
+    ensures sequence { SEQUENCES ≡ last_sequence }
+{}
 
 // The input to its end, or its first bytes.
-fn input<R: Read>(alloc: Global, reader: &mut R) -> Result<Vec<u8>, RunFault>
-    ensures ok { IfOk result (λ bytes. IfSome (R.remaining reader.old) (λ known. StandsFor known bytes.items)) }
-    ensures err { IfErr result (IsReadingFault (R.remaining reader.old)) }
+fn input<S: Source>(alloc: Global, source: &mut S) -> Result<Vec<u8>, RunFault>
+    ensures first { IfOk result (λ bytes. IfSome (S.left source.old) (λ known. bytes.items ≡ judged known)) }
+    ensures err { IfErr result IsInputFault }
+    ensures most { TakesUpTo most_input_bytes (S.left source.old) (S.left source.new) }
+    ensures reads { CountsReads result (S.failures source.old) (S.failures source.new) }
 {
-    let mut bytes = Vec::new(alloc);
-    match reader.take(MOST_INPUT_BYTES).read_to_end(&mut bytes) {
-        Ok(_) => Ok(bytes),
+    match read_up_to(alloc, source, MOST_INPUT_BYTES) {
+        Ok(bytes) => Ok(bytes),
         Err(error) if error.kind() == ErrorKind::OutOfMemory => Err(RunFault::Map(
             MapFault::Memory,
         )),
@@ -32,96 +47,132 @@ fn input<R: Read>(alloc: Global, reader: &mut R) -> Result<Vec<u8>, RunFault>
     }
 }
 
-// The map that the input means.
-fn map<R: Read>(alloc: Global, reader: &mut R) -> Result<MapDef, RunFault>
-    ensures ok { IfOk result (λ map. IfSome (R.remaining reader.old) (λ known. Means known map)) }
-    ensures err { IfErr result (IsReadingFault (R.remaining reader.old)) }
+// The map that bytes mean.
+fn map_of(alloc: Global, bytes: &[u8]) -> Result<MapDef, RunFault>
+    ensures ok { IfOk result (λ map. Means bytes.now map × IsWithinLimits map) }
+    ensures err { IfErr result (IsMapFault bytes.now) }
 {
-    let bytes = input(alloc, reader)?;
-    match wf_mapfile::read(alloc, &bytes) {
-        Ok(map) => Ok(map),
+    match wf_mapfile::read(alloc, bytes) {
+        Ok(map) => {
+            let _ = map.name();
+            Ok(map)
+        }
         Err(fault) => Err(RunFault::Map(fault)),
     }
 }
 
-fn write<W: Write>(writer: &mut W, bytes: &[u8]) -> Result<(), RunFault>
-    ensures ok { OnOk result (Appends (W.contents writer.old) (W.contents writer.new) bytes.now) }
-    ensures err { IfErr result (λ fault. fault ≡ RunFault.Write) }
+// The map that the input means.
+fn map<S: Source>(alloc: Global, source: &mut S) -> Result<MapDef, RunFault>
+    ensures ok { IfOk result (λ map. IfSome (S.left source.old) (λ known. Means known map) × IsWithinLimits map) }
+    ensures err { IfErr result (IsReadingFault (S.left source.old)) }
+    ensures most { TakesUpTo most_input_bytes (S.left source.old) (S.left source.new) }
+    ensures reads { CountsReads result (S.failures source.old) (S.failures source.new) }
 {
-    if writer.write_all(bytes).is_err() {
-        return Err(RunFault::Write);
+    let bytes = input(alloc, source)?;
+    match map_of(alloc, &bytes) {
+        Ok(map) => Ok(map),
+        Err(fault) => Err(fault),
     }
-    if writer.flush().is_err() {
-        return Err(RunFault::Write);
+}
+
+fn write<K: Sink>(sink: &mut K, bytes: &[u8]) -> Result<(), RunFault>
+    ensures written { IsWriting bytes.now (λ _. ⊥) (K.written sink.old) (K.written sink.new) result }
+    ensures writes { CountsWrites result (K.failures sink.old) (K.failures sink.new) }
+{
+    match write_all(sink, bytes) {
+        Ok(()) => Ok(()),
+        Err(_) => Err(RunFault::Write),
     }
-    Ok(())
 }
 
 // Writes the answer about a map.
-fn write_answer<W: Write>(
+fn write_answer<K: Sink>(
     alloc: Global,
     map: &MapDef,
-    writer: &mut W,
+    sink: &mut K,
     seq: u16,
     query: &[u8],
 ) -> Result<(), RunFault>
-    requires { seq ≤ LAST_SEQUENCE }
-    ensures ok { OnOk result (Appends (W.contents writer.old) (W.contents writer.new)
-        (description seq map.now query.now).bytes) }
-    ensures err { IfErr result (IsDescribingFault map.now) }
-    ensures unwritten { IfErr result (λ fault. IsBeforeWriting fault → Keeps (W.contents writer.old) (W.contents writer.new)) }
+    requires { seq ≤ last_sequence }
+    ensures written { IsWriting (description seq map.now query.now).bytes (λ _. ⊥) (K.written sink.old) (K.written sink.new) result }
+    ensures writes { CountsWrites result (K.failures sink.old) (K.failures sink.new) }
 {
     match describe(alloc, seq, map, query) {
-        Ok(answer) => write(writer, &answer.bytes),
+        Ok(answer) => write(sink, &answer.bytes),
         Err(_) => Err(RunFault::Map(MapFault::Memory)),
     }
 }
 
 // Writes the canonical text of a map.
-fn write_canonical<W: Write>(alloc: Global, map: &MapDef, writer: &mut W) -> Result<(), RunFault>
-    ensures ok { OnOk result (Appends (W.contents writer.old) (W.contents writer.new) (canon map.now)) }
-    ensures err { IfErr result (IsSpellingFault map.now) }
-    ensures unwritten { IfErr result (λ fault. IsBeforeWriting fault → Keeps (W.contents writer.old) (W.contents writer.new)) }
+fn write_canonical<K: Sink>(alloc: Global, map: &MapDef, sink: &mut K) -> Result<(), RunFault>
+    ensures written { IsWriting (canon map.now) (λ fault. IsCauseOf fault map.now) (K.written sink.old) (K.written sink.new) result }
+    ensures writes { CountsWrites result (K.failures sink.old) (K.failures sink.new) }
 {
     match Canon::of(alloc, map) {
-        Ok(canon) => write(writer, canon.text()),
+        Ok(canon) => write(sink, canon.text()),
         Err(fault) => Err(RunFault::Canon(fault)),
     }
 }
 
 /// Reads a mapfile to its end, or to the byte that makes it too long, and writes the answer about its
 /// map, at the update sequence `seq`, to a query.
-pub fn run_caps<R: Read, W: Write>(
+#[tactic(auto, using(crate::proofs::Outcome::written_outcome, crate::proofs::Outcome::fault_outcome, crate::proofs::Outcome::no_more_reads, crate::proofs::Outcome::no_writes_yet))]
+pub fn run_caps<S: Source, K: Sink>(
     alloc: Global,
-    reader: &mut R,
-    writer: &mut W,
+    source: &mut S,
+    sink: &mut K,
     seq: u16,
     query: &[u8],
 ) -> Result<(), RunFault>
-    requires { seq ≤ LAST_SEQUENCE }
-    // Where the reader tells its bytes, they mean the map that is described.
-    ensures ok { OnOk result (MeansOne (λ d.
-        Appends (W.contents writer.old) (W.contents writer.new) (description seq d query.now).bytes)
-        (R.remaining reader.old)) }
-    ensures err { IfErr result (IsRunFault IsDescribingFault (R.remaining reader.old)) }
-    ensures unwritten { IfErr result (λ fault. IsBeforeWriting fault → Keeps (W.contents writer.old) (W.contents writer.new)) }
+    requires { seq ≤ last_sequence }
+    ensures outcome { IsOutcome (λ d. (description seq d query.now).bytes) (λ _ _. ⊥)
+        (S.left source.old) (K.written sink.old) (K.written sink.new) result }
+    ensures most { TakesUpTo most_input_bytes (S.left source.old) (S.left source.new) }
+    ensures reads { CountsReads result (S.failures source.old) (S.failures source.new) }
+    ensures writes { CountsWrites result (K.failures sink.old) (K.failures sink.new) }
 {
-    let map = map(alloc, reader)?;
-    write_answer(alloc, &map, writer, seq, query)
+    match map(alloc, source) {
+        Ok(map) => write_answer(alloc, &map, sink, seq, query),
+        Err(fault) => Err(fault),
+    }
 }
 
 /// Reads a mapfile to its end, or to the byte that makes it too long, and writes its canonical text.
-pub fn run_canon<R: Read, W: Write>(
+#[tactic(auto, using(crate::proofs::Outcome::written_outcome, crate::proofs::Outcome::fault_outcome, crate::proofs::Outcome::no_more_reads, crate::proofs::Outcome::no_writes_yet))]
+pub fn run_canon<S: Source, K: Sink>(
     alloc: Global,
-    reader: &mut R,
-    writer: &mut W,
+    source: &mut S,
+    sink: &mut K,
 ) -> Result<(), RunFault>
-    // Where the reader tells its bytes, they mean the map that is spelled.
-    ensures ok { OnOk result (MeansOne (λ d.
-        Appends (W.contents writer.old) (W.contents writer.new) (canon d)) (R.remaining reader.old)) }
-    ensures err { IfErr result (IsRunFault IsSpellingFault (R.remaining reader.old)) }
-    ensures unwritten { IfErr result (λ fault. IsBeforeWriting fault → Keeps (W.contents writer.old) (W.contents writer.new)) }
+    ensures outcome { IsOutcome canon IsCauseOf
+        (S.left source.old) (K.written sink.old) (K.written sink.new) result }
+    ensures most { TakesUpTo most_input_bytes (S.left source.old) (S.left source.new) }
+    ensures reads { CountsReads result (S.failures source.old) (S.failures source.new) }
+    ensures writes { CountsWrites result (K.failures sink.old) (K.failures sink.new) }
 {
-    let map = map(alloc, reader)?;
-    write_canonical(alloc, &map, writer)
+    match map(alloc, source) {
+        Ok(map) => write_canonical(alloc, &map, sink),
+        Err(fault) => Err(fault),
+    }
+}
+
+/// Does what a command line asks for.
+pub fn run_line<S: Source, K: Sink>(
+    alloc: Global,
+    line: Line<'_>,
+    source: &mut S,
+    sink: &mut K,
+) -> Result<(), RunFault>
+    requires { IsInRange line }
+    // Exactly what is asked for is written, about the definition that the input means.
+    ensures outcome { IsOutcome (output line.entry) (IsRefused line.entry)
+        (S.left source.old) (K.written sink.old) (K.written sink.new) result }
+    ensures most { TakesUpTo most_input_bytes (S.left source.old) (S.left source.new) }
+    ensures reads { CountsReads result (S.failures source.old) (S.failures source.new) }
+    ensures writes { CountsWrites result (K.failures sink.old) (K.failures sink.new) }
+{
+    match line {
+        Line::Caps { seq, query } => run_caps(alloc, source, sink, seq, query.as_bytes()),
+        Line::Canon => run_canon(alloc, source, sink),
+    }
 }

@@ -1,3 +1,5 @@
 pub mod NumberLemmas
+mod NumberJoined
+mod NumberCut
 mod LayerLemmas
 mod MapLemmas

@@ -5,7 +5,7 @@ use Rattle.wf_def.specs.Definition.{LayerDefinition, ClassDefinition, FeatureDef
 use Rattle.wf_def.specs.Limits.{least_points}
 use Rattle.wf_def.specs.declared.point.Point.{Point}
 use Rattle.wf_def.specs.declared.choice.LayerKind.{LayerKind}
-use Rattle.wf_def.specs.declared.limits.TheConstants.{MOST_ITEMS_BYTES}
+use Rattle.wf_def.specs.Limit.{most_items_bytes}
 
 -- the feature of these parts and texts, where there is a part
 unfoldable pub feature_of : List (List Point) → List ℕ → List ℕ → Option FeatureDefinition
@@ -18,6 +18,6 @@ has_enough_points kind f = list_all (λ part. nat_le (least_points kind) (length
 -- the layer of these parts, where the list of attributes isn't too long and each shape has the points that the kind needs
 unfoldable pub layer_of : LayerKind → List ℕ → List ℕ → List ℕ → List ℕ → List ClassDefinition → List FeatureDefinition → Option LayerDefinition
 layer_of kind title class_item label_item items classes features =
-    if nat_le (length items) MOST_ITEMS_BYTES && list_all (has_enough_points kind) features
+    if nat_le (length items) most_items_bytes && list_all (has_enough_points kind) features
     then Some (record { kind = kind; title = title; class_item = class_item; label_item = label_item; items = items; classes = classes; features = features })
     else None

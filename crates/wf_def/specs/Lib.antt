@@ -1,8 +1,10 @@
 pub mod Micro
 pub mod Extent
 pub mod Number
+pub mod NumberForm
 pub mod Text
 pub mod Definition
+pub mod Limit
 pub mod Limits
 pub mod Whole
 pub mod Layer

@@ -11,7 +11,7 @@ use Rattle.wf_def.specs.declared.color.Color.{Color}
 use Rattle.wf_def.specs.declared.point.Point.{Point}
 use Rattle.wf_def.specs.declared.choice.LayerKind.{LayerKind}
 use Rattle.wf_def.specs.declared.choice.LayerKind.TheVariants.{Points, Lines, Polygons}
-use Rattle.wf_def.specs.declared.limits.TheConstants.{MOST_ITEMS_BYTES, MOST_LAYERS, MOST_CLASSES, MOST_STYLES, MOST_FEATURES, MOST_POINTS, MOST_WIDTH, MOST_SIZE, MOST_PRIORITY, MOST_BUFFER}
+use Rattle.wf_def.specs.Limit.{most_items_bytes, most_layers, most_classes, most_styles, most_features, most_points, most_width, most_size, most_priority, most_buffer}
 
 pub record IsColor (c : Color) : Type 0 where
   pub r : c.r < 256
@@ -27,25 +27,25 @@ pub record IsStyle (s : StyleDefinition) : Type 0 where
   pub color : IfSome s.color IsColor
   pub outline_color : IfSome s.outline_color IsColor
   pub width_least : 1 ≤ s.width
-  pub width_most : s.width ≤ MOST_WIDTH
+  pub width_most : s.width ≤ most_width
   pub size_least : 1 ≤ s.size
-  pub size_most : s.size ≤ MOST_SIZE
+  pub size_most : s.size ≤ most_size
 
 pub record IsLabel (l : LabelDefinition) : Type 0 where
   pub color : IsColor l.color
   pub priority_least : 1 ≤ l.priority
-  pub priority_most : l.priority ≤ MOST_PRIORITY
-  pub buffer_most : l.buffer ≤ MOST_BUFFER
+  pub priority_most : l.priority ≤ most_priority
+  pub buffer_most : l.buffer ≤ most_buffer
 
 -- a class's styles
 pub record IsStyles (styles : List StyleDefinition) : Type 0 where
-  pub most : length styles ≤ MOST_STYLES
+  pub most : length styles ≤ most_styles
   pub each : All IsStyle styles
 
 pub record IsClass (c : ClassDefinition) : Type 0 where
   pub name : IsText c.name
   pub expression : IfSome c.expression IsText
-  pub styles_most : length c.styles ≤ MOST_STYLES
+  pub styles_most : length c.styles ≤ most_styles
   pub styles : All IsStyle c.styles
   pub label : IfSome c.label IsLabel
 
@@ -64,7 +64,7 @@ pub record IsFeature (f : FeatureDefinition) : Type 0 where
 
 -- a layer's classes
 pub record IsClasses (classes : List ClassDefinition) : Type 0 where
-  pub most : length classes ≤ MOST_CLASSES
+  pub most : length classes ≤ most_classes
   pub each : All IsClass classes
 
 abbrev pub IsFeatures : List FeatureDefinition → Type 0
@@ -85,8 +85,8 @@ pub record IsLayer (l : LayerDefinition) : Type 0 where
   pub class_item : IsText l.class_item
   pub label_item : IsText l.label_item
   pub items : IsText l.items
-  pub items_most : length l.items ≤ MOST_ITEMS_BYTES
-  pub classes_most : length l.classes ≤ MOST_CLASSES
+  pub items_most : length l.items ≤ most_items_bytes
+  pub classes_most : length l.classes ≤ most_classes
   pub classes : All IsClass l.classes
   pub features : All IsFeature l.features
   pub shapes : All (HasEnoughPoints l.kind) l.features
@@ -118,12 +118,12 @@ pub record IsWithinLimits (m : Definition) : Type 0 where
   pub abstract_text : IsText m.abstract_text
   pub address : IsText m.address
   pub extent : IsExtent m.extent
-  pub layers_most : length m.layers ≤ MOST_LAYERS
+  pub layers_most : length m.layers ≤ most_layers
   pub names : All (λ entry. IsLayerName entry.0) m.layers
   pub layers : All (λ entry. IsLayer entry.1) m.layers
   pub unlike_names : IsDistinct bytes_eq (layer_names m.layers)
-  pub features_most : feature_count m.layers ≤ MOST_FEATURES
-  pub points_most : point_count m.layers ≤ MOST_POINTS
+  pub features_most : feature_count m.layers ≤ most_features
+  pub points_most : point_count m.layers ≤ most_points
 
 -- a layer of the name is there
 abbrev pub has_layer : List (List ℕ × LayerDefinition) → List ℕ → Bool

@@ -7,7 +7,7 @@ use Rattle.std.specs.Char.{is_ascii_digit}
 use Rattle.std.specs.List.{list_all, prefix_len}
 use Rattle.wf_def.specs.declared.fault.NumberFault.{NumberFault}
 use Rattle.wf_def.specs.declared.fault.NumberFault.TheVariants.{BadNumber, OutOfRange}
-use Rattle.wf_def.specs.declared.limits.TheConstants.{MOST_MILLIONTHS, MOST_WHOLE_DIGITS, MOST_FRACTION_DIGITS, MOST_POWER_DIGITS}
+use Rattle.wf_def.specs.Limit.{most_millionths, most_whole_digits, most_fraction_digits, most_power_digits}
 
 -- a number's text in parts: the digits are bytes, as written
 pub record Numeral : Type 0 where
@@ -54,7 +54,7 @@ signed negative magnitude = if negative then neg_ℤ (pos magnitude) else pos ma
 
 -- the text is one to three digits
 abbrev pub is_power_digits : List ℕ → Bool
-is_power_digits digits = nat_lt 0 (length digits) && nat_le (length digits) MOST_POWER_DIGITS && list_all is_ascii_digit digits
+is_power_digits digits = nat_lt 0 (length digits) && nat_le (length digits) most_power_digits && list_all is_ascii_digit digits
 
 -- one to three digits behind an optional sign
 abbrev pub signed_power : List ℕ → Option ℤ
@@ -88,11 +88,11 @@ abbrev pub magnitude : Numeral → ℕ
 magnitude n = scaled (spelled_onto 0 (n.whole ++ n.fraction)) (pos 6 +ℤ n.power -ℤ pos (length n.fraction))
 
 abbrev pub has_too_many_digits : Numeral → Bool
-has_too_many_digits n = nat_lt MOST_WHOLE_DIGITS (length n.whole) || nat_lt MOST_FRACTION_DIGITS (length n.fraction)
+has_too_many_digits n = nat_lt most_whole_digits (length n.whole) || nat_lt most_fraction_digits (length n.fraction)
 
 -- the number in millionths, unless it has too many digits or is too great
 unfoldable pub in_range : Numeral → Result ℤ NumberFault
-in_range n = if has_too_many_digits n || nat_lt MOST_MILLIONTHS (magnitude n) then Err OutOfRange
+in_range n = if has_too_many_digits n || nat_lt most_millionths (magnitude n) then Err OutOfRange
     else Ok (signed n.negative (magnitude n))
 
 -- what the text of a number means

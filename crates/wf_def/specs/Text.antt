@@ -1,10 +1,10 @@
 -- What a text of a map definition may hold.
-use Rattle.std.specs.Prelude.{◌≡◌, ℕ, ◌<◌, Bool, true, false, List, length, nat_lt, nat_le, ◌==◌, ◌&&◌, ◌||◌, not, ⊤}
+use Rattle.std.specs.Prelude.{◌≡◌, ℕ, ◌<◌, ◌≤◌, Bool, true, false, List, length, nat_lt, nat_le, ◌==◌, ◌&&◌, ◌||◌, not}
 use Rattle.std.specs.Str.{chars, is_utf8}
 use Rattle.std.specs.List.{list_all, list_any}
 use Rattle.wf_def.specs.declared.fault.TextFault.{TextFault}
 use Rattle.wf_def.specs.declared.fault.TextFault.TheVariants.{OutOfMemory, TooLong, NotUtf8, ForbiddenCharacter, BothQuotes}
-use Rattle.wf_def.specs.declared.limits.TheConstants.{MOST_TEXT_BYTES}
+use Rattle.wf_def.specs.Limit.{most_text_bytes}
 
 -- TAB, LF or CR
 abbrev pub is_layout : ℕ → Bool
@@ -20,7 +20,7 @@ has_both_quotes bytes = list_any (λ b. b == 34) bytes && list_any (λ b. b == 3
 
 -- the bytes are a text
 unfoldable pub is_text : List ℕ → Bool
-is_text bytes = nat_le (length bytes) MOST_TEXT_BYTES && is_utf8 bytes && list_all is_text_character (chars bytes) && not (has_both_quotes bytes)
+is_text bytes = nat_le (length bytes) most_text_bytes && is_utf8 bytes && list_all is_text_character (chars bytes) && not (has_both_quotes bytes)
 
 abbrev pub IsText : List ℕ → Type 0
 IsText bytes = is_text bytes ≡ true
@@ -33,10 +33,12 @@ is_memory NotUtf8 = false
 is_memory ForbiddenCharacter = false
 is_memory BothQuotes = false
 
--- the bytes have the fault
-abbrev pub IsCauseOf : TextFault → List ℕ → Type 0
-IsCauseOf OutOfMemory bytes = ⊤
-IsCauseOf TooLong bytes = MOST_TEXT_BYTES < length bytes
-IsCauseOf NotUtf8 bytes = is_utf8 bytes ≡ false
-IsCauseOf ForbiddenCharacter bytes = list_all is_text_character (chars bytes) ≡ false
-IsCauseOf BothQuotes bytes = has_both_quotes bytes ≡ true
+-- The bytes have the fault, and none of those that are judged before it: the length first, then UTF-8, then the characters, then the
+-- quotes. Memory is wanted only for the copy of a text.
+abbrev pub IsFirstFault : TextFault → List ℕ → Type 0
+IsFirstFault TooLong bytes = most_text_bytes < length bytes
+IsFirstFault NotUtf8 bytes = (length bytes ≤ most_text_bytes) × (is_utf8 bytes ≡ false)
+IsFirstFault ForbiddenCharacter bytes = (length bytes ≤ most_text_bytes) × (is_utf8 bytes ≡ true) × (list_all is_text_character (chars bytes) ≡ false)
+IsFirstFault BothQuotes bytes =
+    (length bytes ≤ most_text_bytes) × (is_utf8 bytes ≡ true) × (list_all is_text_character (chars bytes) ≡ true) × (has_both_quotes bytes ≡ true)
+IsFirstFault OutOfMemory bytes = IsText bytes

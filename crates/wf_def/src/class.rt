@@ -2,6 +2,7 @@
 ghost use Rattle.std.specs.Prelude.{◌≡◌, ◌<◌, ◌↔◌, [], ◌∷◌, ◌++◌, length, IsTrue, IfSome, OnOk, OnErr};
 ghost use Rattle.wf_def.specs.Limits.{IsClass, IsStyles, IsLabel};
 ghost use Rattle.wf_def.specs.Text.{IsText};
+ghost use Rattle.wf_def.specs.Limit.{most_styles};
 
 use crate::label::Label;
 use crate::limits::MOST_STYLES;
@@ -40,7 +41,7 @@ impl Styles {
 
     /// Whether there is no room for another style.
     pub fn is_full(&self) -> bool
-        ensures full { IsTrue result ↔ (length self.now ≡ MOST_STYLES) }
+        ensures full { IsTrue result ↔ (length self.now ≡ most_styles) }
         ensures within { IsStyles self.now }
     {
         self.styles.len() >= MOST_STYLES
@@ -48,7 +49,7 @@ impl Styles {
 
     /// Puts a style behind the others, which it is drawn over. After want of memory they are as they were.
     pub fn push(&mut self, style: Style) -> Result<(), AllocError>
-        requires { length self.old < MOST_STYLES }
+        requires { length self.old < most_styles }
         ensures pushed { OnOk result (self.new ≡ self.old ++ style ∷ []) }
         ensures unchanged { OnErr result (self.new ≡ self.old) }
     {

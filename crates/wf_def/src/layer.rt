@@ -3,6 +3,7 @@ ghost use Rattle.std.specs.Prelude.{◌≡◌, ◌<◌, ◌↔◌, [], ◌∷◌
 ghost use Rattle.std.specs.List.{list_all};
 ghost use Rattle.wf_def.specs.Layer.{layer_of, has_enough_points};
 ghost use Rattle.wf_def.specs.Limits.{IsLayer, IsLayerName, IsClasses, IsFeatures, least_points};
+ghost use Rattle.wf_def.specs.Limit.{most_classes};
 
 use crate::choice::LayerKind;
 use crate::class::Class;
@@ -42,7 +43,7 @@ impl Classes {
 
     /// Whether there is no room for another class.
     pub fn is_full(&self) -> bool
-        ensures full { IsTrue result ↔ (length self.now ≡ MOST_CLASSES) }
+        ensures full { IsTrue result ↔ (length self.now ≡ most_classes) }
         ensures within { IsClasses self.now }
     {
         self.classes.len() >= MOST_CLASSES
@@ -50,7 +51,7 @@ impl Classes {
 
     /// Puts a class behind the others, which are tried before it. After want of memory they are as they were.
     pub fn push(&mut self, class: Class) -> Result<(), AllocError>
-        requires { length self.old < MOST_CLASSES }
+        requires { length self.old < most_classes }
         ensures pushed { OnOk result (self.new ≡ self.old ++ class ∷ []) }
         ensures unchanged { OnErr result (self.new ≡ self.old) }
     {

@@ -27,6 +27,7 @@ pub mod limits;
 pub mod map;
 pub mod micro;
 mod number;
+pub mod number_form;
 pub mod point;
 pub mod style;
 pub mod text;

@@ -1,4 +1,6 @@
 //! The limits of a map definition, each with its unit.
+ghost use Rattle.std.specs.Prelude.{◌≡◌};
+ghost use Rattle.wf_def.specs.Limit.{most_buffer, most_classes, most_features, most_fraction_digits, most_items_bytes, most_layers, most_millionths, most_points, most_power_digits, most_priority, most_size, most_styles, most_text_bytes, most_whole_digits, most_width};
 
 /// The longest text, in bytes.
 pub const MOST_TEXT_BYTES: usize = 1_000;
@@ -44,3 +46,22 @@ pub const MOST_PRIORITY: u8 = 10;
 
 /// The widest free space around a label, in pixels.
 pub const MOST_BUFFER: u8 = 64;
+
+/// Each constant is the number that the definitions name. A law: the call does nothing.
+pub fn constants_are_the_limits()
+    ensures text_bytes { MOST_TEXT_BYTES ≡ most_text_bytes }
+    ensures millionths { MOST_MILLIONTHS ≡ most_millionths }
+    ensures whole_digits { MOST_WHOLE_DIGITS ≡ most_whole_digits }
+    ensures fraction_digits { MOST_FRACTION_DIGITS ≡ most_fraction_digits }
+    ensures power_digits { MOST_POWER_DIGITS ≡ most_power_digits }
+    ensures layers { MOST_LAYERS ≡ most_layers }
+    ensures classes { MOST_CLASSES ≡ most_classes }
+    ensures styles { MOST_STYLES ≡ most_styles }
+    ensures features { MOST_FEATURES ≡ most_features }
+    ensures points { MOST_POINTS ≡ most_points }
+    ensures items_bytes { MOST_ITEMS_BYTES ≡ most_items_bytes }
+    ensures width { MOST_WIDTH ≡ most_width }
+    ensures size { MOST_SIZE ≡ most_size }
+    ensures priority { MOST_PRIORITY ≡ most_priority }
+    ensures buffer { MOST_BUFFER ≡ most_buffer }
+{}

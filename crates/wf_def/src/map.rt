@@ -2,7 +2,7 @@
 ghost use Rattle.std.specs.Prelude.{◌≡◌, ◌+◌, ◌<◌, ◌≤◌, false, [], ◌∷◌, ◌++◌, length, slice_get, sum_by, Some, IfOk, IfErr, OnOk, OnErr};
 ghost use Rattle.wf_def.specs.Definition.{Definition, empty_map};
 ghost use Rattle.wf_def.specs.Limits.{IsWithinLimits, IsLayer, IsLayerName, points_of_feature, feature_count, point_count, has_layer, is_repeated};
-ghost use Rattle.wf_def.specs.declared.limits.TheConstants.{MOST_LAYERS, MOST_FEATURES, MOST_POINTS};
+ghost use Rattle.wf_def.specs.Limit.{most_features, most_layers, most_points};
 
 mod equality;
 
@@ -86,9 +86,9 @@ impl MapDef {
     /// Puts a layer behind the others. The name of a layer that is there is refused; after a refusal the map is as it was.
     pub fn add_layer(&mut self, name: Text, layer: Layer) -> Result<(), LayerFault>
         requires is_name { IsLayerName name }
-        requires room { length self.old.layers < MOST_LAYERS }
-        requires features { feature_count self.old.layers + length layer.features ≤ MOST_FEATURES }
-        requires points { point_count self.old.layers + sum_by points_of_feature layer.features ≤ MOST_POINTS }
+        requires room { length self.old.layers < most_layers }
+        requires features { feature_count self.old.layers + length layer.features ≤ most_features }
+        requires points { point_count self.old.layers + sum_by points_of_feature layer.features ≤ most_points }
         ensures added { OnOk result (self.new ≡ record self.old { layers = self.old.layers ++ (name, layer) ∷ [] }) }
         ensures new_name { OnOk result (has_layer self.old.layers name ≡ false) }
         ensures unchanged { OnErr result (self.new ≡ self.old) }
@@ -125,7 +125,7 @@ impl MapDef {
         ensures value { slice_get self.now.layers index ≡ Some (result.0.now, result.1.now) }
         ensures named { IsLayerName result.0.now }
         ensures layer { IsLayer result.1.now }
-        ensures points { sum_by points_of_feature result.1.now.features ≤ MOST_POINTS }
+        ensures points { sum_by points_of_feature result.1.now.features ≤ most_points }
         ensures within { IsWithinLimits self.now }
     {
         self.layers.get_index(index).unwrap()

@@ -4,6 +4,7 @@ ghost use Rattle.std.specs.Char.{is_ascii_digit};
 ghost use Rattle.std.specs.List.{list_all, prefix_len};
 ghost use Rattle.wf_def.specs.Micro.{IsMicro};
 ghost use Rattle.wf_def.specs.Number.{Numeral as NumeralValue, is_negative, after_sign, leading_digits, after_digits, fraction_digits, after_fraction, spelled_onto, is_sign, is_power_digits, is_power_mark, signed_power, power_of, numeral_from, numeral, scaled, signed, has_too_many_digits, magnitude, in_range};
+ghost use Rattle.wf_def.specs.Limit.{most_fraction_digits, most_millionths, most_power_digits, most_whole_digits};
 
 use crate::fault::NumberFault;
 use crate::limits::{MOST_FRACTION_DIGITS, MOST_MILLIONTHS, MOST_POWER_DIGITS, MOST_WHOLE_DIGITS};
@@ -170,7 +171,7 @@ fn spelled_onto(value: u128, digits: &[u8]) -> u128
 
 /// What at most three digits spell.
 fn small_value(digits: &[u8]) -> i16
-    requires { length digits.now ≤ MOST_POWER_DIGITS }
+    requires { length digits.now ≤ most_power_digits }
     ensures value { result ≡ pos (spelled_onto 0 digits.now) }
     ensures within { spelled_onto 0 digits.now < 2 ^ 15 }
 {
@@ -179,7 +180,7 @@ fn small_value(digits: &[u8]) -> i16
 
 /// The value times ten as often as said, or the first number over the limit where that is less.
 fn raised(value: u128, times: u32) -> u64
-    ensures { result ≡ min (value * 10 ^ times) (MOST_MILLIONTHS + 1) }
+    ensures { result ≡ min (value * 10 ^ times) (most_millionths + 1) }
 {
     let mut raised = value.min(u128::from(MOST_MILLIONTHS) + 1) as u64;
     for _done in 0..times {
@@ -190,7 +191,7 @@ fn raised(value: u128, times: u32) -> u64
 
 /// The value divided by ten as often as said, or the first number over the limit where that is less.
 fn lowered(value: u128, times: u32) -> u64
-    ensures { result ≡ min (value / 10 ^ times) (MOST_MILLIONTHS + 1) }
+    ensures { result ≡ min (value / 10 ^ times) (most_millionths + 1) }
 {
     let mut lowered = value;
     for _done in 0..times {
@@ -202,7 +203,7 @@ fn lowered(value: u128, times: u32) -> u64
 /// The value times a power of ten, or the first number over the limit where that is less.
 #[tactic(auto, unfolding(crate::specs::Number::scaled))]
 fn scaled(value: u128, power: i32) -> u64
-    ensures { result ≡ min (scaled value power) (MOST_MILLIONTHS + 1) }
+    ensures { result ≡ min (scaled value power) (most_millionths + 1) }
 {
     if power >= 0 {
         raised(value, power.unsigned_abs())
@@ -220,9 +221,9 @@ impl<'a> Numeral<'a> {
 
     /// The magnitude in millionths, or the first number over the limit where that is less.
     fn capped_magnitude(&self) -> u64
-        requires whole { length self.now.whole ≤ MOST_WHOLE_DIGITS }
-        requires fraction { length self.now.fraction ≤ MOST_FRACTION_DIGITS }
-        ensures { result ≡ min (magnitude self.now) (MOST_MILLIONTHS + 1) }
+        requires whole { length self.now.whole ≤ most_whole_digits }
+        requires fraction { length self.now.fraction ≤ most_fraction_digits }
+        ensures { result ≡ min (magnitude self.now) (most_millionths + 1) }
     {
         let digits = all_digits(self.whole, self.fraction);
         scaled(digits, places(self.power, self.fraction))
@@ -247,8 +248,8 @@ impl<'a> Numeral<'a> {
 
 /// What the digits before and behind the point spell together.
 fn all_digits(whole: &[u8], fraction: &[u8]) -> u128
-    requires whole { length whole.now ≤ MOST_WHOLE_DIGITS }
-    requires fraction { length fraction.now ≤ MOST_FRACTION_DIGITS }
+    requires whole { length whole.now ≤ most_whole_digits }
+    requires fraction { length fraction.now ≤ most_fraction_digits }
     ensures { result ≡ spelled_onto 0 (whole.now ++ fraction.now) }
 {
     spelled_onto(spelled_onto(0, whole), fraction)
@@ -256,7 +257,7 @@ fn all_digits(whole: &[u8], fraction: &[u8]) -> u128
 
 /// The power of ten that makes millionths of all digits.
 fn places(power: i16, fraction: &[u8]) -> i32
-    requires { length fraction.now ≤ MOST_FRACTION_DIGITS }
+    requires { length fraction.now ≤ most_fraction_digits }
     ensures { result ≡ pos 6 +ℤ power -ℤ pos (length fraction.now) }
 {
     6 + i32::from(power) - fraction.len() as i32

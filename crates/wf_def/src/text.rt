@@ -5,7 +5,7 @@ ghost use Rattle.std.specs.Cmp.Lexicographic.{nat_list_eq_equiv, bytes_decides};
 ghost use Rattle.std.specs.Hash.{str as str_writes, same_Alike};
 ghost use Rattle.std.specs.Str.{bytes_eq, chars, is_utf8};
 ghost use Rattle.std.specs.List.{list_all};
-ghost use Rattle.wf_def.specs.Text.{is_text, IsText, is_layout, is_text_character, has_both_quotes, is_memory, IsCauseOf};
+ghost use Rattle.wf_def.specs.Text.{is_text, IsText, is_layout, is_text_character, has_both_quotes, is_memory, IsFirstFault};
 ghost use Rattle.wf_def.specs.declared.fault.TextFault.TheVariants.{NotUtf8};
 
 use crate::fault::TextFault;
@@ -33,12 +33,13 @@ impl Model for Text {
 }
 
 impl Text {
-    /// The text of these bytes. A refusal names the first of the faults that the bytes have, in the order of [`TextFault`].
+    /// The text of these bytes. A refusal names the first of the faults that the bytes have: too long, not UTF-8, a character that no
+    /// text may hold, both kinds of quote. `OutOfMemory` comes only where the bytes are a text, whose copy found no memory.
     pub fn new(alloc: Global, bytes: &[u8]) -> Result<Self, TextFault>
         ensures value { IfOk result (λ text. text ≡ bytes.now) }
         ensures within { IfOk result IsText }
         ensures refused { IfErr result (λ fault. is_memory fault ≡ false → is_text bytes.now ≡ false) }
-        ensures cause { IfErr result (λ fault. IsCauseOf fault bytes.now) }
+        ensures first { IfErr result (λ fault. IsFirstFault fault bytes.now) }
     {
         let text = checked(bytes)?;
         Text::from_str(alloc, text).map_err(|_| TextFault::OutOfMemory)
@@ -92,7 +93,7 @@ pub fn checked(bytes: &[u8]) -> Result<&str, TextFault>
     ensures value { IfOk result (λ text. text.now ≡ bytes.now) }
     ensures within { IfOk result (λ text. IsText text.now) }
     ensures refused { IfErr result (λ fault. is_text bytes.now ≡ false) }
-    ensures cause { IfErr result (λ fault. IsCauseOf fault bytes.now) }
+    ensures first { IfErr result (λ fault. IsFirstFault fault bytes.now) }
 {
     if bytes.len() > MOST_TEXT_BYTES {
         return Err(TextFault::TooLong);

@@ -2,7 +2,7 @@
 use Rattle.std.proofs.Common.{◌≡◌, ℕ, zero, suc, ◌+◌, ◌-◌, ◌<◌, ◌≤◌, Bool, true, false, List, [], ◌∷◌, length, arith, refl, sym, ap, ◌∙◌}
 use Rattle.std.specs.Prelude.{Option, Some, None, is_some, if◌then◌else◌}
 use Rattle.wf_mapfile.specs.Token.{Token}
-use Rattle.wf_mapfile.specs.Grammar.{◌>>=◌, word, is_end, items, block, at_most_one, exactly_one}
+use Rattle.wf_mapfile.specs.Grammar.{◌>>=◌, word, is_end, block_items, block, at_most_one, exactly_one}
 use Rattle.wf_mapfile.specs.Reading.{fill}
 use Rattle.wf_mapfile.proofs.Options.{bind_assoc, bind_same, bind_swap}
 
@@ -73,7 +73,7 @@ module _ {S I K : Type 0} (keyword : List ℕ → Option K) (item : K → List T
   fill_rest n x = fill next n x.0 x.1
 
   abbrev items_from : ℕ → I × List Token → Option (List I × List Token)
-  items_from n first = items keyword item n first.1 >>= λ others. Some (first.0 ∷ others.0, others.1)
+  items_from n first = block_items keyword item n first.1 >>= λ others. Some (first.0 ∷ others.0, others.1)
 
   after_more : (slots : S) (first : I × List Token) (others : Option (List I × List Token)) →
       (put slots first.0 >>= λ filled. others >>= after_items filled) ≡ (others >>= λ x. after_items slots (first.0 ∷ x.0, x.1))
@@ -82,13 +82,13 @@ module _ {S I K : Type 0} (keyword : List ℕ → Option K) (item : K → List T
       bind_swap (put slots first.0) others (λ filled. after_items filled)
       ∙ bind_same others _ _ (λ x. sym (bind_assoc (put slots first.0) (λ filled. put_all put filled x.0) (λ filled. Some (filled, x.1))))
 
-  module _ (n : ℕ) (slots : S) (rest : (filled : S) (tokens : List Token) → fill next n filled tokens ≡ (items keyword item n tokens >>= after_items filled)) where
+  module _ (n : ℕ) (slots : S) (rest : (filled : S) (tokens : List Token) → fill next n filled tokens ≡ (block_items keyword item n tokens >>= after_items filled)) where
     after_first : (first : I × List Token) → (put_read put slots first >>= fill_rest n) ≡ (items_from n first >>= after_items slots)
     after_first first =
         bind_assoc (put slots first.0) _ (fill_rest n)
         ∙ bind_same (put slots first.0) _ _ (λ filled. rest filled first.1)
-        ∙ after_more slots first (items keyword item n first.1)
-        ∙ sym (bind_assoc (items keyword item n first.1) _ (after_items slots))
+        ∙ after_more slots first (block_items keyword item n first.1)
+        ∙ sym (bind_assoc (block_items keyword item n first.1) _ (after_items slots))
 
     after_item : (first : Option (I × List Token)) → ((first >>= put_read put slots) >>= fill_rest n) ≡ ((first >>= items_from n) >>= after_items slots)
     after_item None = refl
@@ -107,8 +107,8 @@ module _ {S I K : Type 0} (keyword : List ℕ → Option K) (item : K → List T
     after_word x false = ap (λ filled. filled >>= fill_rest n) (puts_next slots x.0 x.1) ∙ after_keyword (keyword x.0) x.1
 
   -- a block read in one pass fills the slots with its items, in order
-  pub fill-items : (n : ℕ) (slots : S) (tokens : List Token) → fill next n slots tokens ≡ (items keyword item n tokens >>= after_items slots)
-  unfolding fill items
+  pub fill-items : (n : ℕ) (slots : S) (tokens : List Token) → fill next n slots tokens ≡ (block_items keyword item n tokens >>= after_items slots)
+  unfolding fill block_items
   fill-items zero slots tokens = refl
   fill-items (suc n) slots tokens =
       bind_same (word tokens) _ _ (λ x. after_word n slots (fill-items n) x (is_end x.0)) ∙ sym (bind_assoc (word tokens) _ (after_items slots))
@@ -128,6 +128,6 @@ module _ {S I K : Type 0} (keyword : List ℕ → Option K) (item : K → List T
 
     pub fill-block : (tokens : List Token) → block keyword item value_of tokens ≡ (fill next (length tokens) slots tokens >>= finish)
     fill-block tokens =
-        bind_same (items keyword item (length tokens) tokens) _ _ (λ x. ap (λ o. o >>= with_rest x.1) (says x.0) ∙ regroup (put_all put slots x.0) x.1)
-        ∙ sym (bind_assoc (items keyword item (length tokens) tokens) (after_items slots) finish)
+        bind_same (block_items keyword item (length tokens) tokens) _ _ (λ x. ap (λ o. o >>= with_rest x.1) (says x.0) ∙ regroup (put_all put slots x.0) x.1)
+        ∙ sym (bind_assoc (block_items keyword item (length tokens) tokens) (after_items slots) finish)
         ∙ ap (λ o. o >>= finish) (sym (fill-items (length tokens) slots tokens))

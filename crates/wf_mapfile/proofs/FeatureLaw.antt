@@ -13,7 +13,7 @@ use Rattle.wf_mapfile.specs.Grammar.{◌>>=◌, text}
 use Rattle.wf_mapfile.specs.Reading.{fill}
 use Rattle.wf_mapfile.specs.Room.{feature_within}
 use Rattle.wf_mapfile.specs.LayerSlots.{feature_take, feature_put, feature_filled}
-use Rattle.wf_mapfile.specs.Feature.{FeatureItem, Part, Items, Text, feature_keyword, feature_item, points, part_of, items_of, text_of, feature_definition, feature_of, feature}
+use Rattle.wf_mapfile.specs.Feature.{FeatureItem, Part, Items, Text, feature_keyword, feature_item, points, part_of, items_of, text_of, feature_definition, feature_of_items, feature}
 use Rattle.wf_mapfile.proofs.Options.{bind_same, refused}
 use Rattle.wf_mapfile.proofs.Blocks.{put_once, put_read, once-item, put_all, at_most, at_most-vacant, fill-block}
 use Rattle.wf_mapfile.proofs.Rooms.{less, take_room, take_room-total, appended, appends, value_so, block-so, so-bind, so-none, tested-item}
@@ -108,8 +108,8 @@ regrouped parts room (Some a) (Some b) = counted parts a b room ∙ by_test (nat
   by_test true = refl
   by_test false = refl
 
-says : (room : ℕ) (all : List FeatureItem) → (feature_of all >>= value_so (λ f. nat_le (points_of_feature f) room)) ≡ (put_all put_item (empty_slots room) all >>= feature_filled)
-unfolding feature_of
+says : (room : ℕ) (all : List FeatureItem) → (feature_of_items all >>= value_so (λ f. nat_le (points_of_feature f) room)) ≡ (put_all put_item (empty_slots room) all >>= feature_filled)
+unfolding feature_of_items
 says room all =
     rw (
       fills-slots [] room None None all,
@@ -124,5 +124,5 @@ says room all =
 pub feature_read : (room : ℕ) (tokens : List Token) → feature_within room tokens ≡ (fill feature_put (length tokens) (empty_slots room) tokens >>= λ x. feature_filled x.0 >>= λ f. Some (f, x.1))
 unfolding feature
 feature_read room tokens =
-    block-so feature_keyword feature_item feature_of (λ f. nat_le (points_of_feature f) room) tokens
-    ∙ fill-block feature_keyword feature_item put_item feature_put puts-item (λ all. feature_of all >>= value_so (λ f. nat_le (points_of_feature f) room)) feature_filled (empty_slots room) (says room) tokens
+    block-so feature_keyword feature_item feature_of_items (λ f. nat_le (points_of_feature f) room) tokens
+    ∙ fill-block feature_keyword feature_item put_item feature_put puts-item (λ all. feature_of_items all >>= value_so (λ f. nat_le (points_of_feature f) room)) feature_filled (empty_slots room) (says room) tokens

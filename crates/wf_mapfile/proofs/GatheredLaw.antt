@@ -6,7 +6,7 @@ use Rattle.std.proofs.lemmas.Bool.{leb-true}
 use Rattle.std.proofs.lemmas.List.Elements.{All-push}
 use Rattle.std.proofs.lemmas.List.Sums.{sum_by_push, sum_by-append, sum_by-cons}
 use Rattle.wf_def.specs.Limits.{IsLayerName, has_layer, layer_names, points_of_feature, feature_count, point_count}
-use Rattle.wf_def.specs.declared.limits.TheConstants.{MOST_LAYERS, MOST_FEATURES, MOST_POINTS}
+use Rattle.wf_def.specs.Limit.{most_layers, most_features, most_points}
 use Rattle.wf_mapfile.specs.Gathered.{Gathered, IsGathered}
 use Rattle.wf_def.specs.Definition.{FeatureDefinition}
 use Rattle.wf_mapfile.specs.declared.fault.MapFault.{MapFault}
@@ -65,12 +65,12 @@ read_within room tokens rest (Ok f) read = leb-true (points_of_feature f) room (
 read_within room tokens rest (Err e) read = tt
 
 -- no layers are no more than a map may have
-pub no_layers : IsGathered (record { layers = []; room = record { features = MOST_FEATURES; points = MOST_POINTS } })
+pub no_layers : IsGathered (record { layers = []; room = record { features = most_features; points = most_points } })
 unfolding all_differ
 no_layers = record { names = λ k d below. absurd (omega arith); most = omega arith; unlike = refl; features = omega arith; points = omega arith }
 
 -- with one more layer there are no more than a map may have
-pub one_more : (others : Gathered) (x : Entry) → IsGathered others → IsLayerName x.0 → length others.layers < MOST_LAYERS → Follows others x → IsGathered (behind others x)
+pub one_more : (others : Gathered) (x : Entry) → IsGathered others → IsLayerName x.0 → length others.layers < most_layers → Follows others x → IsGathered (behind others x)
 one_more others x gathered name room follows = record {
   names = All-push (λ entry. IsLayerName entry.0) others.layers x gathered.names name;
   most = omega (arith, length-append others.layers (x ∷ []), room);
@@ -82,9 +82,9 @@ one_more others x gathered name room follows = record {
 -- each layer in turn may be added to those before it
 pub record InTurn (before : List Entry) (x : Entry) : Type 0 where
   pub new : has_layer before x.0 ≡ false
-  pub room : length before < MOST_LAYERS
-  pub features : feature_count before + length x.1.features ≤ MOST_FEATURES
-  pub points : point_count before + sum_by points_of_feature x.1.features ≤ MOST_POINTS
+  pub room : length before < most_layers
+  pub features : feature_count before + length x.1.features ≤ most_features
+  pub points : point_count before + sum_by points_of_feature x.1.features ≤ most_points
 
 pub in_turn : (g : Gathered) → IsGathered g → (before : List Entry) (x : Entry) (rest : List Entry) → before ++ x ∷ rest ≡ g.layers → InTurn before x
 in_turn g gathered before x rest is = record {

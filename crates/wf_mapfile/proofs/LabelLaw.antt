@@ -4,7 +4,7 @@ use Rattle.std.specs.Prelude.{Option, Some, None, filter_map}
 use Rattle.wf_def.specs.declared.color.Color.{Color}
 use Rattle.wf_def.specs.declared.choice.LabelSize.{LabelSize}
 use Rattle.wf_def.specs.declared.choice.LabelPosition.{LabelPosition}
-use Rattle.wf_def.specs.declared.limits.TheConstants.{MOST_PRIORITY, MOST_BUFFER}
+use Rattle.wf_def.specs.Limit.{most_priority, most_buffer}
 use Rattle.wf_mapfile.specs.declared.keyword.label.LabelKeyword.{LabelKeyword}
 use Rattle.wf_mapfile.specs.declared.keyword.label.LabelKeyword.TheVariants as keyword
 use Rattle.wf_mapfile.specs.declared.slots.label.LabelSlots.{LabelSlots}
@@ -31,9 +31,9 @@ unfolding label_take label_item
 takes-item keyword.Color slots tokens = once-item slots.color (color tokens) _ Colored put_item slots (λ x. refl)
 takes-item keyword.Size slots tokens = once-item slots.size (label_size tokens) _ Size put_item slots (λ x. refl)
 takes-item keyword.Position slots tokens = once-item slots.position (label_position tokens) _ Position put_item slots (λ x. refl)
-takes-item keyword.Priority slots tokens = once-item slots.priority (whole 1 MOST_PRIORITY tokens) _ Priority put_item slots (λ x. refl)
+takes-item keyword.Priority slots tokens = once-item slots.priority (whole 1 most_priority tokens) _ Priority put_item slots (λ x. refl)
 takes-item keyword.Force slots tokens = once-item slots.force (truth tokens) _ Force put_item slots (λ x. refl)
-takes-item keyword.Buffer slots tokens = once-item slots.buffer (whole 0 MOST_BUFFER tokens) _ Buffer put_item slots (λ x. refl)
+takes-item keyword.Buffer slots tokens = once-item slots.buffer (whole 0 most_buffer tokens) _ Buffer put_item slots (λ x. refl)
 takes-item keyword.Type slots tokens = once-item slots.kind (label_kind tokens) _ (λ x. Kind) put_item slots (λ x. refl)
 
 puts-item : (slots : LabelSlots) (name : List ℕ) (tokens : List Token) → label_put slots name tokens ≡ (label_keyword name >>= λ k. label_item k tokens >>= put_read put_item slots)

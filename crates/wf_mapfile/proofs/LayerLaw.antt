@@ -6,7 +6,7 @@ use Rattle.wf_def.specs.Definition.{ClassDefinition, FeatureDefinition, LayerDef
 use Rattle.wf_def.specs.Layer as def
 use Rattle.wf_def.specs.Limits.{has_layer, points_of_feature}
 use Rattle.wf_def.specs.declared.choice.LayerKind.{LayerKind}
-use Rattle.wf_def.specs.declared.limits.TheConstants.{MOST_CLASSES}
+use Rattle.wf_def.specs.Limit.{most_classes}
 use Rattle.wf_mapfile.specs.declared.keyword.layer.LayerKeyword.{LayerKeyword}
 use Rattle.wf_mapfile.specs.declared.keyword.layer.LayerKeyword.TheVariants as keyword
 use Rattle.wf_mapfile.specs.declared.slots.Metadata as kept
@@ -22,7 +22,7 @@ use Rattle.wf_mapfile.specs.Gathered.{Gathered}
 use Rattle.wf_mapfile.specs.Reading.{fill}
 use Rattle.wf_mapfile.specs.Room.{behind_feature, new_name, may_follow, layer_behind}
 use Rattle.wf_mapfile.specs.LayerSlots.{layer_take, layer_put, layer_filled}
-use Rattle.wf_mapfile.specs.Layer.{LayerItem, Name, Kind, ClassItem, LabelItem, Items, Metadata, Class, Feature, Status, Units, Template, layer_keyword, layer_name, layer_kind, attribute_names, layer_item, name_of, kind_of, class_item_of, label_item_of, items_of, metadata_of, class_of, feature_of, status_of, units_of, template_of, named_layer, layer_of, layer}
+use Rattle.wf_mapfile.specs.Layer.{LayerItem, Name, Kind, ClassItem, LabelItem, Items, Metadata, Class, Feature, Status, Units, Template, layer_keyword, layer_name, layer_kind, processing, layer_item, name_of, kind_of, class_item_of, label_item_of, items_of, metadata_of, said_class, said_feature, status_of, units_of, template_of, named_layer, layer_of_items, layer}
 use Rattle.wf_mapfile.proofs.Options.{bind_assoc, bind_same, refused}
 use Rattle.wf_mapfile.proofs.Blocks.{put_once, put_read, once-item, put_all, at_most, at_most-vacant, exactly_one-vacant, fill-block}
 use Rattle.wf_mapfile.proofs.Lists.{no_more_than-pushed, again-item}
@@ -43,7 +43,7 @@ put_item slots (ClassItem x) = put_once slots.class_item (record slots { class_i
 put_item slots (LabelItem x) = put_once slots.label_item (record slots { label_item = Some x })
 put_item slots (Items x) = put_once slots.items (record slots { items = Some x })
 put_item slots (Metadata x) = put_once slots.metadata (record slots { metadata = Some x })
-put_item slots (Class x) = pushed MOST_CLASSES slots.classes x >>= λ more. Some (record slots { classes = more })
+put_item slots (Class x) = pushed most_classes slots.classes x >>= λ more. Some (record slots { classes = more })
 put_item slots (Feature x) = take_room one slots.room.features x >>= λ f. take_room points_of_feature slots.room.points x >>= λ p. Some (record slots { features = slots.features ++ x ∷ []; room = record { features = f; points = p } })
 put_item slots Status = put_once slots.status (record slots { status = Some tt })
 put_item slots Units = put_once slots.units (record slots { units = Some tt })
@@ -65,9 +65,9 @@ takes-item keyword.Name slots tokens =
 takes-item keyword.Type slots tokens = once-item slots.kind (layer_kind tokens) _ Kind put_item slots (λ x. refl)
 takes-item keyword.ClassItem slots tokens = once-item slots.class_item (text tokens) _ ClassItem put_item slots (λ x. refl)
 takes-item keyword.LabelItem slots tokens = once-item slots.label_item (text tokens) _ LabelItem put_item slots (λ x. refl)
-takes-item keyword.Processing slots tokens = once-item slots.items (attribute_names tokens) _ Items put_item slots (λ x. refl)
+takes-item keyword.Processing slots tokens = once-item slots.items (processing tokens) _ Items put_item slots (λ x. refl)
 takes-item keyword.Metadata slots tokens = once-item slots.metadata (metadata tokens) _ Metadata put_item slots (λ x. refl)
-takes-item keyword.Class slots tokens = again-item MOST_CLASSES slots.classes (class tokens) _ Class put_item slots (λ x. refl)
+takes-item keyword.Class slots tokens = again-item most_classes slots.classes (class tokens) _ Class put_item slots (λ x. refl)
 takes-item keyword.Feature slots tokens =
     tested-item (feature tokens) (nat_lt 0 slots.room.features) (λ f. nat_le (points_of_feature f) slots.room.points)
     (λ f. record slots { features = slots.features ++ f ∷ []; room = behind_feature slots.room f }) Feature put_item slots (puts-feature slots)
@@ -108,10 +108,10 @@ slot_by_slot_from o new name kind c d e m cs fs f p s u t all = do
   label_item ← at_most d (filter_map label_item_of all)
   items ← at_most e (filter_map items_of all)
   metadata ← at_most m (filter_map metadata_of all)
-  classes ← cs >>= λ cs. put_all (pushed MOST_CLASSES) cs (filter_map class_of all)
-  features ← put_all appended fs (filter_map feature_of all)
-  f ← f >>= λ f. put_all (take_room one) f (filter_map feature_of all)
-  p ← p >>= λ p. put_all (take_room points_of_feature) p (filter_map feature_of all)
+  classes ← cs >>= λ cs. put_all (pushed most_classes) cs (filter_map said_class all)
+  features ← put_all appended fs (filter_map said_feature all)
+  f ← f >>= λ f. put_all (take_room one) f (filter_map said_feature all)
+  p ← p >>= λ p. put_all (take_room points_of_feature) p (filter_map said_feature all)
   status ← at_most s (filter_map status_of all)
   units ← at_most u (filter_map units_of all)
   template ← at_most t (filter_map template_of all)
@@ -169,7 +169,7 @@ fills-slots o a b c d (Some y) m cs fs f p s u t (Items x ∷ all) = sym (simp r
 fills-slots o a b c d e None cs fs f p s u t (Metadata x ∷ all) = fills-slots o a b c d e (Some x) cs fs f p s u t all
 fills-slots o a b c d e (Some y) cs fs f p s u t (Metadata x ∷ all) = sym (simp refused)
 fills-slots o a b c d e m cs fs f p s u t (Class x ∷ all) =
-    behind_class o b c d e m s u t all a (pushed MOST_CLASSES cs x) fs f p (λ cs. fills-slots o a b c d e m cs fs f p s u t all)
+    behind_class o b c d e m s u t all a (pushed most_classes cs x) fs f p (λ cs. fills-slots o a b c d e m cs fs f p s u t all)
 fills-slots o a b c d e m cs fs f p s u t (Feature x ∷ all) =
     behind_features o b c d e m s u t all a cs (fs ++ x ∷ []) (take_room one f x) (take_room points_of_feature p x)
     (λ f p. fills-slots o a b c d e m cs (fs ++ x ∷ []) f p s u t all)
@@ -320,8 +320,8 @@ module _ (o : Bor Gathered) (fs : List FeatureDefinition) where
       ∙ ap (λ (new : Option (Unit {0})). one_filled n new (less (length fs) o.now.room.features) (less (sum_by points_of_feature fs) o.now.room.points) b c d e m cs s u t)
       (sym (so-bind (not (has_layer o.now.layers n)) tt (λ (done : Unit {0}). Some done)))
 
-says : (o : Bor Gathered) (all : List LayerItem) → (layer_of all >>= value_so (may_follow o.now)) ≡ (put_all put_item (empty_slots o) all >>= layer_filled)
-unfolding layer_of
+says : (o : Bor Gathered) (all : List LayerItem) → (layer_of_items all >>= value_so (may_follow o.now)) ≡ (put_all put_item (empty_slots o) all >>= layer_filled)
+unfolding layer_of_items
 says o all =
     rw (
       fills-slots o None None None None None None [] [] o.now.room.features o.now.room.points None None None all,
@@ -330,22 +330,22 @@ says o all =
       at_most-vacant (filter_map label_item_of all),
       at_most-vacant (filter_map items_of all),
       at_most-vacant (filter_map metadata_of all),
-      no_more_than-pushed MOST_CLASSES (filter_map class_of all),
-      appends [] (filter_map feature_of all),
-      take_room-total one o.now.room.features (filter_map feature_of all),
-      ones (filter_map feature_of all),
-      take_room-total points_of_feature o.now.room.points (filter_map feature_of all),
+      no_more_than-pushed most_classes (filter_map said_class all),
+      appends [] (filter_map said_feature all),
+      take_room-total one o.now.room.features (filter_map said_feature all),
+      ones (filter_map said_feature all),
+      take_room-total points_of_feature o.now.room.points (filter_map said_feature all),
       at_most-vacant (filter_map status_of all),
       at_most-vacant (filter_map units_of all),
       at_most-vacant (filter_map template_of all),
     )
-    (regrouped o (filter_map feature_of all) (filter_map name_of all) (at_most None (filter_map kind_of all)) (at_most None (filter_map class_item_of all)) (at_most None (filter_map label_item_of all))
-    (at_most None (filter_map items_of all)) (at_most None (filter_map metadata_of all)) (put_all (pushed MOST_CLASSES) [] (filter_map class_of all))
+    (regrouped o (filter_map said_feature all) (filter_map name_of all) (at_most None (filter_map kind_of all)) (at_most None (filter_map class_item_of all)) (at_most None (filter_map label_item_of all))
+    (at_most None (filter_map items_of all)) (at_most None (filter_map metadata_of all)) (put_all (pushed most_classes) [] (filter_map said_class all))
     (at_most None (filter_map status_of all)) (at_most None (filter_map units_of all)) (at_most None (filter_map template_of all)))
 
 -- LAYER that may stand behind others is what is in the slots when they are filled
 pub layer_read : (o : Bor Gathered) (tokens : List Token) → layer_behind o.now tokens ≡ (fill layer_put (length tokens) (empty_slots o) tokens >>= λ x. layer_filled x.0 >>= λ l. Some (l, x.1))
 unfolding layer
 layer_read o tokens =
-    block-so layer_keyword layer_item layer_of (may_follow o.now) tokens
-    ∙ fill-block layer_keyword layer_item put_item layer_put puts-item (λ all. layer_of all >>= value_so (may_follow o.now)) layer_filled (empty_slots o) (says o) tokens
+    block-so layer_keyword layer_item layer_of_items (may_follow o.now) tokens
+    ∙ fill-block layer_keyword layer_item put_item layer_put puts-item (λ all. layer_of_items all >>= value_so (may_follow o.now)) layer_filled (empty_slots o) (says o) tokens

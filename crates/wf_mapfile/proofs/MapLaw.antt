@@ -2,7 +2,7 @@
 use Rattle.std.proofs.Common.{◌≡◌, ℕ, ◌-◌, Bool, true, false, not, ◌&&◌, List, [], ◌∷◌, ◌++◌, length, refl, sym}
 use Rattle.std.specs.Prelude.{Option, Some, None, nat_le, nat_lt, if◌then◌else◌, filter_map, unwrap_or, sum_by}
 use Rattle.wf_def.specs.Limits.{has_layer, layer_names, points_of_feature, feature_count, point_count}
-use Rattle.wf_def.specs.declared.limits.TheConstants.{MOST_LAYERS, MOST_FEATURES, MOST_POINTS}
+use Rattle.wf_def.specs.Limit.{most_layers, most_features, most_points}
 use Rattle.wf_def.specs.Extent.{ExtentValue}
 use Rattle.wf_def.specs.declared.choice.Projection.{Projection}
 use Rattle.wf_mapfile.specs.declared.keyword.MapKeyword.{MapKeyword}
@@ -19,7 +19,7 @@ use Rattle.wf_mapfile.specs.Layer.{layer}
 use Rattle.wf_mapfile.specs.Room.{may_follow, behind}
 use Rattle.wf_mapfile.specs.Reading.{fill}
 use Rattle.wf_mapfile.specs.Slots.{map_take, map_put, map_filled}
-use Rattle.wf_mapfile.specs.Map.{MapItem, Name, Extent, Projected, Web, Layer, Size, ImageColor, Units, Status, ImageType, ShapePath, map_keyword, map_item, extent, projection, two_numbers, name_of, extent_of, projection_of, web_of, layer_of, size_of, image_color_of, units_of, status_of, image_type_of, shape_path_of, definition, are_layers, layers_of, map_of, map}
+use Rattle.wf_mapfile.specs.Map.{MapItem, Name, Extent, Projected, Web, Layer, Size, ImageColor, Units, Status, ImageType, ShapePath, map_keyword, map_item, extent, projection, two_numbers, name_of, extent_of, projection_of, web_of, said_layer, size_of, image_color_of, units_of, status_of, image_type_of, shape_path_of, definition, are_layers, layers_of, map_of, map}
 use Rattle.wf_mapfile.proofs.Options.{bind_assoc, bind_same, refused}
 use Rattle.wf_mapfile.proofs.Blocks.{put_once, put_read, once-item, put_all, at_most, at_most-vacant, exactly_one-vacant, fill-block}
 use Rattle.wf_mapfile.proofs.Lists.{no_more_than-pushed}
@@ -39,7 +39,7 @@ put_item slots (Extent x) = put_once slots.extent (record slots { extent = Some 
 put_item slots (Projected x) = put_once slots.projection (record slots { projection = Some x })
 put_item slots (Web x) = put_once slots.web (record slots { web = Some x })
 put_item slots (Layer x) = do
-  layers ← pushed MOST_LAYERS slots.layers.layers x
+  layers ← pushed most_layers slots.layers.layers x
   new ← named slots.layers.layers x
   f ← take_room features_in slots.layers.room.features x
   p ← take_room points_in slots.layers.room.points x
@@ -67,10 +67,10 @@ four_tests true true true false x y z w kept = refl
 four_tests true true true true x y z w kept = refl
 
 puts-layer : (slots : MapSlots) (x : Entry) → put_item slots (Layer x)
-    ≡ (if nat_lt (length slots.layers.layers) MOST_LAYERS then (if may_follow slots.layers x then Some (record slots { layers = behind slots.layers x }) else None) else None)
+    ≡ (if nat_lt (length slots.layers.layers) most_layers then (if may_follow slots.layers x then Some (record slots { layers = behind slots.layers x }) else None) else None)
 unfolding may_follow
 puts-layer slots x =
-    four_tests (nat_lt (length slots.layers.layers) MOST_LAYERS) (not (has_layer slots.layers.layers x.0)) (nat_le (features_in x) slots.layers.room.features) (nat_le (points_in x) slots.layers.room.points)
+    four_tests (nat_lt (length slots.layers.layers) most_layers) (not (has_layer slots.layers.layers x.0)) (nat_le (features_in x) slots.layers.room.features) (nat_le (points_in x) slots.layers.room.points)
     (slots.layers.layers ++ x ∷ []) (slots.layers.layers ++ x ∷ []) (slots.layers.room.features - features_in x) (slots.layers.room.points - points_in x)
     (λ layers f p. record slots { layers = record { layers = layers; room = record { features = f; points = p } } })
 
@@ -81,7 +81,7 @@ takes-item keyword.Extent slots tokens = once-item slots.extent (extent tokens) 
 takes-item keyword.Projection slots tokens = once-item slots.projection (projection tokens) _ Projected put_item slots (λ x. refl)
 takes-item keyword.Web slots tokens = once-item slots.web (web tokens) _ Web put_item slots (λ x. refl)
 takes-item keyword.Layer slots tokens =
-    tested-item (layer tokens) (nat_lt (length slots.layers.layers) MOST_LAYERS) (may_follow slots.layers) (λ x. record slots { layers = behind slots.layers x }) Layer put_item slots (puts-layer slots)
+    tested-item (layer tokens) (nat_lt (length slots.layers.layers) most_layers) (may_follow slots.layers) (λ x. record slots { layers = behind slots.layers x }) Layer put_item slots (puts-layer slots)
 takes-item keyword.Size slots tokens = once-item slots.size (two_numbers tokens) _ (λ x. Size) put_item slots (λ x. refl)
 takes-item keyword.ImageColor slots tokens = once-item slots.image_color (color tokens) _ (λ x. ImageColor) put_item slots (λ x. refl)
 takes-item keyword.Units slots tokens = once-item slots.units (text tokens) _ (λ x. Units) put_item slots (λ x. refl)
@@ -117,10 +117,10 @@ slot_by_slot_from a b c d l n f p e g h i j k all = do
   extent ← at_most b (filter_map extent_of all)
   projection ← at_most c (filter_map projection_of all)
   web ← at_most d (filter_map web_of all)
-  layers ← l >>= λ l. put_all (pushed MOST_LAYERS) l (filter_map layer_of all)
-  new ← n >>= λ l. put_all named l (filter_map layer_of all)
-  f ← f >>= λ f. put_all (take_room features_in) f (filter_map layer_of all)
-  p ← p >>= λ p. put_all (take_room points_in) p (filter_map layer_of all)
+  layers ← l >>= λ l. put_all (pushed most_layers) l (filter_map said_layer all)
+  new ← n >>= λ l. put_all named l (filter_map said_layer all)
+  f ← f >>= λ f. put_all (take_room features_in) f (filter_map said_layer all)
+  p ← p >>= λ p. put_all (take_room points_in) p (filter_map said_layer all)
   size ← at_most e (filter_map size_of all)
   image_color ← at_most g (filter_map image_color_of all)
   units ← at_most h (filter_map units_of all)
@@ -162,7 +162,7 @@ fills-slots a b (Some y) d l f p e g h i j k (Projected x ∷ all) = sym (simp r
 fills-slots a b c None l f p e g h i j k (Web x ∷ all) = fills-slots a b c (Some x) l f p e g h i j k all
 fills-slots a b c (Some y) l f p e g h i j k (Web x ∷ all) = sym (simp refused)
 fills-slots a b c d l f p e g h i j k (Layer x ∷ all) =
-    behind_layers a b c d (nat_lt (length l) MOST_LAYERS) (not (has_layer l x.0)) (l ++ x ∷ []) (take_room features_in f x) (take_room points_in p x) e g h i j k all
+    behind_layers a b c d (nat_lt (length l) most_layers) (not (has_layer l x.0)) (l ++ x ∷ []) (take_room features_in f x) (take_room points_in p x) e g h i j k all
     (λ f p. fills-slots a b c d (l ++ x ∷ []) f p e g h i j k all)
 fills-slots a b c d l f p None g h i j k (Size ∷ all) = fills-slots a b c d l f p (Some tt) g h i j k all
 fills-slots a b c d l f p (Some y) g h i j k (Size ∷ all) = sym (simp refused)
@@ -178,7 +178,7 @@ fills-slots a b c d l f p e g h i j None (ShapePath ∷ all) = fills-slots a b c
 fills-slots a b c d l f p e g h i j (Some y) (ShapePath ∷ all) = sym (simp refused)
 
 abbrev pub empty_slots : MapSlots
-empty_slots = slots_of None None None None [] MOST_FEATURES MOST_POINTS None None None None None None
+empty_slots = slots_of None None None None [] most_features most_points None None None None None None
 
 -- what must come is looked for at the end, and so are the limits of the layers
 module _ (all : List Entry) (left_f left_p : ℕ) where
@@ -228,15 +228,15 @@ says : (all : List MapItem) → map_of all ≡ (put_all put_item empty_slots all
 unfolding map_of layers_of are_layers no_more_than
 says all =
     rw (
-      fills-slots None None None None [] MOST_FEATURES MOST_POINTS None None None None None None all,
+      fills-slots None None None None [] most_features most_points None None None None None None all,
       at_most-vacant (filter_map name_of all),
       exactly_one-vacant (filter_map extent_of all),
       exactly_one-vacant (filter_map projection_of all),
       at_most-vacant (filter_map web_of all),
-      ← no_more_than-pushed MOST_LAYERS (filter_map layer_of all),
-      names_differ (filter_map layer_of all),
-      take_room-total features_in MOST_FEATURES (filter_map layer_of all),
-      take_room-total points_in MOST_POINTS (filter_map layer_of all),
+      ← no_more_than-pushed most_layers (filter_map said_layer all),
+      names_differ (filter_map said_layer all),
+      take_room-total features_in most_features (filter_map said_layer all),
+      take_room-total points_in most_points (filter_map said_layer all),
       at_most-vacant (filter_map size_of all),
       at_most-vacant (filter_map image_color_of all),
       at_most-vacant (filter_map units_of all),
@@ -244,9 +244,9 @@ says all =
       at_most-vacant (filter_map image_type_of all),
       at_most-vacant (filter_map shape_path_of all),
     )
-    (regrouped (filter_map layer_of all) (MOST_FEATURES - feature_count (filter_map layer_of all)) (MOST_POINTS - point_count (filter_map layer_of all))
-    (nat_le (length (filter_map layer_of all)) MOST_LAYERS) (all_differ (layer_names (filter_map layer_of all))) (nat_le (feature_count (filter_map layer_of all)) MOST_FEATURES)
-    (nat_le (point_count (filter_map layer_of all)) MOST_POINTS)
+    (regrouped (filter_map said_layer all) (most_features - feature_count (filter_map said_layer all)) (most_points - point_count (filter_map said_layer all))
+    (nat_le (length (filter_map said_layer all)) most_layers) (all_differ (layer_names (filter_map said_layer all))) (nat_le (feature_count (filter_map said_layer all)) most_features)
+    (nat_le (point_count (filter_map said_layer all)) most_points)
     (at_most None (filter_map name_of all)) (at_most None (filter_map extent_of all)) (at_most None (filter_map projection_of all))
     (at_most None (filter_map web_of all)) (at_most None (filter_map size_of all)) (at_most None (filter_map image_color_of all))
     (at_most None (filter_map units_of all)) (at_most None (filter_map status_of all)) (at_most None (filter_map image_type_of all))

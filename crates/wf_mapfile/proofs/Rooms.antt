@@ -4,7 +4,7 @@ use Rattle.std.proofs.lemmas.Bool.Decides.{nat_tests}
 use Rattle.std.proofs.lemmas.List.Sums.{sum_by-cons, sum_by_more, sum_by_more_le}
 use Rattle.std.specs.Prelude.{nat_le, nat_lt, Option, Some, None, is_some, if◌then◌else◌, sum_by}
 use Rattle.wf_mapfile.specs.Token.{Token}
-use Rattle.wf_mapfile.specs.Grammar.{◌>>=◌, block, items}
+use Rattle.wf_mapfile.specs.Grammar.{◌>>=◌, block, block_items}
 use Rattle.wf_mapfile.specs.Room.{where_so}
 use Rattle.wf_mapfile.proofs.Options.{bind_assoc, bind_same, bind_none}
 use Rattle.wf_mapfile.proofs.Blocks.{put_all, put_once, put_read, given}
@@ -78,8 +78,8 @@ value_tested test rest (Some x) = tested_beside (test x) x rest
 pub block-so : {K I A : Type 0} (keyword : List ℕ → Option K) (item : K → List Token → Option (I × List Token)) (value_of : List I → Option A) (test : A → Bool) (tokens : List Token) →
     (block keyword item value_of tokens >>= where_so test) ≡ block keyword item (λ all. value_of all >>= value_so test) tokens
 block-so keyword item value_of test tokens =
-    bind_assoc (items keyword item (length tokens) tokens) _ (where_so test)
-    ∙ bind_same (items keyword item (length tokens) tokens) _ _ (λ x. value_tested test x.1 (value_of x.0))
+    bind_assoc (block_items keyword item (length tokens) tokens) _ (where_so test)
+    ∙ bind_same (block_items keyword item (length tokens) tokens) _ _ (λ x. value_tested test x.1 (value_of x.0))
 
 -- what is nothing is nothing behind a test
 pub so-none : {A : Type 0} (so : Bool) (o : Option A) → o ≡ (if so then o else o)

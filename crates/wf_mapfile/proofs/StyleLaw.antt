@@ -2,7 +2,7 @@
 use Rattle.std.proofs.Common.{◌≡◌, ℕ, List, [], ◌∷◌, length, refl, sym}
 use Rattle.std.specs.Prelude.{Option, Some, None, filter_map}
 use Rattle.wf_def.specs.declared.color.Color.{Color}
-use Rattle.wf_def.specs.declared.limits.TheConstants.{MOST_WIDTH, MOST_SIZE}
+use Rattle.wf_def.specs.Limit.{most_width, most_size}
 use Rattle.wf_mapfile.specs.declared.keyword.style.StyleKeyword.{StyleKeyword}
 use Rattle.wf_mapfile.specs.declared.keyword.style.StyleKeyword.TheVariants as keyword
 use Rattle.wf_mapfile.specs.declared.slots.style.StyleSlots.{StyleSlots}
@@ -25,8 +25,8 @@ takes-item : (k : StyleKeyword) (slots : StyleSlots) (tokens : List Token) → s
 unfolding style_take style_item
 takes-item keyword.Color slots tokens = once-item slots.color (color tokens) _ Colored put_item slots (λ x. refl)
 takes-item keyword.OutlineColor slots tokens = once-item slots.outline_color (color tokens) _ Outlined put_item slots (λ x. refl)
-takes-item keyword.Width slots tokens = once-item slots.width (whole 1 MOST_WIDTH tokens) _ Width put_item slots (λ x. refl)
-takes-item keyword.Size slots tokens = once-item slots.size (whole 1 MOST_SIZE tokens) _ Size put_item slots (λ x. refl)
+takes-item keyword.Width slots tokens = once-item slots.width (whole 1 most_width tokens) _ Width put_item slots (λ x. refl)
+takes-item keyword.Size slots tokens = once-item slots.size (whole 1 most_size tokens) _ Size put_item slots (λ x. refl)
 
 puts-item : (slots : StyleSlots) (name : List ℕ) (tokens : List Token) → style_put slots name tokens ≡ (style_keyword name >>= λ k. style_item k tokens >>= put_read put_item slots)
 unfolding style_put

@@ -11,11 +11,11 @@ use Rattle.std.proofs.lemmas.List.Folds.{list_all-append, list_any-append}
 use Rattle.std.proofs.lemmas.Slice.Eq.{bytes_eq-Decides}
 use Rattle.std.proofs.lemmas.Str.{IsUtf8-from_is_utf8, is_utf8-from_IsUtf8, IsUtf8-take, IsUtf8-drop, IsCharBoundary-after_ascii, chars-append}
 use Rattle.wf_def.specs.Text.{is_text, is_text_character, has_both_quotes}
-use Rattle.wf_def.specs.declared.limits.TheConstants.{MOST_TEXT_BYTES}
+use Rattle.wf_def.specs.Limit.{most_text_bytes}
 use Rattle.wf_mapfile.specs.declared.fault.MapFault.{MapFault}
 use Rattle.wf_mapfile.specs.Token.{Token}
 use Rattle.wf_mapfile.specs.Grammar.{text}
-use Rattle.wf_mapfile.specs.Layer.{attribute_names}
+use Rattle.wf_mapfile.specs.Layer.{processing}
 use Rattle.wf_mapfile.specs.Reading.{Gives}
 use Rattle.wf_mapfile.proofs.Booleans.{both, or_right}
 
@@ -37,17 +37,17 @@ unfolding is_text
 behind xs ys front back may =
     let first = first_so _ _ may in
     let start = first_so _ _ first in
-    let short : nat_le (length (xs ++ ys)) MOST_TEXT_BYTES ≡ true = first_so _ _ start in
-    let shorter : nat_le (length ys) MOST_TEXT_BYTES ≡ true = within xs ys short in
+    let short : nat_le (length (xs ++ ys)) most_text_bytes ≡ true = first_so _ _ start in
+    let shorter : nat_le (length ys) most_text_bytes ≡ true = within xs ys short in
     let each : (list_all is_text_character (chars xs) && list_all is_text_character (chars ys)) ≡ true =
     sym (list_all-append is_text_character (chars xs) (chars ys)) ∙ ap (list_all is_text_character) (sym (chars-append xs ys front)) ∙ second_so _ _ first in
     both _ _ (both _ _ (both _ _ shorter (is_utf8-from_IsUtf8 ys back)) (second_so _ _ each))
     (fails_too (has_both_quotes (xs ++ ys)) (has_both_quotes ys) (second_so _ _ may) (quotes_behind xs ys))
   where
-    within : (xs ys : List ℕ) → nat_le (length (xs ++ ys)) MOST_TEXT_BYTES ≡ true → nat_le (length ys) MOST_TEXT_BYTES ≡ true
+    within : (xs ys : List ℕ) → nat_le (length (xs ++ ys)) most_text_bytes ≡ true → nat_le (length ys) most_text_bytes ≡ true
     within [] ys short = short
     within (x ∷ xs) ys short = within xs ys (less (length (xs ++ ys)) short) where
-      less : (n : ℕ) → nat_le (suc n) MOST_TEXT_BYTES ≡ true → nat_le n MOST_TEXT_BYTES ≡ true
+      less : (n : ℕ) → nat_le (suc n) most_text_bytes ≡ true → nat_le n most_text_bytes ≡ true
       less n is = grind (arith, nat_tests)
 
 -- `=` has no other letter case
@@ -106,13 +106,13 @@ some_same x y e = cc
 
 -- PROCESSING's text with `ITEMS=` at its front, and without
 module _ (tokens rest : List Token) (bs : List ℕ) (read : text tokens ≡ Some (bs, rest)) where
-  pub names_refused : str_eq_ignore_ascii_case (take 6 bs) (codes "ITEMS=") ≡ false → attribute_names tokens ≡ None
-  unfolding attribute_names
+  pub names_refused : str_eq_ignore_ascii_case (take 6 bs) (codes "ITEMS=") ≡ false → processing tokens ≡ None
+  unfolding processing
   names_refused other = rw (read, other)
 
   pub names_read : (names : List ℕ) (r : Result (List ℕ) MapFault) → is_text bs ≡ true → str_eq_ignore_ascii_case (take 6 bs) (codes "ITEMS=") ≡ true → names ≡ drop 6 bs →
-      Gives (λ t. t) r (if is_text names then Some names else None) → Gives (λ t. (t, rest)) r (attribute_names tokens)
-  unfolding attribute_names
+      Gives (λ t. t) r (if is_text names then Some names else None) → Gives (λ t. (t, rest)) r (processing tokens)
+  unfolding processing
   names_read names (Ok t) whole mark is given =
       let part : is_text names ≡ true = ap is_text is ∙ names-text bs whole mark in
       let same : names ≡ t = some_same names t (rw part at given) in

@@ -1,6 +1,6 @@
 -- CLASS: which features are drawn alike, and how.
 use Rattle.std.specs.Prelude.{ℕ, Bool, false, if◌then◌else◌, List, [], ◌∷◌, codes, Option, Some, None, filter_map, unwrap_or}
-use Rattle.wf_def.specs.declared.limits.TheConstants.{MOST_STYLES}
+use Rattle.wf_def.specs.Limit.{most_styles}
 use Rattle.wf_def.specs.Definition.{StyleDefinition, LabelDefinition, ClassDefinition}
 use Rattle.wf_mapfile.specs.declared.keyword.class.ClassKeyword.{ClassKeyword}
 use Rattle.wf_mapfile.specs.declared.keyword.class.ClassKeyword.TheVariants as keyword
@@ -75,14 +75,14 @@ class_definition name expression styles label = record {
 }
 
 -- each keyword comes at most once, but for STYLE
-unfoldable pub class_of : List ClassItem → Option ClassDefinition
-class_of items = do
+unfoldable pub class_of_items : List ClassItem → Option ClassDefinition
+class_of_items items = do
   name ← at_most_one (filter_map name_of items)
   expression ← at_most_one (filter_map expression_of items)
-  styles ← no_more_than MOST_STYLES (filter_map style_of items)
+  styles ← no_more_than most_styles (filter_map style_of items)
   label ← at_most_one (filter_map label_of items)
   Some (class_definition name expression styles label)
 
 -- what follows the word CLASS, up to its END
 unfoldable pub class : List Token → Option (ClassDefinition × List Token)
-class tokens = block class_keyword class_item class_of tokens
+class tokens = block class_keyword class_item class_of_items tokens

@@ -1,6 +1,6 @@
 -- CLASS read in one pass: what each keyword does to the slots, and what the slots say in the end.
 use Rattle.std.specs.Prelude.{ℕ, List, Option, Some}
-use Rattle.wf_def.specs.declared.limits.TheConstants.{MOST_STYLES}
+use Rattle.wf_def.specs.Limit.{most_styles}
 use Rattle.wf_def.specs.Definition.{ClassDefinition}
 use Rattle.wf_mapfile.specs.declared.keyword.class.ClassKeyword.{ClassKeyword}
 use Rattle.wf_mapfile.specs.declared.keyword.class.ClassKeyword.TheVariants as keyword
@@ -16,7 +16,7 @@ use Rattle.wf_mapfile.specs.Slots.{once}
 unfoldable pub class_take : ClassKeyword → ClassSlots → List Token → Option (ClassSlots × List Token)
 class_take keyword.Name slots tokens = once slots.name text (λ x. record slots { name = Some x }) tokens
 class_take keyword.Expression slots tokens = once slots.expression expression (λ x. record slots { expression = Some x }) tokens
-class_take keyword.Style slots tokens = again MOST_STYLES slots.styles style (λ more. record slots { styles = more }) tokens
+class_take keyword.Style slots tokens = again most_styles slots.styles style (λ more. record slots { styles = more }) tokens
 class_take keyword.Label slots tokens = once slots.label label (λ x. record slots { label = Some x }) tokens
 
 unfoldable pub class_put : ClassSlots → List ℕ → List Token → Option (ClassSlots × List Token)

@@ -68,12 +68,12 @@ unfoldable pub feature_definition : List (List Point) → Option (List ℕ) → 
 feature_definition parts items text = def.feature_of parts (unwrap_or items []) (unwrap_or text [])
 
 -- ITEMS and TEXT come at most once, POINTS must come and may come again
-unfoldable pub feature_of : List FeatureItem → Option FeatureDefinition
-feature_of all = do
+unfoldable pub feature_of_items : List FeatureItem → Option FeatureDefinition
+feature_of_items all = do
   items ← at_most_one (filter_map items_of all)
   text ← at_most_one (filter_map text_of all)
   feature_definition (filter_map part_of all) items text
 
 -- what follows the word FEATURE, up to its END
 unfoldable pub feature : List Token → Option (FeatureDefinition × List Token)
-feature tokens = block feature_keyword feature_item feature_of tokens
+feature tokens = block feature_keyword feature_item feature_of_items tokens

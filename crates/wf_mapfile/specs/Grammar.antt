@@ -69,20 +69,20 @@ end tokens = do
   if is_end x.0 then Some x.1 else None
 
 -- What a block holds, up to its END: at most so many items, each a keyword and what it asks for.
-unfoldable pub items : {K I : Type 0} → (List ℕ → Option K) → (K → List Token → Option (I × List Token)) → ℕ → List Token → Option (List I × List Token)
-items keyword item zero tokens = None
-items keyword item (suc most) tokens = do
+unfoldable pub block_items : {K I : Type 0} → (List ℕ → Option K) → (K → List Token → Option (I × List Token)) → ℕ → List Token → Option (List I × List Token)
+block_items keyword item zero tokens = None
+block_items keyword item (suc most) tokens = do
   x ← word tokens
   if is_end x.0 then Some ([], x.1) else (do
     k ← keyword x.0
     first ← item k x.1
-    others ← items keyword item most first.1
+    others ← block_items keyword item most first.1
     Some (first.0 ∷ others.0, others.1))
 
 -- a block: each of its items has a token at least
 abbrev pub block : {K I A : Type 0} → (List ℕ → Option K) → (K → List Token → Option (I × List Token)) → (List I → Option A) → List Token → Option (A × List Token)
 block keyword item value_of tokens = do
-  x ← items keyword item (length tokens) tokens
+  x ← block_items keyword item (length tokens) tokens
   value ← value_of x.0
   Some (value, x.1)
 

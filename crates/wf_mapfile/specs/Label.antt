@@ -5,7 +5,7 @@ use Rattle.wf_def.specs.declared.choice.LabelSize.{LabelSize}
 use Rattle.wf_def.specs.declared.choice.LabelSize.TheVariants.{Tiny, Small, Medium, Large, Giant}
 use Rattle.wf_def.specs.declared.choice.LabelPosition.{LabelPosition}
 use Rattle.wf_def.specs.declared.choice.LabelPosition.TheVariants.{UpperLeft, UpperCenter, UpperRight, CenterLeft, CenterCenter, CenterRight, LowerLeft, LowerCenter, LowerRight}
-use Rattle.wf_def.specs.declared.limits.TheConstants.{MOST_PRIORITY, MOST_BUFFER}
+use Rattle.wf_def.specs.Limit.{most_priority, most_buffer}
 use Rattle.wf_def.specs.Definition.{LabelDefinition}
 use Rattle.wf_mapfile.specs.declared.keyword.label.LabelKeyword.{LabelKeyword}
 use Rattle.wf_mapfile.specs.declared.keyword.label.LabelKeyword.TheVariants as keyword
@@ -83,13 +83,13 @@ label_item keyword.Position tokens = do
   x ← label_position tokens
   Some (Position x.0, x.1)
 label_item keyword.Priority tokens = do
-  x ← whole 1 MOST_PRIORITY tokens
+  x ← whole 1 most_priority tokens
   Some (Priority x.0, x.1)
 label_item keyword.Force tokens = do
   x ← truth tokens
   Some (Force x.0, x.1)
 label_item keyword.Buffer tokens = do
-  x ← whole 0 MOST_BUFFER tokens
+  x ← whole 0 most_buffer tokens
   Some (Buffer x.0, x.1)
 label_item keyword.Type tokens = do
   x ← label_kind tokens

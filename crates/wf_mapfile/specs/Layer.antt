@@ -6,7 +6,7 @@ use Rattle.wf_def.specs.Definition.{ClassDefinition, FeatureDefinition, LayerDef
 use Rattle.wf_def.specs.Layer as def
 use Rattle.wf_def.specs.declared.choice.LayerKind.{LayerKind}
 use Rattle.wf_def.specs.declared.choice.LayerKind.TheVariants as kind
-use Rattle.wf_def.specs.declared.limits.TheConstants.{MOST_CLASSES}
+use Rattle.wf_def.specs.Limit.{most_classes}
 use Rattle.wf_mapfile.specs.declared.keyword.layer.LayerKeyword.{LayerKeyword}
 use Rattle.wf_mapfile.specs.declared.keyword.layer.LayerKeyword.TheVariants as keyword
 use Rattle.wf_mapfile.specs.declared.slots.Metadata as kept
@@ -66,8 +66,8 @@ unfoldable pub layer_kind : List Token → Option (LayerKind × List Token)
 layer_kind tokens = chosen layer_kinds tokens
 
 -- the names of the features' attributes: what follows `ITEMS=` in a text
-unfoldable pub attribute_names : List Token → Option (List ℕ × List Token)
-attribute_names tokens = do
+unfoldable pub processing : List Token → Option (List ℕ × List Token)
+processing tokens = do
   x ← text tokens
   if str_eq_ignore_ascii_case (take 6 x.0) (codes "ITEMS=") then Some (drop 6 x.0, x.1) else None
 
@@ -85,7 +85,7 @@ layer_item keyword.LabelItem tokens = do
   x ← text tokens
   Some (LabelItem x.0, x.1)
 layer_item keyword.Processing tokens = do
-  x ← attribute_names tokens
+  x ← processing tokens
   Some (Items x.0, x.1)
 layer_item keyword.Metadata tokens = do
   x ← metadata tokens
@@ -130,13 +130,13 @@ abbrev pub metadata_of : LayerItem → Option kept.Metadata
 metadata_of (Metadata x) = Some x
 metadata_of _ = None
 
-abbrev pub class_of : LayerItem → Option ClassDefinition
-class_of (Class x) = Some x
-class_of _ = None
+abbrev pub said_class : LayerItem → Option ClassDefinition
+said_class (Class x) = Some x
+said_class _ = None
 
-abbrev pub feature_of : LayerItem → Option FeatureDefinition
-feature_of (Feature x) = Some x
-feature_of _ = None
+abbrev pub said_feature : LayerItem → Option FeatureDefinition
+said_feature (Feature x) = Some x
+said_feature _ = None
 
 abbrev pub status_of : LayerItem → Option (Unit {0})
 status_of Status = Some tt
@@ -158,20 +158,20 @@ named_layer name kind class_item label_item items metadata classes features =
     >>= λ l. Some (name, l)
 
 -- each keyword but CLASS and FEATURE comes at most once, NAME and TYPE must come
-unfoldable pub layer_of : List LayerItem → Option (List ℕ × LayerDefinition)
-layer_of all = do
+unfoldable pub layer_of_items : List LayerItem → Option (List ℕ × LayerDefinition)
+layer_of_items all = do
   name ← exactly_one (filter_map name_of all)
   kind ← exactly_one (filter_map kind_of all)
   class_item ← at_most_one (filter_map class_item_of all)
   label_item ← at_most_one (filter_map label_item_of all)
   items ← at_most_one (filter_map items_of all)
   metadata ← at_most_one (filter_map metadata_of all)
-  classes ← no_more_than MOST_CLASSES (filter_map class_of all)
+  classes ← no_more_than most_classes (filter_map said_class all)
   status ← at_most_one (filter_map status_of all)
   units ← at_most_one (filter_map units_of all)
   template ← at_most_one (filter_map template_of all)
-  named_layer name kind class_item label_item items (unwrap_or metadata no_metadata) classes (filter_map feature_of all)
+  named_layer name kind class_item label_item items (unwrap_or metadata no_metadata) classes (filter_map said_feature all)
 
 -- what follows the word LAYER, up to its END
 unfoldable pub layer : List Token → Option ((List ℕ × LayerDefinition) × List Token)
-layer tokens = block layer_keyword layer_item layer_of tokens
+layer tokens = block layer_keyword layer_item layer_of_items tokens

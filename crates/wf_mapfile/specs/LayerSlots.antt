@@ -3,7 +3,7 @@
 use Rattle.std.specs.Prelude.{ℕ, zero, suc, ◌-◌, nat_lt, if◌then◌else◌, List, [], ◌∷◌, ◌++◌, length, Option, Some, None, unwrap_or}
 use Rattle.std.specs.Option.{option_or}
 use Rattle.wf_def.specs.Definition.{FeatureDefinition, LayerDefinition}
-use Rattle.wf_def.specs.declared.limits.TheConstants.{MOST_CLASSES}
+use Rattle.wf_def.specs.Limit.{most_classes}
 use Rattle.wf_def.specs.declared.point.Point.{Point}
 use Rattle.wf_mapfile.specs.declared.keyword.layer.FeatureKeyword.{FeatureKeyword}
 use Rattle.wf_mapfile.specs.declared.keyword.layer.FeatureKeyword.TheVariants as features
@@ -18,7 +18,7 @@ use Rattle.wf_mapfile.specs.Metadata.{metadata}
 use Rattle.wf_mapfile.specs.Web.{no_metadata}
 use Rattle.wf_mapfile.specs.Class.{class}
 use Rattle.wf_mapfile.specs.Feature.{feature_keyword, feature_definition}
-use Rattle.wf_mapfile.specs.Layer.{layer_kind, attribute_names, layer_keyword, named_layer}
+use Rattle.wf_mapfile.specs.Layer.{layer_kind, processing, layer_keyword, named_layer}
 use Rattle.wf_mapfile.specs.Room.{next_point, points_within, feature_within, behind_feature, new_name}
 use Rattle.wf_mapfile.specs.Slots.{once}
 
@@ -45,9 +45,9 @@ layer_take layers.Name slots tokens = once slots.name (new_name slots.others.now
 layer_take layers.Type slots tokens = once slots.kind layer_kind (λ x. record slots { kind = Some x }) tokens
 layer_take layers.ClassItem slots tokens = once slots.class_item text (λ x. record slots { class_item = Some x }) tokens
 layer_take layers.LabelItem slots tokens = once slots.label_item text (λ x. record slots { label_item = Some x }) tokens
-layer_take layers.Processing slots tokens = once slots.items attribute_names (λ x. record slots { items = Some x }) tokens
+layer_take layers.Processing slots tokens = once slots.items processing (λ x. record slots { items = Some x }) tokens
 layer_take layers.Metadata slots tokens = once slots.metadata metadata (λ x. record slots { metadata = Some x }) tokens
-layer_take layers.Class slots tokens = again MOST_CLASSES slots.classes class (λ more. record slots { classes = more }) tokens
+layer_take layers.Class slots tokens = again most_classes slots.classes class (λ more. record slots { classes = more }) tokens
 layer_take layers.Feature slots tokens =
     if nat_lt 0 slots.room.features then (feature_within slots.room.points tokens >>= λ x. Some (record slots { features = slots.features ++ x.0 ∷ []; room = behind_feature slots.room x.0 }, x.1)) else None
 layer_take layers.Status slots tokens = once slots.status text (λ _. record slots { status = Some tt }) tokens

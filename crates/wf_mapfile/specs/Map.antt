@@ -3,7 +3,7 @@ use Rattle.std.specs.Prelude.{ℕ, Bool, ◌&&◌, int_lt, nat_le, if◌then◌e
 use Rattle.wf_def.specs.Definition.{Definition, LayerDefinition}
 use Rattle.wf_def.specs.Extent.{ExtentValue}
 use Rattle.wf_def.specs.Limits.{layer_names, feature_count, point_count}
-use Rattle.wf_def.specs.declared.limits.TheConstants.{MOST_LAYERS, MOST_FEATURES, MOST_POINTS}
+use Rattle.wf_def.specs.Limit.{most_layers, most_features, most_points}
 use Rattle.wf_def.specs.declared.choice.Projection.{Projection}
 use Rattle.wf_def.specs.declared.choice.Projection.TheVariants.{Epsg4326, Epsg3857}
 use Rattle.wf_mapfile.specs.declared.keyword.MapKeyword.{MapKeyword}
@@ -125,9 +125,9 @@ abbrev pub web_of : MapItem → Option kept.Metadata
 web_of (Web x) = Some x
 web_of _ = None
 
-abbrev pub layer_of : MapItem → Option (List ℕ × LayerDefinition)
-layer_of (Layer x) = Some x
-layer_of _ = None
+abbrev pub said_layer : MapItem → Option (List ℕ × LayerDefinition)
+said_layer (Layer x) = Some x
+said_layer _ = None
 
 abbrev pub size_of : MapItem → Option (Unit {0})
 size_of Size = Some tt
@@ -169,8 +169,8 @@ definition name extent projection web layers = let name = unwrap_or name (codes 
 -- at most so many layers, of unlike names, with at most so many features and points in all of them
 unfoldable pub are_layers : List (List ℕ × LayerDefinition) → Bool
 are_layers layers =
-    nat_le (length layers) MOST_LAYERS && all_differ (layer_names layers) &&
-    nat_le (feature_count layers) MOST_FEATURES && nat_le (point_count layers) MOST_POINTS
+    nat_le (length layers) most_layers && all_differ (layer_names layers) &&
+    nat_le (feature_count layers) most_features && nat_le (point_count layers) most_points
 
 -- what LAYER said, which may come again
 unfoldable pub layers_of : List (List ℕ × LayerDefinition) → Option (List (List ℕ × LayerDefinition))
@@ -183,7 +183,7 @@ map_of items = do
   extent ← exactly_one (filter_map extent_of items)
   projection ← exactly_one (filter_map projection_of items)
   web ← at_most_one (filter_map web_of items)
-  layers ← layers_of (filter_map layer_of items)
+  layers ← layers_of (filter_map said_layer items)
   size ← at_most_one (filter_map size_of items)
   image_color ← at_most_one (filter_map image_color_of items)
   units ← at_most_one (filter_map units_of items)

@@ -6,9 +6,9 @@ use Rattle.wf_mapfile.specs.Token.{Token, tokens}
 use Rattle.wf_mapfile.specs.Grammar.{◌>>=◌, word}
 use Rattle.wf_mapfile.specs.Map.{map}
 
--- bytes
+-- the longest mapfile, in bytes
 abbrev pub longest_mapfile : ℕ
-longest_mapfile = 65536
+longest_mapfile = 65_536
 
 -- MAP, its contents, END, and nothing else
 unfoldable pub file : List Token → Option Definition

@@ -3,7 +3,7 @@ use Rattle.std.specs.Prelude.{ℕ, zero, suc, Bool, ◌||◌, nat_lt, if◌then�
 use Rattle.std.specs.Option.{option_or}
 use Rattle.std.specs.Str.{bytes_eq, str_to_ascii_lowercase}
 use Rattle.wf_def.specs.Definition.{Definition}
-use Rattle.wf_def.specs.declared.limits.TheConstants.{MOST_LAYERS}
+use Rattle.wf_def.specs.Limit.{most_layers}
 use Rattle.wf_mapfile.specs.declared.keyword.WebKeyword.{WebKeyword}
 use Rattle.wf_mapfile.specs.declared.keyword.WebKeyword.TheVariants as webs
 use Rattle.wf_mapfile.specs.declared.keyword.MapKeyword.{MapKeyword}
@@ -61,7 +61,7 @@ map_take maps.Extent slots tokens = once slots.extent extent (λ x. record slots
 map_take maps.Projection slots tokens = once slots.projection projection (λ x. record slots { projection = Some x }) tokens
 map_take maps.Web slots tokens = once slots.web web (λ x. record slots { web = Some x }) tokens
 map_take maps.Layer slots tokens =
-    if nat_lt (length slots.layers.layers) MOST_LAYERS then (layer_behind slots.layers tokens >>= λ x. Some (record slots { layers = behind slots.layers x.0 }, x.1)) else None
+    if nat_lt (length slots.layers.layers) most_layers then (layer_behind slots.layers tokens >>= λ x. Some (record slots { layers = behind slots.layers x.0 }, x.1)) else None
 map_take maps.Size slots tokens = once slots.size two_numbers (λ _. record slots { size = Some tt }) tokens
 map_take maps.ImageColor slots tokens = once slots.image_color color (λ _. record slots { image_color = Some tt }) tokens
 map_take maps.Units slots tokens = once slots.units text (λ _. record slots { units = Some tt }) tokens

@@ -1,7 +1,7 @@
 -- STYLE: how a feature is drawn.
 use Rattle.std.specs.Prelude.{ℕ, List, [], ◌∷◌, codes, Option, Some, None, filter_map, unwrap_or}
 use Rattle.wf_def.specs.declared.color.Color.{Color}
-use Rattle.wf_def.specs.declared.limits.TheConstants.{MOST_WIDTH, MOST_SIZE}
+use Rattle.wf_def.specs.Limit.{most_width, most_size}
 use Rattle.wf_def.specs.Definition.{StyleDefinition}
 use Rattle.wf_mapfile.specs.declared.keyword.style.StyleKeyword.{StyleKeyword}
 use Rattle.wf_mapfile.specs.declared.keyword.style.StyleKeyword.TheVariants as keyword
@@ -31,10 +31,10 @@ style_item keyword.OutlineColor tokens = do
   x ← color tokens
   Some (Outlined x.0, x.1)
 style_item keyword.Width tokens = do
-  x ← whole 1 MOST_WIDTH tokens
+  x ← whole 1 most_width tokens
   Some (Width x.0, x.1)
 style_item keyword.Size tokens = do
-  x ← whole 1 MOST_SIZE tokens
+  x ← whole 1 most_size tokens
   Some (Size x.0, x.1)
 
 abbrev pub color_of : StyleItem → Option Color

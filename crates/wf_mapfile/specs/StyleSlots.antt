@@ -1,6 +1,6 @@
 -- STYLE read in one pass: what each keyword does to the slots, and what the slots say in the end.
 use Rattle.std.specs.Prelude.{ℕ, List, Option, Some}
-use Rattle.wf_def.specs.declared.limits.TheConstants.{MOST_WIDTH, MOST_SIZE}
+use Rattle.wf_def.specs.Limit.{most_width, most_size}
 use Rattle.wf_def.specs.Definition.{StyleDefinition}
 use Rattle.wf_mapfile.specs.declared.keyword.style.StyleKeyword.{StyleKeyword}
 use Rattle.wf_mapfile.specs.declared.keyword.style.StyleKeyword.TheVariants as keyword
@@ -14,8 +14,8 @@ use Rattle.wf_mapfile.specs.Slots.{once}
 unfoldable pub style_take : StyleKeyword → StyleSlots → List Token → Option (StyleSlots × List Token)
 style_take keyword.Color slots tokens = once slots.color color (λ x. record slots { color = Some x }) tokens
 style_take keyword.OutlineColor slots tokens = once slots.outline_color color (λ x. record slots { outline_color = Some x }) tokens
-style_take keyword.Width slots tokens = once slots.width (whole 1 MOST_WIDTH) (λ x. record slots { width = Some x }) tokens
-style_take keyword.Size slots tokens = once slots.size (whole 1 MOST_SIZE) (λ x. record slots { size = Some x }) tokens
+style_take keyword.Width slots tokens = once slots.width (whole 1 most_width) (λ x. record slots { width = Some x }) tokens
+style_take keyword.Size slots tokens = once slots.size (whole 1 most_size) (λ x. record slots { size = Some x }) tokens
 
 unfoldable pub style_put : StyleSlots → List ℕ → List Token → Option (StyleSlots × List Token)
 style_put slots word tokens = style_keyword word >>= λ keyword. style_take keyword slots tokens

@@ -1,9 +1,9 @@
 //! CLASS: which features are drawn alike, and how.
 ghost use Rattle.std.specs.Prelude.{◌≡◌, [], IfOk, MatchResult, None, false, length, nat_lt, true};
-ghost use Rattle.wf_def.specs.declared.limits.TheConstants.{MOST_STYLES};
 ghost use Rattle.wf_mapfile.specs.Class.{begins_pattern, class, expression};
 ghost use Rattle.wf_mapfile.specs.ClassSlots.{class_filled};
 ghost use Rattle.wf_mapfile.specs.Reading.{Gives, is_memory};
+ghost use Rattle.wf_def.specs.Limit.{most_styles};
 
 use crate::block::{Slots, fill_block, vacant};
 use crate::fault::MapFault;
@@ -51,7 +51,7 @@ impl Slots for ClassSlots {
 
 /// Refuses another style where there is no room for it.
 fn room(styles: &Styles) -> Result<(), MapFault>
-    ensures { MatchResult result (λ _. nat_lt (length styles.now) MOST_STYLES ≡ true) (λ e. (nat_lt (length styles.now) MOST_STYLES ≡ false) × (is_memory e ≡ false)) }
+    ensures { MatchResult result (λ _. nat_lt (length styles.now) most_styles ≡ true) (λ e. (nat_lt (length styles.now) most_styles ≡ false) × (is_memory e ≡ false)) }
 {
     if styles.is_full() {
         return Err(MapFault::TooMany);

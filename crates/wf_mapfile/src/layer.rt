@@ -3,13 +3,13 @@ ghost use Rattle.std.specs.Prelude.{◌≡◌, ◌≤◌, ◌&&◌, [], None, So
 ghost use Rattle.std.specs.Str.{str_eq_ignore_ascii_case};
 ghost use Rattle.wf_def.specs.Layer.{layer_of};
 ghost use Rattle.wf_def.specs.Limits.{has_layer, points_of_feature};
-ghost use Rattle.wf_def.specs.declared.limits.TheConstants.{MOST_CLASSES};
-ghost use Rattle.wf_mapfile.specs.Layer.{attribute_names, layer_kind, layer_name};
+ghost use Rattle.wf_mapfile.specs.Layer.{layer_kind, layer_name, processing};
 ghost use Rattle.wf_mapfile.specs.LayerSlots.{layer_filled, layer_take};
 ghost use Rattle.wf_mapfile.specs.declared.keyword.layer.LayerKeyword.TheVariants as layers;
 ghost use Rattle.wf_mapfile.specs.Reading.{Gives, is_memory};
 ghost use Rattle.wf_mapfile.specs.Web.{no_metadata};
 ghost use Rattle.wf_mapfile.specs.Room.{layer_behind, new_name};
+ghost use Rattle.wf_def.specs.Limit.{most_classes};
 
 use crate::block::{Slots, fill_block, vacant};
 use crate::fault::MapFault;
@@ -35,38 +35,19 @@ impl Slots for LayerSlots<'_> {
     fn take(&mut self, keyword: Token<'_>, parser: &mut Parser<'_>) -> Result<(), MapFault> {
         let place = keyword.place;
         match layer_keyword(keyword.text) {
-            Some(LayerKeyword::Name) => return self.take_name(place, parser),
-            Some(LayerKeyword::Type) => return self.take_kind(place, parser),
-            Some(LayerKeyword::ClassItem) => {
-                vacant(&self.class_item, place)?;
-                self.class_item = Some(parser.text()?);
-            }
-            Some(LayerKeyword::LabelItem) => {
-                vacant(&self.label_item, place)?;
-                self.label_item = Some(parser.text()?);
-            }
-            Some(LayerKeyword::Processing) => return self.take_items(place, parser),
-            Some(LayerKeyword::Metadata) => return self.take_metadata(place, parser),
-            Some(LayerKeyword::Class) => return self.take_class(parser),
-            Some(LayerKeyword::Feature) => return self.take_feature(parser),
-            Some(LayerKeyword::Status) => {
-                vacant(&self.status, place)?;
-                let _ = parser.text()?;
-                self.status = Some(());
-            }
-            Some(LayerKeyword::Units) => {
-                vacant(&self.units, place)?;
-                let _ = parser.text()?;
-                self.units = Some(());
-            }
-            Some(LayerKeyword::Template) => {
-                vacant(&self.template, place)?;
-                let _ = parser.text()?;
-                self.template = Some(());
-            }
-            None => return Err(MapFault::UnexpectedWord(place)),
+            Some(LayerKeyword::Name) => self.take_name(place, parser),
+            Some(LayerKeyword::Type) => self.take_kind(place, parser),
+            Some(LayerKeyword::ClassItem) => self.take_class_item(place, parser),
+            Some(LayerKeyword::LabelItem) => self.take_label_item(place, parser),
+            Some(LayerKeyword::Processing) => self.take_items(place, parser),
+            Some(LayerKeyword::Metadata) => self.take_metadata(place, parser),
+            Some(LayerKeyword::Class) => self.take_class(parser),
+            Some(LayerKeyword::Feature) => self.take_feature(parser),
+            Some(LayerKeyword::Status) => self.drop_status(place, parser),
+            Some(LayerKeyword::Units) => self.drop_units(place, parser),
+            Some(LayerKeyword::Template) => self.drop_template(place, parser),
+            None => Err(MapFault::UnexpectedWord(place)),
         }
-        Ok(())
     }
 }
 
@@ -91,6 +72,26 @@ impl LayerSlots<'_> {
         Ok(())
     }
 
+    /// Reads what CLASSITEM asks for, and keeps it.
+    #[tactic(auto, unfolding(crate::specs::LayerSlots::layer_take))]
+    fn take_class_item(&mut self, place: usize, parser: &mut Parser<'_>) -> Result<(), MapFault>
+        ensures { Gives (λ _. (self.new, parser.new)) result (layer_take layers.ClassItem self.old parser.old) }
+    {
+        vacant(&self.class_item, place)?;
+        self.class_item = Some(parser.text()?);
+        Ok(())
+    }
+
+    /// Reads what LABELITEM asks for, and keeps it.
+    #[tactic(auto, unfolding(crate::specs::LayerSlots::layer_take))]
+    fn take_label_item(&mut self, place: usize, parser: &mut Parser<'_>) -> Result<(), MapFault>
+        ensures { Gives (λ _. (self.new, parser.new)) result (layer_take layers.LabelItem self.old parser.old) }
+    {
+        vacant(&self.label_item, place)?;
+        self.label_item = Some(parser.text()?);
+        Ok(())
+    }
+
     /// Reads what PROCESSING asks for, and keeps it.
     #[tactic(auto, unfolding(crate::specs::LayerSlots::layer_take))]
     fn take_items(&mut self, place: usize, parser: &mut Parser<'_>) -> Result<(), MapFault>
@@ -108,6 +109,39 @@ impl LayerSlots<'_> {
     {
         vacant(&self.metadata, place)?;
         self.metadata = Some(parser.metadata()?);
+        Ok(())
+    }
+
+    /// Reads what STATUS asks for, and drops it.
+    #[tactic(auto, unfolding(crate::specs::LayerSlots::layer_take))]
+    fn drop_status(&mut self, place: usize, parser: &mut Parser<'_>) -> Result<(), MapFault>
+        ensures { Gives (λ _. (self.new, parser.new)) result (layer_take layers.Status self.old parser.old) }
+    {
+        vacant(&self.status, place)?;
+        let _ = parser.text()?;
+        self.status = Some(());
+        Ok(())
+    }
+
+    /// Reads what UNITS asks for, and drops it.
+    #[tactic(auto, unfolding(crate::specs::LayerSlots::layer_take))]
+    fn drop_units(&mut self, place: usize, parser: &mut Parser<'_>) -> Result<(), MapFault>
+        ensures { Gives (λ _. (self.new, parser.new)) result (layer_take layers.Units self.old parser.old) }
+    {
+        vacant(&self.units, place)?;
+        let _ = parser.text()?;
+        self.units = Some(());
+        Ok(())
+    }
+
+    /// Reads what TEMPLATE asks for, and drops it.
+    #[tactic(auto, unfolding(crate::specs::LayerSlots::layer_take))]
+    fn drop_template(&mut self, place: usize, parser: &mut Parser<'_>) -> Result<(), MapFault>
+        ensures { Gives (λ _. (self.new, parser.new)) result (layer_take layers.Template self.old parser.old) }
+    {
+        vacant(&self.template, place)?;
+        let _ = parser.text()?;
+        self.template = Some(());
         Ok(())
     }
 
@@ -138,7 +172,7 @@ impl LayerSlots<'_> {
 
 /// Refuses another class where there is no room for it.
 fn class_room(classes: &Classes) -> Result<(), MapFault>
-    ensures { MatchResult result (λ _. nat_lt (length classes.now) MOST_CLASSES ≡ true) (λ e. (nat_lt (length classes.now) MOST_CLASSES ≡ false) × (is_memory e ≡ false)) }
+    ensures { MatchResult result (λ _. nat_lt (length classes.now) most_classes ≡ true) (λ e. (nat_lt (length classes.now) most_classes ≡ false) × (is_memory e ≡ false)) }
 {
     if classes.is_full() {
         return Err(MapFault::TooMany);
@@ -373,9 +407,9 @@ impl Parser<'_> {
     }
 
     /// Reads the names of the features' attributes (MapServer mapfile reference, PROCESSING): what follows `ITEMS=` in a text.
-    #[tactic(auto, unfolding(crate::specs::Layer::attribute_names))]
+    #[tactic(auto, unfolding(crate::specs::Layer::processing))]
     fn attribute_names(&mut self) -> Result<Text, MapFault>
-        ensures { Gives (λ t. (t, self.new)) result (attribute_names self.old) }
+        ensures { Gives (λ t. (t, self.new)) result (processing self.old) }
     {
         let place = self.place();
         let text = self.text()?;

@@ -1,9 +1,9 @@
 //! The layers of a map while it is read.
 ghost use Rattle.std.specs.Prelude.{◌≡◌, ◌<◌, ◌≤◌, ◌↔◌, [], IfOk, IsTrue, OnErr, OnOk, Some, None, if◌then◌else◌, false, length, sum_by};
 ghost use Rattle.wf_def.specs.Limits.{has_layer, points_of_feature, IsLayerName};
-ghost use Rattle.wf_def.specs.declared.limits.TheConstants.{MOST_FEATURES, MOST_LAYERS, MOST_POINTS};
 ghost use Rattle.wf_mapfile.specs.Layer.{is_layer_name};
 ghost use Rattle.wf_mapfile.specs.Room.{behind};
+ghost use Rattle.wf_def.specs.Limit.{most_features, most_layers, most_points};
 
 use crate::room::Room;
 use std::alloc::{AllocError, Global};
@@ -82,7 +82,7 @@ impl Model for Layers {
 impl Layers {
     /// No layers, and room for as much as a map may have.
     pub fn new(alloc: Global) -> Self
-        ensures { result ≡ record { layers = []; room = record { features = MOST_FEATURES; points = MOST_POINTS } } }
+        ensures { result ≡ record { layers = []; room = record { features = most_features; points = most_points } } }
     {
         Layers {
             entries: Vec::new(alloc),
@@ -95,7 +95,7 @@ impl Layers {
 
     /// Whether there is no room for another layer.
     pub fn is_full(&self) -> bool
-        ensures { IsTrue result ↔ (MOST_LAYERS ≤ length self.now.layers) }
+        ensures { IsTrue result ↔ (most_layers ≤ length self.now.layers) }
     {
         self.entries.len() >= MOST_LAYERS
     }
@@ -122,7 +122,7 @@ impl Layers {
 
     /// Puts a layer behind the others, where it may stand there. After want of memory they are as they were.
     pub fn push(&mut self, name: LayerName, layer: Layer) -> Result<(), AllocError>
-        requires room { length self.old.layers < MOST_LAYERS }
+        requires room { length self.old.layers < most_layers }
         requires new { has_layer self.old.layers name ≡ false }
         requires features { length layer.features ≤ self.old.room.features }
         requires points { sum_by points_of_feature layer.features ≤ self.old.room.points }

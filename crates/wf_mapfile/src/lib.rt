@@ -36,4 +36,4 @@ mod style;
 pub mod token;
 mod web;
 
-pub use reader::{MOST_MAPFILE_BYTES, read};
+pub use reader::{MOST_MAPFILE_BYTES, limit_of_mapfiles, read};

@@ -1,12 +1,12 @@
 //! MAP: a map's definition.
 ghost use Rattle.std.specs.Prelude.{◌≡◌, [], None, IfOk, MatchResult, true, false, codes, length, nat_lt, unwrap_or};
 ghost use Rattle.wf_def.specs.Text.{IsText};
-ghost use Rattle.wf_def.specs.declared.limits.TheConstants.{MOST_FEATURES, MOST_LAYERS, MOST_POINTS};
 ghost use Rattle.wf_mapfile.specs.Map.{definition, extent, map, projection, two_numbers};
 ghost use Rattle.wf_mapfile.specs.Reading.{Gives, is_memory};
 ghost use Rattle.wf_mapfile.specs.Slots.{map_filled, map_take};
 ghost use Rattle.wf_mapfile.specs.Web.{no_metadata};
 ghost use Rattle.wf_mapfile.specs.declared.keyword.MapKeyword.TheVariants as maps;
+ghost use Rattle.wf_def.specs.Limit.{most_features, most_layers, most_points};
 
 use crate::block::{Slots, fill_block, vacant};
 use crate::fault::MapFault;
@@ -139,7 +139,7 @@ impl MapSlots {
 
 /// Refuses another layer where there is no room for it.
 fn layer_room(layers: &Layers) -> Result<(), MapFault>
-    ensures { MatchResult result (λ _. nat_lt (length layers.now.layers) MOST_LAYERS ≡ true) (λ e. (nat_lt (length layers.now.layers) MOST_LAYERS ≡ false) × (is_memory e ≡ false)) }
+    ensures { MatchResult result (λ _. nat_lt (length layers.now.layers) most_layers ≡ true) (λ e. (nat_lt (length layers.now.layers) most_layers ≡ false) × (is_memory e ≡ false)) }
 {
     if layers.is_full() {
         return Err(MapFault::TooMany);
@@ -149,7 +149,7 @@ fn layer_room(layers: &Layers) -> Result<(), MapFault>
 
 impl MapSlots {
     fn new(alloc: Global) -> Self
-        ensures { result ≡ record { name = None; extent = None; projection = None; web = None; layers = record { layers = []; room = record { features = MOST_FEATURES; points = MOST_POINTS } }; size = None; image_color = None; units = None; status = None; image_type = None; shape_path = None } }
+        ensures { result ≡ record { name = None; extent = None; projection = None; web = None; layers = record { layers = []; room = record { features = most_features; points = most_points } }; size = None; image_color = None; units = None; status = None; image_type = None; shape_path = None } }
     {
         MapSlots {
             name: None,

@@ -1,8 +1,8 @@
 //! The reader of whole files.
-ghost use Rattle.std.specs.Prelude.{◌≡◌, false, true, IfErr, IfOk, OnErr, OnOk};
+ghost use Rattle.std.specs.Prelude.{◌≡◌, ◌<◌, ◌≤◌, false, true, length, Err, IfErr, IfOk, OnErr, OnOk};
 ghost use Rattle.std.specs.Str.{is_utf8};
-ghost use Rattle.wf_mapfile.specs.Meaning.{Means, MeansNothing, file, meaning};
-ghost use Rattle.wf_mapfile.specs.Reading.{Gives, is_memory};
+ghost use Rattle.wf_mapfile.specs.Meaning.{Means, MeansNothing, file, meaning, longest_mapfile};
+ghost use Rattle.wf_mapfile.specs.Reading.{Gives, IsNotUtf8, is_memory};
 
 use crate::fault::MapFault;
 use crate::keyword::is_name;
@@ -15,11 +15,20 @@ use wf_def::map::MapDef;
 /// The longest mapfile, in bytes.
 pub const MOST_MAPFILE_BYTES: usize = 65_536;
 
+/// The constant is the number that the definitions name. A law: the call does nothing.
+pub fn limit_of_mapfiles()
+    ensures { MOST_MAPFILE_BYTES ≡ longest_mapfile }
+{}
+
 /// Reads a mapfile (MapServer mapfile reference): what it means, or the first fault from the left.
 ///
-/// `TooLong` is checked first, `NotUtf8` second; after these the file is judged token by token, and a missing keyword at the END of
-/// its block. `Memory` tells nothing of the file. Each byte is looked at a bounded number of times.
+/// `TooLong` is checked first, `NotUtf8` second, both without memory; after these the file is judged token by token, and a missing
+/// keyword at the END of its block. `Memory` tells nothing more of the file. Each byte is looked at a bounded number of times.
 pub fn read(alloc: Global, bytes: &[u8]) -> Result<MapDef, MapFault>
+    // Over 65,536 bytes nothing else is looked at.
+    ensures too_long { longest_mapfile < length bytes.now → result ≡ Err MapFault.TooLong }
+    // Within them, bytes that are no UTF-8 are refused for that, before anything is read.
+    ensures not_utf8 { length bytes.now ≤ longest_mapfile → is_utf8 bytes.now ≡ false → IsNotUtf8 result }
     // What is read is what the bytes mean.
     ensures meant { IfOk result (λ map. Means bytes.now map) }
     // A fault other than want of memory comes only where the bytes mean no map.
@@ -31,7 +40,9 @@ pub fn read(alloc: Global, bytes: &[u8]) -> Result<MapDef, MapFault>
 /// What the bytes mean, or the first fault.
 #[tactic(auto, unfolding(crate::specs::Meaning::meaning))]
 fn read_meaning(alloc: Global, bytes: &[u8]) -> Result<MapDef, MapFault>
-    ensures { Gives (λ map. map) result (meaning bytes.now) }
+    ensures too_long { longest_mapfile < length bytes.now → result ≡ Err MapFault.TooLong }
+    ensures not_utf8 { length bytes.now ≤ longest_mapfile → is_utf8 bytes.now ≡ false → IsNotUtf8 result }
+    ensures meaning { Gives (λ map. map) result (meaning bytes.now) }
 {
     if bytes.len() > MOST_MAPFILE_BYTES {
         return Err(MapFault::TooLong);
@@ -49,7 +60,7 @@ fn read_meaning(alloc: Global, bytes: &[u8]) -> Result<MapDef, MapFault>
 /// Refuses what isn't UTF-8.
 fn check_utf8(bytes: &[u8]) -> Result<(), MapFault>
     ensures ok { OnOk result (is_utf8 bytes.now ≡ true) }
-    ensures err { OnErr result (is_utf8 bytes.now ≡ false) }
+    ensures err { OnErr result ((is_utf8 bytes.now ≡ false) × IsNotUtf8 result) }
 {
     match str::from_utf8(bytes) {
         Ok(_) => Ok(()),
@@ -57,8 +68,11 @@ fn check_utf8(bytes: &[u8]) -> Result<(), MapFault>
     }
 }
 
-/// The first fault of a file whose tokens end at a fault: the parser's, unless the parser came to that place.
-fn first_fault(parsed: Result<MapDef, MapFault>, no_tokens: bool, lexed: LexFault) -> MapFault {
+/// The first fault of a file whose tokens end at a fault: the parser's, unless the parser came to that place. Want of memory is
+/// answered only where the parser wanted it.
+fn first_fault(parsed: Result<MapDef, MapFault>, no_tokens: bool, lexed: LexFault) -> MapFault
+    ensures { is_memory result ≡ true → parsed ≡ Err result }
+{
     match parsed {
         Ok(_) | Err(MapFault::MissingEnd(_)) => lexed.into(),
         Err(fault) => { if no_tokens { lexed.into() } else { fault } }
@@ -66,6 +80,11 @@ fn first_fault(parsed: Result<MapDef, MapFault>, no_tokens: bool, lexed: LexFaul
 }
 
 impl From<LexFault> for MapFault {
+    ghost use Rattle.std.specs.Prelude.{◌≡◌, false};
+    ghost use Rattle.wf_mapfile.specs.Reading.{is_memory};
+
+    ghost from_gives = { λ _ e. is_memory e ≡ false };
+
     fn from(fault: LexFault) -> MapFault {
         match fault.kind {
             LexFaultKind::BadToken => MapFault::BadToken(fault.place),

@@ -1,5 +1,5 @@
 -- What a node keeps on its tape: records, and what they stand for.
-use Rattle.std.specs.Prelude.{ℕ, zero, suc, ◌+◌, Bool, true, List, [], ◌∷◌, ◌++◌, length, slice_get, Option, Some, None, ◌==◌, nat_lt, if◌then◌else◌}
+use Rattle.std.specs.Prelude.{◌≡◌, ℕ, zero, suc, ◌+◌, Bool, true, List, [], ◌∷◌, ◌++◌, length, slice_get, Option, Some, None, ◌==◌, nat_lt, if◌then◌else◌}
 use Rattle.wf_ballot.specs.Ballot.{Ballot}
 use Rattle.wf_model.specs.Message.{Vote}
 
@@ -28,6 +28,11 @@ published stored = length stored.history
 
 unfoldable pub next_sequence : {V : Type 0} → Stored V → ℕ
 next_sequence stored = published stored + 1
+
+-- the stored part has this round tried and this sequence published
+pub record HasStored {V : Type 0} (stored : Stored V) (round sequence : ℕ) : Type 0 where
+  pub tried : stored.tried ≡ round
+  pub up_to : published stored ≡ sequence
 
 -- the published definition of a sequence, counted from 1
 unfoldable pub definition_at : {V : Type 0} → List V → ℕ → Option V

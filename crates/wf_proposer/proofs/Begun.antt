@@ -2,13 +2,12 @@
 use Rattle.std.proofs.Common.{◌≡◌, ℕ, ◌+◌, max, Result, Ok, Err, IfOk, ap, sym, subst, ◌∙◌}
 use Rattle.wf_def.specs.Definition.{Definition}
 use Rattle.wf_model.specs.Fits.{IsForNext}
-use Rattle.wf_model.specs.Stored.{Stored, next_sequence}
+use Rattle.wf_model.specs.Stored.{HasStored, Stored, next_sequence}
 use Rattle.wf_model.specs.Table.{begin_at, stores, on_propose, on_retry, round_known}
 use Rattle.wf_model.specs.Working as model
 use Rattle.wf_model.specs.Working.{nobody}
 use Rattle.wf_proposer.specs.Next.{Next, begun, row_at}
 use Rattle.wf_proposer.specs.Proposal.{proposal_of}
-use Rattle.wf_proposer.specs.Proposer.{HasStored}
 use Rattle.wf_proposer.specs.Working.{working_of}
 use Rattle.wf_proposer.specs.declared.proposal.Proposal.{Proposal}
 use Rattle.wf_proposer.specs.declared.refusal.Refusal.{Refusal}

@@ -4,6 +4,5 @@ pub mod Working
 pub mod Change
 pub mod Next
 pub mod Refusal
-pub mod Same
 pub mod Standing
 pub mod Proposer

@@ -17,7 +17,8 @@ use Rattle.wf_proposer.specs.declared.working.Working.TheVariants.{Running}
 use Rattle.wf_proposer.specs.declared.change.Change.{Change}
 use Rattle.wf_proposer.specs.declared.change.Change.TheVariants.{Becomes}
 
--- the record to store, the messages to hand out after that, and what a commit does to the working part
+-- the entry is the record to store, None where there is none; then the messages to hand out after that, and what a commit does
+-- to the working part
 pub record Next : Type 0 where
   pub entry : Option Record
   pub messages : List Message

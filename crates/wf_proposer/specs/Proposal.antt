@@ -1,4 +1,6 @@
 -- A running proposal, as the farm's model has it.
+use Rattle.std.specs.Prelude.{Bool, true, Option, Some, None}
+use Rattle.wf_ballot.specs.Ballot.{Ballot, below}
 use Rattle.wf_def.specs.Definition.{Definition}
 use Rattle.wf_codec.specs.Message.{view_vote}
 use Rattle.wf_model.specs.Working as model
@@ -23,3 +25,8 @@ proposal_of p =
       best = view_vote p.best;
       seen = p.seen;
     }
+
+-- whether a vote at the ballot is better than the best so far
+abbrev pub is_improved_by : Ballot → Option (Ballot × Definition) → Bool
+is_improved_by b None = true
+is_improved_by b (Some best) = below best.0 b

@@ -1,14 +1,14 @@
-ghost use Rattle.std.specs.Prelude.{◌≡◌, ◌+◌, ◌<◌, true, Err, IfOk, IsErr};
+ghost use Rattle.std.specs.Prelude.{◌≡◌, ◌+◌, ◌<◌, true, if◌then◌else◌, Err, IfOk, IsErr};
 ghost use Rattle.wf_ballot.specs.Sequence.{last_sequence};
 ghost use Rattle.wf_codec.specs.Message.{view_vote};
 ghost use Rattle.wf_def.specs.Definition.{Definition};
+ghost use Rattle.wf_def.specs.Equality.{definition_eq};
 ghost use Rattle.wf_model.specs.Fits.{IsForNext};
-ghost use Rattle.wf_model.specs.Stored.{Stored};
+ghost use Rattle.wf_model.specs.Stored.{HasStored, Stored};
 ghost use Rattle.wf_model.specs.Table as table;
 ghost use Rattle.wf_model.specs.Working as model;
-ghost use Rattle.wf_proposer.specs.Proposer.{HasStored, RunsForNoOther, committed, is_heard, row_of, working_of};
+ghost use Rattle.wf_proposer.specs.Proposer.{is_heard, row_of, runs_for, working_of};
 ghost use Rattle.wf_proposer.specs.Refusal.{refused_by};
-ghost use Rattle.wf_proposer.specs.Same.{same_text, SameTextIsEquality};
 ghost use Rattle.wf_proposer.specs.Standing.{standing_of};
 
 use crate::change::Change;
@@ -65,7 +65,10 @@ impl Proposer {
         ensures row { (stored : Stored Definition) → HasStored stored tried published → IfOk result (λ next. row_of self.now next ≡ table.on_propose self.now.node stored own) }
     {
         match &self.working {
-            Working::Running(_) => Err(Refusal::Busy),
+            Working::Running(_) => {
+                drop(own);
+                Err(Refusal::Busy)
+            }
             Working::Idle => Proposal::first(alloc, self.node, slot_after(published), own, tried),
             Working::Published(_) => {
                 Proposal::first(alloc, self.node, slot_after(published), own, tried)
@@ -125,7 +128,7 @@ impl Proposer {
         ballot: Ballot,
     ) -> Result<Next, Refusal>
         ensures memory { IsErr result → (is_heard self.now.nodes (working_of self.now) model.Accepting from slot ballot ≡ true) × (result ≡ Err Refusal.Memory) }
-        ensures row { IfOk result (λ next. row_of self.now next ≡ table.on_accepted same_text self.now.nodes (working_of self.now) from slot ballot) }
+        ensures row { IfOk result (λ next. row_of self.now next ≡ table.on_accepted definition_eq self.now.nodes (working_of self.now) from slot ballot) }
     {
         match &self.working {
             Working::Running(proposal) => {
@@ -153,7 +156,9 @@ impl Proposer {
     /// Makes the working part of an answer the node's, and gives back the record, which is stored by now,
     /// and the messages to hand out. It takes no memory.
     pub fn commit(&mut self, next: Next) -> (Option<Record>, Vec<Message>)
-        ensures working { self.new ≡ committed self.old next }
+        ensures working { working_of self.new ≡ (row_of self.old next).working }
+        ensures node { self.new.node ≡ self.old.node }
+        ensures nodes { self.new.nodes ≡ self.old.nodes }
         ensures entry { result.0 ≡ next.entry }
         ensures messages { result.1.items ≡ next.messages }
     {
@@ -165,15 +170,15 @@ impl Proposer {
     /// The definition is published at the slot: a proposal that runs for the slot ends. It takes no memory.
     #[tactic(auto, unfolding(wf_model::specs::Table::ends))]
     pub fn on_published(&mut self, slot: Slot, canon: &Canon)
-        ensures ends { RunsForNoOther slot (working_of self.old) → working_of self.new ≡ table.ends same_text (working_of self.old) canon.now }
-        ensures other { (RunsForNoOther slot (working_of self.old) → ⊥) → self.new ≡ self.old }
-        ensures node { self.new ≡ record self.old { working = self.new.working } }
+        ensures working { working_of self.new ≡ (if runs_for slot (working_of self.old) then table.ends definition_eq (working_of self.old) canon.now else working_of self.old) }
+        ensures node { self.new.node ≡ self.old.node }
+        ensures nodes { self.new.nodes ≡ self.old.nodes }
     {
         match &self.working {
             Working::Running(proposal) => {
                 if proposal.slot == slot {
                     let ended = proposal.ended(canon);
-                    self.working = ended;
+                    self.working.becomes(ended);
                 }
             }
             Working::Idle => {}
@@ -189,13 +194,4 @@ fn slot_after(published: Seq) -> Slot
     ensures { result ≡ published + 1 }
 {
     Slot::new(published.number() + 1).unwrap()
-}
-
-/// Two definitions have one canonical text exactly where they are equal. A law about the definitions: the
-/// call does nothing.
-#[tactic(auto, unfolding(crate::specs::Same::same_text))]
-pub fn same_text_is_equality()
-    ensures { SameTextIsEquality }
-{
-    wf_canon::one_text_one_map();
 }

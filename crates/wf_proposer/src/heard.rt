@@ -30,13 +30,6 @@ impl Heard {
         }
     }
 
-    /// Nobody is heard any more.
-    pub fn clear(&mut self)
-        ensures { self.new ≡ [] }
-    {
-        self.nodes.clear();
-    }
-
     /// Was the node of this number heard?
     pub fn contains(&self, number: u8) -> bool
         ensures { result ≡ among self.now number }

@@ -2,9 +2,9 @@
 //!
 //! Its model: a `Proposer` is seen as its node, the farm's number of nodes and what it holds; `working_of`
 //! (`specs/Proposer.antt`) reads that as the working part of the farm's model, with the list of heard nodes
-//! as the set of its members. A `Next` is seen as its record, its messages and its change; `committed` is the
-//! proposer once the change is made, and `row_of` reads the answer as a row of the model's table: the record,
-//! the messages and the working part once it is committed.
+//! as the set of its members. A `Next` is seen as its entry (the record to store, if there is one), its
+//! messages and its change; `row_of` reads it as a row of the model's table: the entry, the messages and the
+//! working part once it is committed.
 //!
 //! It promises that each call answers the row of the model's table, as a function of the working part and
 //! the input, and refuses exactly where the table does, want of memory aside; that a call which answers
@@ -26,7 +26,6 @@ mod row;
 mod standing;
 mod working;
 
-pub use call::same_text_is_equality;
 pub use next::Next;
 pub use proposer::Proposer;
 pub use refusal::Refusal;

@@ -29,3 +29,14 @@ pub struct Proposal {
     /// The highest round that a Nack told, 0 before the first.
     pub seen: u32,
 }
+
+/// How far a running proposal has come.
+#[derive(Drop)]
+pub struct Progress {
+    /// What it asked for.
+    pub phase: Phase,
+    /// The nodes heard in this phase.
+    pub heard: Heard,
+    /// A vote that was told and is better than the best so far, if there is one.
+    pub better: Option<(Ballot, Canon)>,
+}

@@ -2,28 +2,28 @@ ghost use Rattle.std.specs.Prelude.{max, [], ◌∷◌, ◌≡◌, ℕ, ◌+◌,
 ghost use Rattle.wf_ballot.specs.Ballot.{last_round};
 ghost use Rattle.wf_codec.specs.Message.{view_vote};
 ghost use Rattle.wf_def.specs.Definition.{Definition};
+ghost use Rattle.wf_def.specs.Equality.{definition_eq};
 ghost use Rattle.wf_model.specs.Message.{Chosen};
 ghost use Rattle.wf_model.specs.Stored as stored_part;
 ghost use Rattle.wf_model.specs.Working as model;
 ghost use Rattle.wf_model.specs.Table as table;
-ghost use Rattle.wf_proposer.specs.Change.{best_now};
+ghost use Rattle.wf_proposer.specs.Change.{advanced, best_now, changed, with_progress, with_seen};
 ghost use Rattle.wf_proposer.specs.Next.{begun, row_at};
-ghost use Rattle.wf_proposer.specs.Proposal.{phase_of, proposal_of};
+ghost use Rattle.wf_proposer.specs.Proposal.{is_improved_by, phase_of, proposal_of};
 ghost use Rattle.wf_proposer.specs.Refusal.{refused_by};
-ghost use Rattle.wf_proposer.specs.Same.{same_text};
 ghost use Rattle.wf_proposer.specs.Working.{working_of};
-ghost use Rattle.wf_proposer.specs.Change.{asking, changed, with_heard, with_seen};
 ghost use Rattle.wf_proposer.specs.declared.proposal.Phase.TheVariants.{Accepting};
 ghost use Rattle.wf_proposer.specs.declared.working.Working.TheVariants.{Running};
 
 use crate::change::Change;
 use crate::heard::Heard;
 use crate::next::Next;
-use crate::proposal::{Phase, Proposal};
+use crate::proposal::{Phase, Progress, Proposal};
 use crate::refusal::Refusal;
 use crate::working::Working;
 use std::alloc::{AllocError, Global};
-use wf_ballot::{Ballot, NodeId, Slot};
+use std::mem::replace;
+use wf_ballot::{Ballot, NodeId, Round, Slot};
 use wf_canon::Canon;
 use wf_codec::Message;
 use wf_tape::Record;
@@ -42,7 +42,7 @@ impl Proposal {
             best: None,
             seen: 0,
         };
-        let tried = Record::Tried(ballot.round());
+        let tried = Record::Tried(Round::of(ballot));
         let message = Message::Prepare(slot, ballot);
         let change = Change::Becomes(Working::Running(proposal));
         Next::says(alloc, Some(tried), message, change)
@@ -77,7 +77,10 @@ impl Proposal {
         ensures row { IfOk result (λ next. next ≡ begun slot own (record { round = tried + 1; node = node })) }
     {
         match Ballot::next(tried, node) {
-            None => Err(Refusal::RoundsFull),
+            None => {
+                drop(own);
+                Err(Refusal::RoundsFull)
+            }
             Some(ballot) => {
                 let next = Proposal::begin(alloc, slot, own, ballot)?;
                 Ok(next)
@@ -85,26 +88,20 @@ impl Proposal {
         }
     }
 
-    /// These nodes are heard; and this vote, if any, is the best.
-    pub fn hear(&mut self, heard: Heard, vote: Option<(Ballot, Canon)>)
-        ensures { self.new ≡ record self.old { heard = heard; best = best_now vote self.old.best } }
+    /// It has come so far.
+    pub fn advance(&mut self, progress: Progress)
+        ensures { self.new ≡ advanced progress self.old }
     {
-        self.heard = heard;
-        match vote {
+        let Progress {
+            phase,
+            heard,
+            better,
+        } = progress;
+        drop(replace(&mut self.heard, heard));
+        self.phase = phase;
+        match better {
             None => {}
-            Some(vote) => self.best = Some(vote),
-        }
-    }
-
-    /// Votes are asked for, and nobody is heard of that; this vote, if any, is the best.
-    pub fn ask_votes(&mut self, vote: Option<(Ballot, Canon)>)
-        ensures { self.new ≡ record self.old { phase = Accepting; heard = []; best = best_now vote self.old.best } }
-    {
-        self.phase = Phase::Accepting;
-        self.heard.clear();
-        match vote {
-            None => {}
-            Some(vote) => self.best = Some(vote),
+            Some(vote) => drop(self.best.replace(vote)),
         }
     }
 
@@ -139,6 +136,16 @@ impl Proposal {
             && !self.heard.contains(from.number())
     }
 
+    /// Is a vote at the ballot better than the best so far?
+    pub fn is_improved_by(&self, ballot: Ballot) -> bool
+        ensures { result ≡ is_improved_by ballot self.now.best }
+    {
+        match &self.best {
+            None => true,
+            Some((best, _)) => best.is_below(ballot),
+        }
+    }
+
     /// The vote, if it is better than the best so far: at a higher ballot.
     #[tactic(auto, unfolding(wf_model::specs::Working::better))]
     pub fn improvement(&self, vote: Option<(Ballot, Canon)>) -> Option<(Ballot, Canon)>
@@ -146,16 +153,14 @@ impl Proposal {
     {
         match vote {
             None => None,
-            Some((ballot, canon)) => match &self.best {
-                None => Some((ballot, canon)),
-                Some((best, _)) => {
-                    if best.is_below(ballot) {
-                        Some((ballot, canon))
-                    } else {
-                        None
-                    }
+            Some((ballot, canon)) => {
+                if self.is_improved_by(ballot) {
+                    Some((ballot, canon))
+                } else {
+                    drop(canon);
+                    None
                 }
-            },
+            }
         }
     }
 
@@ -175,11 +180,11 @@ impl Proposal {
     }
 
     /// How the proposal ends where the definition is published at its slot.
-    #[tactic(auto, unfolding(wf_model::specs::Table::ended, crate::specs::Same::same_text))]
+    #[tactic(auto, unfolding(wf_model::specs::Table::ended))]
     pub fn ended(&self, canon: &Canon) -> Working
-        ensures { working_of result ≡ table.ended same_text (proposal_of self.now) canon.now }
+        ensures { working_of result ≡ table.ended definition_eq (proposal_of self.now) canon.now }
     {
-        if self.own.text() == canon.text() {
+        if self.own == *canon {
             Working::Published(self.slot)
         } else {
             Working::Overtaken(self.slot)
@@ -241,25 +246,41 @@ impl Proposal {
         ensures { IfOk result (λ next. row_at (Running self.now) next ≡ table.promised n (proposal_of (record self.now { heard = heard; best = best_now better self.now.best }))) }
     {
         if !heard.is_majority(n) {
-            return Ok(Next::quiet(alloc, Change::Hears(heard, better)));
+            return Ok(Next::quiet(alloc, self.hearing(heard, better)));
         }
         drop(heard);
         let next = self.asks_votes(alloc, better)?;
         Ok(next)
     }
 
-    /// Votes are asked for, where this vote, if any, is the best.
+    /// These nodes are heard, and this vote, if any, is the best.
+    fn hearing(&self, heard: Heard, better: Option<(Ballot, Canon)>) -> Change
+        ensures { result ≡ Change.Advances (record { phase = self.now.phase; heard = heard; better = better }) }
+    {
+        Change::Advances(Progress {
+            phase: self.phase,
+            heard,
+            better,
+        })
+    }
+
+    /// Votes are asked for, where this vote, if any, is the best. Nobody is heard of that yet.
     fn asks_votes(&self, alloc: Global, better: Option<(Ballot, Canon)>) -> Result<Next, AllocError>
         ensures { IfOk result (λ next. next ≡ record {
           entry = None;
           messages = Message.Accept self.now.slot self.now.ballot (model.carried (view_vote (best_now better self.now.best)) self.now.own) ∷ [];
-          change = Change.AsksVotes better;
+          change = Change.Advances (record { phase = Accepting; heard = []; better = better });
         }) }
     {
         match self.carried(&better).copy() {
             Ok(canon) => {
                 let message = Message::Accept(self.slot, self.ballot, canon);
-                Next::says(alloc, None, message, Change::AsksVotes(better))
+                let progress = Progress {
+                    phase: Phase::Accepting,
+                    heard: Heard::nobody(alloc),
+                    better,
+                };
+                Next::says(alloc, None, message, Change::Advances(progress))
             }
             Err(fault) => {
                 drop(better);
@@ -280,7 +301,7 @@ impl Proposal {
         ballot: Ballot,
     ) -> Result<Next, Refusal>
         ensures memory { IsErr result → (table.hears n (proposal_of self.now) model.Accepting from slot ballot ≡ true) × (result ≡ Err Refusal.Memory) }
-        ensures row { IfOk result (λ next. row_at (Running self.now) next ≡ table.on_accepted same_text n (model.Running (proposal_of self.now)) from slot ballot) }
+        ensures row { IfOk result (λ next. row_at (Running self.now) next ≡ table.on_accepted definition_eq n (model.Running (proposal_of self.now)) from slot ballot) }
     {
         if !self.hears(Phase::Accepting, n, from, slot, ballot) {
             return Ok(Next::quiet(alloc, Change::Nothing));
@@ -292,10 +313,10 @@ impl Proposal {
     /// What follows once these nodes voted.
     #[tactic(auto, unfolding(wf_model::specs::Table::voted, wf_model::specs::Table::ended, wf_model::specs::Table::stores, wf_model::specs::Table::quiet))]
     fn voted(&self, alloc: Global, n: u8, heard: Heard) -> Result<Next, AllocError>
-        ensures { IfOk result (λ next. row_at (Running self.now) next ≡ table.voted same_text n (proposal_of (record self.now { heard = heard }))) }
+        ensures { IfOk result (λ next. row_at (Running self.now) next ≡ table.voted definition_eq n (proposal_of (record self.now { heard = heard }))) }
     {
         if !heard.is_majority(n) {
-            return Ok(Next::quiet(alloc, Change::Hears(heard, None)));
+            return Ok(Next::quiet(alloc, self.hearing(heard, None)));
         }
         drop(heard);
         self.publishes(alloc, self.carried(&None))
@@ -304,14 +325,20 @@ impl Proposal {
     /// The definition is published, and the proposal ends.
     #[tactic(auto, unfolding(wf_model::specs::Table::stores))]
     fn publishes(&self, alloc: Global, canon: &Canon) -> Result<Next, AllocError>
-        ensures { IfOk result (λ next. row_at (Running self.now) next ≡ table.stores (table.ended same_text (proposal_of self.now) canon.now) (stored_part.Published self.now.slot canon.now) (Chosen self.now.slot canon.now)) }
+        ensures { IfOk result (λ next. row_at (Running self.now) next ≡ table.stores (table.ended definition_eq (proposal_of self.now) canon.now) (stored_part.Published self.now.slot canon.now) (Chosen self.now.slot canon.now)) }
     {
-        let stored = canon.copy()?;
-        let told = canon.copy()?;
-        let published = Record::Published(self.slot, stored);
-        let message = Message::Chosen(self.slot, told);
-        let change = Change::Becomes(self.ended(canon));
-        Next::says(alloc, Some(published), message, change)
+        let published = Record::Published(self.slot, canon.copy()?);
+        match canon.copy() {
+            Ok(told) => {
+                let message = Message::Chosen(self.slot, told);
+                let change = Change::Becomes(self.ended(canon));
+                Next::says(alloc, Some(published), message, change)
+            }
+            Err(fault) => {
+                drop(published);
+                Err(fault)
+            }
+        }
     }
 
     /// A node promised a higher ballot: the highest round told is kept for the next try. It takes no memory.
@@ -333,28 +360,28 @@ impl Working {
     {
         match change {
             Change::Nothing => {}
-            Change::Becomes(next) => *self = next,
-            Change::Hears(heard, vote) => self.hear(heard, vote),
-            Change::AsksVotes(vote) => self.ask_votes(vote),
+            Change::Becomes(next) => self.becomes(next),
+            Change::Advances(progress) => self.advance(progress),
             Change::Sees(round) => self.see(round),
         }
     }
 
-    fn hear(&mut self, heard: Heard, vote: Option<(Ballot, Canon)>)
-        ensures { self.new ≡ with_heard heard vote self.old }
+    /// This is the working part now. What it was is let go by one call: dropped in place, its parts make each
+    /// proof long.
+    pub fn becomes(&mut self, next: Working)
+        ensures { self.new ≡ next }
     {
-        match self {
-            Working::Running(proposal) => proposal.hear(heard, vote),
-            _ => drop((heard, vote)),
-        }
+        drop(replace(self, next));
     }
 
-    fn ask_votes(&mut self, vote: Option<(Ballot, Canon)>)
-        ensures { self.new ≡ asking vote self.old }
+    fn advance(&mut self, progress: Progress)
+        ensures { self.new ≡ with_progress progress self.old }
     {
         match self {
-            Working::Running(proposal) => proposal.ask_votes(vote),
-            _ => drop(vote),
+            Working::Running(proposal) => proposal.advance(progress),
+            Working::Idle => drop(progress),
+            Working::Published(_) => drop(progress),
+            Working::Overtaken(_) => drop(progress),
         }
     }
 

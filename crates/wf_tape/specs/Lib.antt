@@ -1,1 +1,10 @@
+pub mod Tape
+pub mod MemoryTape
+pub mod Kind
 pub mod Record
+pub mod Spelling
+pub mod Records
+pub mod Judging
+pub mod Front
+pub mod OpenFault
+pub mod Journal

@@ -1,14 +1,14 @@
 ghost use Rattle.std.specs.Prelude.{◌≡◌, IfOk};
 
 use std::alloc::AllocError;
-use wf_ballot::{Ballot, Slot};
+use wf_ballot::{Ballot, Round, Slot};
 use wf_canon::Canon;
 
 /// One entry of a node's tape. What a node stored is what its records say, the oldest first.
 #[derive(Drop)]
 pub enum Record {
     /// The node tries this round: it never begins a proposal in it again.
-    Tried(u32),
+    Tried(Round),
     /// The node promised the ballot at the slot: it takes part in none below it there.
     Promised(Slot, Ballot),
     /// The node voted for the definition at the slot and the ballot, which it promised too.

@@ -6,6 +6,7 @@ use std::io::{ErrorKind, Read, Write};
 use wf_canon::CanonFault;
 use wf_commands::fault::RunFault;
 use wf_commands::run::run_canon;
+use wf_commands::stream::Stream;
 use wf_mapfile::fault::MapFault;
 
 /// A mapfile of the map `a`: 63 bytes.
@@ -89,7 +90,11 @@ fn run_once(
         calls: 0,
         failing: failing_write,
     };
-    let outcome = run_canon(alloc, &mut reader, &mut writer);
+    let outcome = run_canon(
+        alloc,
+        &mut Stream::new(&mut reader),
+        &mut Stream::new(&mut writer),
+    );
     (outcome, writer.awaited.len())
 }
 

@@ -1,8 +1,8 @@
-//! What no table of cases can say: sequences of calls on one value, and calls that are made once more
-//! after they found no memory.
+//! What no table of cases can say: readers and writers that fail, copies, comparisons that hold for none of
+//! a list, and calls that are made once more after they found no memory.
 //!
-//! It has nothing but tests, so that no other crate is proved with its tests too. A test here is one
-//! sequence; cases of one call each are data of the programs that read tables of cases.
+//! It has nothing but tests, so that no other crate is proved with its tests too. What goes in and comes out
+//! as text, also a script of calls on one value, is data of the programs that read tables of cases.
 #![tactic(auto)]
 
 #[cfg(test)]
@@ -11,5 +11,7 @@ mod commands;
 mod map;
 #[cfg(test)]
 mod record;
+#[cfg(test)]
+mod tape;
 #[cfg(test)]
 mod value;

@@ -1,5 +1,5 @@
 //! Copies of records.
-use crate::value::{MAP_A, ballot, map, slot};
+use crate::value::{MAP_A, ballot, map, round, slot};
 use std::process::Abort;
 use wf_ballot::{Ballot, Slot};
 use wf_tape::Record;
@@ -7,7 +7,7 @@ use wf_tape::Record;
 /// A record's numbers: its kind, round or slot, ballot's round and ballot's node.
 fn numbers(record: &Record) -> (&'static str, u32, u32, u8) {
     match record {
-        Record::Tried(round) => ("tried", *round, 0, 0),
+        Record::Tried(round) => ("tried", round.number(), 0, 0),
         Record::Promised(slot, ballot) => numbers_at("promised", *slot, *ballot),
         Record::Accepted(slot, ballot, _) => numbers_at("accepted", *slot, *ballot),
         Record::Published(slot, _) => ("published", u32::from(slot.number()), 0, 0),
@@ -53,7 +53,7 @@ fn copies(
 
 #[test]
 fn a_copy_has_the_kind_and_the_numbers(rt: HostRuntime) {
-    let tried = Record::Tried(4_294_967_295);
+    let tried = Record::Tried(round(&rt, 4_294_967_295));
     assert!(rt; copies(&rt, tried, ("tried", 4_294_967_295, 0, 0), None));
     let promised = Record::Promised(slot(&rt, 4096), ballot(&rt, 7, 63));
     assert!(rt; copies(&rt, promised, ("promised", 4096, 7, 63), None));

@@ -1,25 +1,26 @@
-//! The nodes, slots, ballots and definitions of the tests. What found no memory is made once more.
+//! The nodes, slots, rounds, ballots and definitions of the tests. What found no memory is made once more.
 use std::alloc::Global;
 use std::process::Abort;
-use wf_ballot::{Ballot, NodeId, Slot};
+use wf_ballot::{Ballot, NodeId, Round, Slot};
 use wf_canon::Canon;
 
 /// The canonical text of the map that is named `a`, from 0 0 to 4 4 degrees.
 pub const MAP_A: &[u8] =
     b"MAP\nNAME \"a\"\nEXTENT 0 0 4 4\nPROJECTION\n\"init=epsg:4326\"\nEND\nWEB\nMETADATA\n\"wms_title\" \"a\"\n\"wms_abstract\" \"\"\n\"wms_onlineresource\" \"http://localhost/wms?\"\nEND\nEND\nEND\n";
 
-/// The same of the map that is named `b`.
-pub const MAP_B: &[u8] =
-    b"MAP\nNAME \"b\"\nEXTENT 0 0 4 4\nPROJECTION\n\"init=epsg:4326\"\nEND\nWEB\nMETADATA\n\"wms_title\" \"b\"\n\"wms_abstract\" \"\"\n\"wms_onlineresource\" \"http://localhost/wms?\"\nEND\nEND\nEND\n";
-
 /// The node of this number.
-pub fn node(rt: &impl Abort, number: u8) -> NodeId {
+fn node(rt: &impl Abort, number: u8) -> NodeId {
     NodeId::new(number).expect(rt, "a node")
 }
 
 /// The slot of this number.
 pub fn slot(rt: &impl Abort, number: u16) -> Slot {
     Slot::new(number).expect(rt, "a slot")
+}
+
+/// The round of this number.
+pub fn round(rt: &impl Abort, number: u32) -> Round {
+    Round::new(number).expect(rt, "a round")
 }
 
 /// The ballot of this round and node.

@@ -1,12 +1,13 @@
 //! Requests about one map definition.
 ghost use Rattle.std.specs.Prelude.{◌≡◌, ◌≤◌, IfOk, option_map};
+ghost use Rattle.wf_ballot.specs.Sequence.{last_sequence};
 ghost use Rattle.wf_wms.specs.Answer.{check_request, check_service, check_sequence, description_fault, description};
 
 use crate::answer::Answer;
 use crate::exception::{Exception, Parameter};
 use crate::query::Query;
 use crate::standing::Standing;
-use crate::update_sequence::{LAST_SEQUENCE, standing};
+use crate::update_sequence::standing;
 use std::alloc::{AllocError, Global};
 use wf_def::map::MapDef;
 
@@ -55,7 +56,7 @@ fn fault(query: &Query, seq: u16) -> Option<Exception>
 /// 06-042, 7.2); GetMap is an operation that isn't supported here.
 #[tactic(auto, unfolding(crate::specs::Answer::description))]
 pub fn describe(alloc: Global, seq: u16, map: &MapDef, query: &[u8]) -> Result<Answer, AllocError>
-    requires { seq ≤ LAST_SEQUENCE }
+    requires { seq ≤ last_sequence }
     ensures { IfOk result (λ answer. answer ≡ description seq map.now query.now) }
 {
     let query = Query::read(alloc, query)?;

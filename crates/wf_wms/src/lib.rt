@@ -25,4 +25,3 @@ pub use answer::Answer;
 pub use description::describe;
 pub use exception::{Exception, Parameter};
 pub use kind::Kind;
-pub use update_sequence::LAST_SEQUENCE;

@@ -6,9 +6,6 @@ ghost use Rattle.wf_wms.specs.UpdateSequence.{number_of_digits, standing_of, seq
 
 use crate::standing::Standing;
 
-/// The last update sequence of a history, a number of published maps.
-pub const LAST_SEQUENCE: u16 = 4_096;
-
 // The whole number that decimal digits stand for, or `u64::MAX` where it is greater.
 fn number_of(digits: &str) -> u64
     ensures { result ≡ min (number_of_digits digits.now) (2 ^ 64 - 1) }

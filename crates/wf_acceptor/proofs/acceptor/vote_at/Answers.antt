@@ -1,10 +1,11 @@
--- The newest entry is the slot's vote, and its copy is equal.
+-- The newest vote is the slot's, and its copy is equal.
 use Rattle.std.proofs.Common.{◌≡◌, Some, refl, sym, ◌∙◌, ap}
 use Rattle.std.specs.Option.{option_copied}
-use Rattle.wf_acceptor.specs.Entries.{latest}
+use Rattle.std.specs.FinMap as map
+use Rattle.wf_acceptor.specs.Slots.{by_slot}
 use Rattle.wf_acceptor.proofs.acceptor.vote_at.Goals as goal
 
 pub returns-in_ok-copy-in-Some : goal.returns-in_ok-copy-in-Some
 returns-in_ok-copy-in-Some c =
-    let vote : latest c.args.votes.now c.args.slot ≡ Some c.in-Some.field-0.now = sym c.newest.ensures ∙ ap option_copied c.in-Some.is in
+    let vote : map.get (by_slot c.args.votes.now) c.args.slot ≡ Some c.in-Some.field-0.now = sym c.newest.ensures ∙ ap option_copied c.in-Some.is in
     rw (vote, c.in_ok-copy-in-Some.ensures) refl

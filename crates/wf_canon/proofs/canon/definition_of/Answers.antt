@@ -1,7 +1,6 @@
-use Rattle.wf_mapfile.specs.Reading.{is_memory}
 use Rattle.wf_canon.proofs.MeaningLaw.{why_unread}
 use Rattle.wf_canon.proofs.canon.definition_of.Goals as goal
 
 pub returns-in-Err-clause-cause : goal.returns-in-Err-clause-cause
 returns-in-Err-clause-cause c =
-    why_unread (is_memory c.in-Err.fault) c.refusal_of.result c.args.bytes.now c.requires c.refusal_of.ensures c.in-Err.ensures.refused
+    why_unread c.in-Err.fault c.refusal_of.result c.args.bytes.now c.requires c.refusal_of.ensures c.in-Err.ensures.not_utf8 c.in-Err.ensures.refused

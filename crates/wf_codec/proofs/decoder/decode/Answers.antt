@@ -1,6 +1,7 @@
 use Rattle.std.proofs.Common.{arith}
 use Rattle.wf_codec.specs.Message.{view}
-use Rattle.wf_codec.proofs.Judged.{begins, whole_is_read, refused, short_unfinished, unfinished_short, short_is_none}
+use Rattle.wf_codec.proofs.Judged.{begins, has_bytes, whole_is_read, refused, short_unfinished, unfinished_short, short_is_none}
+use Rattle.wf_codec.proofs.Faults.{answered, memory_over_text}
 use Rattle.wf_codec.proofs.decoder.decode.Goals as goal
 
 pub returns-clause-read : goal.returns-clause-read
@@ -17,3 +18,12 @@ returns-clause-short c = (short_unfinished view c.judge.result c.args.bytes.now 
 
 pub returns-clause-none_yet : goal.returns-clause-none_yet
 returns-clause-none_yet c = short_is_none view c.judge.result c.args.bytes.now c.judge.ensures
+
+pub returns-clause-count : goal.returns-clause-count
+returns-clause-count c = has_bytes view c.judge.result c.args.bytes.now (begins view c.judge.result c.args.bytes.now (λ i. omega (arith, c.type_inv.bytes i)) c.judge.ensures)
+
+pub returns-clause-first : goal.returns-clause-first
+returns-clause-first c = answered view c.judge.result c.args.bytes.now c.judge.ensures
+
+pub returns-clause-memory : goal.returns-clause-memory
+returns-clause-memory c = memory_over_text view c.judge.result c.args.bytes.now c.judge.ensures

@@ -1,24 +1,25 @@
--- The newest entry is the vote that the acceptor shows.
+-- The newest vote is the one that the acceptor shows.
 use Rattle.std.proofs.Common.{◌≡◌, Some, None, sym, ◌∙◌, ap}
 use Rattle.std.specs.Option.{option_copied}
+use Rattle.std.specs.FinMap as map
 use Rattle.wf_model.specs.Working.{same_ballot}
 use Rattle.wf_model.specs.Table.{votes_at}
-use Rattle.wf_acceptor.specs.Entries.{latest}
+use Rattle.wf_acceptor.specs.Slots.{by_slot}
 use Rattle.wf_acceptor.specs.Acceptor.{Acceptor}
 use Rattle.wf_acceptor.proofs.acceptor.Acceptor.voted_at.Goals as goal
 
 pub returns-in-Some : goal.returns-in-Some
 unfolding votes_at same_ballot
 returns-in-Some c =
-    let items = c.deref.ensures.value ∙ ap (λ (a : Acceptor). a.votes) c.self.view_is in
-    let vote : latest c.args.self.now.votes c.args.slot ≡ Some c.in-Some.field-0.now =
-    ap (λ votes. latest votes c.args.slot) (sym items) ∙ (sym c.newest.ensures ∙ ap option_copied c.in-Some.is) in
+    let shown = ap by_slot c.deref.ensures.value ∙ ap (λ (a : Acceptor). a.part.votes) c.self.view_is in
+    let vote : map.get c.args.self.now.part.votes c.args.slot ≡ Some c.in-Some.field-0.now =
+    ap (λ votes. map.get votes c.args.slot) (sym shown) ∙ (sym c.newest.ensures ∙ ap option_copied c.in-Some.is) in
     rw vote c.eq.ensures
 
 pub returns-in-None : goal.returns-in-None
 unfolding votes_at
 returns-in-None c =
-    let items = c.deref.ensures.value ∙ ap (λ (a : Acceptor). a.votes) c.self.view_is in
-    let vote : latest c.args.self.now.votes c.args.slot ≡ None =
-    ap (λ votes. latest votes c.args.slot) (sym items) ∙ (sym c.newest.ensures ∙ ap option_copied c.in-None.is) in
+    let shown = ap by_slot c.deref.ensures.value ∙ ap (λ (a : Acceptor). a.part.votes) c.self.view_is in
+    let vote : map.get c.args.self.now.part.votes c.args.slot ≡ None =
+    ap (λ votes. map.get votes c.args.slot) (sym shown) ∙ (sym c.newest.ensures ∙ ap option_copied c.in-None.is) in
     rw vote

@@ -1,0 +1,77 @@
+//! Scripts: first the maps that they name, then calls, one a line.
+//!
+//! ```text
+//! map NAME            the lines of a canonical text follow, and then a line `endmap`
+//! CALL WORDS          a call and its arguments, in their order: a slot, a node, a round or a sequence is
+//!                     its number, a ballot its round and its node, a map its name
+//! ```
+use crate::spelling::canon_of;
+use std::alloc::Global;
+use wf_canon::Canon;
+use wf_table::Unanswered;
+
+/// The line behind each map.
+const END: &str = "endmap\n";
+
+/// The maps of a script.
+#[derive(Clone, Copy)]
+pub(crate) struct Maps<'a> {
+    script: &'a str,
+}
+
+/// A script's maps and its calls.
+pub(crate) fn read_script(input: &[u8]) -> Result<(Maps<'_>, &str), Unanswered> {
+    match str::from_utf8(input) {
+        Ok(script) => Ok((Maps { script }, calls_of(script))),
+        Err(_) => Err(Unanswered::BadWords),
+    }
+}
+
+/// What stands behind the last map.
+fn calls_of(script: &str) -> &str {
+    match script.rsplit_once(END) {
+        Some((_, calls)) => calls,
+        None => script,
+    }
+}
+
+/// The name and the text of a map, given without the line behind it.
+fn named(map: &str) -> Option<(&str, &str)> {
+    map.strip_prefix("map ")?.split_once('\n')
+}
+
+impl<'a> Maps<'a> {
+    /// No map.
+    pub const NONE: Maps<'static> = Maps { script: "" };
+
+    /// The map of a name.
+    pub fn canon(self, alloc: Global, name: &str) -> Result<Canon, Unanswered> {
+        match self.text_of(name) {
+            Some(text) => canon_of(alloc, text.as_bytes()),
+            None => Err(Unanswered::BadWords),
+        }
+    }
+
+    fn text_of(self, name: &str) -> Option<&'a str> {
+        for map in self.script.split(END) {
+            if let Some((known, text)) = named(map) {
+                if known == name {
+                    return Some(text);
+                }
+            }
+        }
+        None
+    }
+
+    /// The name of the map that has this text.
+    pub fn name_of(self, text: &[u8]) -> Option<&'a str> {
+        for map in self.script.split(END) {
+            if let Some((name, known)) = named(map) {
+                if known.as_bytes() == text {
+                    return Some(name);
+                }
+            }
+        }
+        None
+    }
+}

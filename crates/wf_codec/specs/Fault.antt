@@ -1,0 +1,167 @@
+-- Which fault bytes have: that of the first check that fails, or else that of the text that the message carries.
+use Rattle.std.specs.Prelude.{◌≡◌, ℕ, zero, suc, nat_lt, ◌==◌, ◌&&◌, List, [], ◌∷◌, length, take, drop, Bool, true, false, Option, Some, None, is_some, IsSome, IsSomeAnd, if◌then◌else◌}
+use Rattle.std.specs.Int.{w32, from_be_bytes}
+use Rattle.wf_ballot.specs.Front.{front_node, front_slot, front_ballot}
+use Rattle.wf_def.specs.Definition.{Definition}
+use Rattle.wf_canon.specs.Canon.{canon}
+use Rattle.wf_codec.specs.declared.kind.Kind.{Kind}
+use Rattle.wf_codec.specs.declared.kind.Kind.TheVariants.{Prepare, Promise, Accept, Accepted, Nack, Chosen, Ask}
+use Rattle.wf_codec.specs.declared.fault.DecodeFault.{DecodeFault}
+use Rattle.wf_codec.specs.declared.fault.DecodeFault.TheVariants.{Short, BadVersion, BadKind, BadField, NotCanonical, TooLong, Memory}
+use Rattle.wf_codec.specs.Kind.{most_body_bytes, kind_of_byte, can_have}
+use Rattle.wf_codec.specs.Spelling.{message_version, header_length}
+use Rattle.wf_codec.specs.Message.{HasText}
+
+-- ---- what the bytes hold, as far as they are there
+
+-- the kind that the second byte names
+unfoldable pub kind_in : List ℕ → Option Kind
+kind_in (version ∷ byte ∷ bytes) = kind_of_byte byte
+kind_in _ = None
+
+-- how many bytes the body has: four bytes behind the kind state it
+unfoldable pub length_in : List ℕ → Option ℕ
+length_in (version ∷ byte ∷ a ∷ b ∷ c ∷ d ∷ bytes) = Some (from_be_bytes w32 (a ∷ b ∷ c ∷ d ∷ []))
+length_in _ = None
+
+-- what follows the header
+abbrev pub behind_header : List ℕ → List ℕ
+behind_header bytes = drop header_length bytes
+
+-- the first bytes of a list, where it is stated how many
+abbrev pub front_of : Option ℕ → List ℕ → List ℕ
+front_of None bytes = []
+front_of (Some n) bytes = take n bytes
+
+-- the body
+abbrev pub body_in : List ℕ → List ℕ
+body_in bytes = front_of (length_in bytes) (behind_header bytes)
+
+-- ---- the fields of a body, by their places
+
+-- a node stands at this place
+abbrev pub has_node_at : ℕ → List ℕ → Bool
+has_node_at place body = is_some (front_node (drop place body))
+
+-- a sequence from 1 on stands at this place
+abbrev pub has_slot_at : ℕ → List ℕ → Bool
+has_slot_at place body = is_some (front_slot (drop place body))
+
+-- a ballot stands at this place
+abbrev pub has_ballot_at : ℕ → List ℕ → Bool
+has_ballot_at place body = is_some (front_ballot (drop place body))
+
+-- a mark of 0 and nothing behind it, or a mark of 1 and a ballot
+unfoldable pub is_vote : List ℕ → Bool
+is_vote (zero ∷ []) = true
+is_vote (suc zero ∷ bytes) = is_some (front_ballot bytes)
+is_vote _ = false
+
+-- what stands from this place on is a vote with its mark, or the mark that there is none
+abbrev pub has_vote_at : ℕ → List ℕ → Bool
+has_vote_at place body = is_vote (drop place body)
+
+-- each field of the body is in its range
+unfoldable pub has_fields : Kind → List ℕ → Bool
+has_fields Prepare body = has_slot_at 0 body && has_ballot_at 2 body
+has_fields Promise body = has_node_at 0 body && has_slot_at 1 body && has_ballot_at 3 body && has_vote_at 8 body
+has_fields Accept body = has_slot_at 0 body && has_ballot_at 2 body
+has_fields Accepted body = has_node_at 0 body && has_slot_at 1 body && has_ballot_at 3 body
+has_fields Nack body = has_node_at 0 body && has_slot_at 1 body && has_ballot_at 3 body && has_ballot_at 8 body
+has_fields Chosen body = has_slot_at 0 body
+has_fields Ask body = has_slot_at 0 body
+
+-- the text behind a mark of 1 and the vote's ballot
+unfoldable pub text_of_vote : List ℕ → Option (List ℕ)
+text_of_vote (suc zero ∷ bytes) = Some (drop 5 bytes)
+text_of_vote _ = None
+
+-- the text behind the fields: it fills the rest of the body
+unfoldable pub text_of : Kind → List ℕ → Option (List ℕ)
+text_of Prepare body = None
+text_of Promise body = text_of_vote (drop 8 body)
+text_of Accept body = Some (drop 7 body)
+text_of Accepted body = None
+text_of Nack body = None
+text_of Chosen body = Some (drop 2 body)
+text_of Ask body = None
+
+-- ---- the checks, each with the fault that it answers where it fails
+
+-- the version is the one that is read
+abbrev pub check_version : List ℕ → Option DecodeFault
+check_version [] = None
+check_version (version ∷ bytes) = if version == message_version then None else Some BadVersion
+
+-- the second byte names a kind
+abbrev pub check_kind : List ℕ → Option DecodeFault
+check_kind (version ∷ byte ∷ bytes) = if is_some (kind_of_byte byte) then None else Some BadKind
+check_kind _ = None
+
+-- the body isn't longer than the longest
+abbrev pub check_longest : Option ℕ → Option DecodeFault
+check_longest None = None
+check_longest (Some n) = if nat_lt most_body_bytes n then Some TooLong else None
+
+-- a body of this kind can have so many bytes
+abbrev pub check_length : Option Kind → Option ℕ → Option DecodeFault
+check_length (Some kind) (Some n) = if can_have kind n then None else Some BadField
+check_length _ _ = None
+
+-- the header is whole, and so many bytes follow it as it states
+abbrev pub check_whole : Option ℕ → List ℕ → Option DecodeFault
+check_whole None behind = Some Short
+check_whole (Some n) behind = if nat_lt (length behind) n then Some Short else None
+
+-- the fields are in their ranges
+abbrev pub check_fields : Option Kind → List ℕ → Option DecodeFault
+check_fields None body = None
+check_fields (Some kind) body = if has_fields kind body then None else Some BadField
+
+-- the fault of the first check that fails
+abbrev pub first_failing : List (Option DecodeFault) → Option DecodeFault
+first_failing [] = None
+first_failing (None ∷ checks) = first_failing checks
+first_failing (Some fault ∷ checks) = Some fault
+
+-- Bytes are judged from left to right, as early as they are there.
+unfoldable pub first_fault : List ℕ → Option DecodeFault
+first_fault bytes = first_failing (
+    check_version bytes
+    ∷ check_kind bytes
+    ∷ check_longest (length_in bytes)
+    ∷ check_length (kind_in bytes) (length_in bytes)
+    ∷ check_whole (length_in bytes) (behind_header bytes)
+    ∷ check_fields (kind_in bytes) (body_in bytes)
+    ∷ [])
+
+-- ---- the text, which is judged last
+
+-- the text in a body of this kind
+abbrev pub text_of_kind : Option Kind → List ℕ → Option (List ℕ)
+text_of_kind None body = None
+text_of_kind (Some kind) body = text_of kind body
+
+-- the text that the message at the front carries
+abbrev pub text_in : List ℕ → Option (List ℕ)
+text_in bytes = text_of_kind (kind_in bytes) (body_in bytes)
+
+-- a message stands at the front of the bytes but for its text: no check fails, and it carries a text
+pub record CarriesText (bytes : List ℕ) : Type 0 where
+  pub no_fault : first_fault bytes ≡ None
+  pub text : IsSome (text_in bytes)
+
+-- no message has this text
+abbrev pub IsNoText : List ℕ → Type 0
+IsNoText text = (d : Definition) → HasText d → canon d ≡ text → ⊥
+
+-- no check fails, and the text is no definition's
+pub record CarriesNoText (bytes : List ℕ) : Type 0 where
+  pub no_fault : first_fault bytes ≡ None
+  pub no_text : IsSomeAnd (text_in bytes) IsNoText
+
+-- The bytes have this fault. Memory can run out only over a text.
+abbrev pub HasFault : List ℕ → DecodeFault → Type 0
+HasFault bytes NotCanonical = CarriesNoText bytes
+HasFault bytes Memory = CarriesText bytes
+HasFault bytes fault = first_fault bytes ≡ Some fault

@@ -1,0 +1,48 @@
+-- What is judged in place of an input means what the input means.
+use Rattle.std.proofs.Common.{◌≡◌, ◌<◌, ◌∙◌, inl, inr, ℕ, List, false, length, nat_le, ap, sym, arith, refl}
+use Rattle.std.specs.Prelude.{Option, Some, None, IfSome}
+use Rattle.std.proofs.lemmas.List.{take_all, length-take-le}
+use Rattle.std.proofs.lemmas.Bool.{cases_order}
+use Rattle.std.proofs.lemmas.Bool.Decides.{nat_tests}
+use Rattle.wf_def.specs.Definition.{Definition}
+use Rattle.wf_mapfile.specs.Meaning.{meaning, Means, MeansNothing, longest_mapfile}
+use Rattle.wf_commands.specs.Run.{most_input_bytes, judged, IsMapFault, IsReadingFault}
+use Rattle.wf_commands.specs.declared.fault.RunFault.{RunFault}
+use Rattle.wf_commands.specs.declared.fault.RunFault.TheVariants as faults
+
+-- bytes over the longest mapfile mean nothing
+too_long : (bytes : List ℕ) → longest_mapfile < length bytes → meaning bytes ≡ None
+unfolding meaning
+too_long bytes long =
+    let test : nat_le (length bytes) longest_mapfile ≡ false = grind (arith, nat_tests) in
+    rw test refl
+
+-- the first bytes of an input, one more than the longest mapfile has, mean what it means
+judged_meaning : (input : List ℕ) → meaning (judged input) ≡ meaning input
+judged_meaning input =
+    elim (cases_order (length input) most_input_bytes) [
+      | inl same ↦ ap meaning (take_all most_input_bytes input (omega arith))
+      | inr apart ↦ elim apart [
+        | inl shorter ↦ ap meaning (take_all most_input_bytes input (omega arith))
+        | inr longer ↦
+            let cut : length (judged input) ≡ most_input_bytes = length-take-le most_input_bytes input (omega arith) in
+            too_long (judged input) (omega arith) ∙ sym (too_long input (omega arith))
+      ]
+    ]
+
+pub means_known : (known : Option (List ℕ)) (bytes : List ℕ) (d : Definition) → IfSome known (λ input. bytes ≡ judged input)
+    → Means bytes d → IfSome known (λ input. Means input d)
+means_known None bytes d is means = tt
+means_known (Some input) bytes d is means = sym (judged_meaning input) ∙ ap meaning (sym is) ∙ means
+
+nothing_known : (known : Option (List ℕ)) (bytes : List ℕ) → IfSome known (λ input. bytes ≡ judged input)
+    → MeansNothing bytes → IfSome known MeansNothing
+nothing_known None bytes is nothing = tt
+nothing_known (Some input) bytes is nothing = λ d means. nothing d (ap meaning is ∙ judged_meaning input ∙ means)
+
+pub fault_known : (known : Option (List ℕ)) (bytes : List ℕ) (fault : RunFault) → IfSome known (λ input. bytes ≡ judged input)
+    → IsMapFault bytes fault → IsReadingFault known fault
+fault_known known bytes (faults.Map fault) is why = λ not_memory. nothing_known known bytes is (why not_memory)
+fault_known known bytes (faults.Canon fault) is why = absurd why
+fault_known known bytes faults.Read is why = absurd why
+fault_known known bytes faults.Write is why = absurd why

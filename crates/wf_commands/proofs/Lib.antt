@@ -1,0 +1,5 @@
+mod Judged
+mod Known
+mod Named
+mod Outcome
+mod PlainWords

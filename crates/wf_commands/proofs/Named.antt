@@ -1,0 +1,43 @@
+-- From the words that the parser found to the line that they ask for.
+use Rattle.std.proofs.Common.{◌≡◌, ◌∙◌, List, true, sym, ap, refl, codes}
+use Rattle.std.specs.Prelude.{Box, Option, Some, None, option_map, IfNone}
+use Rattle.std.specs.Box.{box_value}
+use Rattle.clap.proofs.WalkLemmas.{first_value-rows}
+use Rattle.clap.specs.Matches.{first_value}
+use Rattle.clap.specs.Simple.{App, subcommand_rows}
+use Rattle.clap.specs.Takes.{takes}
+use Rattle.clap.specs.Values.{kind_of}
+use Rattle.clap.specs.Walk.{Row, Text, first_of, rows_of}
+use Rattle.clap.specs.declared.error.Error.{Error}
+use Rattle.clap.specs.declared.error.kind.ErrorKind.TheVariants.{OutOfMemory}
+use Rattle.clap.specs.declared.parser.matches.ArgMatches.TheViews.{out-SubCommand}
+use Rattle.clap.specs.declared.parser.matches.Found.{Found}
+use Rattle.clap.specs.declared.parser.matches.SubCommand.{SubCommand}
+use Rattle.wf_commands.specs.CommandLine.{Asks, IsCapsOf, program}
+use Rattle.wf_commands.specs.declared.line.Line.{Line}
+use Rattle.wf_commands.specs.declared.line.Line.TheVariants as lines
+
+-- the word that was found stands in its row
+pub word_in_row : (found : Found) (id : Text) (word : Option Text) → word ≡ first_value found id → first_of id (rows_of found) ≡ word
+word_in_row found id word is = sym (is ∙ first_value-rows found id)
+
+-- the name that the parser met stands in its rows
+pub name_met : {Z : Type 0} (met : Option (Box SubCommand Z)) → option_map (λ p. p.0) (subcommand_rows met) ≡ option_map (λ b. (out-SubCommand (box_value b)).name.now) met
+name_met None = refl
+name_met (Some b) = refl
+
+-- where `caps` was named and no `caps` line has its words, they ask for nothing
+asks_of : (p : Text × List Row) (rows : List Row) → p.1 ≡ rows → p.0 ≡ codes "caps" → ((l : Line) → ¬ (IsCapsOf rows l)) → (l : Line) → ¬ (Asks (Some p) l)
+asks_of p rows has named none (lines.Caps seq query) asks = none (lines.Caps seq query) (rw has at asks.1)
+asks_of p rows has named none lines.Canon asks = let clash : codes "caps" ≡ codes "canon" = sym named ∙ asks in cc
+
+pub none_asked : (line : Option Line) (met : Option (Text × List Row)) (rows : List Row) → option_map (λ p. p.1) met ≡ Some rows
+    → option_map (λ p. p.0) met ≡ Some (codes "caps") → IfNone line ((l : Line) → ¬ (IsCapsOf rows l)) → IfNone line ((l : Line) → ¬ (Asks met l))
+none_asked (Some line) met rows has named none = tt
+none_asked None None rows has named none = λ l asks. asks
+none_asked None (Some p) rows has named none = asks_of p rows (let is : p.1 ≡ rows = cc in is) (let is : p.0 ≡ codes "caps" = cc in is) none
+
+-- what the parser takes it refuses for want of memory alone
+pub passes_on : (app : App) (words : List Text) (error : Error) → app ≡ program → (takes app words ≡ true → kind_of error ≡ OutOfMemory)
+    → takes program words ≡ true → kind_of error ≡ OutOfMemory
+passes_on app words error is passes taken = passes (ap (λ a. takes a words) is ∙ taken)

@@ -1,0 +1,83 @@
+-- What the words of a command line ask for, by the rules of the kit's parser of command lines.
+use Rattle.std.specs.Prelude.{◌≡◌, ◌==◌, not, Bool, List, [], ◌∷◌, Option, Some, None, false, true, codes, pos}
+use Rattle.clap.specs.Walk.{Row, Rule, Text, first_of}
+use Rattle.clap.specs.Simple.{App, Shape, new_rule, new_shape, subcommand_of}
+use Rattle.clap.specs.Takes.{takes}
+use Rattle.clap.specs.declared.error.kind.ErrorKind.{ErrorKind}
+use Rattle.clap.specs.declared.error.kind.ErrorKind.TheVariants.{OutOfMemory}
+use Rattle.clap.specs.declared.builder.value_parser.ValueParser.TheVariants.{Signed}
+use Rattle.wf_ballot.specs.Sequence.{last_sequence}
+use Rattle.wf_commands.specs.Line.{IsSequence}
+use Rattle.wf_commands.specs.declared.line.Line.{Line}
+use Rattle.wf_commands.specs.declared.line.Line.TheVariants as lines
+
+-- ---- what the program can be given
+
+-- SEQ: a required number from 0 to the last update sequence
+abbrev pub sequence_rule : Rule
+sequence_rule = record (new_rule (codes "SEQ")) {
+  value_names = 1;
+  parser = Some (Signed (pos 0) (pos last_sequence));
+  required = true;
+}
+
+-- QUERY: a required text
+abbrev pub query_rule : Rule
+query_rule = record (new_rule (codes "QUERY")) { required = true }
+
+-- `caps SEQ QUERY`
+abbrev pub caps_shape : Shape
+caps_shape = record (new_shape (codes "caps")) { rules = sequence_rule ∷ query_rule ∷ [] }
+
+-- `canon`
+abbrev pub canon_shape : Shape
+canon_shape = new_shape (codes "canon")
+
+-- The program is given one of the two commands, or asked for its version or for help. What its parser reads of it:
+abbrev pub program : App
+program = record {
+  top = record (new_shape (codes "wfarm")) {
+    is_leaf = false;
+    no_binary_name = true;
+    has_version = true;
+    subcommand_required = true;
+  };
+  subs = caps_shape ∷ canon_shape ∷ [];
+}
+
+-- ---- what a line is asked for by
+
+-- The line is `caps` with the number of a word, and a query as it is.
+abbrev pub IsCapsLine : Text → Text → Line → Type 0
+IsCapsLine word query (lines.Caps seq asked) = IsSequence word seq × (asked.now ≡ query)
+IsCapsLine word query lines.Canon = ⊥
+
+-- The line is `caps` with the words that were found for SEQ and QUERY.
+abbrev pub IsCapsOf : List Row → Line → Type 0
+IsCapsOf rows line = (word query : Text) × (first_of (codes "SEQ") rows ≡ Some word) × (first_of (codes "QUERY") rows ≡ Some query)
+    × IsCapsLine word query line
+
+-- the command that was named, with its words, asks for the line
+abbrev pub Asks : Option (Text × List Row) → Line → Type 0
+Asks None line = ⊥
+Asks (Some named) (lines.Caps seq query) = (named.0 ≡ codes "caps") × IsCapsOf named.1 (lines.Caps seq query)
+Asks (Some named) lines.Canon = named.0 ≡ codes "canon"
+
+-- why words are refused: where the parser takes them and they ask for a line, memory ran out
+abbrev pub IsWhyRefused : List Text → ErrorKind → Type 0
+IsWhyRefused words kind = takes program words ≡ true → (line : Line) → Asks (subcommand_of program words) line → kind ≡ OutOfMemory
+
+-- the word doesn't begin with a hyphen: it is no option
+abbrev pub is_plain : Text → Bool
+is_plain [] = true
+is_plain (first ∷ rest) = not (first == 45)
+
+-- The command line's parser takes `caps`, a word for an update sequence and any word for the query, neither with a hyphen first, and they
+-- ask for exactly the line of that number and that query.
+abbrev pub PlainCapsIsAsked : Type 0
+PlainCapsIsAsked = (word query : Text) (line : Line) → is_plain word ≡ true → is_plain query ≡ true → IsCapsLine word query line
+    → (takes program (codes "caps" ∷ word ∷ query ∷ []) ≡ true) × Asks (subcommand_of program (codes "caps" ∷ word ∷ query ∷ [])) line
+
+-- The command line's parser takes `canon` alone, and it asks for the canonical text.
+abbrev pub PlainCanonIsAsked : Type 0
+PlainCanonIsAsked = (takes program (codes "canon" ∷ []) ≡ true) × Asks (subcommand_of program (codes "canon" ∷ [])) lines.Canon

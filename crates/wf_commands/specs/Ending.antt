@@ -1,0 +1,33 @@
+-- How the program ends: its exit status, and the line that it writes on standard error.
+use Rattle.std.specs.Prelude.{ℕ, Bool, true, false, Option, Some, None, Result, Ok, Err}
+use Rattle.std.specs.declared.io.ErrorKind.{ErrorKind as IoErrorKind}
+use Rattle.std.specs.declared.io.ErrorKind.TheVariants as io
+use Rattle.clap.specs.declared.error.kind.ErrorKind.{ErrorKind}
+use Rattle.clap.specs.declared.error.kind.ErrorKind.TheVariants.{DisplayHelp, DisplayVersion, OutOfMemory}
+use Rattle.wf_commands.specs.declared.fault.RunFault.{RunFault}
+use Rattle.wf_commands.specs.declared.fault.RunFault.TheVariants as faults
+
+-- the exit status of a run
+abbrev pub run_status : {T : Type 0} → Result T RunFault → ℕ
+run_status (Ok done) = 0
+run_status (Err fault) = 1
+
+-- the fault whose line is written: a failed write has none
+abbrev pub told : {T : Type 0} → Result T RunFault → Option RunFault
+told (Ok done) = None
+told (Err faults.Write) = None
+told (Err fault) = Some fault
+
+-- The exit status where no command was run, of whether the text was printed: help and the version are no mistake.
+abbrev pub refusal_status : ErrorKind → Bool → ℕ
+refusal_status OutOfMemory printed = 1
+refusal_status DisplayHelp true = 0
+refusal_status DisplayHelp false = 1
+refusal_status DisplayVersion true = 0
+refusal_status DisplayVersion false = 1
+refusal_status _ printed = 2
+
+-- the exit status where the command line can't be read: words that are no text are a bad one
+abbrev pub unreadable_status : IoErrorKind → ℕ
+unreadable_status io.InvalidData = 2
+unreadable_status _ = 1

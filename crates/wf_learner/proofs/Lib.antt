@@ -1,0 +1,2 @@
+pub mod ChosenRow
+pub mod Told

@@ -1,0 +1,200 @@
+//! The published map definitions.
+
+use crate::learned::Learned;
+use std::alloc::{AllocError, Global};
+use std::marker::Model;
+use wf_ballot::{Seq, Slot};
+use wf_canon::Canon;
+use wf_codec::Message;
+use wf_def::map::MapDef;
+
+/// The most definitions that answer one Ask.
+pub const MOST_TOLD: u16 = 8;
+
+/// The map definitions that a node published, one an update sequence, from 1 on. Sequence 0 is the empty
+/// map. Nothing is ever taken from it or changed in it.
+#[derive(Drop)]
+pub struct History {
+    // The definition of slot 1 is the first.
+    entries: Vec<Canon>,
+    // The map of sequence 0.
+    first: MapDef,
+}
+
+impl Model for History {
+    ghost use Rattle.std.specs.Prelude.{nat_lt, vec_len, vec_capacity};
+    ghost use Rattle.wf_learner.specs.History.{History, IsHistory};
+
+    ghost Value = { History };
+
+    ghost view = { λ h. record {
+      definitions = h.entries.items;
+      has_room = nat_lt (vec_len h.entries) (vec_capacity h.entries);
+    } };
+
+    ghost invariant = { λ h. IsHistory h.first h.entries.items };
+}
+
+impl History {
+    ghost use Rattle.std.specs.Prelude.{◌≡◌, ◌≢◌, ◌≤◌, ◌<◌, ◌↔◌, ◌++◌, ◌∷◌, true, [], length, map, option_map, IfOk, OnOk, OnErr, IsOk, IsSome, IfSome};
+    ghost use Rattle.std.specs.Option.{option_copied, option_to_list};
+    ghost use Rattle.wf_ballot.specs.Sequence.{IsSequence, last_sequence};
+    ghost use Rattle.wf_codec.specs.Message.{view as view_message};
+    ghost use Rattle.wf_def.specs.Limits.{IsWithinLimits};
+    ghost use Rattle.wf_learner.specs.History.{HasRoom, map_at, next_of, learned_at, with_chosen, IsChosenRow};
+    ghost use Rattle.wf_model.specs.Stored.{definition_at};
+    ghost use Rattle.wf_model.specs.Table.{most_told, told, told_from};
+
+    /// The history of a node that has published nothing yet.
+    pub fn new(alloc: Global) -> Result<History, AllocError>
+        ensures { IfOk result (λ history. history.definitions ≡ []) }
+    {
+        Ok(History {
+            entries: Vec::new(alloc),
+            first: MapDef::empty(alloc)?,
+        })
+    }
+
+    /// The last published sequence, 0 where there is none: how many definitions are published.
+    pub fn published(&self) -> Seq
+        ensures value { result ≡ length self.now.definitions }
+        ensures in_range { IsSequence result }
+    {
+        Seq::new(self.entries.len() as u16).unwrap()
+    }
+
+    /// The slot that comes next; None where the last one is published. A node that catches up asks for it.
+    pub fn next_slot(&self) -> Option<Slot>
+        ensures open { IsSome result ↔ (length self.now.definitions < last_sequence) }
+        ensures value { IfSome result (λ slot. slot ≡ next_of self.now.definitions) }
+    {
+        Slot::new(self.entries.len() as u16 + 1)
+    }
+
+    /// The map of a sequence, the empty one for 0; None above what is published.
+    #[tactic(auto, using(crate::proofs::Told::map_published), unfolding(crate::specs::History::map_at))]
+    pub fn get(&self, seq: Seq) -> Option<&MapDef>
+        ensures value { option_copied result ≡ map_at self.now.definitions seq }
+        ensures within { IfSome result (λ map. IsWithinLimits map.now) }
+    {
+        if seq.number() == 0 {
+            // What a map tells of itself is within the limits, and so is the map.
+            let _ = self.first.extent();
+            return Some(&self.first);
+        }
+        let canon = self.entry(seq.number())?;
+        Some(canon.def())
+    }
+
+    /// The definition that is published at the slot, with its canonical text.
+    pub fn canon(&self, slot: Slot) -> Option<&Canon>
+        ensures { option_copied result ≡ definition_at self.now.definitions slot }
+    {
+        self.entry(slot.number())
+    }
+
+    // The definition of the sequence of this number, which isn't 0.
+    fn entry(&self, number: u16) -> Option<&Canon>
+        requires { 1 ≤ number }
+        ensures { option_copied result ≡ definition_at self.now.definitions number }
+    {
+        self.entries.get(number as usize - 1)
+    }
+
+    /// Chosen with the definition that is published at the slot, if there is one: the answer to a Prepare
+    /// or an Accept of a published slot. Memory is wanted for a published slot alone.
+    #[tactic(auto, using(crate::proofs::Told::told_published, crate::proofs::Told::told_unpublished, crate::proofs::Told::is_published))]
+    pub fn chosen(&self, slot: Slot) -> Result<Option<Message>, AllocError>
+        ensures row { IfOk result (λ message. option_to_list (option_map view_message message) ≡ told self.now.definitions slot) }
+        ensures memory { OnErr result (slot ≤ length self.now.definitions) }
+    {
+        match self.canon(slot) {
+            Some(canon) => Ok(Some(Message::Chosen(slot, canon.copy()?))),
+            None => Ok(None),
+        }
+    }
+
+    /// Answers `Ask(slot)`: Chosen for each published slot from this one on, eight at most. Memory is
+    /// wanted only where there is something to tell.
+    pub fn answer_ask(&self, alloc: Global, slot: Slot) -> Result<Vec<Message>, AllocError>
+        ensures row { IfOk result (λ messages. map view_message messages.items ≡ told_from self.now.definitions slot most_told) }
+        ensures memory { OnErr result (slot ≤ length self.now.definitions) }
+    {
+        let mut messages = Vec::new(alloc);
+        for number in slot.number()..slot.number() + MOST_TOLD {
+            self.tell(number, &mut messages)?;
+        }
+        Ok(messages)
+    }
+
+    // Adds Chosen for the sequence of this number, if that is published.
+    #[tactic(auto, using(crate::proofs::Told::told_of_no_slot, crate::proofs::Told::none_more, crate::proofs::Told::one_more, crate::proofs::Told::published_where_told))]
+    fn tell(&self, number: u16, messages: &mut Vec<Message>) -> Result<(), AllocError>
+        ensures ok { OnOk result (map view_message messages.new.items ≡ map view_message messages.old.items ++ told self.now.definitions number) }
+        ensures memory { OnErr result (number ≤ length self.now.definitions) }
+    {
+        // The list is no longer than there are slots: a number that is none has no definition.
+        let _ = &self.entries;
+        let Some(slot) = Slot::new(number) else {
+            return Ok(());
+        };
+        if let Some(message) = self.chosen(slot)? {
+            messages.push(message)?;
+        }
+        Ok(())
+    }
+
+    /// Learns that the definition is chosen at the slot. It is published where its slot is the next; else
+    /// nothing changes, and the answer says why. Memory is wanted only for the next slot, and only where
+    /// there is no room; an error changes nothing.
+    pub fn learn(&mut self, slot: Slot, canon: Canon) -> Result<Learned, AllocError>
+        ensures learned { IfOk result (λ learned. learned ≡ learned_at self.old.definitions slot) }
+        ensures grown { OnOk result (self.new.definitions ≡ with_chosen self.old.definitions slot canon) }
+        ensures row { IfOk result (λ learned. IsChosenRow self.old.definitions slot canon self.new.definitions learned) }
+        ensures other { slot ≢ next_of self.old.definitions → self.new ≡ self.old }
+        ensures err { OnErr result (self.new ≡ self.old) }
+        ensures memory { OnErr result (slot ≡ next_of self.old.definitions) }
+        ensures room { HasRoom self.old → IsOk result }
+    {
+        let learned = self.judge(slot);
+        if let Learned::Published = learned {
+            self.make_room()?;
+            self.publish(canon);
+        }
+        Ok(learned)
+    }
+
+    // What becomes of a definition that is chosen at the slot.
+    fn judge(&self, slot: Slot) -> Learned
+        ensures { result ≡ learned_at self.now.definitions slot }
+    {
+        let Some(next) = self.next_slot() else {
+            return Learned::Known;
+        };
+        if slot.number() == next.number() {
+            Learned::Published
+        } else if slot.number() > next.number() {
+            Learned::Missing(next)
+        } else {
+            Learned::Known
+        }
+    }
+
+    // Publishes the definition at the next slot.
+    fn publish(&mut self, canon: Canon)
+        requires room { HasRoom self.old }
+        requires open { length self.old.definitions < last_sequence }
+        ensures { self.new.definitions ≡ self.old.definitions ++ canon ∷ [] }
+    {
+        self.entries.push_reserved(canon);
+    }
+
+    /// Makes room for one more definition: the next `learn` takes no memory.
+    pub fn make_room(&mut self) -> Result<(), AllocError>
+        ensures ok { OnOk result (self.new ≡ record self.old { has_room = true }) }
+        ensures err { OnErr result (self.new ≡ self.old) }
+        ensures room { HasRoom self.old → IsOk result }
+    {
+        self.entries.reserve(1)
+    }
+}

@@ -1,0 +1,102 @@
+-- What a crash may leave while a journal is opened, and while a record is added.
+use Rattle.std.proofs.Common.{◌≡◌, ◌⊎◌, ℕ, List, [], ◌∷◌, ◌++◌, take, drop, sym, ap, subst, ◌∙◌, append_assoc, inl, inr}
+use Rattle.std.proofs.lemmas.List.{append_cancel_left}
+use Rattle.wf_def.specs.Definition.{Definition}
+use Rattle.wf_model.specs.Stored.{Record}
+use Rattle.wf_tape.specs.Tape.{IsBeginning, IsOnlyImage, IsUnchanged, LeavesNoOther, IsExtended, IsCutShort, LeavesOldOr}
+use Rattle.wf_tape.specs.Spelling.{Spells}
+use Rattle.wf_tape.specs.Records.{ReadsAs, AreRecords}
+use Rattle.wf_tape.specs.Front.{HasRead}
+use Rattle.wf_tape.specs.Journal.{Holds, IsSettled, Follows, ReadsSame, ReadsOneMore, ReadsSameOrOneMore}
+use Rattle.wf_tape.proofs.Lists.{one_more, cut_reads, whole_reads, reads_only, one_reading, first_are_records}
+
+-- ---- appending
+
+-- what begins the content after a part of the bytes begins the content with all of them
+pub cut_shorter : (content bytes new : List ℕ) (old images : List ℕ → Type 0) → IsExtended content bytes new → IsCutShort new old images → IsCutShort (content ++ bytes) old images
+cut_shorter content bytes new old images extended cut image left =
+    let begins = (cut image left).0 in
+    let front : List ℕ = extended.0 in
+    ((begins.0 ++ extended.1.0, ap (λ (t : List ℕ). content ++ t) extended.1.1 ∙ sym (append_assoc content front extended.1.0) ∙ ap (λ (t : List ℕ). t ++ extended.1.0) (sym extended.2 ∙ begins.1) ∙ append_assoc image begins.0 extended.1.0), (cut image left).1)
+
+-- a sync behind it leaves no other image
+pub cut_synced : (content : List ℕ) (old mid new : List ℕ → Type 0) → IsCutShort content old mid → LeavesNoOther mid new → IsCutShort content old new
+cut_synced content old mid new cut no_other image left = cut image (no_other image left)
+
+-- ---- opening
+
+-- what is left after nothing changed reads the same
+pub same_unchanged : (old new : List ℕ → Type 0) → LeavesNoOther old new → Follows ReadsSame old new
+same_unchanged old new no_other image left = (image, no_other image left, λ records reads. reads)
+
+-- The records at the front are read as the whole content is.
+front_same : (content : List ℕ) (records : List (Record Definition)) (n : ℕ) → HasRead content records n → ReadsSame content (take n content)
+front_same content records n read others reads =
+    let front = first_are_records content records n read.within read.is_tape.reads.splits in
+    let same = one_reading content records others (drop n content) reads.0 read.is_tape.reads.splits read.is_tape.reads.longest reads.1.splits reads.1.longest in
+    subst (λ (rs : List (Record Definition)). ReadsAs (take n content) rs) same (whole_reads (take n content) records front)
+
+-- so what is left once the records alone are kept reads the same
+pub same_settled : (content : List ℕ) (records : List (Record Definition)) (n : ℕ) (old mid new : List ℕ → Type 0) → HasRead content records n → old content → LeavesNoOther old mid →
+    LeavesOldOr (take n content) mid new → Follows ReadsSame old new
+same_settled content records n old mid new read is_image no_other or_front image left =
+    elim (or_front image left) [
+      | inl was ↦ (image, no_other image was, λ records reads. reads)
+      | inr is ↦ (content, is_image, subst (λ (t : List ℕ). ReadsSame content t) (sym is) (front_same content records n read))
+    ]
+
+pub holds_front : (content new_content : List ℕ) (records : List (Record Definition)) (n : ℕ) (images : List ℕ → Type 0) → HasRead content records n → new_content ≡ take n content → IsOnlyImage new_content images → Holds new_content images records
+holds_front content new_content records n images read is only =
+    record { are_records = subst (λ (t : List ℕ). AreRecords t records) (sym is) (first_are_records content records n read.within read.is_tape.reads.splits); only = only }
+
+-- ---- adding
+
+-- a beginning of the content with the record's bytes that begins with the content: the content and a beginning of them
+added_front : (content spelled image : List ℕ) → IsBeginning image (content ++ spelled) → IsBeginning content image → (front : List ℕ) × (after : List ℕ) × (image ≡ content ++ front) × (spelled ≡ front ++ after)
+added_front content spelled image within behind =
+    let regrouped : content ++ spelled ≡ content ++ (behind.0 ++ within.0) =
+    within.1 ∙ ap (λ (t : List ℕ). t ++ within.0) behind.1 ∙ append_assoc content behind.0 within.0 in
+    (behind.0, within.0, behind.1, append_cancel_left content spelled (behind.0 ++ within.0) regrouped)
+
+-- each image reads as the records before, or with the one that is added
+pub same_or_more : (content spelled : List ℕ) (r : Record Definition) (old new : List ℕ → Type 0) → IsSettled content old → Spells r spelled → IsCutShort (content ++ spelled) old new →
+    Follows (ReadsSameOrOneMore r) old new
+same_or_more content spelled r old new settled spells cut image left =
+    let held = settled.1 in
+    let behind : IsBeginning content image = subst (λ (t : List ℕ). IsBeginning t image) (held.only.no_other (cut image left).1.0 (cut image left).1.1) (cut image left).1.2 in
+    let parts = added_front content spelled image (cut image left).0 behind in
+    let cut_spelled : Spells r (parts.0 ++ parts.1) = subst (λ (t : List ℕ). Spells r t) parts.3 spells in
+    let reads = subst (λ (t : List ℕ). ReadsAs t settled.0 ⊎ ReadsAs t (settled.0 ++ r ∷ [])) (sym parts.2) (cut_reads content settled.0 r parts.0 parts.1 held.are_records cut_spelled) in
+    (content, held.only.is_image, λ others read. subst (λ (rs : List (Record Definition)). ReadsAs image rs ⊎ ReadsAs image (rs ++ r ∷ [])) (reads_only content settled.0 others held.are_records read) reads)
+
+pub same_kept : (r : Record Definition) (old new : List ℕ → Type 0) → LeavesNoOther old new → Follows (ReadsSameOrOneMore r) old new
+same_kept r old new no_other image left = (image, no_other image left, λ records reads. inl reads)
+
+-- after Ok there is one more
+pub now_more : (content spelled new_content : List ℕ) (r : Record Definition) (old new : List ℕ → Type 0) → IsSettled content old → Spells r spelled → new_content ≡ content ++ spelled → IsOnlyImage new_content new →
+    Follows (ReadsOneMore r) old new
+now_more content spelled new_content r old new settled spells is only image left =
+    let held = settled.1 in
+    let image_is : image ≡ content ++ spelled = only.no_other image left ∙ is in
+    let reads = subst (λ (t : List ℕ). ReadsAs t (settled.0 ++ r ∷ [])) (sym image_is) (whole_reads (content ++ spelled) (settled.0 ++ r ∷ []) (one_more content settled.0 r spelled held.are_records spells)) in
+    (content, held.only.is_image, λ others read. subst (λ (rs : List (Record Definition)). ReadsAs image (rs ++ r ∷ [])) (reads_only content settled.0 others held.are_records read) reads)
+
+-- and the tape holds them
+pub settled_more : (content spelled new_content : List ℕ) (r : Record Definition) (old new : List ℕ → Type 0) → IsSettled content old → Spells r spelled → new_content ≡ content ++ spelled → IsOnlyImage new_content new →
+    IsSettled new_content new
+settled_more content spelled new_content r old new settled spells is only =
+    (settled.0 ++ r ∷ [], record { are_records = subst (λ (t : List ℕ). AreRecords t (settled.0 ++ r ∷ [])) (sym is) (one_more content settled.0 r spelled settled.1.are_records spells); only = only })
+
+-- nothing changed: the tape holds what it held
+pub settled_same : (content new_content : List ℕ) (old new : List ℕ → Type 0) → IsSettled content old → IsUnchanged content new_content old new → IsSettled new_content new
+settled_same content new_content old new settled same =
+    let held = settled.1 in (
+      settled.0,
+      record {
+        are_records = subst (λ (t : List ℕ). AreRecords t settled.0) (sym same.content) held.are_records;
+        only = record {
+          is_image = subst (λ (t : List ℕ). new t) (sym same.content) (same.kept content held.only.is_image);
+          no_other = λ image left. held.only.no_other image (same.no_other image left) ∙ sym same.content;
+        };
+      },
+    )

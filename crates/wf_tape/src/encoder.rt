@@ -1,0 +1,95 @@
+ghost use Rattle.std.specs.Prelude.{◌≡◌, ◌≤◌, ◌++◌, length, OnOk, IfOk};
+ghost use Rattle.wf_tape.specs.Record.{view, texts, HasText, IsRecord};
+ghost use Rattle.wf_tape.specs.Spelling.{kind_of, body, Spells};
+ghost use Rattle.wf_canon.specs.Canon.{canon};
+
+use crate::decoder::VERSION;
+use crate::kind::Kind;
+use crate::record::Record;
+use std::alloc::{AllocError, Global};
+use wf_canon::Canon;
+
+/// The record's one spelling.
+#[tactic(auto, using(crate::proofs::Written::written))]
+pub fn encode(alloc: Global, entry: &Record) -> Result<Vec<u8>, AllocError>
+    ensures { IfOk result (λ bytes. Spells (view entry.now) bytes.items) }
+{
+    let length = body_length(entry);
+    let mut bytes = Vec::new(alloc);
+    bytes.extend_from_slice(&[VERSION, kind_of(entry).byte()])?;
+    bytes.extend_from_slice(&(length as u32).to_be_bytes())?;
+    push_body(&mut bytes, entry)?;
+    Ok(bytes)
+}
+
+/// The record's kind.
+fn kind_of(entry: &Record) -> Kind
+    ensures { result ≡ kind_of (texts (view entry.now)) }
+{
+    match entry {
+        Record::Tried(_) => Kind::Tried,
+        Record::Promised(_, _) => Kind::Promised,
+        Record::Accepted(_, _, _) => Kind::Accepted,
+        Record::Published(_, _) => Kind::Published,
+    }
+}
+
+/// How many bytes the record's body has.
+#[tactic(auto, using(crate::proofs::Fields::body_has_length))]
+fn body_length(entry: &Record) -> usize
+    ensures value { result ≡ length (body (texts (view entry.now))) }
+    ensures most { result ≤ 32775 }
+    ensures is_record { IsRecord (view entry.now) }
+{
+    match entry {
+        Record::Tried(round) => {
+            let _ = round.number();
+            4
+        }
+        Record::Promised(slot, ballot) => {
+            let _ = (slot.seq(), ballot.round());
+            7
+        }
+        Record::Accepted(slot, ballot, canon) => {
+            let _ = (slot.seq(), ballot.round());
+            7 + text_length(canon)
+        }
+        Record::Published(slot, canon) => {
+            let _ = slot.seq();
+            2 + text_length(canon)
+        }
+    }
+}
+
+/// How many bytes a canonical text has.
+fn text_length(text: &Canon) -> usize
+    ensures value { result ≡ length (canon text.now) }
+    ensures has_text { HasText text.now }
+{
+    let _ = text.def();
+    text.text().len()
+}
+
+/// Appends the body.
+#[tactic(auto, unfolding(crate::specs::Spelling::body))]
+fn push_body(out: &mut Vec<u8>, entry: &Record) -> Result<(), AllocError>
+    ensures { OnOk result (out.new.items ≡ out.old.items ++ body (texts (view entry.now))) }
+{
+    match entry {
+        Record::Tried(round) => out.extend_from_slice(&round.bytes())?,
+        Record::Promised(slot, ballot) => {
+            out.extend_from_slice(&slot.bytes())?;
+            out.extend_from_slice(&ballot.bytes())?;
+        }
+        Record::Accepted(slot, ballot, canon) => {
+            out.extend_from_slice(&slot.bytes())?;
+            out.extend_from_slice(&ballot.bytes())?;
+            out.extend_from_slice(canon.text())?;
+        }
+        Record::Published(slot, canon) => {
+            out.extend_from_slice(&slot.bytes())?;
+            out.extend_from_slice(canon.text())?;
+        }
+    }
+    Ok(())
+}

@@ -1,0 +1,170 @@
+//! The journal: whole records on a tape, each on it and synced before it is acknowledged.
+
+ghost use Rattle.std.specs.Prelude.{◌≡◌, ◌≢◌, ◌≤◌, ◌++◌, ◌∷◌, [], Bool, false, true, map, take, length, IfOk, IfErr, OnOk, IsErrOf};
+ghost use Rattle.wf_tape.specs.declared.fault.TapeFault.TheVariants.{Memory};
+ghost use Rattle.wf_tape.specs.Record.{view};
+ghost use Rattle.wf_tape.specs.Records.{IsTapeOf};
+ghost use Rattle.wf_tape.specs.Tape.{IsOnlyImage, IsUnchanged, IsCutShort, LeavesOldOr, HasCause, HasRisen, IsNotMemory};
+ghost use Rattle.wf_tape.specs.OpenFault.{open_fault};
+ghost use Rattle.wf_tape.specs.Journal.{Holds, IsSettled, Follows, ReadsSame, ReadsOneMore, ReadsSameOrOneMore, IsAdded, IsWhereBad, IsWhyFailed};
+
+use crate::encoder::encode;
+use crate::fault::TapeFault;
+use crate::opening::{AddFault, OpenFault};
+use crate::reading::read_records;
+use crate::record::Record;
+use crate::tape::Tape;
+use std::alloc::Global;
+use std::marker::Model;
+
+/// The records of a node on its tape. Contracts see the tape, and whether the journal is halted; where it
+/// isn't, an honest tape holds whole records and nothing else, all of them synced.
+#[derive(Drop)]
+pub struct Journal<T: Tape> {
+    tape: T,
+    halted: bool,
+}
+
+impl<T: Tape> Model for Journal<T> {
+    ghost use Rattle.std.specs.Prelude.{◌≡◌, false};
+    ghost use Rattle.wf_tape.specs.Journal.{Journal, IsSettled};
+
+    ghost Value = { Journal T };
+
+    ghost view = { λ j. record { tape = j.tape; halted = j.halted } };
+
+    ghost invariant = { λ j. T.honest → j.halted ≡ false → IsSettled (T.content j.tape) (T.images j.tape) };
+}
+
+impl<T: Tape> Journal<T> {
+    /// The journal of the tape, and its records, the oldest first. A torn record behind the whole ones is
+    /// removed, and what is kept is synced. A refusal hands the tape back; but for a failure of the tape
+    /// itself it is as it was.
+    pub fn open(alloc: Global, tape: T) -> Result<(Journal<T>, Vec<Record>), (T, OpenFault)>
+        ensures running { IfOk result (λ x. x.0.halted ≡ false) }
+        ensures records { T.honest → IfOk result (λ x. (rest : _) × IsTapeOf (T.content tape) (map view x.1.items) rest) }
+        ensures synced { T.honest → IfOk result (λ x. Holds (T.content x.0.tape) (T.images x.0.tape) (map view x.1.items)) }
+        ensures images { T.honest → IfOk result (λ x. Follows ReadsSame (T.images tape) (T.images x.0.tape)) }
+        ensures images_err { T.honest → IfErr result (λ e. Follows ReadsSame (T.images tape) (T.images e.0)) }
+        ensures unchanged { T.honest → IfErr result (λ e. e.1 ≢ OpenFault.TapeFailed → IsUnchanged (T.content tape) (T.content e.0) (T.images tape) (T.images e.0)) }
+        ensures bad { T.honest → IfErr result (λ e. IsWhereBad e.1 (T.content tape)) }
+        ensures failed { IfErr result (λ e. IsWhyFailed e.1 (T.failed tape) (T.failed e.0)) }
+    {
+        let mut tape = tape;
+        match recover(alloc, &mut tape) {
+            Ok(records) => {
+                let journal = Journal {
+                    tape,
+                    halted: false,
+                };
+                Ok((journal, records))
+            }
+            Err(fault) => Err((tape, fault)),
+        }
+    }
+
+    /// Adds a record: after Ok it is on the tape and synced. After a failure of the tape the journal is
+    /// halted until it is opened again, since the record may stand on the tape in part.
+    #[tactic(auto, using(crate::proofs::Settling::same_or_more, crate::proofs::Settling::same_kept, crate::proofs::Settling::now_more, crate::proofs::Settling::settled_more, crate::proofs::Settling::settled_same))]
+    pub fn add(&mut self, alloc: Global, entry: &Record) -> Result<(), AddFault>
+        requires { self.old.halted ≡ false }
+        ensures ok { T.honest → OnOk result (IsAdded (view entry.now) (T.content self.old.tape) (T.content self.new.tape) (T.images self.new.tape)) }
+        ensures one_more { T.honest → OnOk result (Follows (ReadsOneMore (view entry.now)) (T.images self.old.tape) (T.images self.new.tape)) }
+        ensures images { T.honest → Follows (ReadsSameOrOneMore (view entry.now)) (T.images self.old.tape) (T.images self.new.tape) }
+        ensures running { OnOk result (self.new.halted ≡ false) }
+        ensures failed { IsErrOf result AddFault.TapeFailed → HasRisen (T.failed self.old.tape) (T.failed self.new.tape) }
+        ensures halted { IsErrOf result AddFault.TapeFailed → self.new.halted ≡ true }
+        ensures memory { T.honest → IsErrOf result AddFault.Memory → IsUnchanged (T.content self.old.tape) (T.content self.new.tape) (T.images self.old.tape) (T.images self.new.tape) }
+        ensures still_running { IsErrOf result AddFault.Memory → self.new.halted ≡ false }
+    {
+        let Ok(bytes) = encode(alloc, entry) else {
+            return Err(AddFault::Memory);
+        };
+        match write(&mut self.tape, &bytes) {
+            Ok(()) => Ok(()),
+            Err(TapeFault::Memory) => Err(AddFault::Memory),
+            Err(TapeFault::Device) => {
+                self.halted = true;
+                Err(AddFault::TapeFailed)
+            }
+        }
+    }
+
+    /// Did the tape fail? Then no record can be added until the journal is opened again.
+    pub fn is_halted(&self) -> bool
+        ensures value { result ≡ self.now.halted }
+        ensures settled { T.honest → self.now.halted ≡ false → IsSettled (T.content self.now.tape) (T.images self.now.tape) }
+    {
+        self.halted
+    }
+
+    /// The tape, handed back as it is.
+    pub fn close(self) -> T
+        ensures { result ≡ self.tape }
+    {
+        let Journal { tape, .. } = self;
+        tape
+    }
+}
+
+/// Appends the bytes and syncs them.
+#[tactic(auto, using(crate::proofs::Settling::cut_shorter, crate::proofs::Settling::cut_synced))]
+fn write<T: Tape>(tape: &mut T, bytes: &[u8]) -> Result<(), TapeFault>
+    ensures ok { T.honest → OnOk result (T.content tape.new ≡ T.content tape.old ++ bytes.now) }
+    ensures only { T.honest → OnOk result (IsOnlyImage (T.content tape.new) (T.images tape.new)) }
+    ensures images { T.honest → IsNotMemory result → IsCutShort (T.content tape.old ++ bytes.now) (T.images tape.old) (T.images tape.new) }
+    ensures memory { T.honest → IsErrOf result Memory → IsUnchanged (T.content tape.old) (T.content tape.new) (T.images tape.old) (T.images tape.new) }
+    ensures cause { HasCause (T.failed tape.old) (T.failed tape.new) result }
+{
+    match tape.append(bytes) {
+        Ok(()) => tape.sync(),
+        Err(fault) => Err(fault),
+    }
+}
+
+/// Keeps the first bytes of the content, and syncs them.
+fn settle<T: Tape>(tape: &mut T, bytes: &[u8], front: usize) -> Result<(), TapeFault>
+    requires within { front ≤ length bytes.now }
+    ensures ok { T.honest → OnOk result (T.content tape.old ≡ bytes.now → T.content tape.new ≡ take front bytes.now) }
+    ensures only { T.honest → OnOk result (IsOnlyImage (T.content tape.new) (T.images tape.new)) }
+    ensures images { T.honest → LeavesOldOr (take front bytes.now) (T.images tape.old) (T.images tape.new) }
+    ensures memory { T.honest → IsErrOf result Memory → IsUnchanged (T.content tape.old) (T.content tape.new) (T.images tape.old) (T.images tape.new) }
+    ensures cause { HasCause (T.failed tape.old) (T.failed tape.new) result }
+{
+    if front < bytes.len() {
+        tape.replace(bytes.split_at(front).0)
+    } else {
+        tape.sync()
+    }
+}
+
+/// Reads the records of a tape, removes a torn one behind them, and syncs what is kept.
+#[tactic(auto, using(crate::proofs::Settling::same_unchanged, crate::proofs::Settling::same_settled, crate::proofs::Settling::holds_front))]
+fn recover<T: Tape>(alloc: Global, tape: &mut T) -> Result<Vec<Record>, OpenFault>
+    ensures records { T.honest → IfOk result (λ records. (rest : _) × IsTapeOf (T.content tape.old) (map view records.items) rest) }
+    ensures synced { T.honest → IfOk result (λ records. Holds (T.content tape.new) (T.images tape.new) (map view records.items)) }
+    ensures images { T.honest → Follows ReadsSame (T.images tape.old) (T.images tape.new) }
+    ensures unchanged { T.honest → IfErr result (λ fault. fault ≢ OpenFault.TapeFailed → IsUnchanged (T.content tape.old) (T.content tape.new) (T.images tape.old) (T.images tape.new)) }
+    ensures bad { T.honest → IfErr result (λ fault. IsWhereBad fault (T.content tape.old)) }
+    ensures failed { IfErr result (λ fault. IsWhyFailed fault (T.failed tape.old) (T.failed tape.new)) }
+{
+    let bytes = match tape.read(alloc) {
+        Ok(bytes) => bytes,
+        Err(fault) => return Err(open_fault(fault)),
+    };
+    let (records, front) = read_records(alloc, &bytes)?;
+    match settle(tape, &bytes, front) {
+        Ok(()) => Ok(records),
+        Err(fault) => Err(open_fault(fault)),
+    }
+}
+
+/// What the tape's fault is for who opens a journal.
+fn open_fault(fault: TapeFault) -> OpenFault
+    ensures { result ≡ open_fault fault }
+{
+    match fault {
+        TapeFault::Device => OpenFault::TapeFailed,
+        TapeFault::Memory => OpenFault::Memory,
+    }
+}

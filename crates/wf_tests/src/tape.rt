@@ -1,0 +1,175 @@
+//! Tapes in files, and journals over tapes that fail.
+use crate::value::round;
+use std::alloc::Global;
+use std::fs;
+use std::process::Abort;
+use std::rt::Files;
+use wf_tape::{AddFault, FileTape, Journal, OpenFault, Record, Tape, TapeFault};
+
+/// The bytes of a Tried record of round 1, and the first of one that is torn.
+const TRIED: &[u8] = &[1, 1, 0, 0, 0, 4, 0, 0, 0, 1];
+
+const TORN: &[u8] = &[1, 1, 0, 0, 0, 4, 0];
+
+fn new_folder(rt: &(impl Abort + Files + AllocGlobal), folder: &str) {
+    let _ = fs::remove_dir_all(rt, folder);
+    fs::create_dir(rt, folder).expect(rt, "a folder");
+}
+
+/// Opens a journal over the file, adds a Tried record of this round, and tells how many records the
+/// journal had; None where the tape fails.
+fn records_before<R: Abort + Files + AllocGlobal>(
+    rt: &R,
+    path: &str,
+    number: u32,
+) -> Option<usize> {
+    let Ok(tape) = FileTape::open(rt.alloc(), rt, path) else {
+        return None;
+    };
+    let Ok((mut journal, records)) = Journal::open(rt.alloc(), tape) else {
+        return None;
+    };
+    let tried = Record::Tried(round(rt, number));
+    match journal.add(rt.alloc(), &tried) {
+        Ok(()) => Some(records.len()),
+        Err(_) => None,
+    }
+}
+
+/// Why no journal opens over the file, and how often its tape failed; None where one opens.
+fn fault_of<R: Abort + Files + AllocGlobal>(rt: &R, path: &str) -> Option<(OpenFault, u64)> {
+    let tape = FileTape::open(rt.alloc(), rt, path).expect(rt, "a tape");
+    match Journal::open(rt.alloc(), tape) {
+        Ok(_) => None,
+        Err((tape, fault)) => Some((fault, tape.failures())),
+    }
+}
+
+/// What is in the file.
+fn content<R: Abort + Files + AllocGlobal>(rt: &R, path: &str) -> Vec<u8> {
+    fs::read(rt, path).expect(rt, "the file")
+}
+
+#[test]
+fn a_file_keeps_what_is_added(rt: HostRuntime) {
+    new_folder(&rt, "kept");
+    assert!(rt; records_before(&rt, "kept/tape", 1) == Some(0));
+    assert_eq!(&rt; content(&rt, "kept/tape").as_slice(), TRIED);
+    assert!(rt; records_before(&rt, "kept/tape", 2) == Some(1));
+    assert!(rt; records_before(&rt, "kept/tape", 3) == Some(2));
+    assert_eq!(&rt; content(&rt, "kept/tape").len(), 30);
+}
+
+#[test]
+fn a_torn_record_is_removed_from_a_file(rt: HostRuntime) {
+    new_folder(&rt, "torn");
+    fs::write(&rt, "torn/tape", TORN).expect(&rt, "a file");
+    assert!(rt; records_before(&rt, "torn/tape", 1) == Some(0));
+    assert_eq!(&rt; content(&rt, "torn/tape").as_slice(), TRIED);
+}
+
+/// A stop between the steps of a replacement leaves the second file beside the old content.
+#[test]
+fn a_second_file_left_over_does_not_hurt(rt: HostRuntime) {
+    new_folder(&rt, "left");
+    fs::write(&rt, "left/tape", TORN).expect(&rt, "a file");
+    fs::write(&rt, "left/tape.new", b"longer than what is put there").expect(&rt, "a file");
+    assert!(rt; records_before(&rt, "left/tape", 1) == Some(0));
+    assert_eq!(&rt; content(&rt, "left/tape").as_slice(), TRIED);
+}
+
+#[test]
+fn a_file_in_no_folder_is_no_tape(rt: HostRuntime) {
+    let opened = FileTape::open(rt.alloc(), &rt, "absent/tape");
+    assert!(&rt; matches!(opened.err(), Some(TapeFault::Device)));
+}
+
+/// A second file that can't be written, since a folder stands in its place.
+#[test]
+fn a_replacement_that_fails_is_counted(rt: HostRuntime) {
+    new_folder(&rt, "stuck");
+    fs::create_dir(&rt, "stuck/tape.new").expect(&rt, "a folder");
+    fs::write(&rt, "stuck/tape", TORN).expect(&rt, "a file");
+    assert!(&rt; fault_of(&rt, "stuck/tape") == Some((OpenFault::TapeFailed, 1)));
+    assert_eq!(&rt; content(&rt, "stuck/tape").as_slice(), TORN);
+}
+
+/// A tape whose syncs fail, in memory.
+#[derive(Drop)]
+struct Unsynced {
+    bytes: Vec<u8>,
+    sound: u64,
+    failures: u64,
+}
+
+impl Tape for Unsynced {
+    ghost use Rattle.std.specs.Prelude.{[]};
+
+    ghost honest = { ⊥ };
+
+    ghost content = { λ _. [] };
+
+    ghost images = { λ _ _. Unit {0} };
+
+    ghost failed = { λ t. t.failures };
+
+    fn read(&mut self, alloc: Global) -> Result<Vec<u8>, TapeFault> {
+        Ok(self.bytes.to_vec(alloc)?)
+    }
+
+    fn append(&mut self, bytes: &[u8]) -> Result<(), TapeFault> {
+        self.bytes.extend_from_slice(bytes)?;
+        Ok(())
+    }
+
+    fn sync(&mut self) -> Result<(), TapeFault> {
+        if self.sound > 0 {
+            self.sound -= 1;
+            return Ok(());
+        }
+        self.failures = self.failures.saturating_add(1);
+        Err(TapeFault::Device)
+    }
+
+    fn replace(&mut self, bytes: &[u8]) -> Result<(), TapeFault> {
+        self.bytes = bytes.to_vec(*self.bytes.allocator())?;
+        Ok(())
+    }
+
+    fn failures(&self) -> u64 {
+        self.failures
+    }
+}
+
+#[test]
+fn a_journal_is_halted_where_a_sync_fails(rt: HostRuntime) {
+    let tape = Unsynced {
+        bytes: Vec::new(rt.alloc()),
+        sound: 1,
+        failures: 0,
+    };
+    let Ok((mut journal, _)) = Journal::open(rt.alloc(), tape) else {
+        return assert!(&rt; false);
+    };
+    assert!(&rt; !journal.is_halted());
+    let added = journal.add(rt.alloc(), &Record::Tried(round(&rt, 1)));
+    assert_eq!(&rt; added.err(), Some(AddFault::TapeFailed));
+    assert!(&rt; journal.is_halted());
+    assert_eq!(&rt; journal.close().failures(), 1);
+}
+
+#[test]
+fn a_journal_is_not_opened_where_a_sync_fails(rt: HostRuntime) {
+    let tape = Unsynced {
+        bytes: TRIED.to_vec(rt.alloc()).expect(&rt, "memory"),
+        sound: 0,
+        failures: 0,
+    };
+    match Journal::open(rt.alloc(), tape) {
+        Ok(_) => assert!(&rt; false),
+        Err((tape, fault)) => {
+            assert_eq!(&rt; fault, OpenFault::TapeFailed);
+            assert_eq!(&rt; tape.failures(), 1);
+        }
+    }
+}
