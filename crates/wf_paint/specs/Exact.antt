@@ -1,0 +1,22 @@
+-- Sums, products and comparisons of whole numbers: the words that the view and the coverage are made of.
+use Rattle.std.specs.Prelude.{ℤ, ◌+ℤ◌, ◌-ℤ◌, ◌*ℤ◌, neg_ℤ, Bool, int_lt}
+use Rattle.std.specs.Int.{int_div_euclid}
+
+unfoldable pub plus : ℤ → ℤ → ℤ
+plus a b = a +ℤ b
+
+unfoldable pub difference : ℤ → ℤ → ℤ
+difference a b = a -ℤ b
+
+unfoldable pub product : ℤ → ℤ → ℤ
+product a b = a *ℤ b
+
+unfoldable pub opposite : ℤ → ℤ
+opposite z = neg_ℤ z
+
+-- the quotient rounded down, of negative numbers too, where the divisor is positive
+unfoldable pub quotient : ℤ → ℤ → ℤ
+quotient a b = int_div_euclid a b
+
+unfoldable pub is_less : ℤ → ℤ → Bool
+is_less a b = int_lt a b

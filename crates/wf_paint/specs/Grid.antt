@@ -1,0 +1,51 @@
+-- The grid of tiles: at level z the extent's width has 2^z cells, counted from the extent's lower left corner, below it negative.
+use Rattle.std.specs.Prelude.{ℕ, ◌*◌, ◌^◌, ◌≤◌, ◌&&◌, ◌==◌, Bool, nat_le, ℤ, pos, nat_abs}
+use Rattle.wf_def.specs.Extent.{ExtentValue}
+use Rattle.wf_paint.specs.Exact.{plus, difference, product}
+use Rattle.wf_paint.specs.declared.cell.GridCell.{GridCell}
+
+-- the highest level
+abbrev pub most_level : ℕ
+most_level = 20
+
+-- the width and height of a tile, in pixels
+abbrev pub tile_pixels : ℕ
+tile_pixels = 256
+
+-- the narrowest cell, in millionths
+abbrev pub least_cell : ℕ
+least_cell = 1_000
+
+-- the extent's width in millionths, which measures the grid on both axes
+unfoldable pub width_of : ExtentValue → ℕ
+width_of e = nat_abs (difference e.maxx e.minx)
+
+-- With so many cells along the width, line k of the grid is at `least + k * width / cells`. The coordinate lies within 2 millionths of
+-- it; both sides are multiplied by the number of cells.
+unfoldable pub is_on_line : ℤ → ℕ → ℕ → ℤ → ℤ → Bool
+is_on_line least width cells k x =
+    nat_le (nat_abs (difference (product (difference x least) (pos cells)) (product k (pos width)))) (2 * cells)
+
+-- the two coordinates are the sides of cell k
+unfoldable pub is_cell : ℤ → ℕ → ℕ → ℤ → ℤ → ℤ → Bool
+is_cell least width cells k low high = is_on_line least width cells k low && is_on_line least width cells (plus k (pos 1)) high
+
+-- the cells are wide enough for a level
+unfoldable pub has_level : ℕ → ℕ → Bool
+has_level width cells = nat_le (least_cell * cells) width
+
+-- the box is the cell in the column and row, with so many cells along the width
+unfoldable pub is_box : ExtentValue → ExtentValue → ℕ → ℤ → ℤ → Bool
+is_box e box cells col row = has_level (width_of e) cells
+    && (is_cell e.minx (width_of e) cells col box.minx box.maxx && is_cell e.miny (width_of e) cells row box.miny box.maxy)
+
+-- a picture of the box in this size is the tile of the cell
+unfoldable pub fits : ExtentValue → ExtentValue → ℕ → ℕ → GridCell → Bool
+fits e box width height cell = width == tile_pixels && height == tile_pixels && nat_le cell.z most_level
+    && is_box e box (2 ^ cell.z) cell.col cell.row
+
+-- a level of the grid, and a column and a row that a box of the map's coordinates can have
+pub record IsGridCell (cell : GridCell) : Type 0 where
+  pub level : cell.z ≤ most_level
+  pub column_near : nat_abs cell.col ≤ 2 ^ 39
+  pub row_near : nat_abs cell.row ≤ 2 ^ 39

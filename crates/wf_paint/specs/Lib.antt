@@ -1,0 +1,12 @@
+pub mod Exact
+pub mod Near
+pub mod Place
+pub mod Coverage
+pub mod Square
+pub mod View
+pub mod Segments
+pub mod Operation
+pub mod Pixmap
+pub mod Grid
+pub mod Tile
+pub mod Drawing

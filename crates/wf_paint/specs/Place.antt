@@ -1,0 +1,25 @@
+-- Places in a view, and the pixels' centres.
+use Rattle.std.specs.Prelude.{ℤ, pos}
+use Rattle.wf_paint.specs.Near.{IsNear}
+use Rattle.wf_paint.specs.Exact.{plus, product}
+
+-- sixteenths of a pixel from the left and from the bottom of a view
+pub record PlaceValue : Type 0 where
+  pub x : ℤ
+  pub y : ℤ
+
+pub record IsPlace (p : PlaceValue) : Type 0 where
+  pub x : IsNear p.x
+  pub y : IsNear p.y
+
+-- the centre of a pixel, on one axis
+abbrev pub middle : ℤ → ℤ
+middle pixel = plus (product (pos 16) pixel) (pos 8)
+
+-- the centre of the pixel in a column and a row, rows counted upward from the bottom
+abbrev pub centre : ℤ → ℤ → PlaceValue
+centre column row = record { x = middle column; y = middle row }
+
+-- the place with its two axes exchanged
+abbrev pub turned : PlaceValue → PlaceValue
+turned p = record { x = p.y; y = p.x }

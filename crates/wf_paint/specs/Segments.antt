@@ -1,0 +1,30 @@
+-- The segments of a shape's parts, as a view shows them.
+use Rattle.std.specs.Prelude.{List, [], ◌∷◌, ◌++◌, map}
+use Rattle.std.specs.List.{flat_map}
+use Rattle.wf_def.specs.declared.point.Point.{Point}
+use Rattle.wf_paint.specs.Place.{PlaceValue}
+use Rattle.wf_paint.specs.View.{ViewValue, place_of}
+use Rattle.wf_paint.specs.declared.segment.Segment.{Segment}
+
+abbrev pub path_from : PlaceValue → List PlaceValue → List Segment
+path_from a [] = []
+path_from a (b ∷ rest) = record { from = a; to = b } ∷ path_from b rest
+
+-- from each place to the next
+abbrev pub path : List PlaceValue → List Segment
+path [] = []
+path (a ∷ rest) = path_from a rest
+
+-- the same, and from the last place back to the first
+abbrev pub ring : List PlaceValue → List Segment
+ring [] = []
+ring (a ∷ rest) = path_from a (rest ++ a ∷ [])
+
+abbrev pub places : ViewValue → List Point → List PlaceValue
+places view points = map (place_of view) points
+
+unfoldable pub paths : ViewValue → List (List Point) → List Segment
+paths view parts = flat_map (λ part. path (places view part)) parts
+
+unfoldable pub rings : ViewValue → List (List Point) → List Segment
+rings view parts = flat_map (λ part. ring (places view part)) parts

@@ -1,0 +1,47 @@
+-- Which view a request has: that of a tile of the grid, or of the box itself.
+use Rattle.std.specs.Prelude.{◌≡◌, ℕ, ◌*◌, ◌^◌, Some, None, true, false, ℤ, pos, nat_abs}
+use Rattle.std.specs.Int.{int_rem_euclid}
+use Rattle.wf_def.specs.Extent.{ExtentValue}
+use Rattle.wf_paint.specs.Exact.{difference, product, quotient}
+use Rattle.wf_paint.specs.Grid.{width_of, fits, tile_pixels}
+use Rattle.wf_paint.specs.View.{AxisValue, ViewValue, most_pixels}
+use Rattle.wf_paint.specs.declared.cell.GridCell.{GridCell}
+
+-- the box's side over so many pixels of 16 sixteenths
+abbrev pub box_axis : ℤ → ℤ → ℕ → AxisValue
+box_axis low high pixels = record { origin = low; scale = 16 * pixels; span = nat_abs (difference high low); shift = pos 0 }
+
+abbrev pub box_view : ExtentValue → ℕ → ℕ → ViewValue
+box_view box width height = record {
+  width = width;
+  height = height;
+  x = box_axis box.minx box.maxx width;
+  y = box_axis box.miny box.maxy height;
+  corner = None;
+}
+
+-- Tiles are drawn four by four. A cell of the extent's width / cells takes 256 pixels, and the view begins at the first cell of the
+-- four that this one is in.
+unfoldable pub tile_shift : ℤ → ℤ
+tile_shift k = product (quotient k (pos 4)) (pos 16_384)
+
+-- which of the four the cell is, from 0 on, in pixels
+unfoldable pub tile_start : ℤ → ℕ
+tile_start k = nat_abs (int_rem_euclid k (pos 4)) * tile_pixels
+
+abbrev pub tile_axis : ℤ → ℕ → ℕ → ℤ → AxisValue
+tile_axis origin width cells k = record { origin = origin; scale = 4_096 * cells; span = width; shift = tile_shift k }
+
+abbrev pub tile_view : ExtentValue → GridCell → ViewValue
+tile_view e cell = record {
+  width = most_pixels;
+  height = most_pixels;
+  x = tile_axis e.minx (width_of e) (2 ^ cell.z) cell.col;
+  y = tile_axis e.miny (width_of e) (2 ^ cell.z) cell.row;
+  corner = Some (record { column = tile_start cell.col; row = tile_start cell.row });
+}
+
+-- the view of the tile's cell where the request is a tile, else that of the box
+pub record IsViewOf (e box : ExtentValue) (width height : ℕ) (view : ViewValue) : Type 0 where
+  pub tile : (cell : GridCell) → fits e box width height cell ≡ true → view ≡ tile_view e cell
+  pub plain : ((cell : GridCell) → fits e box width height cell ≡ false) → view ≡ box_view box width height

@@ -1,0 +1,63 @@
+-- How a view shows the map's coordinates: a linear rule on each axis, rounded down.
+use Rattle.std.specs.Prelude.{ℕ, ◌*◌, ◌^◌, ◌≤◌, ℤ, pos, nat_abs, Option}
+use Rattle.wf_def.specs.Limit.{most_millionths}
+use Rattle.wf_def.specs.Micro.{IsMicro}
+use Rattle.wf_def.specs.declared.point.Point.{Point}
+use Rattle.wf_paint.specs.Exact.{difference, product, quotient}
+use Rattle.wf_paint.specs.Place.{PlaceValue}
+use Rattle.wf_paint.specs.declared.corner.Corner.{Corner}
+
+-- `span` millionths are `scale` sixteenths of a pixel; the millionth `origin` is shown `shift` sixteenths before the view's side
+pub record AxisValue : Type 0 where
+  pub origin : ℤ
+  pub scale : ℕ
+  pub span : ℕ
+  pub shift : ℤ
+
+-- how far a coordinate lies from the origin, in sixteenths of a pixel, rounded down
+unfoldable pub scaled : ℤ → ℕ → ℕ → ℤ
+scaled distance scale span = quotient (product distance (pos scale)) (pos span)
+
+-- where a coordinate is shown, in sixteenths of a pixel from the view's side
+unfoldable pub position : AxisValue → ℤ → ℤ
+position axis x = difference (scaled (difference x axis.origin) axis.scale axis.span) axis.shift
+
+-- a size in pixels, the two axes, and for a tile its lower left pixel: the picture is then that part of the view
+pub record ViewValue : Type 0 where
+  pub width : ℕ
+  pub height : ℕ
+  pub x : AxisValue
+  pub y : AxisValue
+  pub corner : Option Corner
+
+-- where a point is shown
+abbrev pub place_of : ViewValue → Point → PlaceValue
+place_of view p = record { x = position view.x p.x; y = position view.y p.y }
+
+-- the widest and the highest view, in pixels
+abbrev pub most_pixels : ℕ
+most_pixels = 1_024
+
+-- the most sixteenths of a pixel that a millionth takes
+abbrev pub most_scale : ℕ
+most_scale = 17
+
+-- the furthest that the origin is shown before the view's side, in sixteenths of a pixel
+abbrev pub most_shift : ℕ
+most_shift = 2 ^ 51
+
+-- the axis shows every coordinate at a place
+pub record IsAxis (a : AxisValue) : Type 0 where
+  pub origin : IsMicro a.origin
+  pub least : 1 ≤ a.span
+  pub most : a.span ≤ 2 * most_millionths
+  pub finest : a.scale ≤ most_scale * a.span
+  pub shift : nat_abs a.shift ≤ most_shift
+
+pub record IsView (v : ViewValue) : Type 0 where
+  pub width_least : 1 ≤ v.width
+  pub width_most : v.width ≤ most_pixels
+  pub height_least : 1 ≤ v.height
+  pub height_most : v.height ≤ most_pixels
+  pub x : IsAxis v.x
+  pub y : IsAxis v.y

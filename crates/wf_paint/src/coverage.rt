@@ -1,0 +1,172 @@
+//! Which pixels a shape covers.
+ghost use Rattle.std.specs.Prelude.{◌≡◌, ◌≤◌, pos};
+ghost use Rattle.wf_def.specs.Limit.{most_width};
+ghost use Rattle.wf_paint.specs.Near.{IsReach, IsArea};
+ghost use Rattle.wf_paint.specs.Coverage.{run, rise, is_left_of, is_beside, meets, crosses, is_inside, deviation, margin, is_along, is_in_band, is_across, is_on_flat, is_steep, is_on, is_on_any};
+ghost use Rattle.wf_paint.specs.Operation.{covers, operation_value};
+
+use crate::exact::{area_difference, difference, is_less, is_less_area, opposite, product};
+use crate::operation::{Operation, Pixel, Shape};
+use crate::place::Place;
+use crate::segment::Segment;
+use crate::square::is_in_square;
+
+/// Whether the operation paints the pixel.
+#[tactic(auto, unfolding(crate::specs::Operation::covers))]
+pub fn covers(operation: &Operation, pixel: Pixel) -> bool
+    ensures { result ≡ covers (operation_value operation.now) (pos pixel.column) (pos pixel.row) }
+{
+    match operation.shape {
+        Shape::Fill { edges } => is_inside(Place::centre(pixel.column, pixel.row), edges),
+        Shape::Line { width, segments } => {
+            is_on_any(width, Place::centre(pixel.column, pixel.row), segments)
+        }
+        Shape::Square { size, place } => is_in_square(size, place, pixel),
+    }
+}
+
+/// How far the second place lies to the right of the first.
+#[tactic(auto, unfolding(crate::specs::Coverage::run))]
+fn run(from: Place, to: Place) -> i64
+    ensures value { result ≡ run from to }
+    ensures within { IsReach result }
+{
+    difference(to.x(), from.x())
+}
+
+/// How far the second place lies above the first.
+#[tactic(auto, unfolding(crate::specs::Coverage::rise))]
+fn rise(from: Place, to: Place) -> i64
+    ensures value { result ≡ rise from to }
+    ensures within { IsReach result }
+{
+    difference(to.y(), from.y())
+}
+
+/// Whether the place is left of an edge that goes up from `low` to `high`.
+#[tactic(auto, unfolding(crate::specs::Coverage::is_left_of))]
+fn is_left_of(place: Place, low: Place, high: Place) -> bool
+    ensures { result ≡ is_left_of place low high }
+{
+    let across = product(run(low, place), rise(low, high));
+    let along = product(rise(low, place), run(low, high));
+    is_less_area(across, along)
+}
+
+/// Whether the height of the place is between those of the ends: the lower end counts, the upper doesn't.
+#[tactic(auto, unfolding(crate::specs::Coverage::is_beside))]
+fn is_beside(place: Place, low: Place, high: Place) -> bool
+    ensures { result ≡ is_beside place low high }
+{
+    !is_less(place.y(), low.y()) && is_less(place.y(), high.y())
+}
+
+/// Whether the ray from the place to the right meets the edge from `low` up to `high`.
+#[tactic(auto, unfolding(crate::specs::Coverage::meets))]
+fn meets(place: Place, low: Place, high: Place) -> bool
+    ensures { result ≡ meets place low high }
+{
+    is_beside(place, low, high) && is_left_of(place, low, high)
+}
+
+/// Whether the ray from the place to the right meets the segment.
+#[tactic(auto, unfolding(crate::specs::Coverage::crosses))]
+fn crosses(place: Place, edge: &Segment) -> bool
+    ensures { result ≡ crosses place edge.now }
+{
+    meets(place, edge.from, edge.to) || meets(place, edge.to, edge.from)
+}
+
+/// Whether the ray from the place to the right meets an odd number of the edges.
+#[tactic(auto, unfolding(crate::specs::Coverage::is_inside))]
+fn is_inside(place: Place, edges: &[Segment]) -> bool
+    ensures { result ≡ is_inside place edges.now }
+{
+    edges.iter().filter(|edge| crosses(place, edge)).count() % 2 == 1
+}
+
+/// How far the place lies above the line from `left` to `right`, times the length of the line along x.
+#[tactic(auto, unfolding(crate::specs::Coverage::deviation))]
+fn deviation(place: Place, left: Place, right: Place) -> i128
+    ensures { result ≡ deviation place left right }
+{
+    let risen = product(rise(left, place), run(left, right));
+    let expected = product(run(left, place), rise(left, right));
+    area_difference(risen, expected)
+}
+
+/// Half the width of the line in sixteenths of a pixel, times its length along x.
+#[tactic(auto, unfolding(crate::specs::Coverage::margin))]
+fn margin(width: u8, left: Place, right: Place) -> i128
+    ensures value { result ≡ margin width left right }
+    ensures within { IsArea result }
+{
+    product(8 * i64::from(width), run(left, right))
+}
+
+/// Whether the column of the place is between the ends, both of which count.
+#[tactic(auto, unfolding(crate::specs::Coverage::is_along))]
+fn is_along(place: Place, left: Place, right: Place) -> bool
+    ensures { result ≡ is_along place left right }
+{
+    !is_less(place.x(), left.x()) && !is_less(right.x(), place.x())
+}
+
+/// Whether the place lies within half the width above or below the line; of the two borders the lower counts.
+#[tactic(auto, unfolding(crate::specs::Coverage::is_in_band))]
+fn is_in_band(width: u8, place: Place, left: Place, right: Place) -> bool
+    ensures { result ≡ is_in_band width place left right }
+{
+    let margin = margin(width, left, right);
+    let deviation = deviation(place, left, right);
+    !is_less_area(deviation, opposite(margin)) && is_less_area(deviation, margin)
+}
+
+/// Whether the line from `left` to `right` covers the place.
+#[tactic(auto, unfolding(crate::specs::Coverage::is_across))]
+fn is_across(width: u8, place: Place, left: Place, right: Place) -> bool
+    ensures { result ≡ is_across width place left right }
+{
+    is_along(place, left, right) && is_in_band(width, place, left, right)
+}
+
+/// Whether the line between two places covers the place, whichever of them is left.
+#[tactic(auto, unfolding(crate::specs::Coverage::is_on_flat))]
+fn is_on_flat(width: u8, place: Place, from: Place, to: Place) -> bool
+    ensures { result ≡ is_on_flat width place from to }
+{
+    if is_less(to.x(), from.x()) {
+        is_across(width, place, to, from)
+    } else {
+        is_across(width, place, from, to)
+    }
+}
+
+/// Whether the line between two places is longer along y than along x.
+#[tactic(auto, unfolding(crate::specs::Coverage::is_steep))]
+fn is_steep(from: Place, to: Place) -> bool
+    ensures { result ≡ is_steep from to }
+{
+    run(from, to).unsigned_abs() < rise(from, to).unsigned_abs()
+}
+
+/// Whether the line of this width in pixels along the segment covers the place.
+#[tactic(auto, unfolding(crate::specs::Coverage::is_on))]
+fn is_on(width: u8, place: Place, segment: &Segment) -> bool
+    ensures { result ≡ is_on width place segment.now }
+{
+    let (from, to) = (segment.from, segment.to);
+    if is_steep(from, to) {
+        is_on_flat(width, place.turned(), from.turned(), to.turned())
+    } else {
+        is_on_flat(width, place, from, to)
+    }
+}
+
+/// Whether a line of this width in pixels along one of the segments covers the place.
+#[tactic(auto, unfolding(crate::specs::Coverage::is_on_any))]
+fn is_on_any(width: u8, place: Place, segments: &[Segment]) -> bool
+    ensures { result ≡ is_on_any width place segments.now }
+{
+    segments.iter().any(|segment| is_on(width, place, segment))
+}

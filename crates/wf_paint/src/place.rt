@@ -1,0 +1,81 @@
+//! Places in a view.
+ghost use Rattle.std.specs.Prelude.{◌≡◌, ◌<◌, ◌^◌, pos};
+ghost use Rattle.wf_paint.specs.Near.{IsNear};
+ghost use Rattle.wf_paint.specs.Place.{IsPlace, middle, centre, turned};
+
+use std::marker::Model;
+
+/// A place in a view, in sixteenths of a pixel from its left side and from its bottom. Places beside the view are places too.
+#[derive(Clone, Copy)]
+pub struct Place {
+    x: i64,
+    y: i64,
+}
+
+impl Model for Place {
+    ghost use Rattle.wf_paint.specs.Place.{PlaceValue, IsPlace};
+
+    ghost Value = { PlaceValue };
+
+    ghost view = { λ p. record { x = p.x; y = p.y } };
+
+    ghost invariant = { λ p. IsPlace (record { x = p.x; y = p.y }) };
+
+    ghost inverse = { λ v. record { x = v.x; y = v.y } };
+}
+
+impl Place {
+    /// The place in these sixteenths of a pixel.
+    pub(crate) fn new(x: i64, y: i64) -> Self
+        requires x { IsNear x }
+        requires y { IsNear y }
+        ensures { result ≡ record { x = x; y = y } }
+    {
+        Place { x, y }
+    }
+
+    /// Sixteenths of a pixel from the left.
+    pub fn x(self) -> i64
+        ensures value { result ≡ self.x }
+        ensures within { IsPlace self }
+    {
+        self.x
+    }
+
+    /// Sixteenths of a pixel from the bottom.
+    pub fn y(self) -> i64
+        ensures value { result ≡ self.y }
+        ensures within { IsPlace self }
+    {
+        self.y
+    }
+
+    /// The place with its two axes exchanged.
+    pub(crate) fn turned(self) -> Self
+        ensures { result ≡ turned self }
+    {
+        Place {
+            x: self.y,
+            y: self.x,
+        }
+    }
+
+    /// The centre of the pixel in a column and a row, rows counted upward from the bottom.
+    pub(crate) fn centre(column: u32, row: u32) -> Self
+        ensures { result ≡ centre (pos column) (pos row) }
+    {
+        Place {
+            x: middle(column),
+            y: middle(row),
+        }
+    }
+}
+
+/// The centre of a pixel on one axis, in sixteenths of a pixel.
+#[tactic(auto, unfolding(crate::specs::Exact::plus, crate::specs::Exact::product))]
+fn middle(pixel: u32) -> i64
+    ensures value { result ≡ middle (pos pixel) }
+    ensures within { IsNear result }
+{
+    16 * i64::from(pixel) + 8
+}

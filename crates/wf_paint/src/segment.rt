@@ -1,0 +1,10 @@
+//! Segments.
+
+use crate::place::Place;
+
+/// The straight line between two places.
+#[derive(Clone, Copy)]
+pub struct Segment {
+    pub from: Place,
+    pub to: Place,
+}

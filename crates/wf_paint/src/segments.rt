@@ -1,0 +1,91 @@
+//! The segments of a shape's parts, as a view shows them.
+ghost use Rattle.std.specs.Prelude.{◌≡◌, List, ◌++◌, OnOk, IfOk};
+ghost use Rattle.wf_paint.specs.Place.{PlaceValue};
+ghost use Rattle.wf_paint.specs.Segments.{path_from, path, ring, places, paths, rings};
+
+use crate::place::Place;
+use crate::segment::Segment;
+use crate::view::View;
+use std::alloc::{AllocError, Global};
+use wf_def::feature::Part;
+use wf_def::point::Point;
+
+/// The segments from each point of a part to the next, part by part.
+#[tactic(auto, unfolding(crate::specs::Segments::paths))]
+pub(crate) fn paths(alloc: Global, view: &View, parts: &[Part]) -> Result<Vec<Segment>, AllocError>
+    ensures { IfOk result (λ s. s.items ≡ paths view.now parts.now) }
+{
+    let mut segments = Vec::new(alloc);
+    for part in parts {
+        push_path(&mut segments, view, part.as_slice())?;
+    }
+    Ok(segments)
+}
+
+/// The same, with the segment from each part's last point back to its first.
+#[tactic(auto, unfolding(crate::specs::Segments::rings))]
+pub(crate) fn rings(alloc: Global, view: &View, parts: &[Part]) -> Result<Vec<Segment>, AllocError>
+    ensures { IfOk result (λ s. s.items ≡ rings view.now parts.now) }
+{
+    let mut segments = Vec::new(alloc);
+    for part in parts {
+        push_ring(&mut segments, view, part.as_slice())?;
+    }
+    Ok(segments)
+}
+
+/// Adds the segments from each point to the next.
+fn push_path(segments: &mut Vec<Segment>, view: &View, points: &[Point]) -> Result<(), AllocError>
+    ensures { OnOk result (segments.new.items ≡ segments.old.items ++ path (places view.now points.now)) }
+{
+    if let [first, rest @ ..] = points {
+        push_way(segments, view, view.place(first), rest)?;
+    }
+    Ok(())
+}
+
+/// Adds the segments from a place to the first point, and from each point to the next.
+fn push_way(
+    segments: &mut Vec<Segment>,
+    view: &View,
+    start: Place,
+    points: &[Point],
+) -> Result<(), AllocError>
+    ensures { OnOk result (segments.new.items ≡ segments.old.items ++ path_from start (places view.now points.now)) }
+{
+    push_from(segments, view, start, points)?;
+    Ok(())
+}
+
+/// Adds the segments from each point to the next, and from the last back to the first.
+fn push_ring(segments: &mut Vec<Segment>, view: &View, points: &[Point]) -> Result<(), AllocError>
+    ensures { OnOk result (segments.new.items ≡ segments.old.items ++ ring (places view.now points.now)) }
+{
+    if let [first, rest @ ..] = points {
+        let first = view.place(first);
+        let last = push_from(segments, view, first, rest)?;
+        segments.push(Segment {
+            from: last,
+            to: first,
+        })?;
+    }
+    Ok(())
+}
+
+/// The same, and answers the last place: with the segments from there through any further places they are those of the whole way.
+fn push_from(
+    segments: &mut Vec<Segment>,
+    view: &View,
+    start: Place,
+    points: &[Point],
+) -> Result<Place, AllocError>
+    ensures { IfOk result (λ last. (further : List PlaceValue) → segments.new.items ++ path_from last further ≡ segments.old.items ++ path_from start (places view.now points.now ++ further)) }
+{
+    let mut last = start;
+    for point in points {
+        let to = view.place(point);
+        segments.push(Segment { from: last, to })?;
+        last = to;
+    }
+    Ok(last)
+}

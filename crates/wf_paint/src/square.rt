@@ -1,0 +1,47 @@
+//! Squares of pixels about a place.
+ghost use Rattle.std.specs.Prelude.{◌≡◌, ◌≤◌, ◌^◌, pos, nat_abs};
+ghost use Rattle.wf_paint.specs.Near.{IsNear};
+ghost use Rattle.wf_paint.specs.Exact.{plus};
+ghost use Rattle.wf_paint.specs.Square.{square_start, is_in_span, is_in_square};
+
+use crate::exact::is_less;
+use crate::operation::Pixel;
+use crate::place::Place;
+
+/// The first of the so many columns of pixels about a place on one axis.
+#[tactic(auto, unfolding(crate::specs::Square::square_start, crate::specs::Exact::difference, crate::specs::Exact::quotient))]
+fn square_start(size: u8, place: i64) -> i64
+    requires { IsNear place }
+    ensures value { result ≡ square_start size place }
+    ensures within { nat_abs result ≤ 2 ^ 54 }
+{
+    place.div_euclid(16) - i64::from(size / 2)
+}
+
+/// The column behind the last.
+#[tactic(auto, unfolding(crate::specs::Exact::plus))]
+fn square_end(start: i64, size: u8) -> i64
+    requires { nat_abs start ≤ 2 ^ 54 }
+    ensures { result ≡ plus start (pos size) }
+{
+    start + i64::from(size)
+}
+
+/// Whether the column of pixels is one of those of the square.
+#[tactic(auto, unfolding(crate::specs::Square::is_in_span))]
+fn is_in_span(size: u8, place: i64, column: u32) -> bool
+    requires { IsNear place }
+    ensures { result ≡ is_in_span size place (pos column) }
+{
+    let column = i64::from(column);
+    let start = square_start(size, place);
+    !is_less(column, start) && is_less(column, square_end(start, size))
+}
+
+/// Whether the pixel is one of those of the square of this size about the place.
+#[tactic(auto, unfolding(crate::specs::Square::is_in_square))]
+pub(crate) fn is_in_square(size: u8, place: Place, pixel: Pixel) -> bool
+    ensures { result ≡ is_in_square size place (pos pixel.column) (pos pixel.row) }
+{
+    is_in_span(size, place.x(), pixel.column) && is_in_span(size, place.y(), pixel.row)
+}
