@@ -25,6 +25,10 @@ length-text_spelling : (r : Record (List ℕ)) → length (text_spelling r) ≡ 
 unfolding text_spelling frame
 length-text_spelling r = omega arith
 
+-- the header stands before the body
+pub header_and_body : (r : Record Definition) (n : ℕ) → n ≡ length (body (texts r)) → header_length + n ≡ length (spelling r)
+header_and_body r n is = omega (arith, length-text_spelling (texts r))
+
 -- a record's spelling isn't empty
 pub spelling_not_empty : (r : Record Definition) (spelled : List ℕ) → Spells r spelled → 1 ≤ length spelled
 spelling_not_empty r spelled spells = omega (arith, ap length spells.spelled, length-text_spelling (texts r))

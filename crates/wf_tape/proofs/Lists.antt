@@ -1,10 +1,10 @@
 -- The records of bytes: there is one longest list of them, a record appended is one more, and a record cut short is none.
-use Rattle.std.proofs.Common.{◌≡◌, ◌⊎◌, ℕ, ◌<◌, ◌≤◌, List, [], ◌∷◌, ◌++◌, ◌-◌, length, take, drop, refl, sym, ap, subst, ◌∙◌, append_assoc, length-append, length-drop, arith, inl, inr}
+use Rattle.std.proofs.Common.{◌≡◌, ◌⊎◌, ℕ, ◌+◌, ◌^◌, ◌<◌, ◌≤◌, List, [], ◌∷◌, ◌++◌, ◌-◌, length, take, drop, refl, sym, ap, subst, ◌∙◌, append_assoc, length-append, length-drop, arith, inl, inr}
 use Rattle.std.proofs.lemmas.List.{append-nil, take_at, drop_at, take-append-drop}
 use Rattle.wf_def.specs.Definition.{Definition}
 use Rattle.wf_model.specs.Stored.{Record}
 use Rattle.wf_tape.specs.Spelling.{Spells}
-use Rattle.wf_tape.specs.Records.{Splits, BeginsWithNone, ReadsAs, AreRecords, IsCleanOrTorn, IsTapeOf, IsBad}
+use Rattle.wf_tape.specs.Records.{Splits, BeginsWithNone, ReadsAs, AreRecords, IsCleanOrTorn, IsTapeOf, IsBad, length_of}
 use Rattle.wf_tape.specs.Front.{TakesOne, HasRead}
 use Rattle.wf_tape.specs.Journal.{IsBadAt}
 use Rattle.wf_tape.proofs.Judged.{spelling_not_empty, none_begins_another}
@@ -128,3 +128,16 @@ pub bad_there : (bytes : List ℕ) (records : List (Record Definition)) (rest : 
 bad_there bytes records rest splits bad =
     let there = rest_stands bytes records rest splits in
     (records, subst (λ (t : List ℕ). Splits bytes records t) (sym there) splits, subst (λ (t : List ℕ). IsBad t) (sym there) bad)
+
+-- ---- how many bytes records have
+
+length_splits : (bytes : List ℕ) (records : List (Record Definition)) (rest : List ℕ) → Splits bytes records rest → length bytes ≡ length_of records + length rest
+unfolding length_of
+length_splits bytes [] rest splits = omega (arith, ap length splits)
+length_splits bytes (r ∷ records) rest splits =
+    omega (arith, ap length splits.3, length-append splits.0 splits.1, ap length splits.2.spelled, length_splits splits.1 records rest splits.4)
+
+-- Records that were read have as many bytes as a number of the machine can count.
+pub length_of_read : (bytes : List ℕ) (records : List (Record Definition)) (n : ℕ) → HasRead bytes records n → n < 2 ^ 64 → length_of records < 2 ^ 64
+length_of_read bytes records n read short =
+    omega (arith, length_splits bytes records (drop n bytes) read.is_tape.reads.splits, length-drop n bytes, read.within)

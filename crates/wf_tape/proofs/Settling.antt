@@ -1,13 +1,16 @@
 -- What a crash may leave while a journal is opened, and while a record is added.
-use Rattle.std.proofs.Common.{◌≡◌, ◌⊎◌, ℕ, List, [], ◌∷◌, ◌++◌, take, drop, sym, ap, subst, ◌∙◌, append_assoc, inl, inr}
+use Rattle.std.proofs.Common.{◌≡◌, ◌⊎◌, ℕ, ◌≤◌, arith, List, [], ◌∷◌, ◌++◌, take, drop, sym, ap, subst, ◌∙◌, append_assoc, inl, inr}
 use Rattle.std.proofs.lemmas.List.{append_cancel_left}
+use Rattle.std.proofs.lemmas.Bool.{cases_lt}
 use Rattle.wf_def.specs.Definition.{Definition}
 use Rattle.wf_model.specs.Stored.{Record}
-use Rattle.wf_tape.specs.Tape.{IsBeginning, IsOnlyImage, IsUnchanged, LeavesNoOther, IsExtended, IsCutShort, LeavesOldOr}
+use Rattle.wf_tape.specs.declared.opening.OpenFault.{OpenFault}
+use Rattle.wf_tape.specs.declared.opening.OpenFault.TheVariants.{TapeFailed, BadRecord, Memory}
+use Rattle.wf_tape.specs.Tape.{IsBeginning, IsOnlyImage, IsUnchanged, LeavesNoOther, IsExtended, IsCutShort, LeavesOldOr, HasRisen}
 use Rattle.wf_tape.specs.Spelling.{Spells}
 use Rattle.wf_tape.specs.Records.{ReadsAs, AreRecords}
 use Rattle.wf_tape.specs.Front.{HasRead}
-use Rattle.wf_tape.specs.Journal.{Holds, IsSettled, Follows, ReadsSame, ReadsOneMore, ReadsSameOrOneMore}
+use Rattle.wf_tape.specs.Journal.{IsContent, Holds, IsSettled, AllReadAs, Follows, ReadsSame, ReadsOneMore, ReadsSameOrOneMore, IsWhereBad, IsNotBad, IsWhyFailed}
 use Rattle.wf_tape.proofs.Lists.{one_more, cut_reads, whole_reads, reads_only, one_reading, first_are_records}
 
 -- ---- appending
@@ -48,6 +51,54 @@ same_settled content records n old mid new read is_image no_other or_front image
 pub holds_front : (content new_content : List ℕ) (records : List (Record Definition)) (n : ℕ) (images : List ℕ → Type 0) → HasRead content records n → new_content ≡ take n content → IsOnlyImage new_content images → Holds new_content images records
 holds_front content new_content records n images read is only =
     record { are_records = subst (λ (t : List ℕ). AreRecords t records) (sym is) (first_are_records content records n read.within read.is_tape.reads.splits); only = only }
+
+-- ---- read first, and settled after that
+
+-- The front of the bytes that were read is what the tape holds, once it is kept alone.
+pub holds_found : (bytes kept new_content : List ℕ) (records : List (Record Definition)) (n m : ℕ) (images : List ℕ → Type 0) → HasRead bytes records n → kept ≡ bytes → m ≡ n →
+    new_content ≡ take m kept → IsOnlyImage new_content images → Holds new_content images records
+holds_found bytes kept new_content records n m images read same_bytes same_front is only =
+    holds_front bytes new_content records n images read (is ∙ ap (λ (t : List ℕ). take m t) same_bytes ∙ ap (λ (k : ℕ). take k bytes) same_front) only
+
+-- So whatever a crash leaves then reads as the records.
+pub reads_held : (content : List ℕ) (records : List (Record Definition)) (images : List ℕ → Type 0) → Holds content images records → AllReadAs images records
+reads_held content records images held image left = subst (λ (t : List ℕ). ReadsAs t records) (sym (held.only.no_other image left)) (whole_reads content records held.are_records)
+
+-- What is left while that is done reads as the bytes did.
+pub same_found : (bytes kept content : List ℕ) (records : List (Record Definition)) (n : ℕ) (old new : List ℕ → Type 0) → HasRead bytes records n → IsContent bytes content old → kept ≡ bytes →
+    LeavesOldOr (take n kept) old new → Follows ReadsSame old new
+same_found bytes kept content records n old new read is same or_front =
+    same_settled bytes records n old old new read (subst (λ (t : List ℕ). old t) (sym is.same) is.is_image) (λ image left. left)
+    (subst (λ (t : List ℕ). LeavesOldOr (take n t) old new) same or_front)
+
+-- Reading leaves no other image: so what is left once the tape is settled comes of what was there before both.
+pub followed_on : (old mid new : List ℕ → Type 0) → LeavesNoOther old mid → Follows ReadsSame mid new → Follows ReadsSame old new
+followed_on old mid new no_other follows image left = let earlier = follows image left in (earlier.0, no_other earlier.0 earlier.1, earlier.2)
+
+pub unchanged_on : (a b c : List ℕ) (old mid new : List ℕ → Type 0) → IsUnchanged a b old mid → IsUnchanged b c mid new → IsUnchanged a c old new
+unchanged_on a b c old mid new first second = record {
+  content = second.content ∙ first.content;
+  kept = λ image is. second.kept image (first.kept image is);
+  no_other = λ image is. first.no_other image (second.no_other image is);
+}
+
+risen_on : (before mid now : ℕ) → before ≤ mid → mid ≤ now → HasRisen mid now → HasRisen before now
+risen_on before mid now first second risen =
+    elim risen [
+      | inl rose ↦ inl (omega arith)
+      | inr last ↦ elim (cases_lt before mid) [ inl rose ↦ inl (omega arith) | inr same ↦ inr (omega arith) ]
+    ]
+
+-- A failure that rose after the tape was read rose since before.
+pub why_failed_on : (fault : OpenFault) (before mid now : ℕ) → before ≤ mid → mid ≤ now → IsWhyFailed fault mid now → IsWhyFailed fault before now
+why_failed_on TapeFailed before mid now first second why = risen_on before mid now first second why
+why_failed_on (BadRecord place) before mid now first second why = tt
+why_failed_on Memory before mid now first second why = tt
+
+pub not_bad_anywhere : (fault : OpenFault) (content : List ℕ) → IsNotBad fault → IsWhereBad fault content
+not_bad_anywhere TapeFailed content good = tt
+not_bad_anywhere (BadRecord place) content good = absurd good
+not_bad_anywhere Memory content good = tt
 
 -- ---- adding
 

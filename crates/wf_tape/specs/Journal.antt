@@ -13,6 +13,17 @@ pub record Journal (T : Type 0) : Type 0 where
   pub tape : T
   pub halted : Bool
 
+-- a tape that was read, as contracts see it: the tape, the bytes that were read, and how many of them are the records'
+pub record Found (T : Type 0) : Type 0 where
+  pub tape : T
+  pub bytes : List ℕ
+  pub front : ℕ
+
+-- the bytes are a tape's content, which is one of its images
+pub record IsContent (bytes content : List ℕ) (images : List ℕ → Type 0) : Type 0 where
+  pub same : bytes ≡ content
+  pub is_image : images content
+
 -- The tape holds these records and nothing else, and a crash leaves just that.
 pub record Holds (content : List ℕ) (images : List ℕ → Type 0) (records : List (Record Definition)) : Type 0 where
   pub are_records : AreRecords content records
@@ -25,6 +36,10 @@ IsSettled content images = (records : List (Record Definition)) × Holds content
 -- each new image comes of an old one by the step
 abbrev pub Follows : (List ℕ → List ℕ → Type 0) → (List ℕ → Type 0) → (List ℕ → Type 0) → Type 0
 Follows step old new = (image : List ℕ) → new image → (earlier : List ℕ) × old earlier × step earlier image
+
+-- whatever a crash leaves reads as these records
+abbrev pub AllReadAs : (List ℕ → Type 0) → List (Record Definition) → Type 0
+AllReadAs images records = (image : List ℕ) → images image → ReadsAs image records
 
 -- what the first bytes read as, the second do
 abbrev pub ReadsSame : List ℕ → List ℕ → Type 0
@@ -53,6 +68,11 @@ IsBadAt content place = (records : List (Record Definition)) × Splits content r
 abbrev pub IsWhereBad : OpenFault → List ℕ → Type 0
 IsWhereBad (BadRecord place) content = IsBadAt content place
 IsWhereBad fault content = Unit {0}
+
+-- the fault is no bad record's
+abbrev pub IsNotBad : OpenFault → Type 0
+IsNotBad (BadRecord place) = ⊥
+IsNotBad fault = Unit {0}
 
 -- the tape's failure is answered only where the count of failures rose
 abbrev pub IsWhyFailed : OpenFault → ℕ → ℕ → Type 0

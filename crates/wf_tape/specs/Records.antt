@@ -5,7 +5,7 @@ use Rattle.wf_model.specs.Stored.{Record}
 use Rattle.wf_def.specs.Definition.{Definition}
 use Rattle.wf_tape.specs.declared.kind.Kind.{Kind}
 use Rattle.wf_tape.specs.Kind.{kind_byte, can_have}
-use Rattle.wf_tape.specs.Spelling.{record_version, Spells}
+use Rattle.wf_tape.specs.Spelling.{record_version, spelling, Spells}
 
 -- the bytes are the spellings of the records, and then the rest
 abbrev pub Splits : List ℕ → List (Record Definition) → List ℕ → Type 0
@@ -28,6 +28,11 @@ ReadsAs bytes records = (rest : List ℕ) × Reads bytes records rest
 -- the bytes are the spellings of the records, and nothing else
 abbrev pub AreRecords : List ℕ → List (Record Definition) → Type 0
 AreRecords bytes records = Splits bytes records []
+
+-- how many bytes the records have
+unfoldable pub length_of : List (Record Definition) → ℕ
+length_of [] = 0
+length_of (r ∷ records) = length (spelling r) + length_of records
 
 -- the length of the body, as the four bytes at the front state it
 abbrev pub stated_length : List ℕ → ℕ

@@ -3,7 +3,7 @@ ghost use Rattle.wf_tape.specs.Record.{view, texts, HasText, IsRecord};
 ghost use Rattle.wf_tape.specs.Spelling.{kind_of, body, Spells};
 ghost use Rattle.wf_canon.specs.Canon.{canon};
 
-use crate::decoder::VERSION;
+use crate::decoder::{HEADER_BYTES, VERSION};
 use crate::kind::Kind;
 use crate::record::Record;
 use std::alloc::{AllocError, Global};
@@ -20,6 +20,20 @@ pub fn encode(alloc: Global, entry: &Record) -> Result<Vec<u8>, AllocError>
     bytes.extend_from_slice(&(length as u32).to_be_bytes())?;
     push_body(&mut bytes, entry)?;
     Ok(bytes)
+}
+
+impl Record {
+    ghost use Rattle.std.specs.Prelude.{◌≡◌, length};
+    ghost use Rattle.wf_tape.specs.Record.{view};
+    ghost use Rattle.wf_tape.specs.Spelling.{spelling};
+
+    /// How many bytes the record has on a tape.
+    #[tactic(auto, using(crate::proofs::Judged::header_and_body))]
+    pub fn length(&self) -> usize
+        ensures { result ≡ length (spelling (view self.now)) }
+    {
+        HEADER_BYTES + body_length(self)
+    }
 }
 
 /// The record's kind.

@@ -1,17 +1,16 @@
 //! The journal: whole records on a tape, each on it and synced before it is acknowledged.
 
-ghost use Rattle.std.specs.Prelude.{◌≡◌, ◌≢◌, ◌≤◌, ◌++◌, ◌∷◌, [], Bool, false, true, map, take, length, IfOk, IfErr, OnOk, IsErrOf};
+ghost use Rattle.std.specs.Prelude.{◌≡◌, ◌≢◌, ◌++◌, ◌∷◌, [], false, true, map, IfOk, IfErr, OnOk, IsErrOf};
 ghost use Rattle.wf_tape.specs.declared.fault.TapeFault.TheVariants.{Memory};
 ghost use Rattle.wf_tape.specs.Record.{view};
 ghost use Rattle.wf_tape.specs.Records.{IsTapeOf};
-ghost use Rattle.wf_tape.specs.Tape.{IsOnlyImage, IsUnchanged, IsCutShort, LeavesOldOr, HasCause, HasRisen, IsNotMemory};
-ghost use Rattle.wf_tape.specs.OpenFault.{open_fault};
+ghost use Rattle.wf_tape.specs.Tape.{IsOnlyImage, IsUnchanged, IsCutShort, HasCause, HasRisen, IsNotMemory};
 ghost use Rattle.wf_tape.specs.Journal.{Holds, IsSettled, Follows, ReadsSame, ReadsOneMore, ReadsSameOrOneMore, IsAdded, IsWhereBad, IsWhyFailed};
 
 use crate::encoder::encode;
 use crate::fault::TapeFault;
+use crate::found::Found;
 use crate::opening::{AddFault, OpenFault};
-use crate::reading::read_records;
 use crate::record::Record;
 use crate::tape::Tape;
 use std::alloc::Global;
@@ -40,6 +39,7 @@ impl<T: Tape> Journal<T> {
     /// The journal of the tape, and its records, the oldest first. A torn record behind the whole ones is
     /// removed, and what is kept is synced. A refusal hands the tape back; but for a failure of the tape
     /// itself it is as it was.
+    #[tactic(auto, using(crate::proofs::Settling::followed_on, crate::proofs::Settling::unchanged_on, crate::proofs::Settling::why_failed_on, crate::proofs::Settling::not_bad_anywhere))]
     pub fn open(alloc: Global, tape: T) -> Result<(Journal<T>, Vec<Record>), (T, OpenFault)>
         ensures running { IfOk result (λ x. x.0.halted ≡ false) }
         ensures records { T.honest → IfOk result (λ x. (rest : _) × IsTapeOf (T.content tape) (map view x.1.items) rest) }
@@ -50,16 +50,26 @@ impl<T: Tape> Journal<T> {
         ensures bad { T.honest → IfErr result (λ e. IsWhereBad e.1 (T.content tape)) }
         ensures failed { IfErr result (λ e. IsWhyFailed e.1 (T.failed tape) (T.failed e.0)) }
     {
-        let mut tape = tape;
-        match recover(alloc, &mut tape) {
-            Ok(records) => {
-                let journal = Journal {
-                    tape,
-                    halted: false,
-                };
-                Ok((journal, records))
-            }
-            Err(fault) => Err((tape, fault)),
+        match Found::read(alloc, tape) {
+            Ok((found, records)) => match found.settle() {
+                Ok(journal) => Ok((journal, records)),
+                Err(refusal) => {
+                    discard(records);
+                    Err(refusal)
+                }
+            },
+            Err(refusal) => Err(refusal),
+        }
+    }
+
+    /// The journal of a tape that holds whole records and nothing else, all of them synced.
+    pub(crate) fn over(tape: T) -> Journal<T>
+        requires { T.honest → IsSettled (T.content tape) (T.images tape) }
+        ensures { result ≡ record { tape = tape; halted = false } }
+    {
+        Journal {
+            tape,
+            halted: false,
         }
     }
 
@@ -122,49 +132,5 @@ fn write<T: Tape>(tape: &mut T, bytes: &[u8]) -> Result<(), TapeFault>
     }
 }
 
-/// Keeps the first bytes of the content, and syncs them.
-fn settle<T: Tape>(tape: &mut T, bytes: &[u8], front: usize) -> Result<(), TapeFault>
-    requires within { front ≤ length bytes.now }
-    ensures ok { T.honest → OnOk result (T.content tape.old ≡ bytes.now → T.content tape.new ≡ take front bytes.now) }
-    ensures only { T.honest → OnOk result (IsOnlyImage (T.content tape.new) (T.images tape.new)) }
-    ensures images { T.honest → LeavesOldOr (take front bytes.now) (T.images tape.old) (T.images tape.new) }
-    ensures memory { T.honest → IsErrOf result Memory → IsUnchanged (T.content tape.old) (T.content tape.new) (T.images tape.old) (T.images tape.new) }
-    ensures cause { HasCause (T.failed tape.old) (T.failed tape.new) result }
-{
-    if front < bytes.len() {
-        tape.replace(bytes.split_at(front).0)
-    } else {
-        tape.sync()
-    }
-}
-
-/// Reads the records of a tape, removes a torn one behind them, and syncs what is kept.
-#[tactic(auto, using(crate::proofs::Settling::same_unchanged, crate::proofs::Settling::same_settled, crate::proofs::Settling::holds_front))]
-fn recover<T: Tape>(alloc: Global, tape: &mut T) -> Result<Vec<Record>, OpenFault>
-    ensures records { T.honest → IfOk result (λ records. (rest : _) × IsTapeOf (T.content tape.old) (map view records.items) rest) }
-    ensures synced { T.honest → IfOk result (λ records. Holds (T.content tape.new) (T.images tape.new) (map view records.items)) }
-    ensures images { T.honest → Follows ReadsSame (T.images tape.old) (T.images tape.new) }
-    ensures unchanged { T.honest → IfErr result (λ fault. fault ≢ OpenFault.TapeFailed → IsUnchanged (T.content tape.old) (T.content tape.new) (T.images tape.old) (T.images tape.new)) }
-    ensures bad { T.honest → IfErr result (λ fault. IsWhereBad fault (T.content tape.old)) }
-    ensures failed { IfErr result (λ fault. IsWhyFailed fault (T.failed tape.old) (T.failed tape.new)) }
-{
-    let bytes = match tape.read(alloc) {
-        Ok(bytes) => bytes,
-        Err(fault) => return Err(open_fault(fault)),
-    };
-    let (records, front) = read_records(alloc, &bytes)?;
-    match settle(tape, &bytes, front) {
-        Ok(()) => Ok(records),
-        Err(fault) => Err(open_fault(fault)),
-    }
-}
-
-/// What the tape's fault is for who opens a journal.
-fn open_fault(fault: TapeFault) -> OpenFault
-    ensures { result ≡ open_fault fault }
-{
-    match fault {
-        TapeFault::Device => OpenFault::TapeFailed,
-        TapeFault::Memory => OpenFault::Memory,
-    }
-}
+/// Records that no one asks for.
+fn discard(_records: Vec<Record>) {}

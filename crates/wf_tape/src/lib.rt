@@ -20,6 +20,7 @@ mod decoder;
 mod encoder;
 mod fault;
 mod file;
+mod found;
 mod journal;
 mod kind;
 mod memory;
@@ -30,6 +31,7 @@ mod tape;
 
 pub use fault::TapeFault;
 pub use file::{FILE_READS, FileTape};
+pub use found::Found;
 pub use journal::Journal;
 pub use memory::MemoryTape;
 pub use opening::{AddFault, OpenFault};

@@ -1,0 +1,108 @@
+-- Records are folded one after the other, and where one doesn't fit there is no fold.
+use Rattle.std.proofs.Common.{◌≡◌, ℕ, ◌+◌, ◌<◌, ◌^◌, true, false, List, [], ◌∷◌, ◌++◌, map, length, Some, None, if◌then◌else◌, refl, sym, ap, ◌∙◌, append_assoc, arith}
+use Rattle.std.proofs.lemmas.List.{append-nil, map-append}
+use Rattle.std.proofs.lemmas.Option.{none-some, same_Some}
+use Rattle.wf_def.specs.Definition.{Definition}
+use Rattle.wf_model.specs.Stored.{Stored, Record, fits, with_record, fold_from, fold, nothing_stored}
+use Rattle.wf_tape.specs.Record.{view}
+use Rattle.wf_tape.specs.Spelling.{spelling}
+use Rattle.wf_tape.specs.Records.{length_of}
+use Rattle.wf_tape.specs.declared.record.Record as code
+use Rattle.wf_tape.specs.declared.opening.OpenFault.{OpenFault}
+use Rattle.wf_tape.specs.declared.opening.OpenFault.TheVariants.{TapeFailed, BadRecord, Memory}
+use Rattle.wf_node.specs.Opening.{IsUnfitAt, IsTaken, IsWhyRefused, IsWhyUnfolded}
+use Rattle.wf_node.proofs.Folding.{fold_more}
+
+-- What is stored of the records that are taken, where the next one stands, and those that are left.
+pub record HasTaken (stored : Stored Definition) (place : ℕ) (taken left all : List code.Record) : Type 0 where
+  pub folds : fold (map view taken) ≡ Some stored
+  pub stands : length_of (map view taken) ≡ place
+  pub parts : taken ++ left ≡ all
+
+pub none_taken : (stored : Stored Definition) (left all : List code.Record) → stored ≡ nothing_stored → left ≡ all → HasTaken stored 0 [] left all
+unfolding fold fold_from length_of
+none_taken stored left all nothing whole = record { folds = ap Some (sym nothing); stands = refl; parts = whole }
+
+length_of-append : (xs ys : List (Record Definition)) → length_of (xs ++ ys) ≡ length_of xs + length_of ys
+unfolding length_of
+length_of-append [] ys = omega arith
+length_of-append (r ∷ xs) ys = omega (arith, length_of-append xs ys)
+
+length_of-one : (r : Record Definition) → length_of (r ∷ []) ≡ length (spelling r)
+unfolding length_of
+length_of-one r = omega arith
+
+length_of-first : (r : Record Definition) (rest : List (Record Definition)) → length_of (r ∷ rest) ≡ length (spelling r) + length_of rest
+unfolding length_of
+length_of-first r rest = refl
+
+-- One record more is taken.
+pub taken_more : (old new : Stored Definition) (place next : ℕ) (taken left rest all : List code.Record) (entry : code.Record) → HasTaken old place taken left all → left ≡ entry ∷ rest →
+    IsTaken old (view entry) place new next → HasTaken new next (taken ++ entry ∷ []) rest all
+taken_more old new place next taken left rest all entry has is one =
+    let records : map view (taken ++ entry ∷ []) ≡ map view taken ++ view entry ∷ [] = map-append view taken (entry ∷ []) in
+    record {
+      folds = ap fold records ∙ fold_more old (map view taken) (view entry) has.folds one.fit ∙ ap Some (sym one.applied);
+      stands = omega (arith, ap length_of records, length_of-append (map view taken) (view entry ∷ []), length_of-one (view entry), has.stands, one.behind);
+      parts = append_assoc taken (entry ∷ []) rest ∙ ap (λ (t : List code.Record). taken ++ t) (sym is) ∙ has.parts;
+    }
+
+-- All are taken.
+pub all_taken : (stored : Stored Definition) (place : ℕ) (taken left all : List code.Record) → HasTaken stored place taken left all → left ≡ [] → fold (map view all) ≡ Some stored
+all_taken stored place taken left all has none =
+    let whole : taken ≡ all = sym (append-nil taken) ∙ ap (λ (t : List code.Record). taken ++ t) (sym none) ∙ has.parts in
+    ap (λ (t : List code.Record). fold (map view t)) (sym whole) ∙ has.folds
+
+-- the records, parted before the next one
+parted : (stored : Stored Definition) (place : ℕ) (taken left rest all : List code.Record) (entry : code.Record) → HasTaken stored place taken left all → left ≡ entry ∷ rest →
+    map view all ≡ map view taken ++ view entry ∷ map view rest
+parted stored place taken left rest all entry has is =
+    ap (map view) (sym has.parts ∙ ap (λ (t : List code.Record). taken ++ t) is) ∙ map-append view taken (entry ∷ rest)
+
+-- The place behind the next record is a number of the machine, where the length of all is.
+pub room_there : (stored : Stored Definition) (place : ℕ) (taken left rest all : List code.Record) (entry : code.Record) → HasTaken stored place taken left all → left ≡ entry ∷ rest →
+    length_of (map view all) < 2 ^ 64 → place + length (spelling (view entry)) < 2 ^ 64
+room_there stored place taken left rest all entry has is short =
+    omega (
+      arith,
+      has.stands,
+      ap length_of (parted stored place taken left rest all entry has is),
+      length_of-append (map view taken) (view entry ∷ map view rest),
+      length_of-first (view entry) (map view rest),
+    )
+
+-- Where one isn't taken, the records aren't folded.
+pub why_unfolded : (stored : Stored Definition) (place : ℕ) (taken left rest all : List code.Record) (entry : code.Record) (fault : OpenFault) → HasTaken stored place taken left all →
+    left ≡ entry ∷ rest → IsWhyRefused stored (view entry) place fault → IsWhyUnfolded (map view all) fault
+why_unfolded stored place taken left rest all entry TapeFailed has is why = why
+why_unfolded stored place taken left rest all entry (BadRecord there) has is why = record {
+  before = map view taken;
+  unfit = view entry;
+  after = map view rest;
+  parts = parted stored place taken left rest all entry has is;
+  stands = has.stands ∙ sym why.0;
+  stored = stored;
+  folds = has.folds;
+  no_fit = why.1;
+}
+why_unfolded stored place taken left rest all entry Memory has is why = tt
+
+-- ---- no fold
+
+stops_from : (start stored : Stored Definition) (before after : List (Record Definition)) (r : Record Definition) →
+    fold_from start before ≡ Some stored → fits stored r ≡ false → fold_from start (before ++ r ∷ after) ≡ None
+unfolding fold_from
+stops_from start stored [] after r folds no_fit =
+    let same : fits start r ≡ false = ap (λ (s : Stored Definition). fits s r) (same_Some start stored folds) ∙ no_fit in
+    rw same refl
+stops_from start stored (x ∷ before) after r folds no_fit =
+    elim (fits start x) as (λ b. (if b then fold_from (with_record start x) before else None) ≡ Some stored →
+    (if b then fold_from (with_record start x) (before ++ r ∷ after) else None) ≡ None) [
+      | true ↦ λ e. stops_from (with_record start x) stored before after r e no_fit
+      | false ↦ λ e. absurd (none-some stored e)
+    ] folds
+
+-- Where a record doesn't fit, there is no fold.
+pub none_where_unfit : (records : List (Record Definition)) (place : ℕ) → IsUnfitAt records place → fold records ≡ None
+unfolding fold
+none_where_unfit records place unfit = ap (fold_from nothing_stored) unfit.parts ∙ stops_from nothing_stored unfit.stored unfit.before unfit.after unfit.unfit unfit.folds unfit.no_fit

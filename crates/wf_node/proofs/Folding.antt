@@ -1,0 +1,65 @@
+-- One record more at the end of a list is folded last.
+use Rattle.std.proofs.Common.{◌≡◌, ◌⊎◌, ℕ, Bool, true, false, List, [], ◌∷◌, ◌++◌, Some, None, if◌then◌else◌, refl, sym, subst, inl, inr}
+use Rattle.std.proofs.lemmas.Option.{none-some, same_Some}
+use Rattle.wf_def.specs.Definition.{Definition}
+use Rattle.wf_model.specs.Stored.{Stored, Record, fits, with_record, fold_from, fold, nothing_stored}
+use Rattle.wf_model.specs.Table.{store}
+use Rattle.wf_tape.specs.Journal.{Follows, ReadsOneMore, ReadsSameOrOneMore}
+use Rattle.wf_node.specs.Images.{StandsFor}
+use Rattle.wf_node.specs.Storing.{IsStoredBy, IsTornAt}
+
+fold_from_more : (start stored : Stored Definition) (records : List (Record Definition)) (r : Record Definition) →
+    fold_from start records ≡ Some stored → fits stored r ≡ true → fold_from start (records ++ r ∷ []) ≡ Some (with_record stored r)
+unfolding fold_from
+fold_from_more start stored [] r folds fit =
+    let At : Stored Definition → Type 0 = λ s. (if fits s r then Some (with_record s r) else None) ≡ Some (with_record stored r) in
+    subst At (sym (same_Some start stored folds)) (subst (λ (b : Bool). (if b then Some (with_record stored r) else None) ≡ Some (with_record stored r)) (sym fit) refl)
+fold_from_more start stored (x ∷ records) r folds fit =
+    elim (fits start x) as (λ b. (if b then fold_from (with_record start x) records else None) ≡ Some stored →
+    (if b then fold_from (with_record start x) (records ++ r ∷ []) else None) ≡ Some (with_record stored r)) [
+      | true ↦ λ e. fold_from_more (with_record start x) stored records r e fit
+      | false ↦ λ e. absurd (none-some _ e)
+    ] folds
+
+pub fold_more : (stored : Stored Definition) (records : List (Record Definition)) (r : Record Definition) →
+    fold records ≡ Some stored → fits stored r ≡ true → fold (records ++ r ∷ []) ≡ Some (with_record stored r)
+unfolding fold
+fold_more stored records r folds fit = fold_from_more nothing_stored stored records r folds fit
+
+stands_more : (stored : Stored Definition) (r : Record Definition) (earlier image : List ℕ) → ReadsOneMore r earlier image → fits stored r ≡ true →
+    StandsFor stored earlier → StandsFor (with_record stored r) image
+stands_more stored r earlier image more fit stands = record {
+  records = stands.records ++ r ∷ [];
+  reads = more stands.records stands.reads;
+  folds = fold_more stored stands.records r stands.folds fit;
+}
+
+-- an image that reads as the records from before, or as those and one more
+stands_either : (stored : Stored Definition) (r : Record Definition) (earlier image : List ℕ) → ReadsSameOrOneMore r earlier image → fits stored r ≡ true →
+    StandsFor stored earlier → StandsFor stored image ⊎ StandsFor (with_record stored r) image
+stands_either stored r earlier image either fit stands =
+    elim (either stands.records stands.reads) as (λ x. StandsFor stored image ⊎ StandsFor (with_record stored r) image) [
+      | inl same ↦ inl (record { records = stands.records; reads = same; folds = stands.folds })
+      | inr more ↦ inr (record {
+        records = stands.records ++ r ∷ [];
+        reads = more;
+        folds = fold_more stored stands.records r stands.folds fit;
+      })
+    ]
+
+pub stored_by : (r : Record Definition) (old new : List ℕ → Type 0) → Follows (ReadsOneMore r) old new → IsStoredBy (Some r) old new
+unfolding store
+stored_by r old new follows stored fit stands image is =
+    let earlier = follows image is in
+    stands_more stored r earlier.0 image earlier.2 fit (stands earlier.0 earlier.1)
+
+pub torn_at : (r : Record Definition) (old new : List ℕ → Type 0) → Follows (ReadsSameOrOneMore r) old new → IsTornAt (Some r) old new
+unfolding store
+torn_at r old new follows stored fit stands image is =
+    let earlier = follows image is in
+    stands_either stored r earlier.0 image earlier.2 fit (stands earlier.0 earlier.1)
+
+-- where nothing is written, nothing changes
+pub stored_none : (images : List ℕ → Type 0) → IsStoredBy None images images
+unfolding store
+stored_none images stored fit stands = stands

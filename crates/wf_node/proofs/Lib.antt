@@ -1,0 +1,9 @@
+mod Acts
+mod Folded
+mod Folding
+mod Keeping
+mod Opened
+mod Replies
+mod Rows
+mod Shown
+mod Steps

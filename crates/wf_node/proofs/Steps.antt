@@ -1,0 +1,232 @@
+-- What the parts of a node do is the node's step.
+use Rattle.std.proofs.Common.{◌≡◌, ℕ, Bool, false, List, Some, None, Result, Ok, Err, IfOk, IfErr, OnOk, IsSome, Vec, refl, sym, subst, ap, ◌∙◌, arith}
+use Rattle.std.proofs.lemmas.Bool.{false≢true}
+use Rattle.std.proofs.lemmas.Option.{none-some}
+use Rattle.wf_codec.specs.declared.message.Message.{Message}
+use Rattle.wf_def.specs.Definition.{Definition}
+use Rattle.wf_def.specs.Equality.{definition_eq}
+use Rattle.wf_model.specs.Fits.{IsForNext, RowFits, RecordsFit}
+use Rattle.wf_model.specs.Table.{Row, Input, Refusal, row, refusal, store}
+use Rattle.wf_proposer.specs.Proposer.{Proposer, working_of}
+use Rattle.wf_tape.specs.Journal.{Journal}
+use Rattle.wf_node.specs.declared.fault.NodeFault.{NodeFault}
+use Rattle.wf_node.specs.declared.fault.NodeFault.TheVariants.{Memory, Busy, SequenceFull, RoundsFull, Halted, TapeFailed, Nothing}
+use Rattle.wf_node.specs.Act.{IsAct, IsChange, IsRefusedOr, IsSame}
+use Rattle.wf_node.specs.Fault.{refused_by}
+use Rattle.wf_node.specs.Images.{StandsFor, AllStandFor, EachStandsFor}
+use Rattle.wf_node.specs.Kept.{Kept}
+use Rattle.wf_node.specs.Memory as memory
+use Rattle.wf_node.specs.Node.{IsNode, view_of}
+use Rattle.wf_node.specs.Parts.{Parts, stored_of}
+use Rattle.wf_node.specs.Step.{IsSameNode, IsStep, row_of, refusal_at, TakesMemory}
+use Rattle.wf_node.proofs.Shown.{working_shown}
+
+-- The working part that a node shows is its proposer's, so the table's row and refusal are the same for both.
+abbrev proposer_row : Proposer → Parts → Input Definition → Row Definition
+proposer_row proposer parts input = row definition_eq proposer.nodes proposer.node (stored_of parts) (working_of proposer) input
+
+module _ {T : Type 0} where
+  row_shown : (journal : Journal T) (parts : Parts) (proposer : Proposer) (input : Input Definition) →
+      proposer_row proposer parts input ≡ row_of (view_of journal parts proposer) input
+  row_shown journal parts proposer input =
+      ap (λ w. row definition_eq proposer.nodes proposer.node (stored_of parts) w input) (sym (working_shown proposer.working))
+
+  refusal_shown : (journal : Journal T) (parts : Parts) (proposer : Proposer) (input : Input Definition) →
+      refusal (stored_of parts) (working_of proposer) input ≡ refusal_at (view_of journal parts proposer) input
+  refusal_shown journal parts proposer input =
+      ap (λ w. refusal (stored_of parts) w input) (sym (working_shown proposer.working))
+
+  takes_shown : (journal : Journal T) (parts : Parts) (proposer : Proposer) (input : Input Definition) →
+      memory.TakesMemory (proposer_row proposer parts input) (memory.hears_input proposer.nodes (working_of proposer) input) →
+      TakesMemory (view_of journal parts proposer) input
+  takes_shown journal parts proposer input =
+      subst (λ w. memory.TakesMemory (row definition_eq proposer.nodes proposer.node (stored_of parts) w input) (memory.hears_input proposer.nodes w input))
+      (sym (working_shown proposer.working))
+
+module _ {T : Type 0} (honest : Type 0) (content : T → List ℕ) (images : T → List ℕ → Type 0) (failures : T → ℕ) where
+  abbrev fault_number : {A : Type 0} → Result A NodeFault → ℕ
+  fault_number (Ok x) = 0
+  fault_number (Err Memory) = 1
+  fault_number (Err Busy) = 2
+  fault_number (Err SequenceFull) = 3
+  fault_number (Err RoundsFull) = 4
+  fault_number (Err Halted) = 5
+  fault_number (Err TapeFailed) = 6
+  fault_number (Err Nothing) = 7
+
+  differ : {A : Type 0} (r s : Result A NodeFault) → (fault_number r ≡ fault_number s → ⊥) → r ≡ s → ⊥
+  differ r s numbers e = numbers (ap fault_number e)
+
+  same_view : (journal journal_after : Journal T) (parts parts_after : Parts) (proposer proposer_after : Proposer) → IsSame parts parts_after proposer proposer_after →
+      IsSameNode (view_of journal parts proposer) (view_of journal_after parts_after proposer_after)
+  same_view journal journal_after parts parts_after proposer proposer_after same = λ i. view_of journal_after (same.parts i) (same.proposer i)
+
+  if_err : {A : Type 0} (result : Result A NodeFault) (P : NodeFault → Type 0) → ((fault : NodeFault) → P fault) → IfErr result P
+  if_err (Ok x) P all = tt
+  if_err (Err fault) P all = all fault
+
+  -- a refusal is none of the row
+  refused_if_ok : {A : Type 0} (result : Result A NodeFault) (why : Refusal) (P : A → Type 0) → refused_by result ≡ Some why → IfOk result P
+  refused_if_ok (Ok x) why P is = absurd (none-some why is)
+  refused_if_ok (Err fault) why P is = tt
+
+  refused_on_ok : {A : Type 0} (result : Result A NodeFault) (why : Refusal) (P : Type 0) → refused_by result ≡ Some why → OnOk result P
+  refused_on_ok (Ok x) why P is = absurd (none-some why is)
+  refused_on_ok (Err fault) why P is = tt
+
+  refused_is : {A : Type 0} (result : Result A NodeFault) (why : Refusal) (fault : NodeFault) → refused_by result ≡ Some why → refused_by {A = A} (Err fault) ≡ None → result ≡ Err fault → ⊥
+  refused_is result why fault is none e = none-some why (sym none ∙ sym (ap refused_by e) ∙ is)
+
+  done_step : {A : Type 0} (journal journal_after : Journal T) (parts parts_after : Parts) (proposer proposer_after : Proposer) (input : Input Definition) (result : Result (Vec Message A) NodeFault) (hears : Bool) →
+      memory.hears_input proposer.nodes (working_of proposer) input ≡ hears →
+      (honest → AllStandFor (stored_of parts) (images journal.tape)) →
+      refusal (stored_of parts) (working_of proposer) input ≡ None →
+      RowFits (stored_of parts) (proposer_row proposer parts input) →
+      IsChange honest content images failures hears (proposer_row proposer parts input) journal parts proposer result journal_after parts_after proposer_after →
+      IsStep honest content images failures (view_of journal parts proposer) input result (view_of journal_after parts_after proposer_after)
+  done_step journal journal_after parts parts_after proposer proposer_after input (Ok messages) hears hearing stands none fits change = record {
+    running = differ _ _ (λ e. omega (arith, e));
+    refused = sym (sym (refusal_shown journal parts proposer input) ∙ none);
+    done = record {
+      id = change.1.node;
+      n = change.1.nodes;
+      running = change.0.running;
+      stored = change.1.stored ∙ ap (λ r. store (stored_of parts) r.entry) (row_shown journal parts proposer input);
+      working = working_shown proposer_after.working ∙ (change.1.working ∙ ap (λ r. r.working) (row_shown journal parts proposer input));
+      messages = change.1.messages ∙ ap (λ r. r.messages) (row_shown journal parts proposer input);
+    };
+    on_tape = λ h. subst (λ s. AllStandFor s (images journal_after.tape)) (sym change.1.stored) (change.0.stored h (stored_of parts) fits.fits (stands h));
+    unchanged = tt;
+    same = tt;
+    still_running = λ e. absurd (differ _ _ (λ n. omega (arith, n)) e);
+    same_tape = λ h e. absurd (differ _ _ (λ n. omega (arith, n)) e);
+    takes = λ e. absurd (differ _ _ (λ n. omega (arith, n)) e);
+    failed = λ e. absurd (differ _ _ (λ n. omega (arith, n)) e);
+    writes = λ e. absurd (differ _ _ (λ n. omega (arith, n)) e);
+    halts = λ e. absurd (differ _ _ (λ n. omega (arith, n)) e);
+    torn = λ h e. absurd (differ _ _ (λ n. omega (arith, n)) e);
+  }
+  done_step journal journal_after parts parts_after proposer proposer_after input (Err Memory) hears hearing stands none fits change = record {
+    running = differ _ _ (λ e. omega (arith, e));
+    refused = sym (sym (refusal_shown journal parts proposer input) ∙ none);
+    done = tt;
+    on_tape = λ h. tt;
+    unchanged = λ not_memory not_tape. absurd (not_memory refl);
+    same = same_view journal journal_after parts parts_after proposer proposer_after change.1;
+    still_running = λ e. change.0.running;
+    same_tape = λ h e. change.0.same h;
+    takes = λ e. takes_shown journal parts proposer input (subst (λ b. memory.TakesMemory (proposer_row proposer parts input) b) (sym hearing) change.2);
+    failed = λ e. absurd (differ _ _ (λ n. omega (arith, n)) e);
+    writes = λ e. absurd (differ _ _ (λ n. omega (arith, n)) e);
+    halts = λ e. absurd (differ _ _ (λ n. omega (arith, n)) e);
+    torn = λ h e. absurd (differ _ _ (λ n. omega (arith, n)) e);
+  }
+  done_step journal journal_after parts parts_after proposer proposer_after input (Err TapeFailed) hears hearing stands none fits change = record {
+    running = differ _ _ (λ e. omega (arith, e));
+    refused = sym (sym (refusal_shown journal parts proposer input) ∙ none);
+    done = tt;
+    on_tape = λ h. tt;
+    unchanged = λ not_memory not_tape. absurd (not_tape refl);
+    same = same_view journal journal_after parts parts_after proposer proposer_after change.1;
+    still_running = λ e. absurd (differ _ _ (λ n. omega (arith, n)) e);
+    same_tape = λ h e. absurd (differ _ _ (λ n. omega (arith, n)) e);
+    takes = λ e. absurd (differ _ _ (λ n. omega (arith, n)) e);
+    failed = λ e. change.0.risen;
+    writes = λ e. subst (λ r. IsSome r.entry) (row_shown journal parts proposer input) change.0.entry_is;
+    halts = λ e. change.0.halted;
+    torn = λ h e.
+        subst (λ r. EachStandsFor (stored_of parts) (store (stored_of parts) r.entry) (images journal_after.tape)) (row_shown journal parts proposer input)
+        (change.0.torn h (stored_of parts) fits.fits (stands h));
+  }
+  done_step journal journal_after parts parts_after proposer proposer_after input (Err Busy) hears hearing stands none fits change = absurd change
+  done_step journal journal_after parts parts_after proposer proposer_after input (Err SequenceFull) hears hearing stands none fits change = absurd change
+  done_step journal journal_after parts parts_after proposer proposer_after input (Err RoundsFull) hears hearing stands none fits change = absurd change
+  done_step journal journal_after parts parts_after proposer proposer_after input (Err Nothing) hears hearing stands none fits change = absurd change
+  done_step journal journal_after parts parts_after proposer proposer_after input (Err Halted) hears hearing stands none fits change = absurd change
+
+  refused_step : {A : Type 0} (journal journal_after : Journal T) (parts parts_after : Parts) (proposer proposer_after : Proposer) (input : Input Definition) (result : Result (Vec Message A) NodeFault) (why : Refusal) →
+      refusal (stored_of parts) (working_of proposer) input ≡ Some why → refused_by result ≡ Some why → journal_after ≡ journal → IsSame parts parts_after proposer proposer_after →
+      IsStep honest content images failures (view_of journal parts proposer) input result (view_of journal_after parts_after proposer_after)
+  refused_step journal journal_after parts parts_after proposer proposer_after input result why is answered same_journal same = record {
+    running = refused_is result why Halted answered refl;
+    refused = answered ∙ sym (sym (refusal_shown journal parts proposer input) ∙ is);
+    done = refused_if_ok result why _ answered;
+    on_tape = λ h. refused_on_ok result why _ answered;
+    unchanged = if_err result _ (λ fault not_memory not_tape. λ i. view_of (same_journal i) (same.parts i) (same.proposer i));
+    same = if_err result _ (λ fault. same_view journal journal_after parts parts_after proposer proposer_after same);
+    still_running = λ e. absurd (refused_is result why Memory answered refl e);
+    same_tape = λ h e. absurd (refused_is result why Memory answered refl e);
+    takes = λ e. absurd (refused_is result why Memory answered refl e);
+    failed = λ e. absurd (refused_is result why TapeFailed answered refl e);
+    writes = λ e. absurd (refused_is result why TapeFailed answered refl e);
+    halts = λ e. absurd (refused_is result why TapeFailed answered refl e);
+    torn = λ h e. absurd (refused_is result why TapeFailed answered refl e);
+  }
+
+  -- What was done or refused is the node's step.
+  pub act_steps : {A : Type 0} (journal journal_after : Journal T) (kept kept_after : Kept) (proposer proposer_after : Proposer) (input : Input Definition) (result : Result (Vec Message A) NodeFault) →
+      IsNode honest images journal kept proposer → journal.halted ≡ false → RecordsFit Definition →
+      IsAct honest content images failures input journal kept.parts proposer result journal_after kept_after.parts proposer_after →
+      IsStep honest content images failures (view_of journal kept.parts proposer) input result (view_of journal_after kept_after.parts proposer_after)
+  act_steps journal journal_after kept kept_after proposer proposer_after input result is running fit act =
+      let fits : RowFits (stored_of kept.parts) (proposer_row proposer kept.parts input) =
+      fit definition_eq proposer.nodes proposer.node (stored_of kept.parts) (working_of proposer) input is.for_next in
+      let hears = memory.hears_input proposer.nodes (working_of proposer) input in
+      elim (refusal (stored_of kept.parts) (working_of proposer) input) as (λ why.
+      refusal (stored_of kept.parts) (working_of proposer) input ≡ why →
+      IsRefusedOr honest content images failures why hears (proposer_row proposer kept.parts input) journal kept.parts proposer result journal_after kept_after.parts proposer_after →
+      IsStep honest content images failures (view_of journal kept.parts proposer) input result (view_of journal_after kept_after.parts proposer_after)) [
+        | None ↦ λ none change. done_step journal journal_after kept.parts kept_after.parts proposer proposer_after input result hears refl (λ h. is.stands h running) none fits change
+        | Some why ↦ λ some refused. refused_step journal journal_after kept.parts kept_after.parts proposer proposer_after input result why some refused.0 refused.1 refused.2
+      ] refl act
+
+  done_node : {A : Type 0} (journal journal_after : Journal T) (kept kept_after : Kept) (proposer proposer_after : Proposer) (input : Input Definition) (result : Result (Vec Message A) NodeFault) (hears : Bool) →
+      IsNode honest images journal kept proposer → journal.halted ≡ false →
+      RowFits (stored_of kept.parts) (proposer_row proposer kept.parts input) → kept_after.id ≡ kept.id →
+      IsChange honest content images failures hears (proposer_row proposer kept.parts input) journal kept.parts proposer result journal_after kept_after.parts proposer_after →
+      IsNode honest images journal_after kept_after proposer_after
+  done_node journal journal_after kept kept_after proposer proposer_after input (Ok messages) hears is running fits id change = record {
+    same_node = id ∙ (is.same_node ∙ sym change.1.node);
+    for_next = subst (λ s. IsForNext s (working_of proposer_after)) (sym change.1.stored) (subst (λ w. IsForNext (store (stored_of kept.parts) (proposer_row proposer kept.parts input).entry) w) (sym change.1.working) fits.for_next);
+    stands = λ h _. subst (λ s. AllStandFor s (images journal_after.tape)) (sym change.1.stored) (change.0.stored h (stored_of kept.parts) fits.fits (is.stands h running));
+  }
+  done_node journal journal_after kept kept_after proposer proposer_after input (Err Memory) hears is running fits id change = record {
+    same_node = id ∙ (is.same_node ∙ ap (λ (p : Proposer). p.node) (sym change.1.proposer));
+    for_next = subst (λ parts. IsForNext (stored_of parts) (working_of proposer_after)) (sym change.1.parts) (subst (λ p. IsForNext (stored_of kept.parts) (working_of p)) (sym change.1.proposer) is.for_next);
+    stands = λ h _ image left. subst (λ parts. StandsFor (stored_of parts) image) (sym change.1.parts) (is.stands h running image ((change.0.same h).no_other image left));
+  }
+  done_node journal journal_after kept kept_after proposer proposer_after input (Err TapeFailed) hears is running fits id change = record {
+    same_node = id ∙ (is.same_node ∙ ap (λ (p : Proposer). p.node) (sym change.1.proposer));
+    for_next = subst (λ parts. IsForNext (stored_of parts) (working_of proposer_after)) (sym change.1.parts) (subst (λ p. IsForNext (stored_of kept.parts) (working_of p)) (sym change.1.proposer) is.for_next);
+    stands = λ h runs. absurd (false≢true (sym runs ∙ change.0.halted));
+  }
+  done_node journal journal_after kept kept_after proposer proposer_after input (Err Busy) hears is running fits id change = absurd change
+  done_node journal journal_after kept kept_after proposer proposer_after input (Err SequenceFull) hears is running fits id change = absurd change
+  done_node journal journal_after kept kept_after proposer proposer_after input (Err RoundsFull) hears is running fits id change = absurd change
+  done_node journal journal_after kept kept_after proposer proposer_after input (Err Nothing) hears is running fits id change = absurd change
+  done_node journal journal_after kept kept_after proposer proposer_after input (Err Halted) hears is running fits id change = absurd change
+
+  refused_node : (journal journal_after : Journal T) (kept kept_after : Kept) (proposer proposer_after : Proposer) → IsNode honest images journal kept proposer →
+      kept_after.id ≡ kept.id → journal_after ≡ journal → IsSame kept.parts kept_after.parts proposer proposer_after → IsNode honest images journal_after kept_after proposer_after
+  refused_node journal journal_after kept kept_after proposer proposer_after is id same_journal same = record {
+    same_node = id ∙ (is.same_node ∙ ap (λ (p : Proposer). p.node) (sym same.proposer));
+    for_next = subst (λ parts. IsForNext (stored_of parts) (working_of proposer_after)) (sym same.parts) (subst (λ p. IsForNext (stored_of kept.parts) (working_of p)) (sym same.proposer) is.for_next);
+    stands = subst (λ (j : Journal T). honest → j.halted ≡ false → AllStandFor (stored_of kept_after.parts) (images j.tape)) (sym same_journal)
+        (subst (λ parts. honest → journal.halted ≡ false → AllStandFor (stored_of parts) (images journal.tape)) (sym same.parts) is.stands);
+  }
+
+  -- What is true of each node is true of it after the step.
+  pub act_keeps : {A : Type 0} (journal journal_after : Journal T) (kept kept_after : Kept) (proposer proposer_after : Proposer) (input : Input Definition) (result : Result (Vec Message A) NodeFault) →
+      IsNode honest images journal kept proposer → journal.halted ≡ false → RecordsFit Definition → kept_after.id ≡ kept.id →
+      IsAct honest content images failures input journal kept.parts proposer result journal_after kept_after.parts proposer_after →
+      IsNode honest images journal_after kept_after proposer_after
+  act_keeps journal journal_after kept kept_after proposer proposer_after input result is running fit id act =
+      let fits : RowFits (stored_of kept.parts) (proposer_row proposer kept.parts input) =
+      fit definition_eq proposer.nodes proposer.node (stored_of kept.parts) (working_of proposer) input is.for_next in
+      let hears = memory.hears_input proposer.nodes (working_of proposer) input in
+      elim (refusal (stored_of kept.parts) (working_of proposer) input) as (λ why.
+      IsRefusedOr honest content images failures why hears (proposer_row proposer kept.parts input) journal kept.parts proposer result journal_after kept_after.parts proposer_after →
+      IsNode honest images journal_after kept_after proposer_after) [
+        | None ↦ λ change. done_node journal journal_after kept kept_after proposer proposer_after input result hears is running fits id change
+        | Some why ↦ λ refused. refused_node journal journal_after kept kept_after proposer proposer_after is id refused.1 refused.2
+      ] act

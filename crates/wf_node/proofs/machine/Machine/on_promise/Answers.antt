@@ -1,0 +1,28 @@
+-- The proposer answers with the row, or wants memory for an answer that it hears.
+use Rattle.std.proofs.Common.{refl, ap, ◌∙◌}
+use Rattle.wf_codec.specs.Message.{view_vote}
+use Rattle.wf_def.specs.Definition.{Definition}
+use Rattle.wf_model.specs.Message as model
+use Rattle.wf_model.specs.Table.{Deliver, Row}
+use Rattle.wf_proposer.specs.Proposer.{row_of, working_of}
+use Rattle.wf_node.proofs.Acts.{act_done, act_hears, delivered, row_fits, row_promise}
+use Rattle.wf_node.proofs.Rows.{none_own, promise_stores_none}
+use Rattle.wf_node.proofs.machine.Machine.on_promise.Goals as goal
+
+pub perform-requires-clause-fits : goal.perform-requires-clause-fits
+perform-requires-clause-fits g c =
+    row_fits c.args.self.now.kept.parts c.args.self.now.proposer (Deliver (model.Promise c.args.from c.args.slot c.args.ballot (view_vote c.args.vote))) (row_of c.args.self.now.proposer c.in-Ok.next) c.requires.fits c.requires.for_next
+    (c.in-Ok.ensures.row ∙ row_promise c.args.self.now.kept.parts c.args.self.now.proposer c.args.from c.args.slot c.args.ballot (view_vote c.args.vote))
+
+pub perform-requires-clause-own : goal.perform-requires-clause-own
+perform-requires-clause-own g c = none_own _ (ap (λ (r : Row Definition). r.entry) c.in-Ok.ensures.row ∙ promise_stores_none c.args.self.now.proposer.nodes (working_of c.args.self.now.proposer) c.args.from c.args.slot c.args.ballot (view_vote c.args.vote))
+
+pub returns-in-Ok-clause-act : goal.returns-in-Ok-clause-act
+returns-in-Ok-clause-act g c =
+    act_done g.T.Tape.honest g.T.Tape.content g.T.Tape.images g.T.Tape.failed (Deliver (model.Promise c.args.from c.args.slot c.args.ballot (view_vote c.args.vote))) (row_of c.args.self.now.proposer c.in-Ok.next) c.args.self.now.journal c.perform.new.self.journal c.args.self.now.kept.parts c.perform.new.self.kept.parts c.args.self.now.proposer c.perform.new.self.proposer c.perform.result
+    (delivered _ _ _) (c.in-Ok.ensures.row ∙ row_promise c.args.self.now.kept.parts c.args.self.now.proposer c.args.from c.args.slot c.args.ballot (view_vote c.args.vote)) (c.perform.ensures.change _)
+
+pub returns-in-Err-clause-act : goal.returns-in-Err-clause-act
+returns-in-Err-clause-act g c =
+    act_hears g.T.Tape.honest g.T.Tape.content g.T.Tape.images g.T.Tape.failed _ _ (Deliver (model.Promise c.args.from c.args.slot c.args.ballot (view_vote c.args.vote))) c.in-Err.refusal c.fault_of.result c.args.self.now.journal c.args.self.now.kept.parts c.args.self.now.proposer c.fault_of.ensures
+    (delivered _ _ _) c.requires.running (c.in-Err.ensures.memory refl)

@@ -1,0 +1,112 @@
+-- What acting on an input does to the parts of a node.
+use Rattle.std.specs.Prelude.{◌≡◌, ℕ, Bool, true, false, ⊤, List, [], map, Option, Some, None, Result, Ok, Err, Vec, if◌then◌else◌}
+use Rattle.wf_codec.specs.Message as message
+use Rattle.wf_codec.specs.declared.message.Message.{Message}
+use Rattle.wf_def.specs.Definition.{Definition}
+use Rattle.wf_def.specs.Equality.{definition_eq}
+use Rattle.wf_model.specs.Fits.{IsForNext, RecordsFit}
+use Rattle.wf_model.specs.Message as model
+use Rattle.wf_model.specs.Stored as model_stored
+use Rattle.wf_model.specs.Stored.{Record}
+use Rattle.wf_model.specs.Table.{Row, Input, Refusal, row, refusal, store, ends}
+use Rattle.wf_model.specs.Working as model_working
+use Rattle.wf_proposer.specs.Proposer.{Proposer, runs_for, working_of}
+use Rattle.wf_tape.specs.Journal.{Journal}
+use Rattle.wf_tape.specs.declared.record.Record as tape
+use Rattle.wf_tape.specs.declared.record.Record.TheVariants as tape_case
+use Rattle.wf_node.specs.declared.fault.NodeFault.{NodeFault}
+use Rattle.wf_node.specs.declared.fault.NodeFault.TheVariants.{Memory, Busy, SequenceFull, RoundsFull, Halted, TapeFailed, Nothing}
+use Rattle.wf_node.specs.Fault.{refused_by}
+use Rattle.wf_node.specs.Kept as keeping
+use Rattle.wf_node.specs.Kept.{Kept}
+use Rattle.wf_node.specs.Parts.{Parts, stored_of}
+use Rattle.wf_node.specs.Memory.{TakesMemory, hears_input}
+use Rattle.wf_node.specs.Storing.{IsWritten, IsSpared, IsBroken}
+
+-- The parts of a node that may act: its journal runs, what it keeps and its proposer are one node's, a running proposal is for the next
+-- sequence, and, as the model's law says, each row's record fits then.
+pub record IsReady {T : Type 0} (journal : Journal T) (kept : Kept) (proposer : Proposer) : Type 0 where
+  pub running : journal.halted ≡ false
+  pub same_node : kept.id ≡ proposer.node
+  pub for_next : IsForNext (keeping.stored_of kept) (working_of proposer)
+  pub fits : RecordsFit Definition
+
+-- The messages, or want of memory for them: where there are some.
+abbrev pub IsReply : {A : Type 0} → List (model.Message Definition) → Result (Vec Message A) NodeFault → Type 0
+IsReply messages (Ok given) = map message.view given.items ≡ messages
+IsReply messages (Err Memory) = messages ≡ [] → ⊥
+IsReply messages (Err TapeFailed) = ⊥
+IsReply messages (Err Busy) = ⊥
+IsReply messages (Err SequenceFull) = ⊥
+IsReply messages (Err RoundsFull) = ⊥
+IsReply messages (Err Halted) = ⊥
+IsReply messages (Err Nothing) = ⊥
+
+-- whether a proposal runs
+abbrev pub runs : model_working.Working Definition → Bool
+runs model_working.Idle = false
+runs (model_working.Running proposal) = true
+runs (model_working.Won s) = false
+runs (model_working.Overtaken s) = false
+
+-- an entry that a proposer may answer with, or none
+abbrev pub IsOwn : Option (Record Definition) → Type 0
+IsOwn None = ⊤
+IsOwn (Some (model_stored.Tried round)) = ⊤
+IsOwn (Some (model_stored.Promised s b)) = ⊥
+IsOwn (Some (model_stored.Accepted s b d)) = ⊥
+IsOwn (Some (model_stored.Published s d)) = ⊤
+
+-- A definition is published at the slot: a proposal that runs for the slot ends.
+pub record IsEndedAt (s : ℕ) (d : Definition) (before after : Proposer) : Type 0 where
+  pub node : after.node ≡ before.node
+  pub nodes : after.nodes ≡ before.nodes
+  pub working : working_of after ≡ (if runs_for s (working_of before) then ends definition_eq (working_of before) d else working_of before)
+
+-- what the record of a published definition does to a proposer
+abbrev pub IsEnded : tape.Record → Proposer → Proposer → Type 0
+IsEnded (tape_case.Tried round) before after = after ≡ before
+IsEnded (tape_case.Promised s b) before after = after ≡ before
+IsEnded (tape_case.Accepted s b d) before after = after ≡ before
+IsEnded (tape_case.Published s d) before after = IsEndedAt s d before after
+
+-- the row is done by the stored part, the proposer and the messages
+pub record IsRowOf (the_row : Row Definition) (old new : Parts) (before after : Proposer) (sent : List Message) : Type 0 where
+  pub stored : stored_of new ≡ store (stored_of old) the_row.entry
+  pub node : after.node ≡ before.node
+  pub nodes : after.nodes ≡ before.nodes
+  pub working : working_of after ≡ the_row.working
+  pub messages : map message.view sent ≡ the_row.messages
+
+-- the stored part and the proposer are as they were
+pub record IsSame (old new : Parts) (before after : Proposer) : Type 0 where
+  pub parts : new ≡ old
+  pub proposer : after ≡ before
+
+module _ {T : Type 0} (honest : Type 0) (content : T → List ℕ) (images : T → List ℕ → Type 0) (failures : T → ℕ) where
+  -- The row is done, or a fault leaves the parts as they were. `hears` says whether an answer is heard.
+  abbrev pub IsChange : {A : Type 0} → Bool → Row Definition → Journal T → Parts → Proposer → Result (Vec Message A) NodeFault → Journal T → Parts → Proposer → Type 0
+  IsChange hears the_row journal parts proposer (Ok messages) journal_after parts_after proposer_after =
+      IsWritten honest content images failures the_row.entry journal journal_after × IsRowOf the_row parts parts_after proposer proposer_after messages.items
+  IsChange hears the_row journal parts proposer (Err Memory) journal_after parts_after proposer_after =
+      IsSpared honest content images failures journal journal_after × IsSame parts parts_after proposer proposer_after × TakesMemory the_row hears
+  IsChange hears the_row journal parts proposer (Err TapeFailed) journal_after parts_after proposer_after =
+      IsBroken honest content images failures the_row.entry journal journal_after × IsSame parts parts_after proposer proposer_after
+  IsChange hears the_row journal parts proposer (Err Busy) journal_after parts_after proposer_after = ⊥
+  IsChange hears the_row journal parts proposer (Err SequenceFull) journal_after parts_after proposer_after = ⊥
+  IsChange hears the_row journal parts proposer (Err RoundsFull) journal_after parts_after proposer_after = ⊥
+  IsChange hears the_row journal parts proposer (Err Nothing) journal_after parts_after proposer_after = ⊥
+  IsChange hears the_row journal parts proposer (Err Halted) journal_after parts_after proposer_after = ⊥
+
+  -- Where the table refuses, that refusal is answered, and the parts are as they were; else the row is done or fails.
+  abbrev pub IsRefusedOr : {A : Type 0} → Option Refusal → Bool → Row Definition → Journal T → Parts → Proposer → Result (Vec Message A) NodeFault → Journal T → Parts → Proposer → Type 0
+  IsRefusedOr None hears the_row journal parts proposer result journal_after parts_after proposer_after =
+      IsChange hears the_row journal parts proposer result journal_after parts_after proposer_after
+  IsRefusedOr (Some why) hears the_row journal parts proposer result journal_after parts_after proposer_after =
+      (refused_by result ≡ Some why) × (journal_after ≡ journal) × IsSame parts parts_after proposer proposer_after
+
+  -- what the input asks for is done
+  abbrev pub IsAct : {A : Type 0} → Input Definition → Journal T → Parts → Proposer → Result (Vec Message A) NodeFault → Journal T → Parts → Proposer → Type 0
+  IsAct input journal parts proposer result journal_after parts_after proposer_after =
+      IsRefusedOr (refusal (stored_of parts) (working_of proposer) input) (hears_input proposer.nodes (working_of proposer) input)
+      (row definition_eq proposer.nodes proposer.node (stored_of parts) (working_of proposer) input) journal parts proposer result journal_after parts_after proposer_after

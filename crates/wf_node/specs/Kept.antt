@@ -1,0 +1,71 @@
+-- What a node keeps in memory of its records, and the room that there is for one more.
+use Rattle.std.specs.Prelude.{◌≡◌, ℕ, ⊤, Bool, true, List, Option, Some, None, IsSome}
+use Rattle.wf_def.specs.Definition.{Definition}
+use Rattle.wf_model.specs.Stored.{Stored}
+use Rattle.wf_model.specs.Working.{Working}
+use Rattle.wf_model.specs.Table.{Row}
+use Rattle.wf_acceptor.specs.Answer.{row_of}
+use Rattle.wf_acceptor.specs.declared.answer.Answer.{Answer}
+use Rattle.wf_tape.specs.declared.record.Record.{Record}
+use Rattle.wf_tape.specs.declared.record.Record.TheVariants.{Tried, Promised, Accepted, Published}
+use Rattle.wf_learner.specs.History.{with_chosen}
+use Rattle.wf_node.specs.Parts as parts
+use Rattle.wf_node.specs.Parts.{Parts}
+
+-- The node's number and its stored part; and, for which `HasRoomFor` alone asks, the record that is set aside and
+-- whether there is room for one more published definition.
+pub record Kept : Type 0 where
+  pub id : ℕ
+  pub parts : Parts
+  pub prepared : Option Record
+  pub has_room : Bool
+
+-- the stored part as the farm's model has it
+abbrev pub stored_of : Kept → Stored Definition
+stored_of kept = parts.stored_of kept.parts
+
+-- There is room for the record: to apply it takes no memory. That is so of a tried round, of a promise and a vote that
+-- is set aside, and of a published definition where there is room for one more.
+abbrev pub IsRoomFor : Option Record → Bool → Record → Type 0
+IsRoomFor prepared has_room (Tried round) = ⊤
+IsRoomFor prepared has_room (Promised s b) = prepared ≡ Some (Promised s b)
+IsRoomFor prepared has_room (Accepted s b d) = prepared ≡ Some (Accepted s b d)
+IsRoomFor prepared has_room (Published s d) = has_room ≡ true
+
+abbrev pub HasRoomFor : Kept → Record → Type 0
+HasRoomFor kept r = IsRoomFor kept.prepared kept.has_room r
+
+-- There is room for the record where it is no promise and no vote.
+abbrev pub HasRoomIfOwn : Kept → Option Record → Type 0
+HasRoomIfOwn kept None = ⊤
+HasRoomIfOwn kept (Some (Tried round)) = ⊤
+HasRoomIfOwn kept (Some (Promised s b)) = ⊤
+HasRoomIfOwn kept (Some (Accepted s b d)) = ⊤
+HasRoomIfOwn kept (Some (Published s d)) = kept.has_room ≡ true
+
+-- The answer is this row, at a node that holds any working part.
+abbrev pub IsRow : (Working Definition → Row Definition) → Answer → Type 0
+IsRow row answer = (working : Working Definition) → row_of answer working ≡ row working
+
+-- The row stores a record, whatever its node holds.
+abbrev pub Stores : (Working Definition → Row Definition) → Type 0
+Stores row = (working : Working Definition) → IsSome (row working).entry
+
+-- ---- for the crate's own contracts: what a record does to the parts of which an acceptor knows nothing
+
+-- there is room in the history, if the record publishes
+abbrev pub IsRoomy : Bool → Record → Type 0
+IsRoomy has_room (Published s d) = has_room ≡ true
+IsRoomy has_room r = ⊤
+
+abbrev pub tried_after : ℕ → Record → ℕ
+tried_after tried (Tried round) = round
+tried_after tried r = tried
+
+abbrev pub definitions_after : List Definition → Record → List Definition
+definitions_after definitions (Published s d) = with_chosen definitions s d
+definitions_after definitions r = definitions
+
+abbrev pub publication_of : Record → Option (ℕ × Definition)
+publication_of (Published s d) = Some (s, d)
+publication_of r = None

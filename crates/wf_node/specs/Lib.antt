@@ -1,0 +1,13 @@
+pub mod Parts
+pub mod Working
+pub mod Node
+pub mod Images
+pub mod Input
+pub mod Fault
+pub mod Proposed
+pub mod Kept
+pub mod Storing
+pub mod Memory
+pub mod Act
+pub mod Step
+pub mod Opening

@@ -1,0 +1,51 @@
+-- What a node shows: its tape, who it is, and the two parts of the farm's model.
+use Rattle.std.specs.Prelude.{◌≡◌, ℕ, Bool, false, List}
+use Rattle.wf_def.specs.Definition.{Definition}
+use Rattle.wf_model.specs.Fits.{IsForNext}
+use Rattle.wf_model.specs.Stored.{Stored}
+use Rattle.wf_model.specs.Working as model
+use Rattle.wf_proposer.specs.Proposer as proposer
+use Rattle.wf_proposer.specs.Proposer.{Proposer}
+use Rattle.wf_tape.specs.Journal.{Journal}
+use Rattle.wf_node.specs.Images.{AllStandFor}
+use Rattle.wf_node.specs.Kept as keeping
+use Rattle.wf_node.specs.Kept.{Kept}
+use Rattle.wf_node.specs.Parts as parts
+use Rattle.wf_node.specs.Parts.{Parts}
+use Rattle.wf_node.specs.Working as shown
+use Rattle.wf_node.specs.Working.{Working}
+
+-- A node of n that is halted steps no more: its tape failed.
+pub record Node (T : Type 0) : Type 0 where
+  pub tape : T
+  pub halted : Bool
+  pub id : ℕ
+  pub n : ℕ
+  pub parts : Parts
+  pub working : Working
+
+-- its stored and its working part, as the farm's model has them
+abbrev pub stored_of : {T : Type 0} → Node T → Stored Definition
+stored_of node = parts.stored_of node.parts
+
+abbrev pub working_of : {T : Type 0} → Node T → model.Working Definition
+working_of node = shown.working_of node.working
+
+-- the node of these parts
+abbrev pub view_of : {T : Type 0} → Journal T → Parts → Proposer → Node T
+view_of journal kept_parts proposes =
+    record {
+      tape = journal.tape;
+      halted = journal.halted;
+      id = proposes.node;
+      n = proposes.nodes;
+      parts = kept_parts;
+      working = shown.shown proposes.working;
+    }
+
+-- What is true of each node: what it keeps and its proposer are one node's, a running proposal is for the next sequence, and where the
+-- journal runs, whatever a crash leaves of an honest tape stands for what is kept.
+pub record IsNode {T : Type 0} (honest : Type 0) (images : T → List ℕ → Type 0) (journal : Journal T) (kept : Kept) (proposes : Proposer) : Type 0 where
+  pub same_node : kept.id ≡ proposes.node
+  pub for_next : IsForNext (keeping.stored_of kept) (proposer.working_of proposes)
+  pub stands : honest → journal.halted ≡ false → AllStandFor (keeping.stored_of kept) (images journal.tape)

@@ -1,0 +1,26 @@
+-- The stored part of a node as data: a model's value can't hold a function, so promises and votes are maps.
+use Rattle.std.specs.Prelude.{ℕ, List}
+use Rattle.std.specs.Ordering.{nat_cmp}
+use Rattle.std.specs.FinMap as map
+use Rattle.std.specs.FinMap.{FinMap}
+use Rattle.wf_ballot.specs.Ballot.{Ballot}
+use Rattle.wf_codec.specs.Message.{view_vote}
+use Rattle.wf_def.specs.Definition.{Definition}
+use Rattle.wf_model.specs.Stored.{Stored}
+
+-- the round tried, the promise and the vote at each sequence, and the published definitions
+pub record Parts : Type 0 where
+  pub tried : ℕ
+  pub promises : FinMap nat_cmp Ballot
+  pub votes : FinMap nat_cmp (Ballot × Definition)
+  pub history : List Definition
+
+-- the same as the farm's model has it
+abbrev pub stored_of : Parts → Stored Definition
+stored_of parts =
+    record {
+      tried = parts.tried;
+      promises = λ s. map.get parts.promises s;
+      votes = λ s. view_vote (map.get parts.votes s);
+      history = parts.history;
+    }

@@ -1,0 +1,11 @@
+-- A proposer's refusal as a node's fault.
+use Rattle.wf_proposer.specs.declared.refusal.Refusal.{Refusal}
+use Rattle.wf_proposer.specs.declared.refusal.Refusal.TheVariants as proposer
+use Rattle.wf_node.specs.declared.fault.NodeFault.{NodeFault}
+use Rattle.wf_node.specs.declared.fault.NodeFault.TheVariants as node
+
+abbrev pub fault_of : Refusal → NodeFault
+fault_of proposer.Busy = node.Busy
+fault_of proposer.Nothing = node.Nothing
+fault_of proposer.RoundsFull = node.RoundsFull
+fault_of proposer.Memory = node.Memory

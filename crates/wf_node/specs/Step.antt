@@ -1,0 +1,56 @@
+-- What a step leaves of a node.
+use Rattle.std.specs.Prelude.{◌≡◌, ◌≢◌, ℕ, true, false, List, map, Option, Result, Err, IfOk, IfErr, OnOk, IsSome, Vec}
+use Rattle.wf_codec.specs.Message as message
+use Rattle.wf_codec.specs.declared.message.Message.{Message}
+use Rattle.wf_def.specs.Definition.{Definition}
+use Rattle.wf_def.specs.Equality.{definition_eq}
+use Rattle.wf_model.specs.Table.{Row, Input, Refusal, row, refusal, store}
+use Rattle.wf_tape.specs.Tape.{IsUnchanged, HasRisen}
+use Rattle.wf_node.specs.declared.fault.NodeFault.{NodeFault}
+use Rattle.wf_node.specs.declared.fault.NodeFault.TheVariants.{Memory, Halted, TapeFailed}
+use Rattle.wf_node.specs.Fault.{refused_by}
+use Rattle.wf_node.specs.Images.{AllStandFor, EachStandsFor}
+use Rattle.wf_node.specs.Memory as memory
+use Rattle.wf_node.specs.Node.{Node, stored_of, working_of}
+
+-- the table's row of the input at this node, and the table's refusal
+abbrev pub row_of : {T : Type 0} → Node T → Input Definition → Row Definition
+row_of node input = row definition_eq node.n node.id (stored_of node) (working_of node) input
+
+abbrev pub refusal_at : {T : Type 0} → Node T → Input Definition → Option Refusal
+refusal_at node input = refusal (stored_of node) (working_of node) input
+
+-- The node after a row: the stored part is that with the row's entry, the working part is the row's, and exactly the
+-- row's messages are handed out.
+pub record IsRow {T : Type 0} (before : Node T) (the_row : Row Definition) (sent : List Message) (after : Node T) : Type 0 where
+  pub id : after.id ≡ before.id
+  pub n : after.n ≡ before.n
+  pub running : after.halted ≡ false
+  pub stored : stored_of after ≡ store (stored_of before) the_row.entry
+  pub working : working_of after ≡ the_row.working
+  pub messages : map message.view sent ≡ the_row.messages
+
+-- the node is as it was, but for its tape
+abbrev pub IsSameNode : {T : Type 0} → Node T → Node T → Type 0
+IsSameNode before after = after ≡ record before { tape = after.tape; halted = after.halted }
+
+-- the input takes memory at this node: its row stores or sends something, or an answer is heard
+abbrev pub TakesMemory : {T : Type 0} → Node T → Input Definition → Type 0
+TakesMemory node input = memory.TakesMemory (row_of node input) (memory.hears_input node.n (working_of node) input)
+
+module _ {T : Type 0} (honest : Type 0) (content : T → List ℕ) (images : T → List ℕ → Type 0) (failures : T → ℕ) where
+  -- What a step of a node that isn't halted says, clause by clause.
+  pub record IsStep {A : Type 0} (before : Node T) (input : Input Definition) (result : Result (Vec Message A) NodeFault) (after : Node T) : Type 0 where
+    pub running : result ≢ Err Halted
+    pub refused : refused_by result ≡ refusal_at before input
+    pub done : IfOk result (λ messages. IsRow before (row_of before input) messages.items after)
+    pub on_tape : honest → OnOk result (AllStandFor (stored_of after) (images after.tape))
+    pub unchanged : IfErr result (λ fault. fault ≢ Memory → fault ≢ TapeFailed → after ≡ before)
+    pub same : IfErr result (λ fault. IsSameNode before after)
+    pub still_running : result ≡ Err Memory → after.halted ≡ false
+    pub same_tape : honest → result ≡ Err Memory → IsUnchanged (content before.tape) (content after.tape) (images before.tape) (images after.tape)
+    pub takes : result ≡ Err Memory → TakesMemory before input
+    pub failed : result ≡ Err TapeFailed → HasRisen (failures before.tape) (failures after.tape)
+    pub writes : result ≡ Err TapeFailed → IsSome (row_of before input).entry
+    pub halts : result ≡ Err TapeFailed → after.halted ≡ true
+    pub torn : honest → result ≡ Err TapeFailed → EachStandsFor (stored_of before) (store (stored_of before) (row_of before input).entry) (images after.tape)

@@ -1,0 +1,97 @@
+//! What the acceptor does of an input.
+
+ghost use Rattle.std.specs.Prelude.{◌≡◌, Bool, false, IfSome, option_map};
+ghost use Rattle.wf_acceptor.specs.Answer as answered;
+ghost use Rattle.wf_model.specs.Fits.{Fits};
+ghost use Rattle.wf_model.specs.Message as model;
+ghost use Rattle.wf_model.specs.Table as table;
+ghost use Rattle.wf_node.specs.Act.{IsAct, IsChange, IsReady};
+ghost use Rattle.wf_node.specs.Kept.{stored_of, HasRoomFor};
+ghost use Rattle.wf_proposer.specs.Proposer.{working_of};
+ghost use Rattle.wf_tape.specs.Record.{view as view_record};
+
+use crate::fault::NodeFault;
+use crate::machine::Machine;
+use crate::reply::reply;
+use crate::storing::store;
+use std::alloc::Global;
+use wf_acceptor::Answer;
+use wf_ballot::{Ballot, Slot};
+use wf_canon::Canon;
+use wf_codec::Message;
+use wf_tape::Tape;
+
+impl<T: Tape> Machine<T> {
+    /// Answers a Prepare: tells the definition where it is published.
+    pub(crate) fn on_prepare(
+        &mut self,
+        alloc: Global,
+        slot: Slot,
+        ballot: Ballot,
+    ) -> Result<Vec<Message>, NodeFault>
+        requires { IsReady self.old.journal self.old.kept self.old.proposer }
+        ensures act { IsAct T.honest T.content T.images T.failed (table.Deliver (model.Prepare slot ballot)) self.old.journal self.old.kept.parts self.old.proposer result self.new.journal self.new.kept.parts self.new.proposer }
+        ensures id { self.new.kept.id ≡ self.old.kept.id }
+    {
+        if self.kept.is_published(slot) {
+            return self.tell(alloc, slot);
+        }
+        match self.kept.on_prepare(slot, ballot) {
+            Ok(answer) => self.give(alloc, answer),
+            Err(_) => Err(NodeFault::Memory),
+        }
+    }
+
+    /// Answers an Accept: tells the definition where it is published.
+    pub(crate) fn on_accept(
+        &mut self,
+        alloc: Global,
+        slot: Slot,
+        ballot: Ballot,
+        canon: Canon,
+    ) -> Result<Vec<Message>, NodeFault>
+        requires { IsReady self.old.journal self.old.kept self.old.proposer }
+        ensures act { IsAct T.honest T.content T.images T.failed (table.Deliver (model.Accept slot ballot canon)) self.old.journal self.old.kept.parts self.old.proposer result self.new.journal self.new.kept.parts self.new.proposer }
+        ensures id { self.new.kept.id ≡ self.old.kept.id }
+    {
+        if self.kept.is_published(slot) {
+            drop(canon);
+            return self.tell(alloc, slot);
+        }
+        match self.kept.on_accept(slot, ballot, canon) {
+            Ok(answer) => self.give(alloc, answer),
+            Err(_) => Err(NodeFault::Memory),
+        }
+    }
+
+    /// Stores the record of what the acceptor answered, applies it, and hands the reply out.
+    fn give(&mut self, alloc: Global, answer: Answer) -> Result<Vec<Message>, NodeFault>
+        requires running { self.old.journal.halted ≡ false }
+        requires fits { Fits (stored_of self.old.kept) (option_map view_record answer.entry) }
+        requires room { IfSome answer.entry (HasRoomFor self.old.kept) }
+        ensures change { (hears : Bool) → IsChange T.honest T.content T.images T.failed hears (answered.row_of answer (working_of self.old.proposer)) self.old.journal self.old.kept.parts self.old.proposer result self.new.journal self.new.kept.parts self.new.proposer }
+        ensures id { self.new.kept.id ≡ self.old.kept.id }
+    {
+        let Answer {
+            entry,
+            reply: message,
+        } = answer;
+        match reply(alloc, message) {
+            Ok(messages) => match store(&mut self.journal, alloc, entry.as_ref()) {
+                Ok(()) => {
+                    self.kept.apply_entry(entry);
+                    Ok(messages)
+                }
+                Err(fault) => {
+                    drop(entry);
+                    drop(messages);
+                    Err(fault)
+                }
+            },
+            Err(fault) => {
+                drop(entry);
+                Err(fault)
+            }
+        }
+    }
+}

@@ -1,0 +1,66 @@
+ghost use Rattle.std.specs.Prelude.{◌≡◌};
+ghost use Rattle.wf_node.specs.Proposed.{fault_of};
+
+use std::alloc::{AllocError, AllocFailed};
+use thiserror::Error;
+use wf_proposer::Refusal;
+
+/// Why a step isn't done.
+#[derive(Clone, Copy, Debug, PartialEq, Eq, Error)]
+pub enum NodeFault {
+    /// N1: a growth was refused. Nothing has changed, the tape neither.
+    #[error("N1: out of memory")]
+    Memory,
+    /// N2: a proposal was asked for while one runs.
+    #[error("N2: a proposal runs")]
+    Busy,
+    /// N3: a proposal was asked for, and the last sequence, 4,096, is published.
+    #[error("N3: the last sequence is published")]
+    SequenceFull,
+    /// N4: a proposal would begin, and there is no round above those tried and told.
+    #[error("N4: no higher round")]
+    RoundsFull,
+    /// N5: the node is halted, since its tape failed.
+    #[error("N5: the node is halted")]
+    Halted,
+    /// N6: the tape failed. The node is halted, and its step is on the tape or not.
+    #[error("N6: the tape failed")]
+    TapeFailed,
+    /// N7: a second try was asked for while no proposal runs.
+    #[error("N7: no proposal runs")]
+    Nothing,
+}
+
+impl From<AllocError> for NodeFault {
+    ghost use Rattle.std.specs.Prelude.{◌≡◌};
+    ghost use Rattle.wf_node.specs.declared.fault.NodeFault.TheVariants.{Memory};
+
+    ghost from_gives = { λ _ fault. fault ≡ Memory };
+
+    fn from(_: AllocError) -> Self {
+        NodeFault::Memory
+    }
+}
+
+impl<T: Drop> From<AllocFailed<T>> for NodeFault {
+    ghost use Rattle.std.specs.Prelude.{◌≡◌};
+    ghost use Rattle.wf_node.specs.declared.fault.NodeFault.TheVariants.{Memory};
+
+    ghost from_gives = { λ _ fault. fault ≡ Memory };
+
+    fn from(_: AllocFailed<T>) -> Self {
+        NodeFault::Memory
+    }
+}
+
+/// The node's fault for what its proposer refuses.
+pub(crate) fn fault_of(refusal: Refusal) -> NodeFault
+    ensures { result ≡ fault_of refusal }
+{
+    match refusal {
+        Refusal::Busy => NodeFault::Busy,
+        Refusal::Nothing => NodeFault::Nothing,
+        Refusal::RoundsFull => NodeFault::RoundsFull,
+        Refusal::Memory => NodeFault::Memory,
+    }
+}

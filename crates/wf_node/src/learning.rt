@@ -1,0 +1,127 @@
+//! What becomes of published and chosen definitions.
+
+ghost use Rattle.std.specs.Prelude.{◌≡◌, ◌+◌, length, Bool, false};
+ghost use Rattle.wf_def.specs.Equality.{definition_eq};
+ghost use Rattle.wf_model.specs.Message as model;
+ghost use Rattle.wf_model.specs.Table as table;
+ghost use Rattle.wf_model.specs.Table.{told};
+ghost use Rattle.wf_node.specs.Act.{IsAct, IsChange, IsEnded, IsReady, IsReply};
+ghost use Rattle.wf_node.specs.Kept.{stored_of};
+ghost use Rattle.wf_proposer.specs.Proposer.{working_of};
+
+use crate::fault::NodeFault;
+use crate::machine::Machine;
+use crate::reply::reply;
+use crate::storing::store;
+use std::alloc::Global;
+use wf_ballot::Slot;
+use wf_canon::Canon;
+use wf_codec::Message;
+use wf_proposer::Proposer;
+use wf_tape::{Record, Tape};
+
+impl<T: Tape> Machine<T> {
+    /// Asks for the next definition, unless the last one is published.
+    pub(crate) fn catch_up(&mut self, alloc: Global) -> Result<Vec<Message>, NodeFault>
+        requires { IsReady self.old.journal self.old.kept self.old.proposer }
+        ensures act { IsAct T.honest T.content T.images T.failed table.CatchUp self.old.journal self.old.kept.parts self.old.proposer result self.new.journal self.new.kept.parts self.new.proposer }
+        ensures id { self.new.kept.id ≡ self.old.kept.id }
+    {
+        match self.kept.history().next_slot() {
+            Some(slot) => reply(alloc, Some(Message::Ask(slot))),
+            None => reply(alloc, None),
+        }
+    }
+
+    /// A definition is chosen: it is published where its slot is the next, and further on the next one is asked for.
+    pub(crate) fn on_chosen(
+        &mut self,
+        alloc: Global,
+        slot: Slot,
+        canon: Canon,
+    ) -> Result<Vec<Message>, NodeFault>
+        requires { IsReady self.old.journal self.old.kept self.old.proposer }
+        ensures act { IsAct T.honest T.content T.images T.failed (table.Deliver (model.Chosen slot canon)) self.old.journal self.old.kept.parts self.old.proposer result self.new.journal self.new.kept.parts self.new.proposer }
+        ensures id { self.new.kept.id ≡ self.old.kept.id }
+    {
+        let number = slot.number();
+        let Some(next) = self.kept.history().next_slot() else {
+            drop(canon);
+            return reply(alloc, None);
+        };
+        if number == next.number() {
+            return self.publish(alloc, slot, canon);
+        }
+        drop(canon);
+        if number > next.number() {
+            reply(alloc, Some(Message::Ask(next)))
+        } else {
+            reply(alloc, None)
+        }
+    }
+
+    /// Answers an Ask.
+    pub(crate) fn on_ask(&mut self, alloc: Global, slot: Slot) -> Result<Vec<Message>, NodeFault>
+        requires { IsReady self.old.journal self.old.kept self.old.proposer }
+        ensures act { IsAct T.honest T.content T.images T.failed (table.Deliver (model.Ask slot)) self.old.journal self.old.kept.parts self.old.proposer result self.new.journal self.new.kept.parts self.new.proposer }
+        ensures id { self.new.kept.id ≡ self.old.kept.id }
+    {
+        // A slot is counted from 1, as its number tells.
+        let _ = slot.number();
+        match self.kept.history().answer_ask(alloc, slot) {
+            Ok(messages) => Ok(messages),
+            Err(_) => Err(NodeFault::Memory),
+        }
+    }
+
+    /// Tells the definition that is published at the slot, if there is one.
+    pub(crate) fn tell(&self, alloc: Global, slot: Slot) -> Result<Vec<Message>, NodeFault>
+        ensures { IsReply (told self.now.kept.parts.history slot) result }
+    {
+        // A slot is counted from 1, as its number tells.
+        let _ = slot.number();
+        match self.kept.history().chosen(slot) {
+            Ok(message) => reply(alloc, message),
+            Err(_) => Err(NodeFault::Memory),
+        }
+    }
+
+    /// Publishes the definition at the next slot.
+    fn publish(
+        &mut self,
+        alloc: Global,
+        slot: Slot,
+        canon: Canon,
+    ) -> Result<Vec<Message>, NodeFault>
+        requires ready { IsReady self.old.journal self.old.kept self.old.proposer }
+        requires next { slot ≡ length self.old.kept.parts.history + 1 }
+        ensures change { (hears : Bool) → IsChange T.honest T.content T.images T.failed hears (table.on_chosen definition_eq (stored_of self.old.kept) (working_of self.old.proposer) slot canon) self.old.journal self.old.kept.parts self.old.proposer result self.new.journal self.new.kept.parts self.new.proposer }
+        ensures id { self.new.kept.id ≡ self.old.kept.id }
+    {
+        let entry = Record::Published(slot, canon);
+        if self.kept.make_room_for(Some(&entry)).is_err() {
+            drop(entry);
+            return Err(NodeFault::Memory);
+        }
+        match store(&mut self.journal, alloc, Some(&entry)) {
+            Ok(()) => {
+                end_proposal(&mut self.proposer, &entry);
+                self.kept.apply_entry(Some(entry));
+                Ok(Vec::new(alloc))
+            }
+            Err(fault) => {
+                drop(entry);
+                Err(fault)
+            }
+        }
+    }
+}
+
+/// A proposal for the slot of the record of a published definition ends.
+fn end_proposal(proposer: &mut Proposer, entry: &Record)
+    ensures { IsEnded entry.now proposer.old proposer.new }
+{
+    if let Record::Published(slot, canon) = entry {
+        proposer.on_published(*slot, canon);
+    }
+}

@@ -1,0 +1,61 @@
+//! The parts of a node, and how they act on an input: all copies and growths first, then the record on the tape, then
+//! what follows of it.
+
+ghost use Rattle.std.specs.Prelude.{◌≡◌};
+ghost use Rattle.wf_codec.specs.Message.{view as view_message};
+ghost use Rattle.wf_model.specs.Table as table;
+ghost use Rattle.wf_node.specs.Act.{IsAct, IsReady};
+ghost use Rattle.wf_node.specs.Input.{view};
+
+use crate::fault::NodeFault;
+use crate::input::Input;
+use crate::kept::Kept;
+use std::alloc::Global;
+use wf_codec::Message;
+use wf_proposer::Proposer;
+use wf_tape::{Journal, Tape};
+
+/// The journal of a node, what it keeps of its records, and its proposer.
+#[derive(Drop)]
+pub struct Machine<T: Tape> {
+    pub journal: Journal<T>,
+    pub kept: Kept,
+    pub proposer: Proposer,
+}
+
+impl<T: Tape> Machine<T> {
+    /// Acts on an input.
+    pub(crate) fn act(&mut self, alloc: Global, input: Input) -> Result<Vec<Message>, NodeFault>
+        requires { IsReady self.old.journal self.old.kept self.old.proposer }
+        ensures act { IsAct T.honest T.content T.images T.failed (view input) self.old.journal self.old.kept.parts self.old.proposer result self.new.journal self.new.kept.parts self.new.proposer }
+        ensures id { self.new.kept.id ≡ self.old.kept.id }
+    {
+        match input {
+            Input::Propose(own) => self.propose(alloc, own),
+            Input::Retry => self.retry(alloc),
+            Input::CatchUp => self.catch_up(alloc),
+            Input::Deliver(message) => self.deliver(alloc, message),
+        }
+    }
+
+    /// Takes in a message.
+    fn deliver(&mut self, alloc: Global, message: Message) -> Result<Vec<Message>, NodeFault>
+        requires { IsReady self.old.journal self.old.kept self.old.proposer }
+        ensures act { IsAct T.honest T.content T.images T.failed (table.Deliver (view_message message)) self.old.journal self.old.kept.parts self.old.proposer result self.new.journal self.new.kept.parts self.new.proposer }
+        ensures id { self.new.kept.id ≡ self.old.kept.id }
+    {
+        match message {
+            Message::Prepare(slot, ballot) => self.on_prepare(alloc, slot, ballot),
+            Message::Promise(from, slot, ballot, vote) => {
+                self.on_promise(alloc, from, slot, ballot, vote)
+            }
+            Message::Accept(slot, ballot, canon) => self.on_accept(alloc, slot, ballot, canon),
+            Message::Accepted(from, slot, ballot) => self.on_accepted(alloc, from, slot, ballot),
+            Message::Nack(from, slot, ballot, promised) => {
+                self.on_nack(alloc, from, slot, ballot, promised)
+            }
+            Message::Chosen(slot, canon) => self.on_chosen(alloc, slot, canon),
+            Message::Ask(slot) => self.on_ask(alloc, slot),
+        }
+    }
+}

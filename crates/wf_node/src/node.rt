@@ -1,0 +1,73 @@
+use crate::machine::Machine;
+use std::marker::Model;
+use wf_ballot::Seq;
+use wf_def::map::MapDef;
+use wf_learner::History;
+use wf_proposer::Standing;
+use wf_tape::Tape;
+
+/// One node of the farm: what it stored, which stands on its tape, and its proposal. Contracts see the parts of the
+/// farm's model. Where the node isn't halted, whatever a crash leaves of an honest tape stands for what it stored.
+#[derive(Drop)]
+pub struct Node<T: Tape> {
+    pub(crate) machine: Machine<T>,
+}
+
+impl<T: Tape> Model for Node<T> {
+    ghost use Rattle.std.specs.Coded.{codes};
+    ghost use Rattle.std.specs.FinMap as map;
+    ghost use Rattle.wf_node.specs.Node.{Node, IsNode, view_of};
+
+    ghost Value = { Node T };
+
+    ghost coded = { Prim.hlevel (codes, map.code) };
+
+    ghost view = { λ node. view_of node.machine.journal node.machine.kept.parts node.machine.proposer };
+
+    ghost invariant = { λ node. IsNode T.honest T.images node.machine.journal node.machine.kept node.machine.proposer };
+}
+
+impl<T: Tape> Node<T> {
+    ghost use Rattle.std.specs.Prelude.{◌≡◌, length, if◌then◌else◌, IfSome};
+    ghost use Rattle.std.specs.Option.{option_copied};
+    ghost use Rattle.wf_ballot.specs.Sequence.{IsSequence};
+    ghost use Rattle.wf_def.specs.Limits.{IsWithinLimits};
+    ghost use Rattle.wf_learner.specs.History.{map_at};
+    ghost use Rattle.wf_node.specs.Node.{working_of};
+    ghost use Rattle.wf_proposer.specs.Standing.{standing_of};
+    ghost use Rattle.wf_proposer.specs.declared.standing.Standing.TheVariants.{None};
+
+    /// The last published sequence, 0 where there is none. A halted node tells what it had published before.
+    pub fn published(&self) -> Seq
+        ensures value { result ≡ length self.now.parts.history }
+        ensures in_range { IsSequence result }
+    {
+        self.machine.kept.history().published()
+    }
+
+    /// The published definitions.
+    pub fn history(&self) -> &History
+        ensures { result.now.definitions ≡ self.now.parts.history }
+    {
+        self.machine.kept.history()
+    }
+
+    /// The map of a sequence, the empty one for 0; None above what is published.
+    pub fn definition(&self, seq: Seq) -> Option<&MapDef>
+        ensures value { option_copied result ≡ map_at self.now.parts.history seq }
+        ensures within { IfSome result (λ map. IsWithinLimits map.now) }
+    {
+        self.machine.kept.history().get(seq)
+    }
+
+    /// How the node's proposal stands: None on a halted node.
+    pub fn proposal(&self) -> Standing
+        ensures { result ≡ (if self.now.halted then Standing.None else standing_of (working_of self.now)) }
+    {
+        if self.machine.journal.is_halted() {
+            Standing::None
+        } else {
+            self.machine.proposer.proposal()
+        }
+    }
+}

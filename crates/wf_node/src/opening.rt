@@ -1,0 +1,151 @@
+//! A node opens with its tape, and hands it back.
+
+ghost use Rattle.std.specs.Prelude.{◌≡◌, ◌≢◌, ◌+◌, ◌<◌, ◌≤◌, ◌^◌, false, map, length, Some, IfOk, IfErr, OnOk};
+ghost use Rattle.wf_model.specs.Stored.{fold, nothing_stored};
+ghost use Rattle.wf_model.specs.Working as model;
+ghost use Rattle.wf_node.specs.Images.{AllStandFor};
+ghost use Rattle.wf_node.specs.Kept as kept_;
+ghost use Rattle.wf_node.specs.Node.{stored_of, working_of};
+ghost use Rattle.wf_node.specs.Opening.{IsFoldOf, IsWhyBad, IsTaken, IsWhyRefused, IsWhyUnfolded};
+ghost use Rattle.wf_tape.specs.Journal.{Follows, ReadsSame, IsWhyFailed};
+ghost use Rattle.wf_tape.specs.Record.{view};
+ghost use Rattle.wf_tape.specs.Records.{length_of};
+ghost use Rattle.wf_tape.specs.Spelling.{spelling};
+ghost use Rattle.wf_tape.specs.Tape.{IsUnchanged};
+
+use crate::kept::Kept;
+use crate::machine::Machine;
+use crate::node::Node;
+use std::alloc::Global;
+use wf_ballot::NodeId;
+use wf_proposer::Proposer;
+use wf_tape::{Found, Journal, OpenFault, Record, Tape};
+
+impl<T: Tape> Node<T> {
+    /// Node `id` of `n` nodes, with what its tape stands for and no proposal. A torn record behind the whole ones is
+    /// removed, and what is kept is synced. A refusal hands the tape back, as it was but for a failure of the tape
+    /// itself: P1 where the tape failed, P2 at the place where behind the whole records stands what is no record, or
+    /// where a published definition stands that isn't the next one, P3 where a growth was refused. Each record is
+    /// moved once, so opening takes as long as the tape is.
+    #[tactic(auto, using(crate::proofs::Opened::fold_of, crate::proofs::Opened::stands_all, crate::proofs::Opened::bad_read, crate::proofs::Opened::bad_fold, crate::proofs::Opened::bad_settle, crate::proofs::Opened::same_before, crate::proofs::Opened::follows_before, crate::proofs::Opened::unchanged_before, crate::proofs::Opened::why_failed_before))]
+    pub fn open(alloc: Global, tape: T, id: NodeId, n: u8) -> Result<Node<T>, (T, OpenFault)>
+        requires nodes { n ≤ 64 }
+        requires member { id < n }
+        ensures running { IfOk result (λ node. node.halted ≡ false) }
+        ensures id { IfOk result (λ node. node.id ≡ id) }
+        ensures n { IfOk result (λ node. node.n ≡ n) }
+        ensures working { IfOk result (λ node. working_of node ≡ model.Idle) }
+        ensures stored { T.honest → IfOk result (λ node. IsFoldOf (stored_of node) (T.content tape)) }
+        ensures stands { T.honest → IfOk result (λ node. AllStandFor (stored_of node) (T.images node.tape)) }
+        ensures images { T.honest → IfOk result (λ node. Follows ReadsSame (T.images tape) (T.images node.tape)) }
+        ensures images_err { T.honest → IfErr result (λ e. Follows ReadsSame (T.images tape) (T.images e.0)) }
+        ensures unchanged { T.honest → IfErr result (λ e. e.1 ≢ OpenFault.TapeFailed → IsUnchanged (T.content tape) (T.content e.0) (T.images tape) (T.images e.0)) }
+        ensures bad { T.honest → IfErr result (λ e. IsWhyBad e.1 (T.content tape)) }
+        ensures failed { IfErr result (λ e. IsWhyFailed e.1 (T.failed tape) (T.failed e.0)) }
+    {
+        match Found::read(alloc, tape) {
+            Ok((found, records)) => match fold(alloc, id, records) {
+                Ok(kept) => match found.settle() {
+                    Ok(journal) => Ok(assemble(journal, kept, id, n)),
+                    Err(refusal) => {
+                        discard(kept);
+                        Err(refusal)
+                    }
+                },
+                Err(fault) => Err((found.close(), fault)),
+            },
+            Err(refusal) => Err(refusal),
+        }
+    }
+
+    /// The node's tape, handed back as it is. Where the node isn't halted, whatever a crash leaves of it stands for
+    /// what the node stored.
+    pub fn close(self) -> T
+        ensures tape { result ≡ self.tape }
+        ensures stands { T.honest → self.halted ≡ false → AllStandFor (stored_of self) (T.images result) }
+    {
+        let Node { machine } = self;
+        let Machine { journal, .. } = machine;
+        journal.close()
+    }
+}
+
+/// The node with this journal that keeps this, and has no proposal yet.
+#[tactic(auto, using(crate::proofs::Shown::working_shown))]
+fn assemble<T: Tape>(journal: Journal<T>, kept: Kept, id: NodeId, n: u8) -> Node<T>
+    requires id { kept.id ≡ id }
+    requires stands { T.honest → journal.halted ≡ false → AllStandFor (kept_.stored_of kept) (T.images journal.tape) }
+    ensures tape { result.tape ≡ journal.tape }
+    ensures halted { result.halted ≡ journal.halted }
+    ensures id { result.id ≡ id }
+    ensures n { result.n ≡ n }
+    ensures parts { result.parts ≡ kept.parts }
+    ensures working { working_of result ≡ model.Idle }
+{
+    let proposer = Proposer::new(id, n);
+    let machine = Machine {
+        journal,
+        kept,
+        proposer,
+    };
+    Node { machine }
+}
+
+/// What a node keeps of the records that were found, the oldest first.
+fn fold(alloc: Global, id: NodeId, records: Vec<Record>) -> Result<Kept, OpenFault>
+    requires { length_of (map view records.items) < 2 ^ 64 }
+    ensures ok { IfOk result (λ kept. fold (map view records.items) ≡ Some (kept_.stored_of kept)) }
+    ensures id { IfOk result (λ kept. kept.id ≡ id) }
+    ensures why { IfErr result (IsWhyUnfolded (map view records.items)) }
+{
+    let Ok(mut kept) = Kept::new(alloc, id) else {
+        return Err(OpenFault::Memory);
+    };
+    match take_all(&mut kept, records) {
+        Ok(()) => Ok(kept),
+        Err(fault) => {
+            discard(kept);
+            Err(fault)
+        }
+    }
+}
+
+/// Takes in the records, where nothing was kept before.
+#[tactic(auto, using(crate::proofs::Folded::all_taken, crate::proofs::Folded::why_unfolded))]
+fn take_all(kept: &mut Kept, records: Vec<Record>) -> Result<(), OpenFault>
+    requires nothing { kept_.stored_of kept.old ≡ nothing_stored }
+    requires size { length_of (map view records.items) < 2 ^ 64 }
+    ensures ok { OnOk result (fold (map view records.items) ≡ Some (kept_.stored_of kept.new)) }
+    ensures id { kept.new.id ≡ kept.old.id }
+    ensures why { IfErr result (IsWhyUnfolded (map view records.items)) }
+{
+    let mut place = 0;
+    for entry in records {
+        match take_at(kept, place, entry) {
+            Ok(next) => place = next,
+            Err(fault) => return Err(fault),
+        }
+    }
+    Ok(())
+}
+
+/// Takes in the record that stands at the place, and answers where the next one stands.
+fn take_at(kept: &mut Kept, place: usize, entry: Record) -> Result<usize, OpenFault>
+    requires { place + length (spelling (view entry)) < 2 ^ 64 }
+    ensures ok { IfOk result (λ next. IsTaken (kept_.stored_of kept.old) (view entry) place (kept_.stored_of kept.new) next) }
+    ensures id { kept.new.id ≡ kept.old.id }
+    ensures why { IfErr result (IsWhyRefused (kept_.stored_of kept.old) (view entry) place) }
+{
+    if !kept.fits(&entry) {
+        drop(entry);
+        return Err(OpenFault::BadRecord(place));
+    }
+    let next = place + entry.length();
+    match kept.apply(entry) {
+        Ok(()) => Ok(next),
+        Err(_) => Err(OpenFault::Memory),
+    }
+}
+
+/// What no node keeps.
+fn discard(_kept: Kept) {}

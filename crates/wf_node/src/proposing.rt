@@ -1,0 +1,150 @@
+//! What the running proposal does of an input.
+
+ghost use Rattle.std.specs.Prelude.{◌≡◌, Bool, false, length, nat_le};
+ghost use Rattle.wf_ballot.specs.Sequence.{last_sequence};
+ghost use Rattle.wf_codec.specs.Message.{view_vote};
+ghost use Rattle.wf_model.specs.Fits.{Fits};
+ghost use Rattle.wf_model.specs.Message as model;
+ghost use Rattle.wf_model.specs.Table as table;
+ghost use Rattle.wf_node.specs.Act.{IsAct, IsChange, IsOwn, IsReady, runs};
+ghost use Rattle.wf_node.specs.Kept.{stored_of};
+ghost use Rattle.wf_proposer.specs.Proposer.{row_of, working_of};
+
+use crate::fault::{NodeFault, fault_of};
+use crate::machine::Machine;
+use crate::storing::store;
+use std::alloc::Global;
+use wf_ballot::{Ballot, NodeId, SEQUENCES, Slot};
+use wf_canon::Canon;
+use wf_codec::Message;
+use wf_proposer::{Next, Standing};
+use wf_tape::Tape;
+
+impl<T: Tape> Machine<T> {
+    /// A proposal of `own` begins, unless one runs or the last sequence is published.
+    pub(crate) fn propose(&mut self, alloc: Global, own: Canon) -> Result<Vec<Message>, NodeFault>
+        requires { IsReady self.old.journal self.old.kept self.old.proposer }
+        ensures act { IsAct T.honest T.content T.images T.failed (table.Propose own) self.old.journal self.old.kept.parts self.old.proposer result self.new.journal self.new.kept.parts self.new.proposer }
+        ensures id { self.new.kept.id ≡ self.old.kept.id }
+    {
+        if self.runs() {
+            drop(own);
+            return Err(NodeFault::Busy);
+        }
+        if self.is_full() {
+            drop(own);
+            return Err(NodeFault::SequenceFull);
+        }
+        let tried = self.kept.tried();
+        let published = self.kept.history().published();
+        match self.proposer.start(alloc, tried, published, own) {
+            Ok(next) => self.perform(alloc, next),
+            Err(refusal) => Err(fault_of(refusal)),
+        }
+    }
+
+    /// The running proposal begins anew.
+    pub(crate) fn retry(&mut self, alloc: Global) -> Result<Vec<Message>, NodeFault>
+        requires { IsReady self.old.journal self.old.kept self.old.proposer }
+        ensures act { IsAct T.honest T.content T.images T.failed table.Retry self.old.journal self.old.kept.parts self.old.proposer result self.new.journal self.new.kept.parts self.new.proposer }
+        ensures id { self.new.kept.id ≡ self.old.kept.id }
+    {
+        match self.proposer.retry(alloc, self.kept.tried()) {
+            Ok(next) => self.perform(alloc, next),
+            Err(refusal) => Err(fault_of(refusal)),
+        }
+    }
+
+    /// A node promised.
+    pub(crate) fn on_promise(
+        &mut self,
+        alloc: Global,
+        from: NodeId,
+        slot: Slot,
+        ballot: Ballot,
+        vote: Option<(Ballot, Canon)>,
+    ) -> Result<Vec<Message>, NodeFault>
+        requires { IsReady self.old.journal self.old.kept self.old.proposer }
+        ensures act { IsAct T.honest T.content T.images T.failed (table.Deliver (model.Promise from slot ballot (view_vote vote))) self.old.journal self.old.kept.parts self.old.proposer result self.new.journal self.new.kept.parts self.new.proposer }
+        ensures id { self.new.kept.id ≡ self.old.kept.id }
+    {
+        match self.proposer.on_promise(alloc, from, slot, ballot, vote) {
+            Ok(next) => self.perform(alloc, next),
+            Err(refusal) => Err(fault_of(refusal)),
+        }
+    }
+
+    /// A node voted.
+    pub(crate) fn on_accepted(
+        &mut self,
+        alloc: Global,
+        from: NodeId,
+        slot: Slot,
+        ballot: Ballot,
+    ) -> Result<Vec<Message>, NodeFault>
+        requires { IsReady self.old.journal self.old.kept self.old.proposer }
+        ensures act { IsAct T.honest T.content T.images T.failed (table.Deliver (model.Accepted from slot ballot)) self.old.journal self.old.kept.parts self.old.proposer result self.new.journal self.new.kept.parts self.new.proposer }
+        ensures id { self.new.kept.id ≡ self.old.kept.id }
+    {
+        match self.proposer.on_accepted(alloc, from, slot, ballot) {
+            Ok(next) => self.perform(alloc, next),
+            Err(refusal) => Err(fault_of(refusal)),
+        }
+    }
+
+    /// A node refused, and named what it promised.
+    pub(crate) fn on_nack(
+        &mut self,
+        alloc: Global,
+        from: NodeId,
+        slot: Slot,
+        ballot: Ballot,
+        promised: Ballot,
+    ) -> Result<Vec<Message>, NodeFault>
+        requires { IsReady self.old.journal self.old.kept self.old.proposer }
+        ensures act { IsAct T.honest T.content T.images T.failed (table.Deliver (model.Nack from slot ballot promised)) self.old.journal self.old.kept.parts self.old.proposer result self.new.journal self.new.kept.parts self.new.proposer }
+        ensures id { self.new.kept.id ≡ self.old.kept.id }
+    {
+        let next = self.proposer.on_nack(alloc, slot, ballot, promised);
+        self.perform(alloc, next)
+    }
+
+    /// Stores the record of what the proposer answered, commits that, and hands the messages out.
+    fn perform(&mut self, alloc: Global, next: Next) -> Result<Vec<Message>, NodeFault>
+        requires running { self.old.journal.halted ≡ false }
+        requires fits { Fits (stored_of self.old.kept) (row_of self.old.proposer next).entry }
+        requires own { IsOwn (row_of self.old.proposer next).entry }
+        ensures change { (hears : Bool) → IsChange T.honest T.content T.images T.failed hears (row_of self.old.proposer next) self.old.journal self.old.kept.parts self.old.proposer result self.new.journal self.new.kept.parts self.new.proposer }
+        ensures id { self.new.kept.id ≡ self.old.kept.id }
+    {
+        if self.kept.make_room_for(next.entry()).is_err() {
+            drop(next);
+            return Err(NodeFault::Memory);
+        }
+        match store(&mut self.journal, alloc, next.entry()) {
+            Ok(()) => {
+                let (entry, messages) = self.proposer.commit(next);
+                self.kept.apply_entry(entry);
+                Ok(messages)
+            }
+            Err(fault) => {
+                drop(next);
+                Err(fault)
+            }
+        }
+    }
+
+    /// Does a proposal run?
+    fn runs(&self) -> bool
+        ensures { result ≡ runs (working_of self.now.proposer) }
+    {
+        matches!(self.proposer.proposal(), Standing::Running)
+    }
+
+    /// Is the last sequence published?
+    fn is_full(&self) -> bool
+        ensures { result ≡ nat_le last_sequence (length self.now.kept.parts.history) }
+    {
+        self.kept.history().published().number() >= SEQUENCES
+    }
+}

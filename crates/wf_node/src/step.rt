@@ -1,0 +1,66 @@
+//! One step of a node.
+
+use crate::fault::NodeFault;
+use crate::input::Input;
+use crate::node::Node;
+use std::alloc::Global;
+use wf_canon::Canon;
+use wf_codec::Message;
+use wf_model::records_fit;
+use wf_tape::Tape;
+
+impl<T: Tape> Node<T> {
+    ghost use Rattle.std.specs.Prelude.{◌≡◌, ◌≢◌, true, false, Err, IfOk, IfErr, IsSome, OnOk};
+    ghost use Rattle.wf_node.specs.Fault.{refused_by};
+    ghost use Rattle.wf_node.specs.Images.{AllStandFor, EachStandsFor};
+    ghost use Rattle.wf_node.specs.Input.{view};
+    ghost use Rattle.wf_node.specs.Node.{stored_of};
+    ghost use Rattle.wf_node.specs.Step.{row_of, refusal_at, IsRow, IsSameNode, IsStep, TakesMemory};
+    ghost use Rattle.wf_model.specs.Table.{store as store_entry};
+    ghost use Rattle.wf_tape.specs.Tape.{HasRisen, IsUnchanged};
+
+    /// One step: the row of the farm's table for the input, whose messages are handed out once its record is on the
+    /// tape. A halted node answers N5. A step that the table refuses changes nothing: N2 where a proposal is asked for
+    /// while one runs, N7 where a second try is while none does, then N3 where the last sequence is published, then N4
+    /// where there is no higher round. Then N1 where a growth was refused, which changes nothing either, and N6 where
+    /// the tape failed, which halts the node: its record is on the tape or not, and no message is handed out.
+    pub fn step(&mut self, alloc: Global, input: Input) -> Result<Vec<Message>, NodeFault>
+        ensures halted { self.old.halted ≡ true → result ≡ Err NodeFault.Halted }
+        ensures running { result ≡ Err NodeFault.Halted → self.old.halted ≡ true }
+        ensures refused { self.old.halted ≡ false → refused_by result ≡ refusal_at self.old (view input) }
+        ensures row { IfOk result (λ messages. IsRow self.old (row_of self.old (view input)) messages.items self.new) }
+        ensures on_tape { T.honest → OnOk result (AllStandFor (stored_of self.new) (T.images self.new.tape)) }
+        ensures unchanged { IfErr result (λ fault. fault ≢ NodeFault.Memory → fault ≢ NodeFault.TapeFailed → self.new ≡ self.old) }
+        ensures same { IfErr result (λ fault. IsSameNode self.old self.new) }
+        ensures memory { result ≡ Err NodeFault.Memory → self.new.halted ≡ false }
+        ensures same_tape { T.honest → result ≡ Err NodeFault.Memory → IsUnchanged (T.content self.old.tape) (T.content self.new.tape) (T.images self.old.tape) (T.images self.new.tape) }
+        ensures takes { result ≡ Err NodeFault.Memory → TakesMemory self.old (view input) }
+        ensures failed { result ≡ Err NodeFault.TapeFailed → HasRisen (T.failed self.old.tape) (T.failed self.new.tape) }
+        ensures writes { result ≡ Err NodeFault.TapeFailed → IsSome (row_of self.old (view input)).entry }
+        ensures halts { result ≡ Err NodeFault.TapeFailed → self.new.halted ≡ true }
+        ensures torn { T.honest → result ≡ Err NodeFault.TapeFailed → EachStandsFor (stored_of self.old) (store_entry (stored_of self.old) (row_of self.old (view input)).entry) (T.images self.new.tape) }
+    {
+        if self.is_halted() {
+            drop(input);
+            return Err(NodeFault::Halted);
+        }
+        self.advance(alloc, input)
+    }
+
+    /// Did the tape fail?
+    fn is_halted(&self) -> bool
+        ensures { result ≡ self.now.halted }
+    {
+        self.machine.journal.is_halted()
+    }
+
+    /// A step of a node that isn't halted.
+    fn advance(&mut self, alloc: Global, input: Input) -> Result<Vec<Message>, NodeFault>
+        requires { self.old.halted ≡ false }
+        ensures { IsStep T.honest T.content T.images T.failed self.old (view input) result self.new }
+    {
+        // The law of the model: each row's record fits what is stored.
+        records_fit::<Canon>();
+        self.machine.act(alloc, input)
+    }
+}

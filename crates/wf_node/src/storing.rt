@@ -1,0 +1,37 @@
+//! A record is on the tape before it counts.
+
+ghost use Rattle.std.specs.Prelude.{◌≡◌, false, option_map};
+ghost use Rattle.std.specs.Option.{option_copied};
+ghost use Rattle.wf_node.specs.Storing.{IsWrite};
+ghost use Rattle.wf_tape.specs.Record.{view};
+
+use crate::fault::NodeFault;
+use std::alloc::Global;
+use wf_tape::{AddFault, Journal, Record, Tape};
+
+/// Adds the record to the journal, if there is one.
+pub(crate) fn store<T: Tape>(
+    journal: &mut Journal<T>,
+    alloc: Global,
+    entry: Option<&Record>,
+) -> Result<(), NodeFault>
+    requires { journal.old.halted ≡ false }
+    ensures { IsWrite T.honest T.content T.images T.failed (option_map view (option_copied entry.entry)) journal.old result journal.new }
+{
+    match entry {
+        None => Ok(()),
+        Some(entry) => add(journal, alloc, entry),
+    }
+}
+
+/// Adds the record to the journal.
+fn add<T: Tape>(journal: &mut Journal<T>, alloc: Global, entry: &Record) -> Result<(), NodeFault>
+    requires { journal.old.halted ≡ false }
+    ensures { IsWrite T.honest T.content T.images T.failed (Some (view entry.now)) journal.old result journal.new }
+{
+    match journal.add(alloc, entry) {
+        Ok(()) => Ok(()),
+        Err(AddFault::TapeFailed) => Err(NodeFault::TapeFailed),
+        Err(AddFault::Memory) => Err(NodeFault::Memory),
+    }
+}

@@ -1,0 +1,124 @@
+//! A tape that was read, before anything is changed on it.
+
+ghost use Rattle.std.specs.Prelude.{◌≡◌, ◌≢◌, ◌≤◌, ◌<◌, ◌^◌, false, map, take, length, IfOk, IfErr, OnOk, IsErrOf};
+ghost use Rattle.wf_tape.specs.declared.fault.TapeFault.TheVariants.{Memory};
+ghost use Rattle.wf_tape.specs.Record.{view};
+ghost use Rattle.wf_tape.specs.Records.{length_of};
+ghost use Rattle.wf_tape.specs.Tape.{IsOnlyImage, IsUnchanged, LeavesOldOr, HasCause};
+ghost use Rattle.wf_tape.specs.Front.{HasRead};
+ghost use Rattle.wf_tape.specs.OpenFault.{open_fault};
+ghost use Rattle.wf_tape.specs.Journal.{Holds, AllReadAs, Follows, ReadsSame, IsWhereBad, IsNotBad, IsWhyFailed};
+
+use crate::fault::TapeFault;
+use crate::journal::Journal;
+use crate::opening::OpenFault;
+use crate::reading::read_records;
+use crate::record::Record;
+use crate::tape::Tape;
+use std::alloc::Global;
+use std::marker::Model;
+
+/// A tape that was read and isn't a journal's yet: its records are known, and nothing is changed on it. So
+/// whoever finds fault with the records hands the tape back as it was. Contracts see the tape, the bytes
+/// that were read, and how many of them are the records'.
+#[derive(Drop)]
+pub struct Found<T: Tape> {
+    tape: T,
+    bytes: Vec<u8>,
+    front: usize,
+}
+
+impl<T: Tape> Model for Found<T> {
+    ghost use Rattle.wf_tape.specs.Front.{HasRead};
+    ghost use Rattle.wf_tape.specs.Journal.{Found, IsContent};
+
+    ghost Value = { Found T };
+
+    ghost view = { λ f. record { tape = f.tape; bytes = f.bytes.items; front = f.front } };
+
+    ghost invariant = { λ f. ((records : _) × HasRead f.bytes.items records f.front) × (T.honest → IsContent f.bytes.items (T.content f.tape) (T.images f.tape)) };
+}
+
+impl<T: Tape> Found<T> {
+    /// Reads the tape: its records are the longest list that its content begins with, the oldest first. The
+    /// tape is as it was, and a refusal hands it back.
+    #[tactic(auto, using(crate::proofs::Lists::length_of_read))]
+    pub fn read(alloc: Global, tape: T) -> Result<(Found<T>, Vec<Record>), (T, OpenFault)>
+        ensures records { IfOk result (λ x. HasRead x.0.bytes (map view x.1.items) x.0.front) }
+        ensures size { IfOk result (λ x. length_of (map view x.1.items) < 2 ^ 64) }
+        ensures content { T.honest → IfOk result (λ x. x.0.bytes ≡ T.content tape) }
+        ensures unchanged { T.honest → IfOk result (λ x. IsUnchanged (T.content tape) (T.content x.0.tape) (T.images tape) (T.images x.0.tape)) }
+        ensures unchanged_err { T.honest → IfErr result (λ e. IsUnchanged (T.content tape) (T.content e.0) (T.images tape) (T.images e.0)) }
+        ensures bad { T.honest → IfErr result (λ e. IsWhereBad e.1 (T.content tape)) }
+        ensures later { IfOk result (λ x. T.failed tape ≤ T.failed x.0.tape) }
+        ensures failed { IfErr result (λ e. IsWhyFailed e.1 (T.failed tape) (T.failed e.0)) }
+    {
+        let mut tape = tape;
+        let bytes = match tape.read(alloc) {
+            Ok(bytes) => bytes,
+            Err(fault) => return Err((tape, open_fault(fault))),
+        };
+        match read_records(alloc, &bytes) {
+            Ok((records, front)) => Ok((Found { tape, bytes, front }, records)),
+            Err(fault) => Err((tape, fault)),
+        }
+    }
+
+    /// The journal of the tape. A torn record behind the whole ones is removed, and what is kept is synced.
+    /// A refusal hands the tape back; but for a failure of the tape itself it is as it was.
+    pub fn settle(self) -> Result<Journal<T>, (T, OpenFault)>
+        ensures running { IfOk result (λ journal. journal.halted ≡ false) }
+        ensures synced { T.honest → (records : _) → HasRead self.bytes records self.front → IfOk result (λ journal. Holds (T.content journal.tape) (T.images journal.tape) records) }
+        ensures reads { T.honest → (records : _) → HasRead self.bytes records self.front → IfOk result (λ journal. AllReadAs (T.images journal.tape) records) }
+        ensures images { T.honest → IfOk result (λ journal. Follows ReadsSame (T.images self.tape) (T.images journal.tape)) }
+        ensures images_err { T.honest → IfErr result (λ e. Follows ReadsSame (T.images self.tape) (T.images e.0)) }
+        ensures unchanged { T.honest → IfErr result (λ e. e.1 ≢ OpenFault.TapeFailed → IsUnchanged (T.content self.tape) (T.content e.0) (T.images self.tape) (T.images e.0)) }
+        ensures not_bad { IfErr result (λ e. IsNotBad e.1) }
+        ensures later { IfErr result (λ e. T.failed self.tape ≤ T.failed e.0) }
+        ensures failed { IfErr result (λ e. IsWhyFailed e.1 (T.failed self.tape) (T.failed e.0)) }
+    {
+        let Found {
+            mut tape,
+            bytes,
+            front,
+        } = self;
+        match settle(&mut tape, &bytes, front) {
+            Ok(()) => Ok(Journal::over(tape)),
+            Err(fault) => Err((tape, open_fault(fault))),
+        }
+    }
+
+    /// The tape, handed back as it is.
+    pub fn close(self) -> T
+        ensures { result ≡ self.tape }
+    {
+        let Found { tape, .. } = self;
+        tape
+    }
+}
+
+/// Keeps the first bytes of the content, and syncs them.
+fn settle<T: Tape>(tape: &mut T, bytes: &[u8], front: usize) -> Result<(), TapeFault>
+    requires within { front ≤ length bytes.now }
+    ensures ok { T.honest → OnOk result (T.content tape.old ≡ bytes.now → T.content tape.new ≡ take front bytes.now) }
+    ensures only { T.honest → OnOk result (IsOnlyImage (T.content tape.new) (T.images tape.new)) }
+    ensures images { T.honest → LeavesOldOr (take front bytes.now) (T.images tape.old) (T.images tape.new) }
+    ensures memory { T.honest → IsErrOf result Memory → IsUnchanged (T.content tape.old) (T.content tape.new) (T.images tape.old) (T.images tape.new) }
+    ensures cause { HasCause (T.failed tape.old) (T.failed tape.new) result }
+{
+    if front < bytes.len() {
+        tape.replace(bytes.split_at(front).0)
+    } else {
+        tape.sync()
+    }
+}
+
+/// What the tape's fault is for who opens a journal.
+fn open_fault(fault: TapeFault) -> OpenFault
+    ensures { result ≡ open_fault fault }
+{
+    match fault {
+        TapeFault::Device => OpenFault::TapeFailed,
+        TapeFault::Memory => OpenFault::Memory,
+    }
+}
