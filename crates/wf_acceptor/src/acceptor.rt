@@ -95,6 +95,7 @@ impl Acceptor {
         ensures row { IfOk result (Answers self.old.part (λ stored working. prepare_row self.old.part.id stored working slot ballot)) }
         ensures part { self.new.part ≡ self.old.part }
         ensures room { IfOk result (λ answer. IfSome answer.entry (HasRoomFor self.new)) }
+        ensures set_aside { IfOk result (λ answer. self.new.prepared ≡ answer.entry) }
         ensures err { OnErr result (self.new ≡ self.old) }
         ensures memory { OnErr result (Stores self.old.part (λ stored working. prepare_row self.old.part.id stored working slot ballot)) }
     {
@@ -120,6 +121,7 @@ impl Acceptor {
         ensures row { IfOk result (Answers self.old.part (λ stored working. accept_row self.old.part.id stored working slot ballot canon)) }
         ensures part { self.new.part ≡ self.old.part }
         ensures room { IfOk result (λ answer. IfSome answer.entry (HasRoomFor self.new)) }
+        ensures set_aside { IfOk result (λ answer. self.new.prepared ≡ answer.entry) }
         ensures err { OnErr result (self.new ≡ self.old) }
         ensures memory { OnErr result (Stores self.old.part (λ stored working. accept_row self.old.part.id stored working slot ballot canon)) }
     {

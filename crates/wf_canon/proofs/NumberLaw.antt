@@ -1,6 +1,6 @@
 -- What is written of a number is read as that number.
 use Rattle.std.proofs.Common.{◌≡◌, ℕ, zero, suc, ◌+◌, ◌-◌, ◌*◌, ◌/◌, ◌%◌, ◌^◌, ◌<◌, ◌≤◌, Bool, true, false, not, ◌⊎◌, eqb, ltb, List, [], ◌∷◌, ◌++◌, length, Option, Some, Ok, refl, sym, ap, ◌∙◌, arith, rules, lit<, inl, inr}
-use Rattle.std.specs.Prelude.{ℤ, pos, negsuc, ◌+ℤ◌, ◌-ℤ◌, nat_abs, fold}
+use Rattle.std.specs.Prelude.{ℤ, pos, negsuc, ◌+ℤ◌, ◌-ℤ◌, nat_abs}
 use Rattle.std.specs.Char.{is_ascii_digit}
 use Rattle.std.specs.List.{list_all, prefix_len}
 use Rattle.std.specs.Fmt.{decimal}
@@ -12,32 +12,27 @@ use Rattle.std.proofs.lemmas.Nat.{mod_below, div_below, div-add-mod'}
 use Rattle.std.proofs.lemmas.Fmt.{digits_decimal, digits_value-decimal, decimal_nonempty, length-decimal-le}
 use Rattle.std.proofs.lemmas.Str.Parse.{IsNumeralModel, IsDigitsTest, FoldsDigits, numerals_by_fold}
 use Rattle.std.proofs.Math.Nat.{one-le-pow, pow-suc}
-use Rattle.wf_def.specs.Number.{Numeral, is_negative, after_sign, leading_digits, after_digits, signed, power_of, numeral_from, numeral, scaled, magnitude, in_range, number}
+use Rattle.wf_def.specs.Number.{Numeral, is_negative, after_sign, leading_digits, after_digits, spelled_onto, signed, power_of, numeral_from, numeral, scaled, magnitude, in_range, number}
 use Rattle.wf_def.specs.Number as reading
+use Rattle.wf_def.specs.NumberForm.{AreDigits}
 use Rattle.wf_def.specs.Micro.{IsMicro}
 use Rattle.wf_canon.specs.Number.{fraction_digits, fraction_text, magnitude_text, number_text}
 use Rattle.wf_canon.proofs.Lexing.{and_left, and_right, not_true}
 use Rattle.wf_canon.proofs.Fraction.{fraction_digits-zero, fraction_digits-suc}
 
-abbrev pub AreDigits : List ℕ → Type 0
-AreDigits ds = list_all is_ascii_digit ds ≡ true
-
-abbrev value_after : ℕ → List ℕ → ℕ
-value_after n ds = fold (λ value b. value * 10 + (b - 48)) n ds
-
-digits_test : IsDigitsTest (λ ds. list_all is_ascii_digit ds ≡ true)
+digits_test : IsDigitsTest AreDigits
 digits_test = search rules
 
-digits_fold : FoldsDigits value_after
+digits_fold : FoldsDigits spelled_onto
 digits_fold = search rules
 
-own : IsNumeralModel (λ ds. list_all is_ascii_digit ds ≡ true) (value_after 0)
-own = numerals_by_fold _ digits_test value_after digits_fold
+own : IsNumeralModel AreDigits (spelled_onto 0)
+own = numerals_by_fold _ digits_test spelled_onto digits_fold
 
 pub are_digits_decimal : (n : ℕ) → n < 2 ^ 64 → AreDigits (decimal n)
 are_digits_decimal n lt = digits_decimal own n lt
 
-pub value-decimal : (n : ℕ) → n < 2 ^ 64 → value_after 0 (decimal n) ≡ n
+pub value-decimal : (n : ℕ) → n < 2 ^ 64 → spelled_onto 0 (decimal n) ≡ n
 value-decimal n lt = digits_value-decimal own n lt
 
 -- ---- the fraction
@@ -59,7 +54,7 @@ are_digits_fraction (suc places) parts lt = elim (cases_eq parts 0) [
 -- digits behind a number n, filled up with zeros to so many places, are n and these parts
 record Fill (places parts n : ℕ) (ds : List ℕ) : Type 0 where
   short : length ds ≤ places
-  value : value_after n ds * 10 ^ (places - length ds) ≡ n * 10 ^ places + parts
+  value : spelled_onto n ds * 10 ^ (places - length ds) ≡ n * 10 ^ places + parts
 
 no_digits_fill : (places n : ℕ) → Fill places 0 n []
 no_digits_fill places n =
@@ -160,7 +155,7 @@ places_left (suc (suc (suc (suc (suc zero))))) le = refl
 places_left (suc (suc (suc (suc (suc (suc zero)))))) le = refl
 places_left (suc (suc (suc (suc (suc (suc (suc k))))))) le = absurd (omega arith)
 
-digits_in_range : (negative : Bool) (ds fs : List ℕ) (n : ℕ) → length ds ≤ 9 → length fs ≤ 6 → n ≤ 100000000000000 → value_after 0 (ds ++ fs) * 10 ^ (6 - length fs) ≡ n
+digits_in_range : (negative : Bool) (ds fs : List ℕ) (n : ℕ) → length ds ≤ 9 → length fs ≤ 6 → n ≤ 100000000000000 → spelled_onto 0 (ds ++ fs) * 10 ^ (6 - length fs) ≡ n
     → in_range (numeral_with negative ds fs) ≡ Ok (signed negative n)
 unfolding in_range scaled
 digits_in_range negative ds fs n whole short most value =
@@ -176,7 +171,7 @@ pub record IsSpelled (n : ℕ) (ds fs : List ℕ) : Type 0 where
   pub some : 0 < length ds
   pub few : length ds ≤ 9
   pub few_behind : length fs ≤ 6
-  pub value : value_after 0 (ds ++ fs) * 10 ^ (6 - length fs) ≡ n
+  pub value : spelled_onto 0 (ds ++ fs) * 10 ^ (6 - length fs) ≡ n
 
 pub magnitude_is_spelled : (n : ℕ) → n ≤ 100000000000000 → IsSpelled n (decimal (n / 1000000)) (fraction_digits 6 (n % 1000000))
 magnitude_is_spelled n most =
@@ -186,8 +181,8 @@ magnitude_is_spelled n most =
     let fits : n / 1000000 < 2 ^ 64 = omega arith in
     let nine : n / 1000000 < 10 ^ 9 = omega arith in
     let fill = fraction_fills 6 (n % 1000000) (n / 1000000) below in
-    let start : value_after 0 (decimal (n / 1000000) ++ fraction_digits 6 (n % 1000000)) ≡ value_after (n / 1000000) (fraction_digits 6 (n % 1000000)) =
-    fold-append (λ value b. value * 10 + (b - 48)) 0 (decimal (n / 1000000)) (fraction_digits 6 (n % 1000000)) ∙ ap (λ (v : ℕ). value_after v (fraction_digits 6 (n % 1000000))) (value-decimal (n / 1000000) fits) in
+    let start : spelled_onto 0 (decimal (n / 1000000) ++ fraction_digits 6 (n % 1000000)) ≡ spelled_onto (n / 1000000) (fraction_digits 6 (n % 1000000)) =
+    fold-append (λ value b. value * 10 + (b - 48)) 0 (decimal (n / 1000000)) (fraction_digits 6 (n % 1000000)) ∙ ap (λ (v : ℕ). spelled_onto v (fraction_digits 6 (n % 1000000))) (value-decimal (n / 1000000) fits) in
     record {
       digits = are_digits_decimal (n / 1000000) fits;
       fraction = are_digits_fraction 6 (n % 1000000) below;

@@ -7,11 +7,12 @@ use Rattle.std.specs.Fmt.{decimal}
 use Rattle.std.proofs.lemmas.Bool.Decides.{nat_tests}
 use Rattle.std.proofs.lemmas.List.Folds.{list_all-append}
 use Rattle.wf_def.specs.Micro.{IsMicro}
+use Rattle.wf_def.specs.NumberForm.{AreDigits}
 use Rattle.wf_mapfile.specs.Token.{is_plain, is_slash, is_quote, is_hash}
 use Rattle.wf_mapfile.specs.Grammar.{is_end}
 use Rattle.wf_canon.specs.Number.{fraction_digits, fraction_text, magnitude_text, number_text}
 use Rattle.wf_canon.proofs.Lexing.{is_word, and_left, and_right}
-use Rattle.wf_canon.proofs.NumberLaw.{AreDigits, magnitude_is_spelled, fraction_text-cases}
+use Rattle.wf_canon.proofs.NumberLaw.{magnitude_is_spelled, fraction_text-cases}
 
 digit_is_plain : (b : ℕ) → is_ascii_digit b ≡ true → is_plain b ≡ true
 unfolding is_plain is_quote is_hash

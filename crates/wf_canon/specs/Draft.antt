@@ -1,5 +1,5 @@
 -- A canonical text while it is written, piece by piece.
-use Rattle.std.specs.Prelude.{◌≡◌, ◌+◌, ℕ, true, List, ◌++◌, length, min}
+use Rattle.std.specs.Prelude.{◌≡◌, ◌+◌, ◌≤◌, ℕ, true, List, ◌++◌, length, min, vec_len, vec_capacity}
 use Rattle.wf_canon.specs.Canon.{most_canon_bytes}
 use Rattle.wf_canon.specs.declared.draft.Draft.{Draft}
 
@@ -7,6 +7,11 @@ use Rattle.wf_canon.specs.declared.draft.Draft.{Draft}
 pub record IsDraftOf (d : Draft) (text : List ℕ) : Type 0 where
   pub counted : d.length ≡ min (length text) (most_canon_bytes + 1)
   pub whole : d.is_whole ≡ true → d.text.items ≡ text
+
+-- the text stays within the limit with these bytes, and has the memory for them
+pub record HasRoomFor (bytes : List ℕ) (d : Draft) : Type 0 where
+  pub within : d.length + length bytes ≤ most_canon_bytes
+  pub grown : vec_len d.text + length bytes ≤ vec_capacity d.text
 
 -- these bytes were written behind what was written before, whatever that was
 pub record Writes (before : Draft) (bytes : List ℕ) (after : Draft) : Type 0 where

@@ -1,8 +1,8 @@
 //! A canonical text while it is written.
 
-ghost use Rattle.std.specs.Prelude.{◌≡◌, ◌≤◌, ℕ, List, [], nat_lt, IfOk};
+ghost use Rattle.std.specs.Prelude.{◌≡◌, ◌≤◌, ℕ, List, [], nat_lt, true, IfOk};
 ghost use Rattle.wf_canon.specs.Canon.{most_canon_bytes};
-ghost use Rattle.wf_canon.specs.Draft.{IsDraftOf, Writes};
+ghost use Rattle.wf_canon.specs.Draft.{HasRoomFor, IsDraftOf, Writes};
 
 use crate::canon::MOST_CANON_BYTES;
 use std::alloc::{AllocError, Global};
@@ -30,9 +30,10 @@ impl Draft {
         }
     }
 
-    /// Writes bytes behind what is there.
+    /// Writes bytes behind what is there. Memory runs out only where the text must grow for them.
     pub fn push(&mut self, bytes: &[u8])
-        ensures { Writes self.old bytes.now self.new }
+        ensures bytes { Writes self.old bytes.now self.new }
+        ensures room { self.old.is_whole ≡ true → HasRoomFor bytes.now self.old → self.new.is_whole ≡ true }
     {
         let room = MOST_CANON_BYTES.saturating_sub(self.length);
         if self.length > MOST_CANON_BYTES || bytes.len() > room {

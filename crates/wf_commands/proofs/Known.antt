@@ -3,7 +3,7 @@ use Rattle.std.proofs.Common.{◌≡◌, ◌∙◌, ◌+◌, ◌≤◌, ℕ, Lis
 use Rattle.std.specs.Prelude.{Option, Some, None, Result, Ok, Err}
 use Rattle.std.proofs.lemmas.List.{append-nil, append_assoc, take_all, take_at, take-append-drop, length-append}
 use Rattle.wf_commands.specs.Reading.{AppendsPart, ReadsPiece, TakesUpTo}
-use Rattle.std.specs.Prelude.{IfSome, OnErr}
+use Rattle.std.specs.Prelude.{IfSome}
 use Rattle.std.specs.Io.KnownBytes.{Keeps, Appends, Consumes, IsAtEnd, ReadConsumes, WriteAppends}
 
 pub keeps_same : (known : Option (List ℕ)) → Keeps known known
@@ -112,12 +112,7 @@ write_step a b c bytes front rest count split first second = (
   appends_more a b c front (take count rest) first second,
 )
 
--- a write or a flush that failed after a front was written
+-- a write that failed after a front was written
 pub part_kept : (a b c : Option (List ℕ)) (bytes rest : List ℕ) → ((front : List ℕ) × (bytes ≡ front ++ rest) × Appends a b front) → Keeps b c
     → AppendsPart a c bytes
 part_kept a b c bytes rest (front, split, appends) keeps = appends_part a c bytes front rest split (appends_keeps a b c front appends keeps)
-
--- what holds in any case holds after an error
-pub after_error : {T E : Type 0} {P : Type 0} (r : Result T E) → P → OnErr r P
-after_error (Ok x) p = tt
-after_error (Err e) p = p

@@ -90,7 +90,7 @@ CountsReads (Err (faults.Map fault)) old new = is_memory fault ≡ false → new
 CountsReads (Err (faults.Canon fault)) old new = new ≡ old
 CountsReads (Err faults.Write) old new = new ≡ old
 
--- A write fault comes exactly where a write or a flush has failed.
+-- A write fault comes exactly where a write has failed.
 abbrev pub CountsWrites : {T : Type 0} → Result T RunFault → ℕ → ℕ → Type 0
 CountsWrites (Err faults.Write) old new = Rises old new
 CountsWrites _ old new = new ≡ old

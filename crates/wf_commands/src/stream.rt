@@ -1,7 +1,7 @@
 //! Readers and writers that count their failures.
 ghost use Rattle.std.specs.Prelude.{◌≡◌, ◌<◌, ◌≤◌, ℕ, List, None, Option, IfErr, IfOk, IfSome, OnErr, OnOk, length, take};
 ghost use Rattle.std.specs.Io.{ReadsAtMost, WritesAtMost};
-ghost use Rattle.std.specs.Io.KnownBytes.{Appends, IsAtEnd, Keeps, ReadConsumes, WriteAppends};
+ghost use Rattle.std.specs.Io.KnownBytes.{Appends, IsAtEnd, ReadConsumes, WriteAppends};
 ghost use Rattle.wf_commands.specs.Reading.{AppendsPart, Counts, IsReadError, ReadsPiece, Rises, TakesUpTo};
 
 use std::alloc::Global;
@@ -23,7 +23,8 @@ pub trait Source {
         ensures cause { Counts result (failures self.old) (failures self.new) };
 }
 
-/// What bytes are written to.
+/// What bytes are written to. It has no flush, since no contract could tell one from none: a writer that keeps
+/// bytes back is flushed by who made it.
 pub trait Sink {
     /// The bytes that were written, where they are known.
     ghost written: { Self → Option (List ℕ) } = { λ _. None };
@@ -36,11 +37,6 @@ pub trait Sink {
         ensures bound { WritesAtMost result buf.now }
         ensures some { IfOk result (λ count. 0 < length buf.now → 0 < count) }
         ensures bytes { WriteAppends (written self.old) (written self.new) result buf.now }
-        ensures cause { Counts result (failures self.old) (failures self.new) };
-
-    /// Hands on what was written.
-    fn flush(&mut self) -> io::Result<()>
-        ensures bytes { Keeps (written self.old) (written self.new) }
         ensures cause { Counts result (failures self.old) (failures self.new) };
 }
 
@@ -132,16 +128,6 @@ impl<W: Write> Sink for Stream<W> {
             }
         }
     }
-
-    fn flush(&mut self) -> io::Result<()> {
-        match self.inner.flush() {
-            Ok(()) => Ok(()),
-            Err(error) => {
-                self.failures = self.failures.saturating_add(1);
-                Err(error)
-            }
-        }
-    }
 }
 
 /// How many bytes are read at once.
@@ -184,8 +170,8 @@ pub fn read_up_to<S: Source>(alloc: Global, source: &mut S, limit: usize) -> io:
     Ok(bytes)
 }
 
-/// Writes all the bytes and hands them on. After an error a part may be written.
-#[tactic(auto, using(crate::proofs::Known::appends_none, crate::proofs::Known::appends_keeps))]
+/// Writes all the bytes. After an error a part may be written.
+#[tactic(auto, using(crate::proofs::Known::appends_none))]
 pub fn write_all<S: Sink>(sink: &mut S, bytes: &[u8]) -> io::Result<()>
     ensures whole { OnOk result (Appends (S.written sink.old) (S.written sink.new) bytes.now) }
     ensures part { OnErr result (AppendsPart (S.written sink.old) (S.written sink.new) bytes.now) }
@@ -199,5 +185,5 @@ pub fn write_all<S: Sink>(sink: &mut S, bytes: &[u8]) -> io::Result<()>
             Err(error) => return Err(error),
         }
     }
-    sink.flush()
+    Ok(())
 }

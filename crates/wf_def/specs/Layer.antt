@@ -1,8 +1,8 @@
 -- Which parts make a feature, and which a layer.
-use Rattle.std.specs.Prelude.{ℕ, Bool, ◌&&◌, nat_lt, nat_le, List, length, Option, Some, None, if◌then◌else◌}
+use Rattle.std.specs.Prelude.{◌≡◌, ◌↔◌, ℕ, Bool, true, ◌&&◌, nat_lt, nat_le, List, length, Option, Some, None, if◌then◌else◌}
 use Rattle.std.specs.List.{list_all}
 use Rattle.wf_def.specs.Definition.{LayerDefinition, ClassDefinition, FeatureDefinition}
-use Rattle.wf_def.specs.Limits.{least_points}
+use Rattle.wf_def.specs.Limits.{HasEnoughPoints, least_points}
 use Rattle.wf_def.specs.declared.point.Point.{Point}
 use Rattle.wf_def.specs.declared.choice.LayerKind.{LayerKind}
 use Rattle.wf_def.specs.Limit.{most_items_bytes}
@@ -14,6 +14,10 @@ feature_of parts items text = if nat_lt 0 (length parts) then Some (record { par
 -- each part of the feature has the points that the kind needs
 abbrev pub has_enough_points : LayerKind → FeatureDefinition → Bool
 has_enough_points kind f = list_all (λ part. nat_le (least_points kind) (length part)) f.parts
+
+-- the test finds exactly the features that have them
+abbrev pub EnoughPointsAreTested : Type 0
+EnoughPointsAreTested = (kind : LayerKind) (f : FeatureDefinition) → (has_enough_points kind f ≡ true) ↔ HasEnoughPoints kind f
 
 -- the layer of these parts, where the list of attributes isn't too long and each shape has the points that the kind needs
 unfoldable pub layer_of : LayerKind → List ℕ → List ℕ → List ℕ → List ℕ → List ClassDefinition → List FeatureDefinition → Option LayerDefinition

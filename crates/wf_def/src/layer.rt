@@ -1,7 +1,7 @@
 //! Layers.
 ghost use Rattle.std.specs.Prelude.{◌≡◌, ◌<◌, ◌↔◌, [], ◌∷◌, ◌++◌, length, IsTrue, OnOk, OnErr};
 ghost use Rattle.std.specs.List.{list_all};
-ghost use Rattle.wf_def.specs.Layer.{layer_of, has_enough_points};
+ghost use Rattle.wf_def.specs.Layer.{EnoughPointsAreTested, layer_of, has_enough_points};
 ghost use Rattle.wf_def.specs.Limits.{IsLayer, IsLayerName, IsClasses, IsFeatures, least_points};
 ghost use Rattle.wf_def.specs.Limit.{most_classes};
 
@@ -254,6 +254,12 @@ fn has_enough_points(kind: LayerKind, feature: &Feature) -> bool
     let least = least_points(kind);
     feature.parts().iter().all(|part| part.len() >= least)
 }
+
+/// The test by which a layer is refused finds exactly the features whose parts have the points that the kind needs. A law about the
+/// definitions: the call does nothing.
+pub fn enough_points_are_tested()
+    ensures { EnoughPointsAreTested }
+{}
 
 /// How many points a part has at least: a ring needs three.
 fn least_points(kind: LayerKind) -> usize

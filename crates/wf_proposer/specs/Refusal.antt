@@ -1,5 +1,5 @@
 -- Refusals, as the table has them.
-use Rattle.std.specs.Prelude.{Option, Some, None, Result, Ok, Err}
+use Rattle.std.specs.Prelude.{ℕ, List, codes, Option, Some, None, Result, Ok, Err}
 use Rattle.wf_model.specs.Table as table
 use Rattle.wf_proposer.specs.Next.{Next}
 use Rattle.wf_proposer.specs.declared.refusal.Refusal.{Refusal}
@@ -16,3 +16,10 @@ refusal_of Memory = None
 abbrev pub refused_by : Result Next Refusal → Option table.Refusal
 refused_by (Ok next) = None
 refused_by (Err refusal) = refusal_of refusal
+
+-- what a refusal says to people
+abbrev pub words_of : Refusal → List ℕ
+words_of Busy = codes "a proposal runs"
+words_of Nothing = codes "no proposal runs"
+words_of RoundsFull = codes "no higher round"
+words_of Memory = codes "out of memory"

@@ -16,6 +16,11 @@ pub enum Refusal {
 }
 
 impl fmt::Display for Refusal {
+    ghost use Rattle.std.specs.Prelude.{Some};
+    ghost use Rattle.wf_proposer.specs.Refusal.{words_of};
+
+    ghost output = { λ refusal. Some (words_of refusal) };
+
     fn fmt<W: fmt::Write>(&self, f: &mut fmt::Formatter<W>) -> fmt::Result {
         match self {
             Refusal::Busy => write!(f, "a proposal runs"),

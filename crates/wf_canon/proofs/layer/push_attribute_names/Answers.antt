@@ -5,4 +5,4 @@ use Rattle.wf_canon.proofs.layer.push_attribute_names.Goals as goal
 pub returns : goal.returns
 unfolding line
 returns c =
-    both c.push.ensures (both (rw c.quote_for-quote.ensures at c.push-2.ensures) (both c.push-3.ensures (both (both c.push-4.ensures (rw c.quote_for-quote.ensures at c.push-5.ensures)) c.push-6.ensures)))
+    both c.push.ensures.bytes (both (rw c.quote_for-quote.ensures at c.push-2.ensures.bytes) (both c.push-3.ensures.bytes (both (both c.push-4.ensures.bytes (rw c.quote_for-quote.ensures at c.push-5.ensures.bytes)) c.push-6.ensures.bytes)))

@@ -5,4 +5,4 @@ use Rattle.wf_canon.proofs.line.push_alone.Goals as goal
 pub returns : goal.returns
 unfolding line
 returns c =
-    both (rw c.as_bytes.ensures.value at c.push.ensures) c.push-2.ensures
+    both (rw c.as_bytes.ensures.value at c.push.ensures.bytes) c.push-2.ensures.bytes

@@ -3,4 +3,4 @@ use Rattle.wf_canon.proofs.line.push_next_number.Goals as goal
 
 pub returns : goal.returns
 returns c =
-    both c.push.ensures c.push_number.ensures
+    both c.push.ensures.bytes c.push_number.ensures

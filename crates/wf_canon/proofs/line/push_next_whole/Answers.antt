@@ -3,4 +3,4 @@ use Rattle.wf_canon.proofs.line.push_next_whole.Goals as goal
 
 pub returns : goal.returns
 returns c =
-    both c.push.ensures (rw c.from.ensures at c.push_whole.ensures)
+    both c.push.ensures.bytes (rw c.from.ensures at c.push_whole.ensures)

@@ -5,4 +5,4 @@ use Rattle.wf_canon.proofs.line.push_point.Goals as goal
 pub returns : goal.returns
 unfolding line
 returns c =
-    both c.push_number.ensures (both c.push_next_number.ensures c.push.ensures)
+    both c.push_number.ensures (both c.push_next_number.ensures c.push.ensures.bytes)

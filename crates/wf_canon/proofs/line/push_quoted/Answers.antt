@@ -3,4 +3,4 @@ use Rattle.wf_canon.proofs.line.push_quoted.Goals as goal
 
 pub returns : goal.returns
 returns c =
-    both (rw c.quote_for-quote.ensures at c.push.ensures) (both c.push-2.ensures (rw c.quote_for-quote.ensures at c.push-3.ensures))
+    both (rw c.quote_for-quote.ensures at c.push.ensures.bytes) (both c.push-2.ensures.bytes (rw c.quote_for-quote.ensures at c.push-3.ensures.bytes))

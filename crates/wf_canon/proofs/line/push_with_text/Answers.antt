@@ -5,4 +5,4 @@ use Rattle.wf_canon.proofs.line.push_with_text.Goals as goal
 pub returns : goal.returns
 unfolding line
 returns c =
-    both (rw c.as_bytes.ensures.value at c.push.ensures) (both c.push-2.ensures (both c.push_quoted.ensures c.push-3.ensures))
+    both (rw c.as_bytes.ensures.value at c.push.ensures.bytes) (both c.push-2.ensures.bytes (both c.push_quoted.ensures c.push-3.ensures.bytes))

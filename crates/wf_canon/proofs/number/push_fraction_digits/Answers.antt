@@ -5,7 +5,7 @@ use Rattle.wf_canon.proofs.number.push_fraction_digits.Goals as goal
 
 pub loop-places-preserved : goal.loop-places-preserved
 loop-places-preserved c = record {
-  whole = λ after w. c.loop-places.invariant.whole after (same (both c.push.ensures w) (sym (next_digit c.loop-places.places c.loop-places.rest c.pow-unit.result (omega arith) c.if-rest-eq0.false c.pow-unit.ensures)));
+  whole = λ after w. c.loop-places.invariant.whole after (same (both c.push.ensures.bytes w) (sym (next_digit c.loop-places.places c.loop-places.rest c.pow-unit.result (omega arith) c.if-rest-eq0.false c.pow-unit.ensures)));
   below = rest_below c.loop-places.rest (c.loop-places.places - 1) c.pow-unit.result c.pow-unit.ensures;
 }
 

@@ -1,5 +1,5 @@
 use Rattle.std.proofs.Common.{rules}
-use Rattle.wf_commands.proofs.Known.{write_step, part_kept, after_error}
+use Rattle.wf_commands.proofs.Known.{write_step, part_kept}
 use Rattle.wf_commands.proofs.stream.write_all.Goals as goal
 
 pub loop-rest-preserved : goal.loop-rest-preserved
@@ -12,9 +12,3 @@ pub returns-in-Err-clause-part : goal.returns-in-Err-clause-part
 returns-in-Err-clause-part g c =
     part_kept (g.S.Sink.written c.args.sink.now) (g.S.Sink.written c.loop-rest.sink) (g.S.Sink.written c.write.new.self) c.args.bytes.now c.loop-rest.rest.now
     c.loop-rest.invariant.0 c.in-Err.ensures.bytes
-
-pub returns-clause-part : goal.returns-clause-part
-returns-clause-part g c =
-    after_error c.flush.result
-    (part_kept (g.S.Sink.written c.args.sink.now) (g.S.Sink.written c.loop-rest.sink) (g.S.Sink.written c.flush.new.self) c.args.bytes.now c.loop-rest.rest.now
-    c.loop-rest.invariant.0 c.flush.ensures.bytes)
