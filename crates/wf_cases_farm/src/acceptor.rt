@@ -9,6 +9,7 @@
 //!
 //! A slot that is published can't be asked about.
 use crate::script::{Maps, read_script};
+use crate::telling::tell_done;
 use crate::words::Words;
 use crate::words_of_record::tell_step;
 use std::alloc::{AllocError, Global};
@@ -40,7 +41,9 @@ pub(crate) fn ask(
         maps,
         acceptor,
     };
-    asked.take_calls(calls, answer)
+    let taken = asked.take_calls(calls, answer);
+    drop(asked);
+    taken
 }
 
 impl Asked<'_> {
@@ -101,7 +104,7 @@ impl Asked<'_> {
             Ok(()) => tell_answer(&answered, self.maps, answer),
             Err(fault) => Err(fault),
         };
-        discard(answered);
+        drop(answered);
         told
     }
 
@@ -125,7 +128,7 @@ impl Asked<'_> {
         let canon = self.maps.canon(self.alloc, words.word())?;
         let record = Record::Published(slot, canon);
         let applied = self.acceptor.apply(&record);
-        discard_record(record);
+        drop(record);
         tell_done(applied, answer)
     }
 
@@ -159,15 +162,3 @@ fn tell_answer(answered: &Answer, maps: Maps<'_>, answer: &mut Vec<u8>) -> Resul
     let reply = answered.reply.as_slice();
     tell_step(answered.entry.as_ref(), reply, maps, answer)
 }
-
-fn tell_done(applied: Result<(), AllocError>, answer: &mut Vec<u8>) -> Result<(), Unanswered> {
-    match applied {
-        Ok(()) => Ok(write_line("done", answer)?),
-        Err(_) => Err(Unanswered::Memory),
-    }
-}
-
-// Functions that let a value go, so that no other function's proof takes it apart.
-fn discard(_answered: Answer) {}
-
-fn discard_record(_record: Record) {}

@@ -50,7 +50,9 @@ pub(crate) fn ask(
         maps,
         proposer,
     };
-    asked.take_calls(calls, answer)
+    let taken = asked.take_calls(calls, answer);
+    drop(asked);
+    taken
 }
 
 impl Asked<'_> {
@@ -133,7 +135,7 @@ impl Asked<'_> {
         let slot = words.slot()?;
         let canon = self.maps.canon(self.alloc, words.word())?;
         self.proposer.on_published(slot, &canon);
-        discard(canon);
+        drop(canon);
         Ok(write_line("done", answer)?)
     }
 
@@ -151,12 +153,12 @@ impl Asked<'_> {
 
     fn commit(&mut self, next: Next, answer: &mut Vec<u8>) -> Result<(), Unanswered> {
         let (record, messages) = self.proposer.commit(next);
-        tell_step(record.as_ref(), &messages, self.maps, answer)
+        let told = tell_step(record.as_ref(), &messages, self.maps, answer);
+        drop(record);
+        drop(messages);
+        told
     }
 }
-
-// Lets a definition go, so that no other function's proof takes it apart.
-fn discard(_canon: Canon) {}
 
 fn tell_refusal(refusal: Refusal, answer: &mut Vec<u8>) -> Result<(), Unanswered> {
     if refusal == Refusal::Memory {

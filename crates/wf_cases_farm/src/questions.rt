@@ -21,17 +21,18 @@
 //! message fault             what is at fault        the fault as it is printed
 //! acceptor NODE             a script                what the node's acceptor answers to each call
 //! proposer NODE of NODES    a script                the same of a proposer, in a farm of so many nodes; its standing
+//! history                   a script                the same of a node's history
 //! tape open                 bytes                   the records in words, or the fault; how many bytes are left
 //! tape torn N               bytes                   how many beginnings from N bytes on open with N bytes left
 //! tape published N          a definition's text     how many records and bytes a tape of N Published opens with
 //! ```
 //!
-//! [`crate::script`] has what a script is, [`crate::acceptor`] and [`crate::proposer`] the calls.
-use crate::{acceptor, message, number, proposer, tape, tries};
+//! [`crate::script`] has what a script is, [`crate::acceptor`], [`crate::proposer`] and [`crate::history`] the calls.
+use crate::{acceptor, history, message, number, proposer, tape, tries};
 use std::alloc::Global;
 use wf_table::{Questions, Unanswered};
 
-/// What is asked of a farm's numbers, messages, acceptors and proposers.
+/// What is asked of a farm's numbers, messages, acceptors, proposers, histories and tapes.
 pub(crate) struct Farm;
 
 impl Questions for Farm {
@@ -53,6 +54,7 @@ impl Questions for Farm {
             "message" => message::ask(alloc, asked, input, answer),
             "acceptor" => acceptor::ask(alloc, asked, input, answer),
             "proposer" => proposer::ask(alloc, asked, input, answer),
+            "history" => history::ask(alloc, input, answer),
             "tape" => tape::ask(alloc, asked, input, answer),
             _ => Err(Unanswered::UnknownQuestion),
         }

@@ -22,7 +22,7 @@ pub(crate) fn tell_decoded(
 
 fn tell_read(message: Message, count: usize, answer: &mut Vec<u8>) -> Result<(), Unanswered> {
     let told = tell_whole(&message, count, answer);
-    discard(message);
+    drop(message);
     told
 }
 
@@ -78,12 +78,9 @@ pub(crate) fn tell_copy(
 
 fn tell_copied(message: Message, answer: &mut Vec<u8>) -> Result<(), Unanswered> {
     let copied = message.copy();
-    discard(message);
+    drop(message);
     match copied {
-        Ok(copy) => tell_spelled(&copy, answer),
+        Ok(copy) => tell_spelled(copy, answer),
         Err(_) => Err(Unanswered::Memory),
     }
 }
-
-// Lets a message go, so that no other function's proof takes it apart.
-fn discard(_message: Message) {}

@@ -29,8 +29,10 @@ pub(crate) fn tell_encoded(
 }
 
 /// Appends the bytes of a message.
-pub(crate) fn tell_spelled(message: &Message, answer: &mut Vec<u8>) -> Result<(), Unanswered> {
-    match encode(message, answer) {
+pub(crate) fn tell_spelled(message: Message, answer: &mut Vec<u8>) -> Result<(), Unanswered> {
+    let spelled = encode(&message, answer);
+    drop(message);
+    match spelled {
         Ok(()) => Ok(()),
         Err(_) => Err(Unanswered::Memory),
     }
@@ -48,7 +50,7 @@ pub(crate) fn canon_of(alloc: Global, text: &[u8]) -> Result<Canon, Unanswered> 
 fn prepare(words: &mut Words<'_>, answer: &mut Vec<u8>) -> Result<(), Unanswered> {
     let slot = words.slot()?;
     let ballot = words.ballot()?;
-    tell_spelled(&Message::Prepare(slot, ballot), answer)
+    tell_spelled(Message::Prepare(slot, ballot), answer)
 }
 
 /// A vote has its ballot behind the other words, and a text.
@@ -62,11 +64,12 @@ fn promise(
     let slot = words.slot()?;
     let ballot = words.ballot()?;
     if text.is_empty() {
-        return tell_spelled(&Message::Promise(node, slot, ballot, None), answer);
+        return tell_spelled(Message::Promise(node, slot, ballot, None), answer);
     }
     let voted = words.ballot()?;
-    let vote = Some((voted, canon_of(alloc, text)?));
-    tell_spelled(&Message::Promise(node, slot, ballot, vote), answer)
+    let canon = canon_of(alloc, text)?;
+    let vote = Some((voted, canon));
+    tell_spelled(Message::Promise(node, slot, ballot, vote), answer)
 }
 
 fn accept(
@@ -78,14 +81,14 @@ fn accept(
     let slot = words.slot()?;
     let ballot = words.ballot()?;
     let canon = canon_of(alloc, text)?;
-    tell_spelled(&Message::Accept(slot, ballot, canon), answer)
+    tell_spelled(Message::Accept(slot, ballot, canon), answer)
 }
 
 fn accepted(words: &mut Words<'_>, answer: &mut Vec<u8>) -> Result<(), Unanswered> {
     let node = words.node()?;
     let slot = words.slot()?;
     let ballot = words.ballot()?;
-    tell_spelled(&Message::Accepted(node, slot, ballot), answer)
+    tell_spelled(Message::Accepted(node, slot, ballot), answer)
 }
 
 fn nack(words: &mut Words<'_>, answer: &mut Vec<u8>) -> Result<(), Unanswered> {
@@ -93,7 +96,7 @@ fn nack(words: &mut Words<'_>, answer: &mut Vec<u8>) -> Result<(), Unanswered> {
     let slot = words.slot()?;
     let ballot = words.ballot()?;
     let promised = words.ballot()?;
-    tell_spelled(&Message::Nack(node, slot, ballot, promised), answer)
+    tell_spelled(Message::Nack(node, slot, ballot, promised), answer)
 }
 
 fn chosen(
@@ -104,10 +107,10 @@ fn chosen(
 ) -> Result<(), Unanswered> {
     let slot = words.slot()?;
     let canon = canon_of(alloc, text)?;
-    tell_spelled(&Message::Chosen(slot, canon), answer)
+    tell_spelled(Message::Chosen(slot, canon), answer)
 }
 
 fn ask(words: &mut Words<'_>, answer: &mut Vec<u8>) -> Result<(), Unanswered> {
     let slot = words.slot()?;
-    tell_spelled(&Message::Ask(slot), answer)
+    tell_spelled(Message::Ask(slot), answer)
 }

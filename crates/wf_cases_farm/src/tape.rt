@@ -1,13 +1,14 @@
 //! What is asked of tapes: the records that their bytes open with, and the bytes that are left then.
-use crate::telling::write_printed;
+use crate::spelling::canon_of;
+use crate::telling::tell_printed;
 use crate::words::Words;
 use crate::words_of_message::{write_at, write_field};
 use std::alloc::Global;
 use wf_ballot::Slot;
-use wf_canon::{Canon, CanonFault};
+use wf_canon::Canon;
 use wf_table::Unanswered;
 use wf_table::write::{write_line, write_text, write_whole};
-use wf_tape::{Journal, MemoryTape, OpenFault, Record, Tape};
+use wf_tape::{Journal, MemoryTape, OpenFault, Record};
 
 pub(crate) fn ask(
     alloc: Global,
@@ -32,24 +33,55 @@ fn tape_of(alloc: Global, bytes: &[u8]) -> Result<MemoryTape, Unanswered> {
 /// Appends each record, or the fault, and how many bytes are on the tape then.
 fn tell_opened(alloc: Global, bytes: &[u8], answer: &mut Vec<u8>) -> Result<(), Unanswered> {
     match Journal::open(alloc, tape_of(alloc, bytes)?) {
-        Ok((journal, records)) => {
-            for record in records.iter() {
-                tell_record(record, answer)?;
-            }
-            tell_left(&journal.close(), answer)
-        }
-        Err((_, OpenFault::Memory)) => Err(Unanswered::Memory),
-        Err((tape, fault)) => {
-            write_printed(fault, answer)?;
-            write_line("", answer)?;
-            tell_left(&tape, answer)
-        }
+        Ok((journal, records)) => tell_records(journal, records, answer),
+        Err((tape, fault)) => tell_refused(tape, fault, answer),
     }
 }
 
+fn tell_records(
+    journal: Journal<MemoryTape>,
+    records: Vec<Record>,
+    answer: &mut Vec<u8>,
+) -> Result<(), Unanswered> {
+    let told = write_records(&records, answer);
+    drop(records);
+    let left = bytes_on(journal.close());
+    match told {
+        Ok(()) => tell_left(left, answer),
+        Err(fault) => Err(fault),
+    }
+}
+
+fn tell_refused(
+    tape: MemoryTape,
+    fault: OpenFault,
+    answer: &mut Vec<u8>,
+) -> Result<(), Unanswered> {
+    let left = bytes_on(tape);
+    if let OpenFault::Memory = fault {
+        return Err(Unanswered::Memory);
+    }
+    tell_printed(fault, answer)?;
+    tell_left(left, answer)
+}
+
+/// How many bytes are on a tape, which isn't used any more.
+fn bytes_on(tape: MemoryTape) -> usize {
+    let count = tape.bytes().len();
+    drop(tape);
+    count
+}
+
+fn write_records(records: &[Record], answer: &mut Vec<u8>) -> Result<(), Unanswered> {
+    for record in records {
+        tell_record(record, answer)?;
+    }
+    Ok(())
+}
+
 /// Appends how many bytes are on the tape.
-fn tell_left(tape: &MemoryTape, answer: &mut Vec<u8>) -> Result<(), Unanswered> {
-    write_whole(tape.bytes().len() as u64, answer)?;
+fn tell_left(left: usize, answer: &mut Vec<u8>) -> Result<(), Unanswered> {
+    write_whole(left as u64, answer)?;
     Ok(write_line(" bytes", answer)?)
 }
 
@@ -97,9 +129,21 @@ fn tell_torn(
 /// How many bytes are on the tape once it was opened; None where it isn't.
 fn bytes_left(alloc: Global, bytes: &[u8]) -> Result<Option<usize>, Unanswered> {
     match Journal::open(alloc, tape_of(alloc, bytes)?) {
-        Ok((journal, _)) => Ok(Some(journal.close().bytes().len())),
-        Err((_, OpenFault::Memory)) => Err(Unanswered::Memory),
-        Err(_) => Ok(None),
+        Ok((journal, records)) => {
+            drop(records);
+            Ok(Some(bytes_on(journal.close())))
+        }
+        Err((tape, fault)) => {
+            drop(tape);
+            none_left(fault)
+        }
+    }
+}
+
+fn none_left(fault: OpenFault) -> Result<Option<usize>, Unanswered> {
+    match fault {
+        OpenFault::Memory => Err(Unanswered::Memory),
+        _ => Ok(None),
     }
 }
 
@@ -113,32 +157,92 @@ fn tell_published(
 ) -> Result<(), Unanswered> {
     let tape = published_tape(alloc, last, text)?;
     match Journal::open(alloc, tape) {
-        Ok((journal, records)) => {
-            write_whole(records.len() as u64, answer)?;
-            write_text(" records, ", answer)?;
-            tell_left(&journal.close(), answer)
+        Ok((journal, records)) => tell_counts(journal, records, answer),
+        Err(refused) => {
+            drop(refused);
+            Err(Unanswered::Memory)
         }
-        Err(_) => Err(Unanswered::Memory),
     }
 }
 
+fn tell_counts(
+    journal: Journal<MemoryTape>,
+    records: Vec<Record>,
+    answer: &mut Vec<u8>,
+) -> Result<(), Unanswered> {
+    let count = records.len();
+    drop(records);
+    let left = bytes_on(journal.close());
+    write_whole(count as u64, answer)?;
+    write_text(" records, ", answer)?;
+    tell_left(left, answer)
+}
+
 fn published_tape(alloc: Global, last: u16, text: &[u8]) -> Result<MemoryTape, Unanswered> {
-    let canon = match Canon::from_bytes(alloc, text) {
-        Ok(canon) => canon,
-        Err(CanonFault::Memory) => return Err(Unanswered::Memory),
-        Err(_) => return Err(Unanswered::BadWords),
-    };
-    let Ok((mut journal, _)) = Journal::open(alloc, tape_of(alloc, b"")?) else {
-        return Err(Unanswered::Memory);
-    };
-    for number in 1..last.saturating_add(1) {
-        let Some(slot) = Slot::new(number) else {
-            return Err(Unanswered::BadWords);
-        };
-        let record = Record::Published(slot, canon.copy()?);
-        if journal.is_halted() || journal.add(alloc, &record).is_err() {
-            return Err(Unanswered::Memory);
+    let canon = canon_of(alloc, text)?;
+    let tape = tape_with(alloc, last, &canon);
+    drop(canon);
+    tape
+}
+
+/// A tape to which the definition was added at the slots from 1 to `last`.
+fn tape_with(alloc: Global, last: u16, canon: &Canon) -> Result<MemoryTape, Unanswered> {
+    match Journal::open(alloc, tape_of(alloc, b"")?) {
+        Ok((journal, records)) => {
+            drop(records);
+            filled(alloc, journal, last, canon)
+        }
+        Err(refused) => {
+            drop(refused);
+            Err(Unanswered::Memory)
         }
     }
-    Ok(journal.close())
+}
+
+fn filled(
+    alloc: Global,
+    mut journal: Journal<MemoryTape>,
+    last: u16,
+    canon: &Canon,
+) -> Result<MemoryTape, Unanswered> {
+    let published = publish_each(alloc, &mut journal, last, canon);
+    let tape = journal.close();
+    match published {
+        Ok(()) => Ok(tape),
+        Err(fault) => {
+            drop(tape);
+            Err(fault)
+        }
+    }
+}
+
+fn publish_each(
+    alloc: Global,
+    journal: &mut Journal<MemoryTape>,
+    last: u16,
+    canon: &Canon,
+) -> Result<(), Unanswered> {
+    for number in 1..last.saturating_add(1) {
+        let slot = Slot::new(number).ok_or(Unanswered::BadWords)?;
+        publish(alloc, journal, slot, canon)?;
+    }
+    Ok(())
+}
+
+fn publish(
+    alloc: Global,
+    journal: &mut Journal<MemoryTape>,
+    slot: Slot,
+    canon: &Canon,
+) -> Result<(), Unanswered> {
+    if journal.is_halted() {
+        return Err(Unanswered::Memory);
+    }
+    let record = Record::Published(slot, canon.copy()?);
+    let added = journal.add(alloc, &record);
+    drop(record);
+    match added {
+        Ok(()) => Ok(()),
+        Err(_) => Err(Unanswered::Memory),
+    }
 }

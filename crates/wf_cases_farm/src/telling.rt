@@ -1,10 +1,22 @@
 //! Answers of one line. A value that there isn't is `none`.
+use std::alloc::AllocError;
 use std::fmt::Display;
 use wf_table::Unanswered;
 use wf_table::write::{write_line, write_text, write_whole};
 
 pub(crate) fn tell_none(answer: &mut Vec<u8>) -> Result<(), Unanswered> {
     Ok(write_line("none", answer)?)
+}
+
+/// Appends that a call was made, unless it found no memory.
+pub(crate) fn tell_done(
+    made: Result<(), AllocError>,
+    answer: &mut Vec<u8>,
+) -> Result<(), Unanswered> {
+    match made {
+        Ok(()) => Ok(write_line("done", answer)?),
+        Err(_) => Err(Unanswered::Memory),
+    }
 }
 
 pub(crate) fn tell_number(number: u64, answer: &mut Vec<u8>) -> Result<(), Unanswered> {

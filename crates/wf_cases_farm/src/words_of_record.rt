@@ -16,7 +16,17 @@ pub(crate) fn tell_step(
 ) -> Result<(), Unanswered> {
     write_text("store ", answer)?;
     write_stored(record, maps, answer)?;
-    write_text(", send ", answer)?;
+    write_text(", ", answer)?;
+    tell_sent(messages, maps, answer)
+}
+
+/// Appends a line: the messages to send, `nothing` where there is none.
+pub(crate) fn tell_sent(
+    messages: &[Message],
+    maps: Maps<'_>,
+    answer: &mut Vec<u8>,
+) -> Result<(), Unanswered> {
+    write_text("send ", answer)?;
     write_sent(messages, maps, answer)?;
     Ok(write_line("", answer)?)
 }

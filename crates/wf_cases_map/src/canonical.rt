@@ -32,9 +32,17 @@ fn write_canon_fault(fault: CanonFault, answer: &mut Vec<u8>) -> Answered {
     }
 }
 
-fn write_copy(canon: &Canon, answer: &mut Vec<u8>) -> Answered {
-    match canon.copy() {
-        Ok(copy) => Ok(answer.extend_from_slice(copy.text())?),
+fn tell_canon(canon: Canon, answer: &mut Vec<u8>) -> Answered {
+    let told = answer.extend_from_slice(canon.text());
+    drop(canon);
+    Ok(told?)
+}
+
+fn tell_copy(canon: Canon, answer: &mut Vec<u8>) -> Answered {
+    let copied = canon.copy();
+    drop(canon);
+    match copied {
+        Ok(copy) => tell_canon(copy, answer),
         Err(_) => Err(Unanswered::Memory),
     }
 }
@@ -42,7 +50,7 @@ fn write_copy(canon: &Canon, answer: &mut Vec<u8>) -> Answered {
 /// `canonical`: a copy of the canonical text that the bytes are, or why they are none.
 pub(crate) fn from_bytes(asked: Asked<'_>, answer: &mut Vec<u8>) -> Answered {
     match Canon::from_bytes(asked.alloc, asked.input) {
-        Ok(canon) => write_copy(&canon, answer),
+        Ok(canon) => tell_copy(canon, answer),
         Err(fault) => write_canon_fault(fault, answer),
     }
 }
@@ -51,6 +59,17 @@ fn text_of(alloc: Global, bytes: &[u8]) -> Result<Text, Unanswered> {
     match Text::new(alloc, bytes) {
         Ok(text) => Ok(text),
         Err(_) => Err(Unanswered::BadWords),
+    }
+}
+
+fn two_texts(alloc: Global, first: &[u8], second: &[u8]) -> Result<(Text, Text), Unanswered> {
+    let first = text_of(alloc, first)?;
+    match text_of(alloc, second) {
+        Ok(second) => Ok((first, second)),
+        Err(unanswered) => {
+            drop(first);
+            Err(unanswered)
+        }
     }
 }
 
@@ -63,19 +82,23 @@ fn extent_of_4_degrees() -> Result<Extent, Unanswered> {
 // The map `a`, from 0 0 to 4 4 degrees, with a title.
 fn titled(alloc: Global, title: &[u8]) -> Result<MapDef, Unanswered> {
     let extent = extent_of_4_degrees()?;
-    let title = text_of(alloc, title)?;
-    let name = text_of(alloc, b"a")?;
-    let abstract_text = text_of(alloc, b"")?;
-    let address = text_of(alloc, b"http://localhost/wms?")?;
-    Ok(MapDef::new(
-        alloc,
-        name,
-        title,
-        abstract_text,
-        address,
-        extent,
-        Projection::Epsg4326,
-    ))
+    let (name, title) = two_texts(alloc, b"a", title)?;
+    match two_texts(alloc, b"", b"http://localhost/wms?") {
+        Ok((abstract_text, address)) => Ok(MapDef::new(
+            alloc,
+            name,
+            title,
+            abstract_text,
+            address,
+            extent,
+            Projection::Epsg4326,
+        )),
+        Err(unanswered) => {
+            drop(name);
+            drop(title);
+            Err(unanswered)
+        }
+    }
 }
 
 const BEFORE_TITLE: &str =
@@ -92,9 +115,17 @@ fn spelled_title(text: &[u8]) -> &[u8] {
     }
 }
 
-fn write_title_of_copy(canon: &Canon, answer: &mut Vec<u8>) -> Answered {
-    match canon.copy() {
-        Ok(copy) => write_texts(&["again: ", copy.def().title().as_str(), "\n"], answer),
+fn tell_title(canon: Canon, answer: &mut Vec<u8>) -> Answered {
+    let told = write_texts(&["again: ", canon.def().title().as_str(), "\n"], answer);
+    drop(canon);
+    told
+}
+
+fn tell_title_of_copy(canon: Canon, answer: &mut Vec<u8>) -> Answered {
+    let copied = canon.copy();
+    drop(canon);
+    match copied {
+        Ok(copy) => tell_title(copy, answer),
         Err(_) => Err(Unanswered::Memory),
     }
 }
@@ -103,14 +134,20 @@ fn write_title(alloc: Global, text: &[u8], answer: &mut Vec<u8>) -> Answered {
     answer.extend_from_slice(spelled_title(text))?;
     write_text("\n", answer)?;
     match Canon::from_bytes(alloc, text) {
-        Ok(canon) => write_title_of_copy(&canon, answer),
+        Ok(canon) => tell_title_of_copy(canon, answer),
         Err(fault) => write_canon_fault(fault, answer),
     }
 }
 
-fn write_titled(alloc: Global, map: &MapDef, answer: &mut Vec<u8>) -> Answered {
-    match Canon::of(alloc, map) {
-        Ok(canon) => write_title(alloc, canon.text(), answer),
+fn tell_titled(alloc: Global, map: MapDef, answer: &mut Vec<u8>) -> Answered {
+    let canonical = Canon::of(alloc, &map);
+    drop(map);
+    match canonical {
+        Ok(canon) => {
+            let told = write_title(alloc, canon.text(), answer);
+            drop(canon);
+            told
+        }
         Err(fault) => write_canon_fault(fault, answer),
     }
 }
@@ -118,7 +155,7 @@ fn write_titled(alloc: Global, map: &MapDef, answer: &mut Vec<u8>) -> Answered {
 /// `title`: how the canonical text of map `a` with this title spells it, and the title that this text means.
 pub(crate) fn title(asked: Asked<'_>, answer: &mut Vec<u8>) -> Answered {
     match titled(asked.alloc, asked.input) {
-        Ok(map) => write_titled(asked.alloc, &map, answer),
+        Ok(map) => tell_titled(asked.alloc, map, answer),
         Err(unanswered) => Err(unanswered),
     }
 }

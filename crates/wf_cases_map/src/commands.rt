@@ -86,7 +86,11 @@ fn write_refusal(status: i32, answer: &mut Vec<u8>) -> Answered {
 fn write_command_line(alloc: Global, words: &[&str], answer: &mut Vec<u8>) -> Answered {
     match line(alloc, words) {
         Ok(asked_for) => write_asked_for(asked_for, answer),
-        Err(error) => write_refusal(error.exit_code(), answer),
+        Err(error) => {
+            let status = error.exit_code();
+            drop(error);
+            write_refusal(status, answer)
+        }
     }
 }
 
@@ -116,13 +120,17 @@ pub(crate) fn command_line(asked: Asked<'_>, answer: &mut Vec<u8>) -> Answered {
 
 // What a command line asks for, done, or that it is refused.
 fn run_words(asked: Asked<'_>, words: &[&str], answer: &mut Vec<u8>) -> Answered {
+    let asked_for = match line(asked.alloc, words) {
+        Ok(asked_for) => asked_for,
+        Err(error) => {
+            let status = error.exit_code();
+            drop(error);
+            return write_refusal(status, answer);
+        }
+    };
     let mut source = Stream::new(asked.input);
     let mut sink = Stream::new(&mut *answer);
-    let outcome = match line(asked.alloc, words) {
-        Ok(asked_for) => run_line(asked.alloc, asked_for, &mut source, &mut sink),
-        Err(error) => return write_refusal(error.exit_code(), answer),
-    };
-    match outcome {
+    match run_line(asked.alloc, asked_for, &mut source, &mut sink) {
         Ok(()) => Ok(()),
         Err(fault) => write_run_fault(asked.alloc, fault, answer),
     }

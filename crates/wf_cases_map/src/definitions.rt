@@ -4,7 +4,7 @@ ghost use Rattle.std.specs.Prelude.{◌<◌, length};
 use crate::asked::{Answered, Asked};
 use crate::mapfiles::write_value;
 use crate::numbers::write_count;
-use crate::shown::write_map;
+use crate::shown::tell_map;
 use std::alloc::{AllocError, Global};
 use wf_def::attribute::attribute;
 use wf_def::choice::LayerKind;
@@ -52,21 +52,36 @@ fn write_styles(styles: &Styles, answer: &mut Vec<u8>) -> Answered {
 
 fn write_copy_of_styles(styles: &Styles, answer: &mut Vec<u8>) -> Answered {
     match styles.clone() {
-        Ok(copy) => write_styles(&copy, answer),
+        Ok(copy) => {
+            let written = write_styles(&copy, answer);
+            drop(copy);
+            written
+        }
         Err(_) => Err(Unanswered::Memory),
     }
 }
 
 /// `styles`: a copy of the styles of these widths, as far as there is room.
 pub(crate) fn styles(asked: Asked<'_>, answer: &mut Vec<u8>) -> Answered {
+    let words = asked.text()?;
     let mut styles = Styles::new(asked.alloc);
-    for word in asked.text()?.split(' ') {
+    let pushed = push_styles(&mut styles, words);
+    let written = match pushed {
+        Ok(()) => write_copy_of_styles(&styles, answer),
+        Err(unanswered) => Err(unanswered),
+    };
+    drop(styles);
+    written
+}
+
+fn push_styles(styles: &mut Styles, words: &str) -> Answered {
+    for word in words.split(' ') {
         let style = style_of_width(word)?;
         if !styles.is_full() {
             styles.push(style)?;
         }
     }
-    write_copy_of_styles(&styles, answer)
+    Ok(())
 }
 
 fn number_in(text: &str) -> Result<usize, Unanswered> {
@@ -104,21 +119,36 @@ fn write_classes(classes: &Classes, answer: &mut Vec<u8>) -> Answered {
 
 fn write_copy_of_classes(classes: &Classes, answer: &mut Vec<u8>) -> Answered {
     match classes.clone() {
-        Ok(copy) => write_classes(&copy, answer),
+        Ok(copy) => {
+            let written = write_classes(&copy, answer);
+            drop(copy);
+            written
+        }
         Err(_) => Err(Unanswered::Memory),
     }
 }
 
 /// `classes`: a copy of so many empty classes, as far as there is room.
 pub(crate) fn classes(asked: Asked<'_>, answer: &mut Vec<u8>) -> Answered {
+    let count = number_in(asked.text()?)?;
     let mut classes = Classes::new(asked.alloc);
-    for _ in 0..number_in(asked.text()?)? {
+    let pushed = push_classes(asked.alloc, &mut classes, count);
+    let written = match pushed {
+        Ok(()) => write_copy_of_classes(&classes, answer),
+        Err(unanswered) => Err(unanswered),
+    };
+    drop(classes);
+    written
+}
+
+fn push_classes(alloc: Global, classes: &mut Classes, count: usize) -> Answered {
+    for _ in 0..count {
         if !classes.is_full() {
-            let class = empty_class(asked.alloc)?;
+            let class = empty_class(alloc)?;
             classes.push(class)?;
         }
     }
-    write_copy_of_classes(&classes, answer)
+    Ok(())
 }
 
 fn part_of_points(alloc: Global, count: usize) -> Result<Part, AllocError> {
@@ -215,7 +245,7 @@ pub(crate) fn items(asked: Asked<'_>, answer: &mut Vec<u8>) -> Answered {
 /// `empty_map`: the map that a farm begins with.
 pub(crate) fn empty_map(asked: Asked<'_>, answer: &mut Vec<u8>) -> Answered {
     match MapDef::empty(asked.alloc) {
-        Ok(map) => write_map(&map, answer),
+        Ok(map) => tell_map(map, answer),
         Err(_) => Err(Unanswered::Memory),
     }
 }

@@ -4,7 +4,7 @@ ghost use Rattle.std.specs.Prelude.{◌<◌, ◌≤◌, length};
 use crate::asked::{Answered, Asked};
 use crate::numbers::write_count;
 use crate::runs::Runs;
-use crate::shown::{write_class, write_fault, write_layers, write_map};
+use crate::shown::{tell_map, write_class, write_fault, write_layers};
 use crate::wrapping::{CLASS, Wrapping, read_joined, wrapping_of};
 use std::alloc::{AllocError, Global};
 use wf_def::class::Class;
@@ -18,9 +18,11 @@ use wf_table::Unanswered;
 use wf_table::escape::unescape;
 use wf_table::write::{write_line, write_text, write_whole};
 
-fn write_copy_of_map(map: &MapDef, answer: &mut Vec<u8>) -> Answered {
-    match map.clone() {
-        Ok(copy) => write_map(&copy, answer),
+fn tell_copy_of_map(map: MapDef, answer: &mut Vec<u8>) -> Answered {
+    let copied: Result<_, _> = map.clone();
+    drop(map);
+    match copied {
+        Ok(copy) => tell_map(copy, answer),
         Err(_) => Err(Unanswered::Memory),
     }
 }
@@ -28,14 +30,22 @@ fn write_copy_of_map(map: &MapDef, answer: &mut Vec<u8>) -> Answered {
 /// `map`: a copy of the map, without its layers, or the fault.
 pub(crate) fn map(asked: Asked<'_>, answer: &mut Vec<u8>) -> Answered {
     match read(asked.alloc, asked.input) {
-        Ok(map) => write_copy_of_map(&map, answer),
+        Ok(map) => tell_copy_of_map(map, answer),
         Err(fault) => write_fault(fault, 0, answer),
     }
 }
 
-fn write_copy_of_layers(map: &MapDef, answer: &mut Vec<u8>) -> Answered {
-    match map.clone() {
-        Ok(copy) => write_layers(&copy, answer),
+fn tell_layers(map: MapDef, answer: &mut Vec<u8>) -> Answered {
+    let told = write_layers(&map, answer);
+    drop(map);
+    told
+}
+
+fn tell_copy_of_layers(map: MapDef, answer: &mut Vec<u8>) -> Answered {
+    let copied: Result<_, _> = map.clone();
+    drop(map);
+    match copied {
+        Ok(copy) => tell_layers(copy, answer),
         Err(_) => Err(Unanswered::Memory),
     }
 }
@@ -44,14 +54,18 @@ fn write_copy_of_layers(map: &MapDef, answer: &mut Vec<u8>) -> Answered {
 pub(crate) fn layers(asked: Asked<'_>, answer: &mut Vec<u8>) -> Answered {
     let Wrapping { front, back } = wrapping_of(asked.words)?;
     match read_joined(asked.alloc, front, asked.input, back) {
-        Ok(map) => write_copy_of_layers(&map, answer),
+        Ok(map) => tell_copy_of_layers(map, answer),
         Err(fault) => write_fault(fault, front.len(), answer),
     }
 }
 
 fn write_copy_of_class(class: &Class, answer: &mut Vec<u8>) -> Answered {
     match class.clone() {
-        Ok(copy) => write_class(&copy, answer),
+        Ok(copy) => {
+            let written = write_class(&copy, answer);
+            drop(copy);
+            written
+        }
         Err(_) => Err(Unanswered::Memory),
     }
 }
@@ -66,24 +80,32 @@ fn write_classes(map: &MapDef, answer: &mut Vec<u8>) -> Answered {
     Ok(())
 }
 
+fn tell_classes(map: MapDef, answer: &mut Vec<u8>) -> Answered {
+    let told = write_classes(&map, answer);
+    drop(map);
+    told
+}
+
 /// `class`: a copy of the class behind whose word CLASS the input stands, or the fault.
 ///
 /// The input alone leaves the layer and the map open, which is M6 at its end. It has ended its class where the ends of the layer and
 /// of the map make a mapfile of it.
 pub(crate) fn class(asked: Asked<'_>, answer: &mut Vec<u8>) -> Answered {
-    let cut = match read_joined(asked.alloc, CLASS.front, asked.input, "") {
-        Ok(_) => return Err(Unanswered::BadWords),
-        Err(fault) => fault,
-    };
-    if let MapFault::MissingEnd(_) = cut {
-        return whole_class(asked, cut, answer);
+    match read_joined(asked.alloc, CLASS.front, asked.input, "") {
+        Ok(map) => {
+            drop(map);
+            Err(Unanswered::BadWords)
+        }
+        Err(MapFault::MissingEnd(place)) => {
+            whole_class(asked, MapFault::MissingEnd(place), answer)
+        }
+        Err(cut) => write_fault(cut, CLASS.front.len(), answer),
     }
-    write_fault(cut, CLASS.front.len(), answer)
 }
 
 fn whole_class(asked: Asked<'_>, cut: MapFault, answer: &mut Vec<u8>) -> Answered {
     match read_joined(asked.alloc, CLASS.front, asked.input, CLASS.back) {
-        Ok(map) => write_classes(&map, answer),
+        Ok(map) => tell_classes(map, answer),
         Err(_) => write_fault(cut, CLASS.front.len(), answer),
     }
 }
@@ -118,11 +140,17 @@ fn write_sizes(map: &MapDef, answer: &mut Vec<u8>) -> Answered {
     write_count(points, " points\n", answer)
 }
 
+fn tell_sizes(map: MapDef, answer: &mut Vec<u8>) -> Answered {
+    let told = write_sizes(&map, answer);
+    drop(map);
+    told
+}
+
 /// `sizes PIECE`: how much of everything the map has, or the fault.
 pub(crate) fn sizes(asked: Asked<'_>, answer: &mut Vec<u8>) -> Answered {
     let Wrapping { front, back } = wrapping_of(asked.words)?;
     match read_joined(asked.alloc, front, asked.input, back) {
-        Ok(map) => write_sizes(&map, answer),
+        Ok(map) => tell_sizes(map, answer),
         Err(fault) => write_fault(fault, front.len(), answer),
     }
 }
@@ -147,11 +175,17 @@ fn write_classes_of_features(map: &MapDef, answer: &mut Vec<u8>) -> Answered {
     Ok(())
 }
 
+fn tell_classes_of_features(map: MapDef, answer: &mut Vec<u8>) -> Answered {
+    let told = write_classes_of_features(&map, answer);
+    drop(map);
+    told
+}
+
 /// `class_of`: the place of each feature's class, where the input stands in a layer whose features have a kind and a size.
 pub(crate) fn class_of(asked: Asked<'_>, answer: &mut Vec<u8>) -> Answered {
     let Wrapping { front, back } = wrapping_of("kinds")?;
     match read_joined(asked.alloc, front, asked.input, back) {
-        Ok(map) => write_classes_of_features(&map, answer),
+        Ok(map) => tell_classes_of_features(map, answer),
         Err(fault) => write_fault(fault, front.len(), answer),
     }
 }
@@ -180,16 +214,26 @@ fn write_attributes(map: &MapDef, name: &Text, answer: &mut Vec<u8>) -> Answered
 
 fn write_attributes_of_name(map: &MapDef, asked: Asked<'_>, answer: &mut Vec<u8>) -> Answered {
     match Text::new(asked.alloc, asked.words.as_bytes()) {
-        Ok(name) => write_attributes(map, &name, answer),
+        Ok(name) => {
+            let written = write_attributes(map, &name, answer);
+            drop(name);
+            written
+        }
         Err(_) => Err(Unanswered::BadWords),
     }
+}
+
+fn tell_attributes(map: MapDef, asked: Asked<'_>, answer: &mut Vec<u8>) -> Answered {
+    let told = write_attributes_of_name(&map, asked, answer);
+    drop(map);
+    told
 }
 
 /// `attribute_of NAME`: each feature's attribute of the name, where the input stands in a layer whose features have a kind and a size.
 pub(crate) fn attribute_of(asked: Asked<'_>, answer: &mut Vec<u8>) -> Answered {
     let Wrapping { front, back } = wrapping_of("kinds")?;
     match read_joined(asked.alloc, front, asked.input, back) {
-        Ok(map) => write_attributes_of_name(&map, asked, answer),
+        Ok(map) => tell_attributes(map, asked, answer),
         Err(fault) => write_fault(fault, front.len(), answer),
     }
 }
@@ -197,9 +241,15 @@ pub(crate) fn attribute_of(asked: Asked<'_>, answer: &mut Vec<u8>) -> Answered {
 fn compare(asked: Asked<'_>, first: &MapDef, piece: &str, answer: &mut Vec<u8>) -> Answered {
     let Wrapping { front, back } = wrapping_of(asked.words)?;
     match read_joined(asked.alloc, front, piece.as_bytes(), back) {
-        Ok(map) => Ok(write_line(if map == *first { "same" } else { "other" }, answer)?),
+        Ok(map) => tell_comparison(map, first, answer),
         Err(fault) => write_fault(fault, front.len(), answer),
     }
+}
+
+fn tell_comparison(map: MapDef, first: &MapDef, answer: &mut Vec<u8>) -> Answered {
+    let same = map == *first;
+    drop(map);
+    Ok(write_line(if same { "same" } else { "other" }, answer)?)
 }
 
 fn compare_each(asked: Asked<'_>, first: &MapDef, pieces: &str, answer: &mut Vec<u8>) -> Answered {
@@ -209,12 +259,23 @@ fn compare_each(asked: Asked<'_>, first: &MapDef, pieces: &str, answer: &mut Vec
     Ok(())
 }
 
+fn tell_comparisons(
+    asked: Asked<'_>,
+    first: MapDef,
+    pieces: &str,
+    answer: &mut Vec<u8>,
+) -> Answered {
+    let told = compare_each(asked, &first, pieces, answer);
+    drop(first);
+    told
+}
+
 /// `same PIECE`: of pieces with `|` between them, whether each but the first means the same map as the first.
 pub(crate) fn same(asked: Asked<'_>, answer: &mut Vec<u8>) -> Answered {
     let (first, pieces) = asked.text()?.split_once('|').ok_or(Unanswered::BadWords)?;
     let Wrapping { front, back } = wrapping_of(asked.words)?;
     match read_joined(asked.alloc, front, first.as_bytes(), back) {
-        Ok(map) => compare_each(asked, &map, pieces, answer),
+        Ok(map) => tell_comparisons(asked, map, pieces, answer),
         Err(fault) => write_fault(fault, front.len(), answer),
     }
 }
@@ -222,7 +283,10 @@ pub(crate) fn same(asked: Asked<'_>, answer: &mut Vec<u8>) -> Answered {
 // Whether the bytes are refused, and whether that is for want of memory.
 fn is_refused(alloc: Global, bytes: &[u8]) -> (bool, bool) {
     match read(alloc, bytes) {
-        Ok(_) => (false, false),
+        Ok(map) => {
+            drop(map);
+            (false, false)
+        }
         Err(MapFault::Memory) => (true, true),
         Err(_) => (true, false),
     }
@@ -263,7 +327,7 @@ fn with_gaps(
 
 fn write_shown(alloc: Global, bytes: &[u8], answer: &mut Vec<u8>) -> Answered {
     match read(alloc, bytes) {
-        Ok(map) => write_map(&map, answer),
+        Ok(map) => tell_map(map, answer),
         Err(fault) => write_fault(fault, 0, answer),
     }
 }

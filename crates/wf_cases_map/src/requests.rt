@@ -56,10 +56,16 @@ pub(crate) fn sequence(word: &str) -> Result<u16, Unanswered>
     }
 }
 
+fn tell_summary(given: Answer, answer: &mut Vec<u8>) -> Answered {
+    let told = write_summary(&given, answer);
+    drop(given);
+    told
+}
+
 fn write_request(asked: Asked<'_>, map: &MapDef, answer: &mut Vec<u8>) -> Answered {
     let seq = sequence(asked.words)?;
     match describe(asked.alloc, seq, map, asked.input) {
-        Ok(given) => write_summary(&given, answer),
+        Ok(given) => tell_summary(given, answer),
         Err(_) => Err(Unanswered::Memory),
     }
 }
@@ -67,7 +73,11 @@ fn write_request(asked: Asked<'_>, map: &MapDef, answer: &mut Vec<u8>) -> Answer
 /// `request SEQ`: the kind, the media type and the length of the answer to a query about map `a` at an update sequence.
 pub(crate) fn request(asked: Asked<'_>, answer: &mut Vec<u8>) -> Answered {
     match wf_mapfile::read(asked.alloc, MAP_A.as_bytes()) {
-        Ok(map) => write_request(asked, &map, answer),
+        Ok(map) => {
+            let written = write_request(asked, &map, answer);
+            drop(map);
+            written
+        }
         Err(_) => Err(Unanswered::Memory),
     }
 }

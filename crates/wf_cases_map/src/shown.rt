@@ -62,6 +62,13 @@ pub(crate) fn write_map(map: &MapDef, answer: &mut Vec<u8>) -> Answered {
     Ok(write_line(projection_name(map.projection()), answer)?)
 }
 
+/// Appends the same of a map that isn't used any more.
+pub(crate) fn tell_map(map: MapDef, answer: &mut Vec<u8>) -> Answered {
+    let told = write_map(&map, answer);
+    drop(map);
+    told
+}
+
 fn kind_name(kind: LayerKind) -> &'static str {
     match kind {
         LayerKind::Points => "Points",

@@ -9,6 +9,11 @@ use wf_tape::{AddFault, FileTape, Journal, OpenFault, Record, Tape, TapeFault};
 /// The bytes of a Tried record of round 1, and the first of one that is torn.
 const TRIED: &[u8] = &[1, 1, 0, 0, 0, 4, 0, 0, 0, 1];
 
+/// Those of three Tried records, of the rounds 1, 2 and 3.
+const THREE_TRIED: &[u8] = &[
+    1, 1, 0, 0, 0, 4, 0, 0, 0, 1, 1, 1, 0, 0, 0, 4, 0, 0, 0, 2, 1, 1, 0, 0, 0, 4, 0, 0, 0, 3,
+];
+
 const TORN: &[u8] = &[1, 1, 0, 0, 0, 4, 0];
 
 fn new_folder(rt: &(impl Abort + Files + AllocGlobal), folder: &str) {
@@ -23,41 +28,80 @@ fn records_before<R: Abort + Files + AllocGlobal>(
     path: &str,
     number: u32,
 ) -> Option<usize> {
-    let Ok(tape) = FileTape::open(rt.alloc(), rt, path) else {
-        return None;
-    };
-    let Ok((mut journal, records)) = Journal::open(rt.alloc(), tape) else {
-        return None;
-    };
-    let tried = Record::Tried(round(rt, number));
-    match journal.add(rt.alloc(), &tried) {
-        Ok(()) => Some(records.len()),
+    match FileTape::open(rt.alloc(), rt, path) {
+        Ok(tape) => records_on(rt, tape, number),
         Err(_) => None,
     }
+}
+
+/// The same of a tape that is open.
+fn records_on<R: Abort + Files + AllocGlobal>(
+    rt: &R,
+    tape: FileTape<&R>,
+    number: u32,
+) -> Option<usize> {
+    match Journal::open(rt.alloc(), tape) {
+        Ok((journal, records)) => {
+            let before = records.len();
+            drop(records);
+            if is_added(rt, journal, number) {
+                Some(before)
+            } else {
+                None
+            }
+        }
+        Err(refused) => {
+            drop(refused);
+            None
+        }
+    }
+}
+
+/// Adds a Tried record of this round, and tells whether it could be added.
+fn is_added<R: Abort + Files + AllocGlobal>(
+    rt: &R,
+    mut journal: Journal<FileTape<&R>>,
+    number: u32,
+) -> bool {
+    let tried = Record::Tried(round(rt, number));
+    let added = !journal.is_halted() && journal.add(rt.alloc(), &tried).is_ok();
+    drop(tried);
+    drop(journal);
+    added
 }
 
 /// Why no journal opens over the file, and how often its tape failed; None where one opens.
 fn fault_of<R: Abort + Files + AllocGlobal>(rt: &R, path: &str) -> Option<(OpenFault, u64)> {
     let tape = FileTape::open(rt.alloc(), rt, path).expect(rt, "a tape");
     match Journal::open(rt.alloc(), tape) {
-        Ok(_) => None,
-        Err((tape, fault)) => Some((fault, tape.failures())),
+        Ok(opened) => {
+            drop(opened);
+            None
+        }
+        Err((tape, fault)) => {
+            let failures = tape.failures();
+            drop(tape);
+            Some((fault, failures))
+        }
     }
 }
 
-/// What is in the file.
-fn content<R: Abort + Files + AllocGlobal>(rt: &R, path: &str) -> Vec<u8> {
-    fs::read(rt, path).expect(rt, "the file")
+/// Whether the file holds these bytes.
+fn holds<R: Abort + Files + AllocGlobal>(rt: &R, path: &str, bytes: &[u8]) -> bool {
+    let content = fs::read(rt, path).expect(rt, "the file");
+    let same = content.as_slice() == bytes;
+    drop(content);
+    same
 }
 
 #[test]
 fn a_file_keeps_what_is_added(rt: HostRuntime) {
     new_folder(&rt, "kept");
     assert!(rt; records_before(&rt, "kept/tape", 1) == Some(0));
-    assert_eq!(&rt; content(&rt, "kept/tape").as_slice(), TRIED);
+    assert!(rt; holds(&rt, "kept/tape", TRIED));
     assert!(rt; records_before(&rt, "kept/tape", 2) == Some(1));
     assert!(rt; records_before(&rt, "kept/tape", 3) == Some(2));
-    assert_eq!(&rt; content(&rt, "kept/tape").len(), 30);
+    assert!(rt; holds(&rt, "kept/tape", THREE_TRIED));
 }
 
 #[test]
@@ -65,7 +109,7 @@ fn a_torn_record_is_removed_from_a_file(rt: HostRuntime) {
     new_folder(&rt, "torn");
     fs::write(&rt, "torn/tape", TORN).expect(&rt, "a file");
     assert!(rt; records_before(&rt, "torn/tape", 1) == Some(0));
-    assert_eq!(&rt; content(&rt, "torn/tape").as_slice(), TRIED);
+    assert!(rt; holds(&rt, "torn/tape", TRIED));
 }
 
 /// A stop between the steps of a replacement leaves the second file beside the old content.
@@ -75,7 +119,7 @@ fn a_second_file_left_over_does_not_hurt(rt: HostRuntime) {
     fs::write(&rt, "left/tape", TORN).expect(&rt, "a file");
     fs::write(&rt, "left/tape.new", b"longer than what is put there").expect(&rt, "a file");
     assert!(rt; records_before(&rt, "left/tape", 1) == Some(0));
-    assert_eq!(&rt; content(&rt, "left/tape").as_slice(), TRIED);
+    assert!(rt; holds(&rt, "left/tape", TRIED));
 }
 
 #[test]
@@ -91,7 +135,7 @@ fn a_replacement_that_fails_is_counted(rt: HostRuntime) {
     fs::create_dir(&rt, "stuck/tape.new").expect(&rt, "a folder");
     fs::write(&rt, "stuck/tape", TORN).expect(&rt, "a file");
     assert!(&rt; fault_of(&rt, "stuck/tape") == Some((OpenFault::TapeFailed, 1)));
-    assert_eq!(&rt; content(&rt, "stuck/tape").as_slice(), TORN);
+    assert!(rt; holds(&rt, "stuck/tape", TORN));
 }
 
 /// A tape whose syncs fail, in memory.
