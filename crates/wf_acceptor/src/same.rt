@@ -1,7 +1,9 @@
 //! Equality of records.
 
 ghost use Rattle.std.specs.Prelude.{◌≡◌, ◌↔◌, IsTrue};
+ghost use Rattle.wf_tape.specs.declared.record.Record.TheVariants.{Tried, Promised, Accepted, Published};
 
+use wf_ballot::{Ballot, Round, Slot};
 use wf_canon::Canon;
 use wf_tape::Record;
 
@@ -9,17 +11,52 @@ use wf_tape::Record;
 pub fn is_same_record(a: &Record, b: &Record) -> bool
     ensures { IsTrue result ↔ (a.now ≡ b.now) }
 {
-    match (a, b) {
-        (Record::Tried(round), Record::Tried(other)) => round == other,
-        (Record::Promised(slot, ballot), Record::Promised(other, another)) => {
-            slot == other && ballot == another
+    match a {
+        Record::Tried(round) => is_tried(b, *round),
+        Record::Promised(slot, ballot) => is_promised(b, *slot, *ballot),
+        Record::Accepted(slot, ballot, canon) => is_accepted(b, *slot, *ballot, canon),
+        Record::Published(slot, canon) => is_published(b, *slot, canon),
+    }
+}
+
+/// Is it the record that the round was tried?
+fn is_tried(entry: &Record, round: Round) -> bool
+    ensures { IsTrue result ↔ (Tried round ≡ entry.now) }
+{
+    match entry {
+        Record::Tried(other) => round == *other,
+        _ => false,
+    }
+}
+
+/// Is it the record of a promise of the ballot at the slot?
+fn is_promised(entry: &Record, slot: Slot, ballot: Ballot) -> bool
+    ensures { IsTrue result ↔ (Promised slot ballot ≡ entry.now) }
+{
+    match entry {
+        Record::Promised(other, another) => slot == *other && ballot == *another,
+        _ => false,
+    }
+}
+
+/// Is it the record of a vote for the definition at the slot and the ballot?
+fn is_accepted(entry: &Record, slot: Slot, ballot: Ballot, canon: &Canon) -> bool
+    ensures { IsTrue result ↔ (Accepted slot ballot canon.now ≡ entry.now) }
+{
+    match entry {
+        Record::Accepted(other, another, third) => {
+            slot == *other && ballot == *another && is_same(canon, third)
         }
-        (Record::Accepted(slot, ballot, canon), Record::Accepted(other, another, third)) => {
-            slot == other && ballot == another && is_same(canon, third)
-        }
-        (Record::Published(slot, canon), Record::Published(other, another)) => {
-            slot == other && is_same(canon, another)
-        }
+        _ => false,
+    }
+}
+
+/// Is it the record that the definition is published at the slot?
+fn is_published(entry: &Record, slot: Slot, canon: &Canon) -> bool
+    ensures { IsTrue result ↔ (Published slot canon.now ≡ entry.now) }
+{
+    match entry {
+        Record::Published(other, another) => slot == *other && is_same(canon, another),
         _ => false,
     }
 }

@@ -1,7 +1,7 @@
 //! The choices of a map definition: each an enum with the words of the mapfile as its variants.
 
 /// The coordinate system of a map's EXTENT and points (MapServer mapfile reference, PROJECTION).
-#[derive(Clone, Copy, Debug, PartialEq, Eq, Hash)]
+#[derive(Clone, Copy, PartialEq, Eq)]
 pub enum Projection {
     /// `init=epsg:4326`: degrees of longitude, then latitude, in this order in a mapfile.
     Epsg4326,
@@ -10,7 +10,7 @@ pub enum Projection {
 }
 
 /// What a layer's features are (MapServer mapfile reference, LAYER TYPE).
-#[derive(Clone, Copy, Debug, PartialEq, Eq, Hash)]
+#[derive(Clone, Copy, PartialEq, Eq)]
 pub enum LayerKind {
     /// `POINT`: a marker at each point.
     Points,
@@ -21,7 +21,7 @@ pub enum LayerKind {
 }
 
 /// How large a label's letters are (MapServer mapfile reference, LABEL SIZE).
-#[derive(Clone, Copy, Debug, PartialEq, Eq, Hash)]
+#[derive(Clone, Copy, PartialEq, Eq)]
 pub enum LabelSize {
     Tiny,
     Small,
@@ -31,7 +31,7 @@ pub enum LabelSize {
 }
 
 /// Where a label stands to its point (MapServer mapfile reference, LABEL POSITION).
-#[derive(Clone, Copy, Debug, PartialEq, Eq, Hash)]
+#[derive(Clone, Copy, PartialEq, Eq)]
 pub enum LabelPosition {
     UpperLeft,
     UpperCenter,

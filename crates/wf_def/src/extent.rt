@@ -6,7 +6,7 @@ use crate::micro::Micro;
 use std::marker::Model;
 
 /// A box whose minima are below its maxima (MapServer mapfile reference, EXTENT).
-#[derive(Clone, Copy, PartialEq, Eq, Hash)]
+#[derive(Clone, Copy, PartialEq, Eq)]
 pub struct Extent {
     minx: Micro,
     miny: Micro,

@@ -3,7 +3,7 @@
 use thiserror::Error;
 
 /// Why a text is no coordinate.
-#[derive(Clone, Copy, Debug, PartialEq, Eq, Hash, Error)]
+#[derive(Clone, Copy, Debug, PartialEq, Eq, Error)]
 pub enum NumberFault {
     /// The text hasn't the form of a number.
     #[error("not a number")]
@@ -14,7 +14,7 @@ pub enum NumberFault {
 }
 
 /// Why bytes are no text of a map definition.
-#[derive(Clone, Copy, Debug, PartialEq, Eq, Hash, Error)]
+#[derive(Clone, Copy, Debug, PartialEq, Eq, Error)]
 pub enum TextFault {
     /// Memory ran out.
     #[error("out of memory")]
@@ -34,7 +34,7 @@ pub enum TextFault {
 }
 
 /// Why a map didn't take a layer.
-#[derive(Clone, Copy, Debug, PartialEq, Eq, Hash, Error)]
+#[derive(Clone, Copy, Debug, PartialEq, Eq, Error)]
 pub enum LayerFault {
     /// Memory ran out.
     #[error("out of memory")]

@@ -107,7 +107,11 @@ impl Label {
 }
 
 impl Clone for Label {
+    ghost use Rattle.std.specs.Prelude.{◌≡◌, ⊤};
+
     ghost is_clone = { λ label copy. copy ≡ label };
+
+    ghost is_infallible = { λ _. ⊤ };
 
     fn clone(&self) -> Result<Self, AllocError> {
         Ok(*self)

@@ -9,7 +9,7 @@ use crate::number::Numeral;
 use std::marker::Model;
 
 /// A coordinate, in millionths of a unit, of a magnitude of at most 100,000,000 units.
-#[derive(Clone, Copy, PartialEq, Eq, Hash, PartialOrd, Ord)]
+#[derive(Clone, Copy, PartialEq, Eq, PartialOrd, Ord)]
 pub struct Micro {
     millionths: i64,
 }

@@ -3,7 +3,7 @@
 use crate::micro::Micro;
 
 /// A point in the map's coordinates, in the order of the mapfile: east, then north.
-#[derive(Clone, Copy, PartialEq, Eq, Hash)]
+#[derive(Clone, Copy, PartialEq, Eq)]
 pub struct Point {
     pub x: Micro,
     pub y: Micro,

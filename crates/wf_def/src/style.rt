@@ -84,7 +84,11 @@ impl Style {
 }
 
 impl Clone for Style {
+    ghost use Rattle.std.specs.Prelude.{◌≡◌, ⊤};
+
     ghost is_clone = { λ style copy. copy ≡ style };
+
+    ghost is_infallible = { λ _. ⊤ };
 
     fn clone(&self) -> Result<Self, AllocError> {
         Ok(*self)

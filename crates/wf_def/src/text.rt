@@ -42,7 +42,10 @@ impl Text {
         ensures first { IfErr result (λ fault. IsFirstFault fault bytes.now) }
     {
         let text = checked(bytes)?;
-        Text::from_str(alloc, text).map_err(|_| TextFault::OutOfMemory)
+        match Text::from_str(alloc, text) {
+            Ok(text) => Ok(text),
+            Err(_) => Err(TextFault::OutOfMemory),
+        }
     }
 
     /// A copy of what is known to be a text.

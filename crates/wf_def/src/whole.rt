@@ -6,7 +6,7 @@ use crate::micro::Micro;
 use std::marker::Model;
 
 /// A whole number from `LEAST` to `MOST`.
-#[derive(Clone, Copy, PartialEq, Eq, Hash)]
+#[derive(Clone, Copy, PartialEq, Eq)]
 pub struct Whole<const LEAST: u8, const MOST: u8> {
     number: u8,
 }

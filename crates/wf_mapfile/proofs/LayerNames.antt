@@ -9,11 +9,11 @@ use Rattle.wf_def.specs.Limits.{IsLayerName}
 use Rattle.wf_mapfile.specs.Layer.{is_layer_name}
 use Rattle.wf_mapfile.proofs.Booleans.{both, not_so}
 
-named : (name : List ℕ) → IsLayerName name → is_layer_name name ≡ true
+pub named : (name : List ℕ) → IsLayerName name → is_layer_name name ≡ true
 unfolding is_layer_name
 named name is = both _ _ (le-leb 1 (length name) is.least) (ap not is.no_comma)
 
-is_name : (name : List ℕ) → IsText name → is_layer_name name ≡ true → IsLayerName name
+pub is_name : (name : List ℕ) → IsText name → is_layer_name name ≡ true → IsLayerName name
 unfolding is_layer_name
 is_name name text so = record {
   is_text = text;

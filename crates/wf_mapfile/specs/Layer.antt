@@ -1,9 +1,11 @@
 -- LAYER: a layer with its name.
-use Rattle.std.specs.Prelude.{ℕ, Bool, not, ◌&&◌, ◌==◌, nat_lt, if◌then◌else◌, List, [], ◌∷◌, length, take, drop, codes, Option, Some, None, filter_map, unwrap_or}
+use Rattle.std.specs.Prelude.{◌≡◌, ◌↔◌, ℕ, Bool, true, not, ◌&&◌, ◌==◌, nat_lt, if◌then◌else◌, List, [], ◌∷◌, length, take, drop, codes, Option, Some, None, filter_map, unwrap_or}
 use Rattle.std.specs.List.{list_any}
 use Rattle.std.specs.Str.{str_eq_ignore_ascii_case}
 use Rattle.wf_def.specs.Definition.{ClassDefinition, FeatureDefinition, LayerDefinition}
 use Rattle.wf_def.specs.Layer as def
+use Rattle.wf_def.specs.Text.{IsText}
+use Rattle.wf_def.specs.Limits.{IsLayerName}
 use Rattle.wf_def.specs.declared.choice.LayerKind.{LayerKind}
 use Rattle.wf_def.specs.declared.choice.LayerKind.TheVariants as kind
 use Rattle.wf_def.specs.Limit.{most_classes}
@@ -49,6 +51,10 @@ layer_keyword word = choice (
 -- whether a text may stand in a list between commas (44): it isn't empty and has no comma
 unfoldable pub is_layer_name : List ℕ → Bool
 is_layer_name name = nat_lt 0 (length name) && not (list_any (λ b. b == 44) name)
+
+-- the test finds exactly the texts that are names by the limits of a map
+abbrev pub LayerNamesAreTested : Type 0
+LayerNamesAreTested = (name : List ℕ) → IsText name → (is_layer_name name ≡ true) ↔ IsLayerName name
 
 unfoldable pub layer_name : List Token → Option (List ℕ × List Token)
 layer_name tokens = do

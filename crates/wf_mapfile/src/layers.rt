@@ -1,7 +1,7 @@
 //! The layers of a map while it is read.
 ghost use Rattle.std.specs.Prelude.{◌≡◌, ◌<◌, ◌≤◌, ◌↔◌, [], IfOk, IsTrue, OnErr, OnOk, Some, None, if◌then◌else◌, false, length, sum_by};
 ghost use Rattle.wf_def.specs.Limits.{has_layer, points_of_feature, IsLayerName};
-ghost use Rattle.wf_mapfile.specs.Layer.{is_layer_name};
+ghost use Rattle.wf_mapfile.specs.Layer.{LayerNamesAreTested, is_layer_name};
 ghost use Rattle.wf_mapfile.specs.Room.{behind};
 ghost use Rattle.wf_def.specs.Limit.{most_features, most_layers, most_points};
 
@@ -13,6 +13,12 @@ use wf_def::layer::{Layer, is_layer_name};
 use wf_def::limits::{MOST_FEATURES, MOST_LAYERS, MOST_POINTS};
 use wf_def::map::MapDef;
 use wf_def::text::Text;
+
+/// The test by which a layer's name is refused finds exactly the texts that may be one. A law about the definitions: the call does
+/// nothing.
+pub fn layer_names_are_tested()
+    ensures { LayerNamesAreTested }
+{}
 
 /// What a layer is called: a text that isn't empty and has no comma.
 #[derive(Drop)]

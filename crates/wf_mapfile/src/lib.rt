@@ -36,4 +36,5 @@ mod style;
 pub mod token;
 mod web;
 
+pub use layers::layer_names_are_tested;
 pub use reader::{MOST_MAPFILE_BYTES, limit_of_mapfiles, read};

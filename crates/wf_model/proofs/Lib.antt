@@ -2,4 +2,5 @@ mod Folds
 pub mod Put
 mod Rows
 mod Runs
+mod Short
 pub mod Steps

@@ -1,10 +1,10 @@
 -- What the rows and the fold keep by themselves: a row's record fits what its node stored; no promise and no
 -- vote is stored of a sequence that is published; and where a vote is stored, so is a promise.
-use Rattle.std.specs.Prelude.{◌≡◌, ℕ, ◌≤◌, Bool, true, ⊤, List, Option, Some, None, IsSome}
+use Rattle.std.specs.Prelude.{◌≡◌, ℕ, ◌≤◌, Bool, true, ⊤, List, length, Option, Some, None, IsSome}
 use Rattle.wf_model.specs.Message.{Vote}
 use Rattle.wf_model.specs.Stored.{Stored, Record, published, next_sequence, promise_at, fits, fold}
 use Rattle.wf_model.specs.Working.{Working, Idle, Running, Won, Overtaken}
-use Rattle.wf_model.specs.Table.{Row, Input, store, row}
+use Rattle.wf_model.specs.Table.{Row, Input, most_told, store, row}
 
 -- a running proposal is for the next sequence
 abbrev pub IsForNext : {V : Type 0} → Stored V → Working V → Type 0
@@ -27,6 +27,11 @@ pub record RowFits {V : Type 0} (before : Stored V) (row : Row V) : Type 0 where
 abbrev pub RecordsFit : Type 0 → Type 0
 RecordsFit V = (same : V → V → Bool) (n me : ℕ) (stored : Stored V) (working : Working V) (input : Input V) → IsForNext stored working →
     RowFits stored (row same n me stored working input)
+
+-- No row hands out more messages than answer one Ask.
+abbrev pub RowsAreShort : Type 0 → Type 0
+RowsAreShort V = (same : V → V → Bool) (n me : ℕ) (stored : Stored V) (working : Working V) (input : Input V) →
+    length (row same n me stored working input).messages ≤ most_told
 
 -- promises and votes are of sequences above the published list alone
 pub record IsOpenAlone {V : Type 0} (stored : Stored V) : Type 0 where

@@ -9,7 +9,8 @@
 //! generic in the type of what is agreed on, with a test `same` that tells a proposal's own definition from
 //! another's.
 //!
-//! **Promises.** Each row's record fits what was stored, whatever the messages say. Whatever records are
+//! **Promises.** Each row's record fits what was stored, whatever the messages say, and no row hands out more than
+//! eight messages. Whatever records are
 //! folded, they leave no promise and no vote of a published sequence, and no vote without a promise. The
 //! events of two lists in turn are the events of one, and a refused event changes nothing. Short runs leave
 //! what they should, by computing them.
@@ -20,7 +21,7 @@
 ghost use Rattle.std.specs.Prelude.{◌≡◌, [], ◌∷◌, Some};
 ghost use Rattle.wf_model.specs.Chosen.{definition};
 ghost use Rattle.wf_model.specs.Examples.{a, alone, b, ballot, behind, catches_up, comes_back, empty, full_history, full_rounds, just, late_accept, new_round, none, old_accept, only, outrun, repeated, run, same_map, sent_from, standing, taken_over, three_of_four, three_pumped, torn, torn_then, two_of_four, two_told, vote, voted_once, Leaves, OvertakenAt, PublishedAt, Runs};
-ghost use Rattle.wf_model.specs.Fits.{FoldsAreOpen, RecordsFit, VotesArePromised};
+ghost use Rattle.wf_model.specs.Fits.{FoldsAreOpen, RecordsFit, RowsAreShort, VotesArePromised};
 ghost use Rattle.wf_model.specs.Message.{Accept, Accepted, Ask, Chosen, Nack, Prepare, Promise};
 ghost use Rattle.wf_model.specs.Steps.{RefusedChangesNothing, StepsInTurn};
 ghost use Rattle.wf_model.specs.Table.{Busy, NothingToRetry, RoundsFull, SequenceFull};
@@ -30,6 +31,11 @@ ghost use Rattle.wf_model.specs.World.{happens, refused, After, Before, CatchUp,
 /// proposal is for the next sequence, and stays so.
 pub fn records_fit<V>()
     ensures { RecordsFit V }
+{}
+
+/// No row hands out more than eight messages, so that whoever sends them can make room before the step.
+pub fn rows_are_short<V>()
+    ensures { RowsAreShort V }
 {}
 
 /// Whatever records are folded, they leave no promise and no vote of a published sequence.

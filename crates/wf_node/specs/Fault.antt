@@ -1,5 +1,5 @@
 -- The faults of a step: which are the table's refusals.
-use Rattle.std.specs.Prelude.{Option, Some, None, Result, Ok, Err, IsSome}
+use Rattle.std.specs.Prelude.{◌≡◌, Option, Some, None, Result, Ok, Err, IsSome}
 use Rattle.wf_model.specs.Table as table
 use Rattle.wf_node.specs.declared.fault.NodeFault.{NodeFault}
 use Rattle.wf_node.specs.declared.fault.NodeFault.TheVariants.{Memory, Busy, SequenceFull, RoundsFull, Halted, TapeFailed, Nothing}
@@ -22,3 +22,8 @@ refused_by (Err fault) = refusal_of fault
 -- the table refused the input
 abbrev pub IsRefused : {A : Type 0} → Result A NodeFault → Type 0
 IsRefused result = IsSome (refused_by result)
+
+-- this is the fault of the table's refusal, or there is none
+abbrev pub IsWhyNot : Option table.Refusal → Option NodeFault → Type 0
+IsWhyNot why None = why ≡ None
+IsWhyNot why (Some fault) = (refusal_of fault ≡ why) × (why ≡ None → ⊥)

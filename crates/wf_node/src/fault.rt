@@ -1,5 +1,8 @@
-ghost use Rattle.std.specs.Prelude.{◌≡◌};
+ghost use Rattle.std.specs.Prelude.{◌≡◌, Option};
+ghost use Rattle.wf_model.specs.Table as table;
+ghost use Rattle.wf_node.specs.Fault.{IsWhyNot};
 ghost use Rattle.wf_node.specs.Proposed.{fault_of};
+ghost use Rattle.wf_proposer.specs.Refusal as proposer;
 
 use std::alloc::{AllocError, AllocFailed};
 use thiserror::Error;
@@ -62,5 +65,15 @@ pub(crate) fn fault_of(refusal: Refusal) -> NodeFault
         Refusal::Nothing => NodeFault::Nothing,
         Refusal::RoundsFull => NodeFault::RoundsFull,
         Refusal::Memory => NodeFault::Memory,
+    }
+}
+
+/// The node's fault for what its proposer would refuse, if it would.
+pub(crate) fn fault_for(refusal: Option<Refusal>) -> Option<NodeFault>
+    ensures { (why : Option table.Refusal) → proposer.IsWhyNot why refusal → IsWhyNot why result }
+{
+    match refusal {
+        Some(refusal) => Some(fault_of(refusal)),
+        None => None,
     }
 }

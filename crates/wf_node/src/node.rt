@@ -1,3 +1,4 @@
+use crate::fault::NodeFault;
 use crate::machine::Machine;
 use std::marker::Model;
 use wf_ballot::Seq;
@@ -28,12 +29,14 @@ impl<T: Tape> Model for Node<T> {
 }
 
 impl<T: Tape> Node<T> {
-    ghost use Rattle.std.specs.Prelude.{◌≡◌, length, if◌then◌else◌, IfSome};
+    ghost use Rattle.std.specs.Prelude.{◌≡◌, true, false, length, if◌then◌else◌, IfSome, Some};
     ghost use Rattle.std.specs.Option.{option_copied};
     ghost use Rattle.wf_ballot.specs.Sequence.{IsSequence};
     ghost use Rattle.wf_def.specs.Limits.{IsWithinLimits};
     ghost use Rattle.wf_learner.specs.History.{map_at};
-    ghost use Rattle.wf_node.specs.Node.{working_of};
+    ghost use Rattle.wf_model.specs.Table.{refuse_proposal, refuse_retry};
+    ghost use Rattle.wf_node.specs.Fault.{IsWhyNot};
+    ghost use Rattle.wf_node.specs.Node.{stored_of, working_of};
     ghost use Rattle.wf_proposer.specs.Standing.{standing_of};
     ghost use Rattle.wf_proposer.specs.declared.standing.Standing.TheVariants.{None};
 
@@ -58,6 +61,30 @@ impl<T: Tape> Node<T> {
         ensures within { IfSome result (λ map. IsWithinLimits map.now) }
     {
         self.machine.kept.history().get(seq)
+    }
+
+    /// Why the node wouldn't propose anything now: N5 where it is halted, else what a step would be refused by. None
+    /// where a proposal would begin. It takes no memory and changes nothing.
+    pub fn proposal_refusal(&self) -> Option<NodeFault>
+        ensures halted { self.now.halted ≡ true → result ≡ Some NodeFault.Halted }
+        ensures refusal { self.now.halted ≡ false → IsWhyNot (refuse_proposal (stored_of self.now) (working_of self.now)) result }
+    {
+        if self.machine.journal.is_halted() {
+            return Some(NodeFault::Halted);
+        }
+        self.machine.proposal_refusal()
+    }
+
+    /// Why the node wouldn't begin its proposal anew now: N5 where it is halted, else what a step would be refused by.
+    /// None where it would. It takes no memory and changes nothing.
+    pub fn retry_refusal(&self) -> Option<NodeFault>
+        ensures halted { self.now.halted ≡ true → result ≡ Some NodeFault.Halted }
+        ensures refusal { self.now.halted ≡ false → IsWhyNot (refuse_retry (stored_of self.now) (working_of self.now)) result }
+    {
+        if self.machine.journal.is_halted() {
+            return Some(NodeFault::Halted);
+        }
+        self.machine.retry_refusal()
     }
 
     /// How the node's proposal stands: None on a halted node.

@@ -7,10 +7,11 @@ ghost use Rattle.wf_model.specs.Fits.{Fits};
 ghost use Rattle.wf_model.specs.Message as model;
 ghost use Rattle.wf_model.specs.Table as table;
 ghost use Rattle.wf_node.specs.Act.{IsAct, IsChange, IsOwn, IsReady, runs};
+ghost use Rattle.wf_node.specs.Fault.{IsWhyNot};
 ghost use Rattle.wf_node.specs.Kept.{stored_of};
 ghost use Rattle.wf_proposer.specs.Proposer.{row_of, working_of};
 
-use crate::fault::{NodeFault, fault_of};
+use crate::fault::{NodeFault, fault_for, fault_of};
 use crate::machine::Machine;
 use crate::storing::store;
 use std::alloc::Global;
@@ -53,6 +54,27 @@ impl<T: Tape> Machine<T> {
             Ok(next) => self.perform(alloc, next),
             Err(refusal) => Err(fault_of(refusal)),
         }
+    }
+
+    /// Why a proposal wouldn't begin now; None where it would.
+    pub(crate) fn proposal_refusal(&self) -> Option<NodeFault>
+        ensures { IsWhyNot (table.refuse_proposal (stored_of self.now.kept) (working_of self.now.proposer)) result }
+    {
+        if self.runs() {
+            return Some(NodeFault::Busy);
+        }
+        if self.is_full() {
+            return Some(NodeFault::SequenceFull);
+        }
+        let published = self.kept.history().published();
+        fault_for(self.proposer.start_refusal(self.kept.tried(), published))
+    }
+
+    /// Why the running proposal wouldn't begin anew now; None where it would.
+    pub(crate) fn retry_refusal(&self) -> Option<NodeFault>
+        ensures { IsWhyNot (table.refuse_retry (stored_of self.now.kept) (working_of self.now.proposer)) result }
+    {
+        fault_for(self.proposer.retry_refusal(self.kept.tried()))
     }
 
     /// A node promised.

@@ -1,5 +1,5 @@
 -- Refusals, as the table has them.
-use Rattle.std.specs.Prelude.{ℕ, List, codes, Option, Some, None, Result, Ok, Err}
+use Rattle.std.specs.Prelude.{◌≡◌, ℕ, List, codes, Option, Some, None, Result, Ok, Err}
 use Rattle.wf_model.specs.Table as table
 use Rattle.wf_proposer.specs.Next.{Next}
 use Rattle.wf_proposer.specs.declared.refusal.Refusal.{Refusal}
@@ -16,6 +16,11 @@ refusal_of Memory = None
 abbrev pub refused_by : Result Next Refusal → Option table.Refusal
 refused_by (Ok next) = None
 refused_by (Err refusal) = refusal_of refusal
+
+-- this is the table's refusal, or none is
+abbrev pub IsWhyNot : Option table.Refusal → Option Refusal → Type 0
+IsWhyNot why None = why ≡ None
+IsWhyNot why (Some refusal) = (refusal_of refusal ≡ why) × (why ≡ None → ⊥)
 
 -- what a refusal says to people
 abbrev pub words_of : Refusal → List ℕ

@@ -8,7 +8,7 @@ ghost use Rattle.wf_model.specs.Stored.{HasStored, Stored};
 ghost use Rattle.wf_model.specs.Table as table;
 ghost use Rattle.wf_model.specs.Working as model;
 ghost use Rattle.wf_proposer.specs.Proposer.{is_heard, row_of, runs_for, working_of};
-ghost use Rattle.wf_proposer.specs.Refusal.{refused_by};
+ghost use Rattle.wf_proposer.specs.Refusal.{refused_by, IsWhyNot};
 ghost use Rattle.wf_proposer.specs.Standing.{standing_of};
 
 use crate::change::Change;
@@ -19,7 +19,7 @@ use crate::refusal::Refusal;
 use crate::standing::Standing;
 use crate::working::Working;
 use std::alloc::Global;
-use wf_ballot::{Ballot, NodeId, Seq, Slot};
+use wf_ballot::{Ballot, NodeId, ROUNDS, Seq, Slot};
 use wf_canon::Canon;
 use wf_codec::Message;
 use wf_tape::Record;
@@ -91,6 +91,33 @@ impl Proposer {
             Working::Idle => Err(Refusal::Nothing),
             Working::Published(_) => Err(Refusal::Nothing),
             Working::Overtaken(_) => Err(Refusal::Nothing),
+        }
+    }
+
+    /// Why a proposal wouldn't begin now, where round `tried` is stored and a sequence is left; None where it would.
+    #[tactic(auto, unfolding(wf_model::specs::Table::refuse_proposal, wf_model::specs::Table::rounds_full))]
+    pub fn start_refusal(&self, tried: u32, published: Seq) -> Option<Refusal>
+        requires { published < last_sequence }
+        ensures { (stored : Stored Definition) → HasStored stored tried published → IsWhyNot (table.refuse_proposal stored (working_of self.now)) result }
+    {
+        match &self.working {
+            Working::Running(_) => Some(Refusal::Busy),
+            Working::Idle => rounds_refusal(tried),
+            Working::Published(_) => rounds_refusal(tried),
+            Working::Overtaken(_) => rounds_refusal(tried),
+        }
+    }
+
+    /// Why the running proposal wouldn't begin anew now, where round `tried` is stored; None where it would.
+    #[tactic(auto, unfolding(wf_model::specs::Table::refuse_retry, wf_model::specs::Table::round_known))]
+    pub fn retry_refusal(&self, tried: u32) -> Option<Refusal>
+        ensures { (stored : Stored Definition) → stored.tried ≡ tried → IsWhyNot (table.refuse_retry stored (working_of self.now)) result }
+    {
+        match &self.working {
+            Working::Running(proposal) => rounds_refusal(tried.max(proposal.seen)),
+            Working::Idle => Some(Refusal::Nothing),
+            Working::Published(_) => Some(Refusal::Nothing),
+            Working::Overtaken(_) => Some(Refusal::Nothing),
         }
     }
 
@@ -194,4 +221,16 @@ fn slot_after(published: Seq) -> Slot
     ensures { result ≡ published + 1 }
 {
     Slot::new(published.number() + 1).unwrap()
+}
+
+/// RoundsFull where this round is the last one.
+#[tactic(auto, unfolding(wf_model::specs::Table::rounds_full))]
+fn rounds_refusal(round: u32) -> Option<Refusal>
+    ensures { IsWhyNot (table.rounds_full round) result }
+{
+    if round == ROUNDS {
+        Some(Refusal::RoundsFull)
+    } else {
+        None
+    }
 }

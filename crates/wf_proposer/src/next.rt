@@ -9,11 +9,24 @@ use wf_tape::Record;
 
 /// What a proposer answers: a record to store, messages to hand out once it is stored, and the working
 /// part to come.
-#[derive(Drop)]
 pub struct Next {
     entry: Option<Record>,
     messages: Vec<Message>,
     change: Change,
+}
+
+// By hand: a crate above proves one call where it drops an answer, and not each part of one anew.
+impl Drop for Next {
+    fn drop(self) {
+        let Next {
+            entry,
+            messages,
+            change,
+        } = self;
+        drop(entry);
+        drop(messages);
+        drop(change);
+    }
 }
 
 impl Model for Next {

@@ -3,11 +3,22 @@ use std::marker::Model;
 use wf_ballot::NodeId;
 
 /// The proposer of one node: at most one proposal, or how the last one ended.
-#[derive(Drop)]
 pub struct Proposer {
     pub(crate) node: NodeId,
     pub(crate) nodes: u8,
     pub(crate) working: Working,
+}
+
+// By hand: a crate above proves one call where it drops a proposer, and not each part of one anew.
+impl Drop for Proposer {
+    fn drop(self) {
+        let Proposer {
+            node: _,
+            nodes: _,
+            working,
+        } = self;
+        drop(working);
+    }
 }
 
 impl Model for Proposer {

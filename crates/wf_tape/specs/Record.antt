@@ -1,5 +1,5 @@
 -- A record as the farm's model has it, with definitions or with their canonical texts.
-use Rattle.std.specs.Prelude.{ℕ, ◌≤◌, List, length}
+use Rattle.std.specs.Prelude.{ℕ, ◌≤◌, List, length, Option, Some, None, IsSome}
 use Rattle.wf_ballot.specs.Slot.{IsSlot}
 use Rattle.wf_ballot.specs.Round.{IsRound}
 use Rattle.wf_ballot.specs.Ballot.{IsBallot}
@@ -24,6 +24,17 @@ texts (model.Tried round) = model.Tried round
 texts (model.Promised s b) = model.Promised s b
 texts (model.Accepted s b d) = model.Accepted s b (canon d)
 texts (model.Published s d) = model.Published s (canon d)
+
+-- the definition that a record holds, or its text: that of a vote, and a published one
+abbrev pub definition_of : {V : Type 0} → model.Record V → Option V
+definition_of (model.Tried round) = None
+definition_of (model.Promised s b) = None
+definition_of (model.Accepted s b d) = Some d
+definition_of (model.Published s d) = Some d
+
+-- the record holds a definition
+abbrev pub HasDefinition : {V : Type 0} → model.Record V → Type 0
+HasDefinition r = IsSome (definition_of r)
 
 -- a map whose canonical text has at most 32,768 bytes
 pub record HasText (d : Definition) : Type 0 where

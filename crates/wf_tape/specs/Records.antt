@@ -25,6 +25,14 @@ pub record Reads (bytes : List ℕ) (records : List (Record Definition)) (rest :
 abbrev pub ReadsAs : List ℕ → List (Record Definition) → Type 0
 ReadsAs bytes records = (rest : List ℕ) × Reads bytes records rest
 
+-- no bytes are read as no record
+abbrev pub IsReadAsNone : Type 0
+IsReadAsNone = (records : List (Record Definition)) → ReadsAs [] records → records ≡ []
+
+-- bytes are read as one list of records at most
+abbrev pub AreReadOneWay : Type 0
+AreReadOneWay = (bytes : List ℕ) (records others : List (Record Definition)) → ReadsAs bytes records → ReadsAs bytes others → records ≡ others
+
 -- the bytes are the spellings of the records, and nothing else
 abbrev pub AreRecords : List ℕ → List (Record Definition) → Type 0
 AreRecords bytes records = Splits bytes records []

@@ -74,23 +74,21 @@ impl<R: Files + Drop> FileTape<R> {
     }
 }
 
+/// How a file is opened to read and to write, and made where it is absent.
+fn to_read_and_write() -> OpenOptions {
+    let mut options = OpenOptions::new();
+    options.read(true).write(true).create(true);
+    options
+}
+
 /// Opens the file at the path to read and to write, and makes it where it is absent.
 fn open_file<R: Files>(files: &R, path: &str) -> io::Result<R::File> {
-    OpenOptions::new()
-        .read(true)
-        .write(true)
-        .create(true)
-        .open(files, path)
+    to_read_and_write().open(files, path)
 }
 
 /// Writes the bytes to a new file, or to one that is left over and cut to nothing first, and syncs it.
 fn write_new<R: Files>(files: &R, path: &str, bytes: &[u8]) -> io::Result<R::File> {
-    let mut file = OpenOptions::new()
-        .read(true)
-        .write(true)
-        .create(true)
-        .truncate(true)
-        .open(files, path)?;
+    let mut file = to_read_and_write().truncate(true).open(files, path)?;
     file.write_all(bytes)?;
     file.sync_all()?;
     Ok(file)

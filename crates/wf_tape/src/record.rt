@@ -1,4 +1,4 @@
-ghost use Rattle.std.specs.Prelude.{◌≡◌, IfOk};
+ghost use Rattle.std.specs.Prelude.{◌≡◌, IfOk, OnErr};
 
 use std::alloc::AllocError;
 use wf_ballot::{Ballot, Round, Slot};
@@ -18,9 +18,12 @@ pub enum Record {
 }
 
 impl Record {
-    /// An equal record; an error where a growth was refused.
+    ghost use Rattle.wf_tape.specs.Record.{view, HasDefinition};
+
+    /// An equal record. The one error is want of memory, for a record that holds a definition.
     pub fn copy(&self) -> Result<Record, AllocError>
-        ensures { IfOk result (λ r. r ≡ self.now) }
+        ensures copy { IfOk result (λ r. r ≡ self.now) }
+        ensures memory { OnErr result (HasDefinition (view self.now)) }
     {
         Ok(match self {
             Record::Tried(round) => Record::Tried(*round),

@@ -1,7 +1,7 @@
 //! Why a request is refused.
 
 /// The parameters that an exception can name.
-#[derive(Clone, Copy, Debug, PartialEq, Eq)]
+#[derive(Clone, Copy, PartialEq, Eq)]
 pub enum Parameter {
     Request,
     Service,
@@ -19,7 +19,7 @@ pub enum Parameter {
 }
 
 /// A service exception (OGC 06-042, 6.11 and table E.1). The numbers are the product's own.
-#[derive(Clone, Copy, Debug, PartialEq, Eq)]
+#[derive(Clone, Copy, PartialEq, Eq)]
 pub enum Exception {
     /// E1: a parameter that the request needs is absent.
     MissingParameter(Parameter),

@@ -1,7 +1,7 @@
 use crate::exception::Exception;
 
 /// What an answer is.
-#[derive(Clone, Copy, Debug, PartialEq, Eq)]
+#[derive(Clone, Copy, PartialEq, Eq)]
 pub enum Kind {
     /// The service metadata.
     Capabilities,
