@@ -1,0 +1,57 @@
+-- The boxes of labels, in pixels.
+use Rattle.std.specs.Prelude.{ℕ, ◌*◌, ◌^◌, ◌≤◌, ◌&&◌, Bool, not, List, length, ℤ, pos, nat_abs}
+use Rattle.std.specs.Str.{chars}
+use Rattle.wf_paint.specs.Exact.{plus, difference, is_less}
+use Rattle.wf_paint.specs.View.{ViewValue}
+use Rattle.wf_label.specs.Placed.{PlacedValue}
+use Rattle.wf_label.specs.declared.frame.Frame.{Frame}
+
+-- how wide a text is: each character has a cell 4 bits wide
+unfoldable pub text_width : ℕ → List ℕ → ℕ
+text_width scale text = 4 * scale * length (chars text)
+
+-- how high it is: a cell is 6 bits high
+unfoldable pub text_height : ℕ → ℕ
+text_height scale = 6 * scale
+
+-- the box of a label
+unfoldable pub frame_of : PlacedValue → Frame
+frame_of p = record {
+  left = p.left;
+  right = plus p.left (pos (text_width p.scale p.text));
+  bottom = p.bottom;
+  top = plus p.bottom (pos (text_height p.scale));
+}
+
+-- the box with so many pixels more on each side
+unfoldable pub widened : ℕ → Frame → Frame
+widened by f = record {
+  left = difference f.left (pos by);
+  right = plus f.right (pos by);
+  bottom = difference f.bottom (pos by);
+  top = plus f.top (pos by);
+}
+
+-- on one axis, what goes from `a` to before `b` and what goes from `c` to before `d` have a pixel in common
+unfoldable pub spans_overlap : ℤ → ℤ → ℤ → ℤ → Bool
+spans_overlap a b c d = is_less a d && is_less c b
+
+-- the boxes have a pixel in common: on both axes each begins before the other ends
+unfoldable pub overlap : Frame → Frame → Bool
+overlap a b = spans_overlap a.left a.right b.left b.right && spans_overlap a.bottom a.top b.bottom b.top
+
+-- the box lies whole in the view
+unfoldable pub is_whole_in : ViewValue → Frame → Bool
+is_whole_in view f = not (is_less f.left (pos 0)) && not (is_less (pos view.width) f.right)
+    && not (is_less f.bottom (pos 0)) && not (is_less (pos view.height) f.top)
+
+-- the box widened by the label's buffer has a pixel in common with the other's box
+unfoldable pub meets : PlacedValue → PlacedValue → Bool
+meets label other = overlap (widened label.buffer (frame_of label)) (frame_of other)
+
+-- how far from 0 the sides of a box lie, so that no sum of them overflows
+pub record IsFrame (f : Frame) : Type 0 where
+  pub left : nat_abs f.left ≤ 2 ^ 100
+  pub right : nat_abs f.right ≤ 2 ^ 100
+  pub bottom : nat_abs f.bottom ≤ 2 ^ 100
+  pub top : nat_abs f.top ≤ 2 ^ 100

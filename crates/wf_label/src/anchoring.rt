@@ -1,0 +1,129 @@
+//! Where a feature's label is anchored.
+ghost use Rattle.std.specs.Prelude.{◌≡◌, IfSome};
+ghost use Rattle.std.specs.Int.{int_max, int_min};
+ghost use Rattle.wf_paint.specs.Near.{IsNear};
+ghost use Rattle.wf_label.specs.Anchor.{IsAnchor, IsBounds, anchor_of, part_anchor, bounds_of, middle_of, middle, pixel_of};
+
+use crate::anchor::Anchor;
+use crate::bounds::Bounds;
+use wf_def::feature::Part;
+use wf_def::point::Point;
+use wf_paint::place::Place;
+use wf_paint::view::View;
+
+/// The pixel in the middle of the box around the points of the first part, as the view shows them; none where there is no point.
+pub(crate) fn anchor_of(view: &View, parts: &[Part]) -> Option<Anchor>
+    ensures value { result ≡ anchor_of view.now parts.now }
+    ensures within { IfSome result IsAnchor }
+{
+    match parts {
+        [first, ..] => part_anchor(view, first.as_slice()),
+        [] => None,
+    }
+}
+
+/// That of one part.
+fn part_anchor(view: &View, points: &[Point]) -> Option<Anchor>
+    ensures value { result ≡ part_anchor view.now points.now }
+    ensures within { IfSome result IsAnchor }
+{
+    match points {
+        [first, rest @ ..] => Some(middle_of(bounds_of(view, first, rest))),
+        [] => None,
+    }
+}
+
+/// The box around the points, as the view shows them.
+fn bounds_of(view: &View, first: &Point, rest: &[Point]) -> Bounds
+    ensures value { result ≡ bounds_of view.now first.now rest.now }
+    ensures within { IsBounds result }
+{
+    let mut bounds = about(view.place(first));
+    for point in rest {
+        bounds = widened(bounds, view.place(point));
+    }
+    bounds
+}
+
+/// The box around one place.
+fn about(place: Place) -> Bounds
+    ensures value { result ≡ record { left = place.x; right = place.x; bottom = place.y; top = place.y } }
+    ensures within { IsBounds result }
+{
+    Bounds {
+        left: place.x(),
+        right: place.x(),
+        bottom: place.y(),
+        top: place.y(),
+    }
+}
+
+/// The box around that one and one more place.
+fn widened(bounds: Bounds, place: Place) -> Bounds
+    requires { IsBounds bounds }
+    ensures left { result.left ≡ int_min bounds.left place.x }
+    ensures right { result.right ≡ int_max bounds.right place.x }
+    ensures bottom { result.bottom ≡ int_min bounds.bottom place.y }
+    ensures top { result.top ≡ int_max bounds.top place.y }
+    ensures within { IsBounds result }
+{
+    Bounds {
+        left: lesser(bounds.left, place.x()),
+        right: greater(bounds.right, place.x()),
+        bottom: lesser(bounds.bottom, place.y()),
+        top: greater(bounds.top, place.y()),
+    }
+}
+
+/// The lesser of two places on an axis.
+fn lesser(a: i64, b: i64) -> i64
+    requires a { IsNear a }
+    requires b { IsNear b }
+    ensures value { result ≡ int_min a b }
+    ensures within { IsNear result }
+{
+    a.min(b)
+}
+
+/// The greater of two places on an axis.
+fn greater(a: i64, b: i64) -> i64
+    requires a { IsNear a }
+    requires b { IsNear b }
+    ensures value { result ≡ int_max a b }
+    ensures within { IsNear result }
+{
+    a.max(b)
+}
+
+/// The pixel in the middle of a box.
+fn middle_of(bounds: Bounds) -> Anchor
+    requires { IsBounds bounds }
+    ensures value { result ≡ middle_of bounds }
+    ensures within { IsAnchor result }
+{
+    Anchor {
+        column: pixel_of(middle(bounds.left, bounds.right)),
+        row: pixel_of(middle(bounds.bottom, bounds.top)),
+    }
+}
+
+/// Halfway between two places on an axis, rounded down.
+#[tactic(auto, unfolding(crate::specs::Anchor::middle, wf_paint::specs::Exact::plus, wf_paint::specs::Exact::quotient))]
+fn middle(low: i64, high: i64) -> i64
+    requires low { IsNear low }
+    requires high { IsNear high }
+    ensures value { result ≡ middle low high }
+    ensures within { IsNear result }
+{
+    (low + high).div_euclid(2)
+}
+
+/// Which pixel a place on one axis is in: 16 sixteenths are one.
+#[tactic(auto, unfolding(crate::specs::Anchor::pixel_of, wf_paint::specs::Exact::quotient))]
+fn pixel_of(place: i64) -> i64
+    requires { IsNear place }
+    ensures value { result ≡ pixel_of place }
+    ensures within { IsNear result }
+{
+    place.div_euclid(16)
+}

@@ -1,0 +1,10 @@
+//! Boxes of pixels.
+
+/// A box of pixels: the columns from `left` to before `right`, the rows from `bottom` to before `top`. It may lie beside the view.
+#[derive(Clone, Copy, PartialEq, Eq)]
+pub struct Frame {
+    pub left: i128,
+    pub right: i128,
+    pub bottom: i128,
+    pub top: i128,
+}

@@ -1,0 +1,96 @@
+//! Boxes of labels: whether they lie in the view, and whether they have a pixel in common.
+ghost use Rattle.std.specs.Prelude.{◌≡◌, ◌≤◌, ◌+◌, ◌^◌, pos, nat_abs};
+ghost use Rattle.wf_paint.specs.Exact.{plus, difference, is_less};
+ghost use Rattle.wf_label.specs.Frame.{IsFrame, frame_of, is_whole_in, overlap, spans_overlap, widened};
+ghost use Rattle.wf_label.specs.Placed.{placed_value};
+
+use crate::frame::Frame;
+use crate::placed::Placed;
+use crate::text::{text_height, text_width};
+use wf_paint::view::View;
+
+/// The box of a label.
+#[tactic(auto, unfolding(crate::specs::Frame::frame_of))]
+pub(crate) fn frame_of(label: &Placed) -> Frame
+    ensures value { result ≡ frame_of (placed_value label.now) }
+    ensures within { IsFrame result }
+{
+    let left = i128::from(label.left);
+    let bottom = i128::from(label.bottom);
+    Frame {
+        left,
+        right: plus(left, text_width(label.scale, label.text)),
+        bottom,
+        top: plus(bottom, u128::from(text_height(label.scale))),
+    }
+}
+
+/// A side moved by so many pixels to the right or upward.
+#[tactic(auto, unfolding(wf_paint::specs::Exact::plus))]
+fn plus(side: i128, by: u128) -> i128
+    requires side { nat_abs side ≤ 2 ^ 100 }
+    requires by { by ≤ 2 ^ 80 }
+    ensures value { result ≡ plus side (pos by) }
+    ensures within { nat_abs result ≤ nat_abs side + by }
+{
+    side + by as i128
+}
+
+/// A side moved by so many pixels to the left or downward.
+#[tactic(auto, unfolding(wf_paint::specs::Exact::difference))]
+fn minus(side: i128, by: u8) -> i128
+    requires { nat_abs side ≤ 2 ^ 100 }
+    ensures { result ≡ difference side (pos by) }
+{
+    side - i128::from(by)
+}
+
+/// The box with so many pixels more on each side.
+#[tactic(auto, unfolding(crate::specs::Frame::widened))]
+pub(crate) fn widened(by: u8, frame: &Frame) -> Frame
+    requires { IsFrame frame.now }
+    ensures { result ≡ widened by frame.now }
+{
+    Frame {
+        left: minus(frame.left, by),
+        right: plus(frame.right, u128::from(by)),
+        bottom: minus(frame.bottom, by),
+        top: plus(frame.top, u128::from(by)),
+    }
+}
+
+/// Whether the boxes have a pixel in common.
+#[tactic(auto, unfolding(crate::specs::Frame::overlap))]
+pub(crate) fn overlap(first: &Frame, second: &Frame) -> bool
+    ensures { result ≡ overlap first.now second.now }
+{
+    spans_overlap(first.left, first.right, second.left, second.right)
+        && spans_overlap(first.bottom, first.top, second.bottom, second.top)
+}
+
+/// Whether, on one axis, what goes from `a` to before `b` and what goes from `c` to before `d` have a pixel in common.
+#[tactic(auto, unfolding(crate::specs::Frame::spans_overlap))]
+fn spans_overlap(a: i128, b: i128, c: i128, d: i128) -> bool
+    ensures { result ≡ spans_overlap a b c d }
+{
+    is_less(a, d) && is_less(c, b)
+}
+
+/// Whether the box lies whole in the view.
+#[tactic(auto, unfolding(crate::specs::Frame::is_whole_in))]
+pub(crate) fn is_whole_in(view: &View, frame: &Frame) -> bool
+    ensures { result ≡ is_whole_in view.now frame.now }
+{
+    !is_less(frame.left, 0)
+        && !is_less(i128::from(view.width()), frame.right)
+        && !is_less(frame.bottom, 0)
+        && !is_less(i128::from(view.height()), frame.top)
+}
+
+/// Whether one side lies before another.
+#[tactic(auto, unfolding(wf_paint::specs::Exact::is_less))]
+fn is_less(a: i128, b: i128) -> bool
+    ensures { result ≡ is_less a b }
+{
+    a < b
+}

@@ -1,0 +1,24 @@
+//! Labels that have a place in a view.
+
+use wf_def::choice::LabelSize;
+use wf_def::color::Color;
+
+/// A label with its place in a view. Columns of pixels count from the left of the view, rows from its bottom; the box of a label that
+/// isn't placed may lie beside the view.
+#[derive(Clone, Copy)]
+pub struct Placed<'a> {
+    /// The first column of the box.
+    pub left: i64,
+    /// The first row of the box.
+    pub bottom: i64,
+    /// How many pixels wide and high each bit of a letter is: from 1 for tiny letters to 5 for giant ones.
+    pub scale: LabelSize,
+    /// How many pixels around the box are to be free of labels placed before.
+    pub buffer: u8,
+    /// Whether the label is placed even where another stands.
+    pub force: bool,
+    /// The colour of the letters.
+    pub color: Color,
+    /// What the label says.
+    pub text: &'a str,
+}
