@@ -1,5 +1,4 @@
 mod Judged
-mod Known
 mod Named
 mod Outcome
 mod PlainWords

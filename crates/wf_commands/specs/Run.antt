@@ -9,7 +9,7 @@ use Rattle.wf_canon.specs.Canon.{canon}
 use Rattle.wf_canon.specs.Refusal.{IsCauseOf}
 use Rattle.wf_canon.specs.declared.fault.CanonFault.{CanonFault}
 use Rattle.wf_wms.specs.Answer.{description}
-use Rattle.wf_commands.specs.Reading.{AppendsPart, Rises}
+use Rattle.wf_edge.specs.Reading.{AppendsPart, Rises}
 use Rattle.wf_commands.specs.declared.line.Line.{Line}
 use Rattle.wf_commands.specs.declared.line.Line.TheVariants as lines
 use Rattle.wf_commands.specs.declared.fault.RunFault.{RunFault}

@@ -143,8 +143,10 @@ pub fn line<'a, S: AsStr>(alloc: Global, words: &'a [S]) -> Result<Line<'a>, Err
     ensures refused { IfErr result (λ error. IsWhyRefused (map S.text words.entry.now) (kind_of error)) }
 {
     let matches = command(alloc)?.try_get_matches_from(words)?;
+    let asked = asked(&matches);
+    drop(matches);
     // The command line's parser has made sure of a line; its promise ends at a subcommand's door.
-    match asked(&matches) {
+    match asked {
         Some(line) => Ok(line),
         None => Err(refusal(alloc)?),
     }

@@ -22,4 +22,5 @@ pub mod fault;
 pub mod line;
 pub mod program;
 pub mod run;
-pub mod stream;
+
+pub use wf_edge::stream;

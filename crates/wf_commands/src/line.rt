@@ -1,7 +1,7 @@
 //! What the program can be asked for.
 
 /// What a command line asks for.
-#[derive(Clone, Copy, Debug, PartialEq, Eq)]
+#[derive(Clone, Copy)]
 pub enum Line<'a> {
     /// Answer a request about the mapfile on standard input, at an update sequence.
     Caps { seq: u16, query: &'a str },

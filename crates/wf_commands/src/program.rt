@@ -100,10 +100,20 @@ pub fn program<R: Env + Input + Print + Eprint + AllocGlobal>(rt: &R) -> ExitCod
 {
     let words = match words(rt) {
         Ok(words) => words,
-        Err(error) => return unreadable(rt, &error),
+        Err(error) => {
+            let code = unreadable(rt, &error);
+            drop(error);
+            return code;
+        }
     };
-    match line(rt.alloc(), &words) {
+    let code = match line(rt.alloc(), &words) {
         Ok(line) => status(rt, run(rt, line)),
-        Err(error) => refusal(rt, &error),
-    }
+        Err(error) => {
+            let code = refusal(rt, &error);
+            drop(error);
+            code
+        }
+    };
+    drop(words);
+    code
 }

@@ -7,7 +7,7 @@ ghost use Rattle.wf_canon.specs.Refusal.{IsCauseOf};
 ghost use Rattle.wf_wms.specs.Answer.{description};
 ghost use Rattle.wf_ballot.specs.Sequence.{last_sequence};
 ghost use Rattle.wf_commands.specs.Line.{IsInRange};
-ghost use Rattle.wf_commands.specs.Reading.{TakesUpTo};
+ghost use Rattle.wf_edge.specs.Reading.{TakesUpTo};
 ghost use Rattle.wf_commands.specs.Run.{most_input_bytes, judged, output, IsRefused, IsInputFault, IsMapFault, IsReadingFault, IsWriting, IsOutcome, CountsReads, CountsWrites};
 
 use crate::fault::RunFault;
@@ -69,7 +69,9 @@ fn map<S: Source>(alloc: Global, source: &mut S) -> Result<MapDef, RunFault>
     ensures reads { CountsReads result (S.failures source.old) (S.failures source.new) }
 {
     let bytes = input(alloc, source)?;
-    match map_of(alloc, &bytes) {
+    let map = map_of(alloc, &bytes);
+    drop(bytes);
+    match map {
         Ok(map) => Ok(map),
         Err(fault) => Err(fault),
     }
@@ -109,7 +111,11 @@ fn write_canonical<K: Sink>(alloc: Global, map: &MapDef, sink: &mut K) -> Result
     ensures writes { CountsWrites result (K.failures sink.old) (K.failures sink.new) }
 {
     match Canon::of(alloc, map) {
-        Ok(canon) => write(sink, canon.text()),
+        Ok(canon) => {
+            let outcome = write(sink, canon.text());
+            drop(canon);
+            outcome
+        }
         Err(fault) => Err(RunFault::Canon(fault)),
     }
 }
@@ -132,7 +138,11 @@ pub fn run_caps<S: Source, K: Sink>(
     ensures writes { CountsWrites result (K.failures sink.old) (K.failures sink.new) }
 {
     match map(alloc, source) {
-        Ok(map) => write_answer(alloc, &map, sink, seq, query),
+        Ok(map) => {
+            let outcome = write_answer(alloc, &map, sink, seq, query);
+            drop(map);
+            outcome
+        }
         Err(fault) => Err(fault),
     }
 }
@@ -151,7 +161,11 @@ pub fn run_canon<S: Source, K: Sink>(
     ensures writes { CountsWrites result (K.failures sink.old) (K.failures sink.new) }
 {
     match map(alloc, source) {
-        Ok(map) => write_canonical(alloc, &map, sink),
+        Ok(map) => {
+            let outcome = write_canonical(alloc, &map, sink);
+            drop(map);
+            outcome
+        }
         Err(fault) => Err(fault),
     }
 }

@@ -7,6 +7,6 @@ returns-in-Ok-clause-ok g c = (
   c.in-Ok.ensures.ok.1,
 )
 
-pub returns-clause-err : goal.returns-clause-err
-returns-clause-err g c =
+pub returns-in-Err-clause-err : goal.returns-in-Err-clause-err
+returns-in-Err-clause-err g c =
     fault_known _ c.in_ok-bytes.bytes.items c.in-Err.fault c.in_ok-bytes.ensures.first (rw c.deref.ensures.value at c.in-Err.ensures.err)

@@ -1,0 +1,112 @@
+-- From what the parser of heads answers to the head of an input.
+use Rattle.std.proofs.Common.{◌≡◌, ◌≢◌, ◌∙◌, ◌+◌, ◌≤◌, ◌<◌, ℕ, List, [], ◌∷◌, ◌++◌, length, take, drop, min, refl, sym, ap, subst, arith}
+use Rattle.std.specs.Prelude.{Option, Some, None, IfSome}
+use Rattle.std.specs.Io.KnownBytes.{Consumes, IsAtEnd}
+use Rattle.std.proofs.lemmas.List.{append-nil, take_at, take-append-drop, take-append-le, length-append, length-map, length-take, take_min}
+use Rattle.httparse.specs.Grammar.{RequestHead, ReadsRequest, HasNoRequest, print_request}
+use Rattle.httparse.specs.Spans.{IsRequestOf, RequestOverflows, name_and_value, header_bytes}
+use Rattle.httparse.specs.declared.spans.HeaderSpan.{HeaderSpan}
+use Rattle.httparse.specs.declared.spans.RequestSpans.{RequestSpans}
+use Rattle.wf_edge.specs.Head.{Head, Begins, HasNoSmallRequest}
+use Rattle.wf_edge.specs.Reading.{ReadsPiece}
+use Rattle.wf_edge.specs.Request.{front_of, IsHeadRefusal, IsHeadFault, IsUnfinished}
+use Rattle.wf_edge.specs.declared.refusal.Refusal.{Refusal}
+use Rattle.wf_edge.specs.declared.refusal.Refusal.TheVariants as refusal
+use Rattle.wf_edge.specs.declared.fault.RequestFault.{RequestFault}
+use Rattle.wf_edge.specs.declared.fault.RequestFault.TheVariants as fault
+use Rattle.wf_edge.proofs.Known.{consumes_more}
+
+-- ---- what the parser answers
+
+abbrev made : List ℕ → List ℕ → List (List ℕ × List ℕ) → Head
+made m t fs = record { method = m; target = t; fields = fs }
+
+pub same_head : (m n t u : List ℕ) (fs gs : List (List ℕ × List ℕ)) → m ≡ n → t ≡ u → fs ≡ gs → made m t fs ≡ made n u gs
+same_head m n t u fs gs same_method same_target same_fields = rw (same_method, same_target, same_fields) refl
+
+-- a head that the parser found in so many bytes, with so much room for fields, is within the limits
+pub small : (bytes : List ℕ) (fields : List HeaderSpan) (spans : RequestSpans) → length bytes ≤ 8192 → length fields ≡ 32
+    → IsRequestOf bytes fields spans → Begins bytes (front_of bytes fields spans).head (front_of bytes fields spans).behind
+small bytes fields spans short room (h, at) = record {
+  printed = h;
+  reads = at.reads;
+  small = record {
+    bytes = let size : length bytes ≡ length (print_request h) + length (drop spans.len bytes) =
+        ap length at.reads.1 ∙ length-append (print_request h) (drop spans.len bytes) in omega arith;
+    fields = let count : length (take spans.headers fields) ≡ length h.fields =
+        sym (length-map (take spans.headers fields) (header_bytes bytes)) ∙ ap length at.fields ∙ length-map h.fields name_and_value in
+        let most : length (take spans.headers fields) ≡ min spans.headers (length fields) = length-take spans.headers fields in
+        omega arith;
+  };
+  says = same_head _ _ _ _ _ _ at.method at.path at.fields;
+}
+
+-- a head with too many fields isn't within the limits, whatever bytes follow
+pub overflows : (bytes : List ℕ) → RequestOverflows 32 bytes → (more : List ℕ) → HasNoSmallRequest (bytes ++ more)
+overflows bytes over more h rest reads within = let many = over more h rest reads in let few = within.fields in absurd (omega arith)
+
+-- ---- the input that was read from
+
+-- what was read is the input's beginning
+input_is : (start left : Option (List ℕ)) (bytes : List ℕ) (P : List ℕ → Type 0) → Consumes start left bytes → ((more : List ℕ) → P (bytes ++ more)) → IfSome start P
+input_is None left bytes P taken all = tt
+input_is (Some input) None bytes P taken all = absurd taken
+input_is (Some input) (Some more) bytes P taken all = subst P (sym taken) (all more)
+
+-- at its end what was read is the input
+pub at_end : (start left : Option (List ℕ)) (bytes : List ℕ) (P : List ℕ → Type 0) → Consumes start left bytes → IsAtEnd left → P bytes → IfSome start P
+at_end None left bytes P taken end here = tt
+at_end (Some input) None bytes P taken end here = absurd taken
+at_end (Some input) (Some more) bytes P taken end here =
+    let is : input ≡ bytes = taken ∙ ap (λ rest. bytes ++ rest) end ∙ append-nil bytes in subst P (sym is) here
+
+not_empty : (bytes more : List ℕ) → 0 < length bytes → bytes ++ more ≢ []
+not_empty bytes more some is = let size : length bytes + length more ≡ 0 = sym (length-append bytes more) ∙ ap length is in absurd (omega arith)
+
+-- nothing was read
+pub nothing_more : (old new : Option (List ℕ)) (before after : List ℕ) → ReadsPiece 0 old new before after → after ≡ before
+nothing_more old new before after (piece, size, taken, is) = is ∙ ap (λ xs. before ++ xs) (none piece size) ∙ append-nil before
+  where
+    none : (xs : List ℕ) → length xs ≡ 0 → xs ≡ []
+    none [] e = refl
+    none (x ∷ xs) e = absurd (omega arith)
+
+-- the input ended
+pub fault_at_end : (start old new : Option (List ℕ)) (before after : List ℕ) (why : RequestFault) → Consumes start old before
+    → ReadsPiece 0 old new before after → IsAtEnd new → IsHeadFault after why → IfSome start (λ input. IsHeadFault input why)
+fault_at_end start old new before after why first (piece, size, second, is) end here =
+    at_end start new after (λ input. IsHeadFault input why) (rw is (consumes_more start old new before piece first second)) end here
+
+-- the head was refused, whatever bytes follow
+pub fault_of_refusal : (start old new : Option (List ℕ)) (before after : List ℕ) (count : ℕ) (r : Refusal) → Consumes start old before
+    → ReadsPiece count old new before after → 0 < count → ((more : List ℕ) → IsHeadRefusal (after ++ more) r)
+    → IfSome start (λ input. IsHeadFault input (fault.Refused r))
+fault_of_refusal start old new before after count r first (piece, size, second, is) some refused =
+    let long : 0 < length after = rw (is, length-append before piece) (omega arith) in
+    input_is start new after (λ input. IsHeadFault input (fault.Refused r)) (rw is (consumes_more start old new before piece first second))
+    (λ more. (not_empty after more long, refused more))
+
+-- a head in the bytes and those that follow, no longer than the bytes, is a head in the bytes
+shorter : (bytes more : List ℕ) (h : RequestHead) (rest : List ℕ) → ReadsRequest (bytes ++ more) h rest → length (print_request h) ≤ length bytes
+    → ReadsRequest bytes h (drop (length (print_request h)) bytes)
+shorter bytes more h rest reads short =
+    let size = length (print_request h) in
+    let front : take size bytes ≡ print_request h =
+    sym (take-append-le size bytes more short) ∙ ap (take size) reads.1 ∙ take_at (print_request h) rest size refl in
+    (reads.0, sym (take-append-drop size bytes) ∙ ap (λ xs. xs ++ drop size bytes) front)
+
+-- the limit was read, and no head is whole
+pub fault_at_limit : (start left : Option (List ℕ)) (bytes : List ℕ) → Consumes start left bytes → length bytes ≡ 8192 → IsUnfinished bytes
+    → IfSome start (λ input. IsHeadFault input (fault.Refused refusal.HeadTooLarge))
+fault_at_limit start left bytes taken full unfinished =
+    let none : HasNoRequest bytes = unfinished (omega arith) in
+    input_is start left bytes (λ input. IsHeadFault input (fault.Refused refusal.HeadTooLarge)) taken
+    (λ more. (
+      not_empty bytes more (omega arith),
+      λ h rest reads within.
+          let size = within.bytes in none h _ (shorter bytes more h rest reads (omega arith)),
+    ))
+
+-- more than all isn't taken
+pub taken_within : (spans : List HeaderSpan) (count : ℕ) → take (min count (length spans)) spans ≡ take count spans
+taken_within spans count = take_min count spans

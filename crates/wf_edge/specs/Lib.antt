@@ -1,0 +1,9 @@
+pub mod Checks
+pub mod Fields
+pub mod Head
+pub mod Memory
+pub mod Reading
+pub mod Request
+pub mod Response
+pub mod Stream
+pub mod Target

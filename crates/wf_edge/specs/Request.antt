@@ -1,0 +1,136 @@
+-- What is read of a request, and why none is.
+use Rattle.std.specs.Prelude.{◌≡◌, ◌≢◌, ◌≤◌, ◌<◌, ◌++◌, ℕ, List, [], length, map, take, drop, Option, Result, Ok, Err}
+use Rattle.std.specs.Io.KnownBytes.{Consumes}
+use Rattle.httparse.specs.Grammar.{HasNoRequest}
+use Rattle.httparse.specs.Spans.{span_bytes, header_bytes}
+use Rattle.httparse.specs.declared.spans.HeaderSpan.{HeaderSpan}
+use Rattle.httparse.specs.declared.spans.RequestSpans.{RequestSpans}
+use Rattle.wf_edge.specs.Reading.{Rises}
+use Rattle.wf_edge.specs.Head.{Head, Begins, HasNoSmallRequest}
+use Rattle.wf_edge.specs.Checks.{judged}
+use Rattle.wf_edge.specs.declared.refusal.Refusal.{Refusal}
+use Rattle.wf_edge.specs.declared.refusal.Refusal.TheVariants as refusal
+use Rattle.wf_edge.specs.declared.resource.Asked.{Asked}
+use Rattle.wf_edge.specs.declared.resource.Asked.TheVariants as asked
+use Rattle.wf_edge.specs.declared.fault.RequestFault.{RequestFault}
+use Rattle.wf_edge.specs.declared.fault.RequestFault.TheVariants as fault
+
+-- ---- the head
+
+-- a head, and the bytes that came behind it
+pub record Front : Type 0 where
+  pub head : Head
+  pub behind : List ℕ
+
+-- the front that spans cover
+abbrev pub front_of : List ℕ → List HeaderSpan → RequestSpans → Front
+front_of bytes fields spans = record {
+  head = record {
+    method = span_bytes bytes spans.method;
+    target = span_bytes bytes spans.path;
+    fields = map (header_bytes bytes) (take spans.headers fields);
+  };
+  behind = drop spans.len bytes;
+}
+
+-- the bytes that were read are that head and what came behind it
+abbrev pub TakesFront : Option (List ℕ) → Option (List ℕ) → Front → Type 0
+TakesFront old new front = (bytes : List ℕ) × Consumes old new bytes × Begins bytes front.head front.behind
+
+-- no head stands at the front of the bytes, where there are any
+abbrev pub IsUnfinished : List ℕ → Type 0
+IsUnfinished bytes = 0 < length bytes → HasNoRequest bytes
+
+-- some bytes were taken from the front of what is left, and put behind what was there
+abbrev pub TakesMore : Option (List ℕ) → Option (List ℕ) → List ℕ → List ℕ → Type 0
+TakesMore old new before after = (piece : List ℕ) × (0 < length piece) × Consumes old new piece × (after ≡ before ++ piece)
+
+-- why a head is refused: 400 where none stands at the front of the input, 431 where none within the limits does
+abbrev pub IsHeadRefusal : List ℕ → Refusal → Type 0
+IsHeadRefusal input refusal.BadRequest = HasNoRequest input
+IsHeadRefusal input refusal.HeadTooLarge = HasNoSmallRequest input
+IsHeadRefusal input refusal.NotFound = ⊥
+IsHeadRefusal input (refusal.MethodNotAllowed method) = ⊥
+IsHeadRefusal input refusal.LengthRequired = ⊥
+IsHeadRefusal input refusal.ContentTooLarge = ⊥
+IsHeadRefusal input refusal.NotImplemented = ⊥
+
+-- why no head is read: the input is empty, or its head is refused
+abbrev pub IsHeadFault : List ℕ → RequestFault → Type 0
+IsHeadFault input fault.NoRequest = input ≡ []
+IsHeadFault input (fault.Refused r) = (input ≢ []) × IsHeadRefusal input r
+IsHeadFault input fault.ReadFailed = Unit {0}
+IsHeadFault input fault.Memory = Unit {0}
+
+-- ---- the body
+
+-- how many bytes of body a request has, by what it asks for
+abbrev pub body_bytes : Asked → ℕ
+body_bytes asked.Wms = 0
+body_bytes asked.Status = 0
+body_bytes (asked.Publish bytes) = bytes
+
+-- the first bytes of what comes behind the head
+pub record IsBody (rest : List ℕ) (bytes : ℕ) (body : List ℕ) : Type 0 where
+  pub whole : bytes ≤ length rest
+  pub first : body ≡ take bytes rest
+
+-- why no body is read: it is cut short
+abbrev pub IsBodyFault : List ℕ → ℕ → RequestFault → Type 0
+IsBodyFault rest bytes (fault.Refused r) = (r ≡ refusal.BadRequest) × (length rest < bytes)
+IsBodyFault rest bytes fault.NoRequest = ⊥
+IsBodyFault rest bytes fault.ReadFailed = Unit {0}
+IsBodyFault rest bytes fault.Memory = Unit {0}
+
+-- ---- the request
+
+-- a request: its head, what that asks for, and its body
+pub record Request : Type 0 where
+  pub head : Head
+  pub asked : Asked
+  pub body : List ℕ
+
+-- the input begins with that request
+pub record BeginsWith (input : List ℕ) (request : Request) : Type 0 where
+  pub rest : List ℕ
+  pub head : Begins input request.head rest
+  pub asks : judged request.head ≡ Ok request.asked
+  pub body : IsBody rest (body_bytes request.asked) request.body
+
+-- a check on the head of the input fails
+pub record FailsCheck (input : List ℕ) (r : Refusal) : Type 0 where
+  pub head : Head
+  pub rest : List ℕ
+  pub begins : Begins input head rest
+  pub fails : judged head ≡ Err r
+
+-- the body of the input is cut short
+pub record EndsInBody (input : List ℕ) (r : Refusal) : Type 0 where
+  pub head : Head
+  pub rest : List ℕ
+  pub begins : Begins input head rest
+  pub asked : Asked
+  pub asks : judged head ≡ Ok asked
+  pub short : length rest < body_bytes asked
+  pub is : r ≡ refusal.BadRequest
+
+-- why an input is refused
+pub data IsRefused (input : List ℕ) (r : Refusal) : Type 0 where
+  by_head : input ≢ [] → IsHeadRefusal input r → IsRefused input r
+  by_check : FailsCheck input r → IsRefused input r
+  by_body : EndsInBody input r → IsRefused input r
+
+-- why there is no request
+abbrev pub IsRequestFault : List ℕ → RequestFault → Type 0
+IsRequestFault input fault.NoRequest = input ≡ []
+IsRequestFault input (fault.Refused r) = IsRefused input r
+IsRequestFault input fault.ReadFailed = Unit {0}
+IsRequestFault input fault.Memory = Unit {0}
+
+-- a failed read is told only where one has failed, and a run whose reads have failed ends with that fault or for want of memory
+abbrev pub CountsReads : {T : Type 0} → Result T RequestFault → ℕ → ℕ → Type 0
+CountsReads (Ok x) old new = new ≡ old
+CountsReads (Err fault.ReadFailed) old new = Rises old new
+CountsReads (Err fault.Memory) old new = Unit {0}
+CountsReads (Err fault.NoRequest) old new = new ≡ old
+CountsReads (Err (fault.Refused r)) old new = new ≡ old

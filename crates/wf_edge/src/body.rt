@@ -1,0 +1,46 @@
+//! The body of a request.
+ghost use Rattle.std.specs.Prelude.{◌≡◌, ◌++◌, IfOk, IfErr, IfSome};
+ghost use Rattle.wf_edge.specs.Request.{IsBody, IsBodyFault, CountsReads};
+
+use crate::fault::RequestFault;
+use crate::refusal::Refusal;
+use crate::stream::{Source, read_up_to};
+use std::alloc::{AllocError, Global};
+use std::io::ErrorKind;
+
+fn join(alloc: Global, front: &[u8], rest: &[u8]) -> Result<Vec<u8>, AllocError>
+    ensures { IfOk result (λ whole. whole.items ≡ front.now ++ rest.now) }
+{
+    let mut whole = Vec::from_slice(alloc, front)?;
+    whole.extend_from_slice(rest)?;
+    Ok(whole)
+}
+
+/// Reads a body of so many bytes, of which these came behind the head. A byte behind the body may be among them, and isn't looked at.
+#[tactic(auto, using(crate::proofs::BodyLaw::body_joined, crate::proofs::BodyLaw::body_cut))]
+pub fn read_body<S: Source>(
+    alloc: Global,
+    source: &mut S,
+    behind: &[u8],
+    length: usize,
+) -> Result<Vec<u8>, RequestFault>
+    ensures ok { IfOk result (λ body. IfSome (S.left source.old) (λ left. IsBody (behind.now ++ left) length body.items)) }
+    ensures err { IfErr result (λ fault. IfSome (S.left source.old) (λ left. IsBodyFault (behind.now ++ left) length fault)) }
+    ensures reads { CountsReads result (S.failures source.old) (S.failures source.new) }
+{
+    let front = behind.split_at(behind.len().min(length)).0;
+    let missing = length - front.len();
+    match read_up_to(alloc, source, missing) {
+        Ok(rest) => {
+            if rest.len() != missing {
+                return Err(RequestFault::Refused(Refusal::BadRequest));
+            }
+            match join(alloc, front, &rest) {
+                Ok(body) => Ok(body),
+                Err(_) => Err(RequestFault::Memory),
+            }
+        }
+        Err(error) if error.kind() == ErrorKind::OutOfMemory => Err(RequestFault::Memory),
+        Err(_) => Err(RequestFault::ReadFailed),
+    }
+}

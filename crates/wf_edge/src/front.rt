@@ -1,0 +1,171 @@
+//! The front of a request: its head, and what came behind it.
+ghost use Rattle.std.specs.Prelude.{◌≡◌, ◌≢◌, ◌≤◌, ◌<◌, ◌++◌, ℕ, List, Option, None, Ok, length, IfOk, IfErr, IfSome, OnOk};
+ghost use Rattle.std.specs.Io.KnownBytes.{Consumes};
+ghost use Rattle.httparse.specs.Grammar.{HasNoRequest};
+ghost use Rattle.wf_edge.specs.Head.{most_head_bytes, most_fields, Begins};
+ghost use Rattle.wf_edge.specs.Request.{front_of, TakesFront, TakesMore, IsUnfinished, IsHeadRefusal, IsHeadFault, CountsReads};
+ghost use Rattle.wf_edge.specs.Checks.{judged, most_body_bytes};
+ghost use Rattle.wf_edge.specs.declared.fault.RequestFault.TheVariants.{ReadFailed};
+
+use crate::check::{MOST_BODY_BYTES, judge};
+use crate::fault::RequestFault;
+use crate::fields::Fields;
+use crate::refusal::Refusal;
+use crate::resource::Asked;
+use crate::span::covered;
+use crate::stream::{Source, read_piece};
+use httparse::spans::{EMPTY_HEADER_SPAN, HeaderSpan, RequestSpans, parse_request};
+use httparse::{Error, Status};
+use std::alloc::Global;
+use std::io::ErrorKind;
+use std::marker::Model;
+
+/// How long a head may be, in bytes, with the empty lines before it.
+pub const MOST_HEAD_BYTES: usize = 8_192;
+
+/// How many fields a head may have.
+pub const MOST_FIELDS: usize = 32;
+
+/// The limits of the code are those of the definitions.
+pub fn limits_are_as_defined()
+    ensures bytes { MOST_HEAD_BYTES ≡ most_head_bytes }
+    ensures fields { MOST_FIELDS ≡ most_fields }
+    ensures body { MOST_BODY_BYTES ≡ most_body_bytes }
+{}
+
+// Where the parts of a head stand.
+#[derive(Clone, Copy)]
+struct Parts {
+    fields: [HeaderSpan; MOST_FIELDS],
+    spans: RequestSpans,
+}
+
+// The head at the front of the bytes, none where they may still become one.
+#[tactic(auto, using(crate::proofs::HeadLaw::small, crate::proofs::HeadLaw::overflows))]
+fn parse(bytes: &[u8]) -> Result<Option<Parts>, Refusal>
+    requires { length bytes.now ≤ most_head_bytes }
+    ensures found { IfOk result (λ found. IfSome found (λ parts.
+        Begins bytes.now (front_of bytes.now parts.fields parts.spans).head (front_of bytes.now parts.fields parts.spans).behind)) }
+    ensures none { result ≡ Ok None → HasNoRequest bytes.now }
+    // Whatever bytes follow.
+    ensures refused { IfErr result (λ refusal. (more : List ℕ) → IsHeadRefusal (bytes.now ++ more) refusal) }
+{
+    let mut fields = [EMPTY_HEADER_SPAN; MOST_FIELDS];
+    match parse_request(bytes, &mut fields) {
+        Ok(Status::Complete(spans)) => Ok(Some(Parts { fields, spans })),
+        Ok(Status::Partial) => Ok(None),
+        Err(Error::TooManyHeaders) => Err(Refusal::HeadTooLarge),
+        Err(_) => Err(Refusal::BadRequest),
+    }
+}
+
+// What it means that the input ends, and no head stands in it.
+fn ended(bytes: &[u8]) -> RequestFault
+    requires { IsUnfinished bytes.now }
+    ensures fault { IsHeadFault bytes.now result }
+    ensures calm { result ≢ ReadFailed }
+{
+    if bytes.is_empty() {
+        RequestFault::NoRequest
+    } else {
+        RequestFault::Refused(Refusal::BadRequest)
+    }
+}
+
+// Reads a further piece, and looks for a head in what has come.
+#[tactic(auto, using(crate::proofs::HeadLaw::fault_at_end, crate::proofs::HeadLaw::nothing_more, crate::proofs::Known::piece_length))]
+fn read_more<S: Source>(source: &mut S, bytes: &mut Vec<u8>) -> Result<Option<Parts>, RequestFault>
+    requires room { length bytes.old.items < most_head_bytes }
+    requires unfinished { IsUnfinished bytes.old.items }
+    ensures taken { OnOk result (TakesMore (S.left source.old) (S.left source.new) bytes.old.items bytes.new.items) }
+    ensures room { OnOk result (length bytes.new.items ≤ most_head_bytes) }
+    ensures found { IfOk result (λ found. IfSome found (λ parts.
+        Begins bytes.new.items (front_of bytes.new.items parts.fields parts.spans).head (front_of bytes.new.items parts.fields parts.spans).behind)) }
+    ensures none { result ≡ Ok None → HasNoRequest bytes.new.items }
+    ensures err { IfErr result (λ fault. (start : Option (List ℕ)) → Consumes start (S.left source.old) bytes.old.items
+        → IfSome start (λ input. IsHeadFault input fault)) }
+    ensures reads { CountsReads result (S.failures source.old) (S.failures source.new) }
+{
+    let room = MOST_HEAD_BYTES - bytes.len();
+    match read_piece(source, bytes, room) {
+        Ok(0) => Err(ended(bytes)),
+        Ok(_) => match parse(bytes) {
+            Ok(found) => Ok(found),
+            Err(refusal) => Err(RequestFault::Refused(refusal)),
+        },
+        Err(error) if error.kind() == ErrorKind::OutOfMemory => Err(RequestFault::Memory),
+        Err(_) => Err(RequestFault::ReadFailed),
+    }
+}
+
+/// A head that was read, and the bytes that came behind it.
+#[derive(Drop)]
+pub struct Front {
+    bytes: Vec<u8>,
+    parts: Parts,
+}
+
+impl Model for Front {
+    ghost use Rattle.wf_edge.specs.Request.{Front as FrontValue, front_of};
+
+    ghost Value = { FrontValue };
+
+    ghost view = { λ f. front_of f.bytes.items f.parts.fields f.parts.spans };
+}
+
+impl Front {
+    /// Reads from the front of the input until a head is whole. It takes memory for what it reads, at most 8,192 bytes, and calls the
+    /// reader at most that often, since each call gives a byte, the end or a failure.
+    #[tactic(auto, using(crate::proofs::HeadLaw::fault_at_limit))]
+    pub fn read<S: Source>(alloc: Global, source: &mut S) -> Result<Self, RequestFault>
+        ensures ok { IfOk result (TakesFront (S.left source.old) (S.left source.new)) }
+        ensures err { IfErr result (λ fault. IfSome (S.left source.old) (λ input. IsHeadFault input fault)) }
+        ensures reads { CountsReads result (S.failures source.old) (S.failures source.new) }
+    {
+        let mut bytes = Vec::new(alloc);
+        while bytes.len() < MOST_HEAD_BYTES {
+            match read_more(source, &mut bytes) {
+                Ok(Some(parts)) => return Ok(Front { bytes, parts }),
+                Ok(None) => {}
+                Err(fault) => return Err(fault),
+            }
+        }
+        Err(RequestFault::Refused(Refusal::HeadTooLarge))
+    }
+
+    /// The target of the request.
+    pub fn target(&self) -> &[u8]
+        ensures { result.now ≡ self.now.head.target }
+    {
+        covered(&self.bytes, self.parts.spans.path)
+    }
+
+    /// What came behind the head.
+    pub fn behind(&self) -> &[u8]
+        ensures { result.now ≡ self.now.behind }
+    {
+        let length = self.parts.spans.len.min(self.bytes.len());
+        self.bytes.split_at(length).1
+    }
+
+    fn method(&self) -> &[u8]
+        ensures { result.now ≡ self.now.head.method }
+    {
+        covered(&self.bytes, self.parts.spans.method)
+    }
+
+    #[tactic(auto, using(crate::proofs::HeadLaw::taken_within))]
+    fn fields(&self) -> Fields<'_>
+        ensures { result ≡ self.now.head.fields }
+    {
+        let count = self.parts.spans.headers.min(self.parts.fields.len());
+        Fields::new(&self.bytes, self.parts.fields.split_at(count).0)
+    }
+
+    /// What the head asks for, or the refusal of the first check that fails.
+    pub fn judge(&self) -> Result<Asked, Refusal>
+        ensures { result ≡ judged self.now.head }
+    {
+        judge(self.method(), self.target(), &self.fields())
+    }
+}

@@ -1,0 +1,28 @@
+//! Why a request is refused.
+
+/// The methods that a resource may have (RFC 9110, section 9.3).
+#[derive(Clone, Copy, PartialEq, Eq)]
+pub enum Allowed {
+    Get,
+    Post,
+}
+
+/// Why a request is refused, each with its status (RFC 9110, section 15; RFC 6585, section 5).
+#[derive(Clone, Copy, PartialEq, Eq)]
+pub enum Refusal {
+    /// 400: no head can be read or it isn't whole, the target doesn't begin with `/`, the body's length isn't one whole number, or
+    /// the body is cut short.
+    BadRequest,
+    /// 404: nothing stands at the path.
+    NotFound,
+    /// 405: what stands there has this method alone.
+    MethodNotAllowed(Allowed),
+    /// 411: the body's length isn't told.
+    LengthRequired,
+    /// 413: the body is longer than 65,536 bytes.
+    ContentTooLarge,
+    /// 431: the head is longer than 8,192 bytes or has more than 32 fields.
+    HeadTooLarge,
+    /// 501: the body has a transfer coding.
+    NotImplemented,
+}

@@ -1,0 +1,160 @@
+//! What is answered, and how it is written.
+ghost use Rattle.std.specs.Prelude.{◌≡◌, ◌≤◌, ◌++◌, ℕ, List, [], Option, length, take, IfOk, IfErr, OnOk, OnErr};
+ghost use Rattle.std.specs.Io.KnownBytes.{Appends};
+ghost use Rattle.wf_edge.specs.Reading.{Rises};
+ghost use Rattle.wf_edge.specs.Response.{reason, allow_line, head_bytes, response_bytes, IsCount, WritesPart, IsProgress, CountsProgress};
+
+use crate::refusal::Allowed;
+use crate::stream::Sink;
+use http::StatusCode;
+use itoa::Buffer;
+use std::marker::Model;
+
+/// A writer failed. This many bytes were written before.
+#[derive(Clone, Copy)]
+pub struct CutShort {
+    pub written: u64,
+}
+
+// Writes all the bytes, or fails after so many of them.
+fn write_piece<K: Sink>(sink: &mut K, bytes: &[u8]) -> Result<(), usize>
+    ensures whole { OnOk result (Appends (K.written sink.old) (K.written sink.new) bytes.now) }
+    ensures part { IfErr result (λ count. (count ≤ length bytes.now) × Appends (K.written sink.old) (K.written sink.new) (take count bytes.now)) }
+    ensures calm { OnOk result (K.failures sink.new ≡ K.failures sink.old) }
+    ensures cause { OnErr result (Rises (K.failures sink.old) (K.failures sink.new)) }
+{
+    let mut rest = bytes;
+    while !rest.is_empty() {
+        match sink.write(rest) {
+            Ok(count) => rest = rest.split_at(count).1,
+            Err(_) => return Err(bytes.len() - rest.len()),
+        }
+    }
+    Ok(())
+}
+
+// How far the writing of a response has come.
+#[derive(Drop)]
+struct Progress {
+    // how many bytes are written
+    written: u64,
+    // the writer has failed, and nothing more is written
+    failed: bool,
+}
+
+// Writes a further piece, unless the writer has failed.
+fn put<K: Sink>(sink: &mut K, progress: &mut Progress, piece: &[u8])
+    ensures written { (start : Option (List ℕ)) (bytes : List ℕ) → IsProgress start bytes (K.written sink.old) progress.old.written progress.old.failed
+        → IsProgress start (bytes ++ piece.now) (K.written sink.new) progress.new.written progress.new.failed }
+    ensures failures { (first : ℕ) → CountsProgress first (K.failures sink.old) progress.old.failed
+        → CountsProgress first (K.failures sink.new) progress.new.failed }
+{
+    if progress.failed {
+        return;
+    }
+    match write_piece(sink, piece) {
+        Ok(()) => progress.written = progress.written.saturating_add(piece.len() as u64),
+        Err(count) => {
+            progress.written = progress.written.saturating_add(count as u64);
+            progress.failed = true;
+        }
+    }
+}
+
+// The phrase of a status.
+#[tactic(auto, unfolding(crate::specs::Response::reason))]
+fn reason(status: StatusCode) -> &'static str
+    ensures { result.now ≡ reason status }
+{
+    match status.canonical_reason() {
+        Some(phrase) => phrase,
+        None => "",
+    }
+}
+
+// The line that names the method that is allowed.
+fn allow_line(allowed: Option<Allowed>) -> &'static [u8]
+    ensures { result.now ≡ allow_line allowed }
+{
+    match allowed {
+        None => b"",
+        Some(Allowed::Get) => b"Allow: GET\r\n",
+        Some(Allowed::Post) => b"Allow: POST\r\n",
+    }
+}
+
+/// What is answered to a request.
+#[derive(Drop)]
+pub struct Response<'b> {
+    status: StatusCode,
+    media: &'b str,
+    allowed: Option<Allowed>,
+    body: &'b [u8],
+}
+
+impl<'b> Model for Response<'b> {
+    ghost use Rattle.wf_edge.specs.Response.{Response as ResponseValue};
+
+    ghost Value = { ResponseValue };
+
+    ghost view = { λ r. record { status = r.status; media = r.media.now; allowed = r.allowed; body = r.body.now } };
+}
+
+impl<'b> Response<'b> {
+    /// An answer of a status, with a body of a media type; with status 405 the method that is allowed.
+    pub fn new(status: StatusCode, media: &'b str, allowed: Option<Allowed>, body: &'b [u8]) -> Self
+        ensures { result ≡ record { status = status; media = media.now; allowed = allowed; body = body.now } }
+    {
+        Response {
+            status,
+            media,
+            allowed,
+            body,
+        }
+    }
+
+    // Writes the lines before the body.
+    fn put_lines<K: Sink>(&self, sink: &mut K, progress: &mut Progress)
+        ensures written { (start : Option (List ℕ)) → IsProgress start [] (K.written sink.old) progress.old.written progress.old.failed
+            → IsProgress start (head_bytes self.now) (K.written sink.new) progress.new.written progress.new.failed }
+        ensures failures { (first : ℕ) → CountsProgress first (K.failures sink.old) progress.old.failed
+            → CountsProgress first (K.failures sink.new) progress.new.failed }
+    {
+        let mut digits = Buffer::new();
+        put(sink, progress, b"HTTP/1.1 ");
+        put(sink, progress, self.status.as_str().as_bytes());
+        put(sink, progress, b" ");
+        put(sink, progress, reason(self.status).as_bytes());
+        put(sink, progress, b"\r\nContent-Type: ");
+        put(sink, progress, self.media.as_bytes());
+        put(sink, progress, b"\r\nContent-Length: ");
+        put(sink, progress, digits.format(self.body.len()).as_bytes());
+        put(sink, progress, b"\r\n");
+        put(sink, progress, allow_line(self.allowed));
+        put(sink, progress, b"Connection: close\r\n\r\n");
+    }
+
+    /// Writes the response, piece by piece and without memory, and tells how many bytes it has. Where the writer fails, a beginning
+    /// of it is written.
+    pub fn write<K: Sink>(&self, sink: &mut K) -> Result<u64, CutShort>
+        ensures whole { OnOk result (Appends (K.written sink.old) (K.written sink.new) (response_bytes self.now)) }
+        ensures count { IfOk result (IsCount (length (response_bytes self.now))) }
+        ensures part { IfErr result (λ cut. WritesPart (response_bytes self.now) (K.written sink.old) (K.written sink.new) cut.written) }
+        ensures calm { OnOk result (K.failures sink.new ≡ K.failures sink.old) }
+        ensures cause { OnErr result (Rises (K.failures sink.old) (K.failures sink.new)) }
+    {
+        let mut progress = Progress {
+            written: 0,
+            failed: false,
+        };
+        self.put_lines(sink, &mut progress);
+        put(sink, &mut progress, self.body);
+        if progress.failed {
+            Err(CutShort {
+                written: progress.written,
+            })
+        } else {
+            Ok(progress.written)
+        }
+    }
+}
