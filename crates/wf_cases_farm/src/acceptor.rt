@@ -8,13 +8,13 @@
 //! ```
 //!
 //! A slot that is published can't be asked about.
-use crate::script::{Maps, read_script};
-use crate::telling::tell_done;
-use crate::words::Words;
-use crate::words_of_record::tell_step;
 use std::alloc::{AllocError, Global};
 use wf_acceptor::{Acceptor, Answer};
 use wf_ballot::Slot;
+use wf_calls::script::{Maps, read_script};
+use wf_calls::telling::tell_done;
+use wf_calls::words::Words;
+use wf_calls::words_of_record::tell_step;
 use wf_table::Unanswered;
 use wf_table::write::write_line;
 use wf_tape::Record;

@@ -11,14 +11,14 @@
 //! chosen SLOT         what to send of the slot's definition
 //! ask SLOT            what to send to a node that asks from the slot on
 //! ```
-use crate::script::{Maps, read_script};
-use crate::telling::{tell_done, tell_none, tell_number, tell_read};
-use crate::words::Words;
-use crate::words_of_message::{write_definition, write_field};
-use crate::words_of_record::tell_sent;
 use std::alloc::{AllocError, Global};
-use std::fmt::Display;
 use wf_ballot::{Seq, Slot};
+use wf_calls::script::{Maps, read_script};
+use wf_calls::telling::{tell_done, tell_none, tell_number, tell_read};
+use wf_calls::words::Words;
+use wf_calls::words_of_map::{tell_at, tell_map};
+use wf_calls::words_of_message::write_field;
+use wf_calls::words_of_record::tell_sent;
 use wf_canon::Canon;
 use wf_learner::{History, Learned};
 use wf_table::Unanswered;
@@ -123,22 +123,13 @@ impl Asked<'_> {
     }
 
     fn get(&self, sequence: Seq, answer: &mut Vec<u8>) -> Result<(), Unanswered> {
-        let Some(map) = self.history.get(sequence) else {
-            return tell_none(answer);
-        };
-        match Canon::of(self.alloc, map) {
-            Ok(canon) => {
-                let told = self.tell_at("sequence ", sequence, &canon, answer);
-                drop(canon);
-                told
-            }
-            Err(_) => Err(Unanswered::Memory),
-        }
+        let map = self.history.get(sequence);
+        tell_map(self.alloc, sequence, map, self.maps, answer)
     }
 
     fn canon(&self, slot: Slot, answer: &mut Vec<u8>) -> Result<(), Unanswered> {
         match self.history.canon(slot) {
-            Some(canon) => self.tell_at("slot ", slot, canon, answer),
+            Some(canon) => tell_at("slot ", slot, canon, self.maps, answer),
             None => tell_none(answer),
         }
     }
@@ -163,19 +154,6 @@ impl Asked<'_> {
             }
             Err(_) => Err(Unanswered::Memory),
         }
-    }
-
-    /// Appends a line: a number and the definition that stands there.
-    fn tell_at<T: Display + Copy>(
-        &self,
-        title: &str,
-        number: T,
-        canon: &Canon,
-        answer: &mut Vec<u8>,
-    ) -> Result<(), Unanswered> {
-        write_field(title, number, answer)?;
-        write_definition(canon, self.maps, answer)?;
-        Ok(write_line("", answer)?)
     }
 }
 

@@ -16,14 +16,9 @@ mod number;
 mod proposer;
 mod questions;
 mod reading;
-mod script;
 mod spelling;
 mod tape;
-mod telling;
 mod tries;
-mod words;
-mod words_of_message;
-mod words_of_record;
 
 use questions::Farm;
 use std::io;

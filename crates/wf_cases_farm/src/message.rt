@@ -1,8 +1,8 @@
 //! What is asked of messages.
 use crate::reading::{tell_beginnings, tell_copy, tell_decoded, tell_fault};
 use crate::spelling::tell_encoded;
-use crate::words::Words;
 use std::alloc::Global;
+use wf_calls::words::Words;
 use wf_codec::DecodeFault;
 use wf_table::Unanswered;
 

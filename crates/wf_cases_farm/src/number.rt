@@ -1,7 +1,7 @@
 //! Nodes, sequences and slots: their numbers, their bytes, and how they are read.
-use crate::telling::{tell_bytes, tell_left, tell_none, tell_number, tell_read};
-use crate::words::Words;
 use wf_ballot::{NodeId, Seq, Slot, split_node, split_slot};
+use wf_calls::telling::{tell_bytes, tell_left, tell_none, tell_number, tell_read};
+use wf_calls::words::Words;
 use wf_table::Unanswered;
 
 pub(crate) fn ask_node(asked: &str, input: &[u8], answer: &mut Vec<u8>) -> Result<(), Unanswered> {

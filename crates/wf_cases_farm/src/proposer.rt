@@ -11,15 +11,15 @@
 //! ```
 //!
 //! A call that is refused is answered by `refused: ` and the refusal as it is printed.
-use crate::script::{Maps, read_script};
-use crate::telling::tell_printed;
-use crate::words::Words;
-use crate::words_of_message::write_field;
-use crate::words_of_record::tell_step;
 use std::alloc::Global;
 use wf_ballot::{Ballot, SEQUENCES};
+use wf_calls::script::{Maps, read_script};
+use wf_calls::telling::tell_printed;
+use wf_calls::words::Words;
+use wf_calls::words_of_record::tell_step;
+use wf_calls::words_of_standing::tell_standing;
 use wf_canon::Canon;
-use wf_proposer::{Next, Proposer, Refusal, Standing};
+use wf_proposer::{Next, Proposer, Refusal};
 use wf_table::Unanswered;
 use wf_table::write::{write_line, write_text};
 
@@ -166,15 +166,4 @@ fn tell_refusal(refusal: Refusal, answer: &mut Vec<u8>) -> Result<(), Unanswered
     }
     write_text("refused: ", answer)?;
     tell_printed(refusal, answer)
-}
-
-fn tell_standing(standing: Standing, answer: &mut Vec<u8>) -> Result<(), Unanswered> {
-    write_text("standing: ", answer)?;
-    match standing {
-        Standing::None => write_text("none", answer)?,
-        Standing::Running => write_text("running", answer)?,
-        Standing::Published(slot) => write_field("published at slot ", slot, answer)?,
-        Standing::Overtaken(slot) => write_field("overtaken at slot ", slot, answer)?,
-    }
-    Ok(write_line("", answer)?)
 }

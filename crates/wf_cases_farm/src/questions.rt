@@ -27,7 +27,7 @@
 //! tape published N          a definition's text     how many records and bytes a tape of N Published opens with
 //! ```
 //!
-//! [`crate::script`] has what a script is, [`crate::acceptor`], [`crate::proposer`] and [`crate::history`] the calls.
+//! `wf_calls` has what a script is, [`crate::acceptor`], [`crate::proposer`] and [`crate::history`] the calls.
 use crate::{acceptor, history, message, number, proposer, tape, tries};
 use std::alloc::Global;
 use wf_table::{Questions, Unanswered};

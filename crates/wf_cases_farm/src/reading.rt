@@ -1,8 +1,8 @@
 //! Messages that are read from bytes.
 use crate::spelling::tell_spelled;
-use crate::telling::tell_printed;
-use crate::words_of_message::tell_message;
 use std::alloc::Global;
+use wf_calls::telling::tell_printed;
+use wf_calls::words_of_message::tell_message;
 use wf_codec::{DecodeFault, Message, decode};
 use wf_table::Unanswered;
 use wf_table::write::{write_line, write_text, write_whole};

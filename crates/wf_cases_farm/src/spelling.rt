@@ -1,7 +1,7 @@
 //! Messages that are made of words, and spelled.
-use crate::words::Words;
 use std::alloc::Global;
-use wf_canon::{Canon, CanonFault};
+use wf_calls::script::canon_of;
+use wf_calls::words::Words;
 use wf_codec::{Message, encode};
 use wf_table::Unanswered;
 use wf_table::write::write_text;
@@ -35,15 +35,6 @@ pub(crate) fn tell_spelled(message: Message, answer: &mut Vec<u8>) -> Result<(),
     match spelled {
         Ok(()) => Ok(()),
         Err(_) => Err(Unanswered::Memory),
-    }
-}
-
-/// The definition of a canonical text.
-pub(crate) fn canon_of(alloc: Global, text: &[u8]) -> Result<Canon, Unanswered> {
-    match Canon::from_bytes(alloc, text) {
-        Ok(canon) => Ok(canon),
-        Err(CanonFault::Memory) => Err(Unanswered::Memory),
-        Err(_) => Err(Unanswered::BadWords),
     }
 }
 

@@ -1,10 +1,11 @@
 //! What is asked of tapes: the records that their bytes open with, and the bytes that are left then.
-use crate::spelling::canon_of;
-use crate::telling::tell_printed;
-use crate::words::Words;
-use crate::words_of_message::{write_at, write_field};
 use std::alloc::Global;
 use wf_ballot::Slot;
+use wf_calls::script::canon_of;
+use wf_calls::telling::tell_printed;
+use wf_calls::words::Words;
+use wf_calls::words_of_message::{write_at, write_field};
+use wf_calls::words_of_tape::{bytes_on, tell_length};
 use wf_canon::Canon;
 use wf_table::Unanswered;
 use wf_table::write::{write_line, write_text, write_whole};
@@ -47,7 +48,7 @@ fn tell_records(
     drop(records);
     let left = bytes_on(journal.close());
     match told {
-        Ok(()) => tell_left(left, answer),
+        Ok(()) => tell_length(left, answer),
         Err(fault) => Err(fault),
     }
 }
@@ -62,14 +63,7 @@ fn tell_refused(
         return Err(Unanswered::Memory);
     }
     tell_printed(fault, answer)?;
-    tell_left(left, answer)
-}
-
-/// How many bytes are on a tape, which isn't used any more.
-fn bytes_on(tape: MemoryTape) -> usize {
-    let count = tape.bytes().len();
-    drop(tape);
-    count
+    tell_length(left, answer)
 }
 
 fn write_records(records: &[Record], answer: &mut Vec<u8>) -> Result<(), Unanswered> {
@@ -77,12 +71,6 @@ fn write_records(records: &[Record], answer: &mut Vec<u8>) -> Result<(), Unanswe
         tell_record(record, answer)?;
     }
     Ok(())
-}
-
-/// Appends how many bytes are on the tape.
-fn tell_left(left: usize, answer: &mut Vec<u8>) -> Result<(), Unanswered> {
-    write_whole(left as u64, answer)?;
-    Ok(write_line(" bytes", answer)?)
 }
 
 /// Appends a record in words, and behind it the text of its definition.
@@ -175,7 +163,7 @@ fn tell_counts(
     let left = bytes_on(journal.close());
     write_whole(count as u64, answer)?;
     write_text(" records, ", answer)?;
-    tell_left(left, answer)
+    tell_length(left, answer)
 }
 
 fn published_tape(alloc: Global, last: u16, text: &[u8]) -> Result<MemoryTape, Unanswered> {

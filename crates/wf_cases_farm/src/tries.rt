@@ -1,7 +1,7 @@
 //! Majorities, rounds and ballots.
-use crate::telling::{tell_bytes, tell_left, tell_none, tell_number, tell_read};
-use crate::words::Words;
 use wf_ballot::{Ballot, is_majority, split_ballot, split_round};
+use wf_calls::telling::{tell_bytes, tell_left, tell_none, tell_number, tell_read};
+use wf_calls::words::Words;
 use wf_table::Unanswered;
 use wf_table::write::{write_line, write_text, write_whole};
 

@@ -2,6 +2,7 @@
 use crate::asked::{Answered, Asked};
 use crate::numbers::write_count;
 use crate::shown::{write_fault, write_texts};
+use crate::texts::text_of;
 use std::alloc::Global;
 use wf_canon::{Canon, CanonFault, write_number};
 use wf_def::choice::Projection;
@@ -55,14 +56,12 @@ pub(crate) fn from_bytes(asked: Asked<'_>, answer: &mut Vec<u8>) -> Answered {
     }
 }
 
-fn text_of(alloc: Global, bytes: &[u8]) -> Result<Text, Unanswered> {
-    match Text::new(alloc, bytes) {
-        Ok(text) => Ok(text),
-        Err(_) => Err(Unanswered::BadWords),
-    }
-}
-
-fn two_texts(alloc: Global, first: &[u8], second: &[u8]) -> Result<(Text, Text), Unanswered> {
+/// The texts of these bytes.
+pub(crate) fn two_texts(
+    alloc: Global,
+    first: &[u8],
+    second: &[u8],
+) -> Result<(Text, Text), Unanswered> {
     let first = text_of(alloc, first)?;
     match text_of(alloc, second) {
         Ok(second) => Ok((first, second)),

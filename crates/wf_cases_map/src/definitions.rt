@@ -2,9 +2,11 @@
 ghost use Rattle.std.specs.Prelude.{◌<◌, length};
 
 use crate::asked::{Answered, Asked};
+use crate::canonical::two_texts;
 use crate::mapfiles::write_value;
 use crate::numbers::write_count;
 use crate::shown::tell_map;
+use crate::texts::text_of;
 use std::alloc::{AllocError, Global};
 use wf_def::attribute::attribute;
 use wf_def::choice::LayerKind;
@@ -91,13 +93,6 @@ fn number_in(text: &str) -> Result<usize, Unanswered> {
     }
 }
 
-fn empty_text(alloc: Global) -> Result<Text, Unanswered> {
-    match Text::new(alloc, b"") {
-        Ok(text) => Ok(text),
-        Err(_) => Err(Unanswered::Memory),
-    }
-}
-
 fn empty_class(alloc: Global) -> Result<Class, Unanswered> {
     match Text::new(alloc, b"") {
         Ok(name) => Ok(Class::new(name, None, Styles::new(alloc), None)),
@@ -172,9 +167,13 @@ fn parts_of_points(alloc: Global, words: &str) -> Result<Parts, Unanswered> {
 }
 
 fn feature_of_parts(alloc: Global, parts: Parts) -> Result<Option<Feature>, Unanswered> {
-    let items = empty_text(alloc)?;
-    let text = empty_text(alloc)?;
-    Ok(Feature::new(parts, items, text))
+    match two_texts(alloc, b"", b"") {
+        Ok((items, text)) => Ok(Feature::new(parts, items, text)),
+        Err(unanswered) => {
+            drop(parts);
+            Err(unanswered)
+        }
+    }
 }
 
 fn kind_of(word: &str) -> Result<LayerKind, Unanswered> {
@@ -186,6 +185,18 @@ fn kind_of(word: &str) -> Result<LayerKind, Unanswered> {
     }
 }
 
+// A layer's title, and its attributes for the class and for the label.
+fn empty_texts(alloc: Global) -> Result<(Text, Text, Text), Unanswered> {
+    let title = text_of(alloc, b"")?;
+    match two_texts(alloc, b"", b"") {
+        Ok((class_item, label_item)) => Ok((title, class_item, label_item)),
+        Err(unanswered) => {
+            drop(title);
+            Err(unanswered)
+        }
+    }
+}
+
 // Whether a layer of the kind can have these attributes and features.
 fn is_layer(
     alloc: Global,
@@ -193,14 +204,22 @@ fn is_layer(
     items: Text,
     features: Features,
 ) -> Result<bool, Unanswered> {
-    let title = empty_text(alloc)?;
-    let class_item = empty_text(alloc)?;
-    let label_item = empty_text(alloc)?;
-    let classes = Classes::new(alloc);
-    Ok(Layer::new(
-        kind, title, class_item, label_item, items, classes, features,
-    )
-    .is_some())
+    match empty_texts(alloc) {
+        Ok((title, class_item, label_item)) => {
+            let classes = Classes::new(alloc);
+            let layer = Layer::new(
+                kind, title, class_item, label_item, items, classes, features,
+            );
+            let is_layer = layer.is_some();
+            drop(layer);
+            Ok(is_layer)
+        }
+        Err(unanswered) => {
+            drop(items);
+            drop(features);
+            Err(unanswered)
+        }
+    }
 }
 
 fn write_is_layer(is_layer: bool, answer: &mut Vec<u8>) -> Answered {
@@ -215,31 +234,59 @@ fn layer_of_feature(
     answer: &mut Vec<u8>,
 ) -> Answered {
     let mut features = Features::new(alloc);
-    features.push(feature)?;
-    let items = empty_text(alloc)?;
-    write_is_layer(is_layer(alloc, kind, items, features)?, answer)
+    match features.push(feature) {
+        Ok(()) => layer_of_items(alloc, kind, b"", features, answer),
+        Err(_) => {
+            drop(features);
+            Err(Unanswered::Memory)
+        }
+    }
+}
+
+fn layer_of_items(
+    alloc: Global,
+    kind: LayerKind,
+    items: &[u8],
+    features: Features,
+    answer: &mut Vec<u8>,
+) -> Answered {
+    match text_of(alloc, items) {
+        Ok(items) => write_is_layer(is_layer(alloc, kind, items, features)?, answer),
+        Err(unanswered) => {
+            drop(features);
+            Err(unanswered)
+        }
+    }
 }
 
 /// `shape KIND`: whether a layer of the kind can have one feature, whose parts have so many points.
 pub(crate) fn shape(asked: Asked<'_>, answer: &mut Vec<u8>) -> Answered {
     let kind = kind_of(asked.words)?;
-    let parts = parts_of_points(asked.alloc, asked.text()?)?;
-    match feature_of_parts(asked.alloc, parts)? {
-        Some(feature) => layer_of_feature(asked.alloc, kind, feature, answer),
-        None => Ok(write_line("no feature", answer)?),
+    let words = asked.text()?;
+    match parts_of_points(asked.alloc, words) {
+        Ok(parts) => shape_of_parts(asked.alloc, kind, parts, answer),
+        Err(unanswered) => Err(unanswered),
+    }
+}
+
+fn shape_of_parts(alloc: Global, kind: LayerKind, parts: Parts, answer: &mut Vec<u8>) -> Answered {
+    match feature_of_parts(alloc, parts) {
+        Ok(Some(feature)) => layer_of_feature(alloc, kind, feature, answer),
+        Ok(None) => Ok(write_line("no feature", answer)?),
+        Err(unanswered) => Err(unanswered),
     }
 }
 
 /// `items`: whether a layer can have this list of attributes.
 pub(crate) fn items(asked: Asked<'_>, answer: &mut Vec<u8>) -> Answered {
     let features = Features::new(asked.alloc);
-    match Text::new(asked.alloc, asked.input) {
-        Ok(items) => write_is_layer(
-            is_layer(asked.alloc, LayerKind::Points, items, features)?,
-            answer,
-        ),
-        Err(_) => Err(Unanswered::BadWords),
-    }
+    layer_of_items(
+        asked.alloc,
+        LayerKind::Points,
+        asked.input,
+        features,
+        answer,
+    )
 }
 
 /// `empty_map`: the map that a farm begins with.

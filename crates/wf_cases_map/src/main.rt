@@ -16,7 +16,6 @@ mod numbers;
 mod questions;
 mod reports;
 mod requests;
-mod runs;
 mod shown;
 mod tables;
 mod texts;

@@ -3,8 +3,8 @@ ghost use Rattle.std.specs.Prelude.{◌<◌, ◌≤◌, length};
 
 use crate::asked::{Answered, Asked};
 use crate::numbers::write_count;
-use crate::runs::Runs;
 use crate::shown::{tell_map, write_class, write_fault, write_layers};
+use crate::tokens::take_line;
 use crate::wrapping::{CLASS, Wrapping, read_joined, wrapping_of};
 use std::alloc::{AllocError, Global};
 use wf_def::class::Class;
@@ -14,9 +14,9 @@ use wf_def::map::MapDef;
 use wf_def::text::Text;
 use wf_mapfile::fault::MapFault;
 use wf_mapfile::read;
-use wf_table::Unanswered;
 use wf_table::escape::unescape;
 use wf_table::write::{write_line, write_text, write_whole};
+use wf_table::{Runs, Unanswered};
 
 fn tell_copy_of_map(map: MapDef, answer: &mut Vec<u8>) -> Answered {
     let copied: Result<_, _> = map.clone();
@@ -340,19 +340,55 @@ fn unescaped(alloc: Global, text: &str) -> Result<Vec<u8>, Unanswered> {
     }
 }
 
-fn write_gaps(asked: Asked<'_>, gap: &[u8], other: &[u8], answer: &mut Vec<u8>) -> Answered {
+fn write_with_gaps(
+    asked: Asked<'_>,
+    (gap, other): (&[u8], &[u8]),
+    place: usize,
+    answer: &mut Vec<u8>,
+) -> Answered {
     let text = asked.text()?;
-    let mut runs = Runs::new(asked.alloc);
     let mut mapfile = Vec::new(asked.alloc);
+    let written = match with_gaps(text, gap, place, other, &mut mapfile) {
+        Ok(()) => write_shown(asked.alloc, &mapfile, answer),
+        Err(_) => Err(Unanswered::Memory),
+    };
+    drop(mapfile);
+    written
+}
+
+fn take_gap(
+    asked: Asked<'_>,
+    gaps: (&[u8], &[u8]),
+    place: usize,
+    runs: &mut Runs,
+    answer: &mut Vec<u8>,
+) -> Answered {
     let mut shown = Vec::new(asked.alloc);
-    for place in 0..text.split('\n').count() {
-        mapfile.clear();
-        shown.clear();
-        with_gaps(text, gap, place, other, &mut mapfile)?;
-        write_shown(asked.alloc, &mapfile, &mut shown)?;
-        runs.take(&shown, answer)?;
+    let taken = match write_with_gaps(asked, gaps, place, &mut shown) {
+        Ok(()) => take_line(&shown, runs, answer),
+        Err(unanswered) => Err(unanswered),
+    };
+    drop(shown);
+    taken
+}
+
+fn take_gaps(
+    asked: Asked<'_>,
+    gaps: (&[u8], &[u8]),
+    runs: &mut Runs,
+    answer: &mut Vec<u8>,
+) -> Answered {
+    for place in 0..asked.text()?.split('\n').count() {
+        take_gap(asked, gaps, place, runs, answer)?;
     }
-    runs.write(answer)
+    Ok(runs.write(answer)?)
+}
+
+fn write_gaps(asked: Asked<'_>, gaps: (&[u8], &[u8]), answer: &mut Vec<u8>) -> Answered {
+    let mut runs = Runs::new(asked.alloc);
+    let taken = take_gaps(asked, gaps, &mut runs, answer);
+    drop(runs);
+    taken
 }
 
 /// `gaps GAP|OTHER`: what the mapfile means whose tokens are the input's lines, with GAP behind each, and OTHER behind each in turn.
@@ -360,5 +396,5 @@ pub(crate) fn gaps(asked: Asked<'_>, answer: &mut Vec<u8>) -> Answered {
     let (gap, other) = asked.words.split_once('|').ok_or(Unanswered::BadWords)?;
     let gap = unescaped(asked.alloc, gap)?;
     let other = unescaped(asked.alloc, other)?;
-    write_gaps(asked, &gap, &other, answer)
+    write_gaps(asked, (&gap, &other), answer)
 }

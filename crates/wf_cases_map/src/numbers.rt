@@ -44,6 +44,13 @@ fn write_whole_or_none(number: Option<u8>, answer: &mut Vec<u8>) -> Answered {
     }
 }
 
+fn number_within<const LEAST: u8, const MOST: u8>(number: u8) -> Option<u8> {
+    match Whole::<LEAST, MOST>::new(number) {
+        Some(whole) => Some(whole.get()),
+        None => None,
+    }
+}
+
 /// `whole KIND`: the whole number of a width, a size, a priority or a buffer.
 pub(crate) fn whole(asked: Asked<'_>, answer: &mut Vec<u8>) -> Answered {
     let number = match asked.text()?.parse::<u8>() {
@@ -51,10 +58,10 @@ pub(crate) fn whole(asked: Asked<'_>, answer: &mut Vec<u8>) -> Answered {
         Err(_) => return Err(Unanswered::BadWords),
     };
     let found = match asked.words {
-        "width" => Whole::<1, MOST_WIDTH>::new(number).map(|whole| whole.get()),
-        "size" => Whole::<1, MOST_SIZE>::new(number).map(|whole| whole.get()),
-        "priority" => Whole::<1, MOST_PRIORITY>::new(number).map(|whole| whole.get()),
-        "buffer" => Whole::<0, MOST_BUFFER>::new(number).map(|whole| whole.get()),
+        "width" => number_within::<1, MOST_WIDTH>(number),
+        "size" => number_within::<1, MOST_SIZE>(number),
+        "priority" => number_within::<1, MOST_PRIORITY>(number),
+        "buffer" => number_within::<0, MOST_BUFFER>(number),
         _ => return Err(Unanswered::BadWords),
     };
     write_whole_or_none(found, answer)

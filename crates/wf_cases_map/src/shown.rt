@@ -53,10 +53,19 @@ fn projection_name(projection: Projection) -> &'static str {
 
 /// Appends a map's name, title, abstract, address, extent in millionths and coordinate system, on a line.
 pub(crate) fn write_map(map: &MapDef, answer: &mut Vec<u8>) -> Answered {
-    let texts = [map.name(), map.title(), map.abstract_text(), map.address()];
-    for text in &texts {
-        write_texts(&[text.as_str(), "|"], answer)?;
-    }
+    write_texts(
+        &[map.name().as_str(), "|", map.title().as_str(), "|"],
+        answer,
+    )?;
+    write_texts(
+        &[
+            map.abstract_text().as_str(),
+            "|",
+            map.address().as_str(),
+            "|",
+        ],
+        answer,
+    )?;
     write_extent(map.extent(), answer)?;
     write_text("|", answer)?;
     Ok(write_line(projection_name(map.projection()), answer)?)
@@ -95,16 +104,25 @@ fn write_feature(feature: &Feature, answer: &mut Vec<u8>) -> Answered {
 
 // Appends a layer's kind, title, items and the number of its classes, then its features.
 fn write_layer(layer: &Layer, answer: &mut Vec<u8>) -> Answered {
-    let texts = [
-        layer.title(),
-        layer.class_item(),
-        layer.label_item(),
-        layer.items(),
-    ];
     write_texts(&[" ", kind_name(layer.kind()), "|"], answer)?;
-    for text in &texts {
-        write_texts(&[text.as_str(), "|"], answer)?;
-    }
+    write_texts(
+        &[
+            layer.title().as_str(),
+            "|",
+            layer.class_item().as_str(),
+            "|",
+        ],
+        answer,
+    )?;
+    write_texts(
+        &[
+            layer.label_item().as_str(),
+            "|",
+            layer.items().as_str(),
+            "|",
+        ],
+        answer,
+    )?;
     write_count(layer.classes().len(), "", answer)?;
     for feature in layer.features() {
         write_feature(feature, answer)?;

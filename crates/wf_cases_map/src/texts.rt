@@ -46,9 +46,11 @@ pub(crate) fn text(asked: Asked<'_>, answer: &mut Vec<u8>) -> Answered {
     }
 }
 
-fn text_of(alloc: Global, bytes: &str) -> Result<Text, Unanswered> {
-    match Text::new(alloc, bytes.as_bytes()) {
+/// The text of the bytes, where they are one.
+pub(crate) fn text_of(alloc: Global, bytes: &[u8]) -> Result<Text, Unanswered> {
+    match Text::new(alloc, bytes) {
         Ok(text) => Ok(text),
+        Err(TextFault::OutOfMemory) => Err(Unanswered::Memory),
         Err(_) => Err(Unanswered::BadWords),
     }
 }
@@ -56,8 +58,8 @@ fn text_of(alloc: Global, bytes: &str) -> Result<Text, Unanswered> {
 /// `same_texts`: whether two texts, with `|` between them, are equal.
 pub(crate) fn same_texts(asked: Asked<'_>, answer: &mut Vec<u8>) -> Answered {
     let (first, second) = asked.text()?.split_once('|').ok_or(Unanswered::BadWords)?;
-    let first = text_of(asked.alloc, first)?;
-    let second = text_of(asked.alloc, second)?;
+    let first = text_of(asked.alloc, first.as_bytes())?;
+    let second = text_of(asked.alloc, second.as_bytes())?;
     let words = if first == second { "same" } else { "other" };
     Ok(write_line(words, answer)?)
 }
@@ -75,7 +77,7 @@ pub(crate) fn characters(asked: Asked<'_>, answer: &mut Vec<u8>) -> Answered {
 
 /// `layer_name`: whether a text may be a layer's name.
 pub(crate) fn layer_name(asked: Asked<'_>, answer: &mut Vec<u8>) -> Answered {
-    let name = text_of(asked.alloc, asked.text()?)?;
+    let name = text_of(asked.alloc, asked.input)?;
     let words = if is_layer_name(&name) {
         "a name"
     } else {

@@ -14,7 +14,8 @@ enum Place {
     BehindDigit(u8),
 }
 
-fn digit(byte: u8) -> Option<u8>
+/// The value of a hexadecimal digit, of either letter case.
+pub fn digit(byte: u8) -> Option<u8>
     ensures { IfSome result (λ digit. digit < 16) }
 {
     match byte {

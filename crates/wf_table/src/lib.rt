@@ -17,9 +17,11 @@ mod fault;
 mod line;
 mod questions;
 mod runner;
+mod runs;
 pub mod write;
 
 pub use counts::Counts;
 pub use fault::Fault;
 pub use questions::{Questions, Unanswered};
 pub use runner::run_table;
+pub use runs::Runs;

@@ -10,6 +10,8 @@ mod commands;
 #[cfg(test)]
 mod map;
 #[cfg(test)]
+mod node;
+#[cfg(test)]
 mod record;
 #[cfg(test)]
 mod tape;

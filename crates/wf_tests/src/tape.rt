@@ -138,12 +138,12 @@ fn a_replacement_that_fails_is_counted(rt: HostRuntime) {
     assert!(rt; holds(&rt, "stuck/tape", TORN));
 }
 
-/// A tape whose syncs fail, in memory.
+/// A tape in memory whose syncs fail after so many that are sound.
 #[derive(Drop)]
-struct Unsynced {
-    bytes: Vec<u8>,
-    sound: u64,
-    failures: u64,
+pub struct Unsynced {
+    pub bytes: Vec<u8>,
+    pub sound: u64,
+    pub failures: u64,
 }
 
 impl Tape for Unsynced {
@@ -192,14 +192,35 @@ fn a_journal_is_halted_where_a_sync_fails(rt: HostRuntime) {
         sound: 1,
         failures: 0,
     };
-    let Ok((mut journal, _)) = Journal::open(rt.alloc(), tape) else {
-        return assert!(&rt; false);
-    };
-    assert!(&rt; !journal.is_halted());
-    let added = journal.add(rt.alloc(), &Record::Tried(round(&rt, 1)));
-    assert_eq!(&rt; added.err(), Some(AddFault::TapeFailed));
-    assert!(&rt; journal.is_halted());
-    assert_eq!(&rt; journal.close().failures(), 1);
+    match Journal::open(rt.alloc(), tape) {
+        Ok((journal, records)) => {
+            drop(records);
+            let refused = after_add(&rt, rt.alloc(), journal);
+            assert!(&rt; refused == (Some(AddFault::TapeFailed), true, 1));
+        }
+        Err(refused) => {
+            drop(refused);
+            assert!(&rt; false);
+        }
+    }
+}
+
+/// Adds a record to a journal that isn't halted: why it can't be added, whether the journal is halted then,
+/// and how often its tape failed.
+fn after_add(
+    rt: &impl Abort,
+    alloc: Global,
+    mut journal: Journal<Unsynced>,
+) -> (Option<AddFault>, bool, u64) {
+    assert!(rt; !journal.is_halted());
+    let tried = Record::Tried(round(rt, 1));
+    let added = journal.add(alloc, &tried);
+    drop(tried);
+    let halted = journal.is_halted();
+    let tape = journal.close();
+    let failures = tape.failures();
+    drop(tape);
+    (added.err(), halted, failures)
 }
 
 #[test]
@@ -210,10 +231,15 @@ fn a_journal_is_not_opened_where_a_sync_fails(rt: HostRuntime) {
         failures: 0,
     };
     match Journal::open(rt.alloc(), tape) {
-        Ok(_) => assert!(&rt; false),
+        Ok(opened) => {
+            drop(opened);
+            assert!(&rt; false);
+        }
         Err((tape, fault)) => {
+            let failures = tape.failures();
+            drop(tape);
             assert_eq!(&rt; fault, OpenFault::TapeFailed);
-            assert_eq!(&rt; tape.failures(), 1);
+            assert_eq!(&rt; failures, 1);
         }
     }
 }

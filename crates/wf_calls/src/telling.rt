@@ -4,28 +4,27 @@ use std::fmt::Display;
 use wf_table::Unanswered;
 use wf_table::write::{write_line, write_text, write_whole};
 
-pub(crate) fn tell_none(answer: &mut Vec<u8>) -> Result<(), Unanswered> {
+/// Appends that there is no value.
+pub fn tell_none(answer: &mut Vec<u8>) -> Result<(), Unanswered> {
     Ok(write_line("none", answer)?)
 }
 
 /// Appends that a call was made, unless it found no memory.
-pub(crate) fn tell_done(
-    made: Result<(), AllocError>,
-    answer: &mut Vec<u8>,
-) -> Result<(), Unanswered> {
+pub fn tell_done(made: Result<(), AllocError>, answer: &mut Vec<u8>) -> Result<(), Unanswered> {
     match made {
         Ok(()) => Ok(write_line("done", answer)?),
         Err(_) => Err(Unanswered::Memory),
     }
 }
 
-pub(crate) fn tell_number(number: u64, answer: &mut Vec<u8>) -> Result<(), Unanswered> {
+/// Appends a number in decimal digits.
+pub fn tell_number(number: u64, answer: &mut Vec<u8>) -> Result<(), Unanswered> {
     write_whole(number, answer)?;
     Ok(write_line("", answer)?)
 }
 
 /// Appends what was read, as it is printed.
-pub(crate) fn tell_read<T: Display + Copy>(
+pub fn tell_read<T: Display + Copy>(
     value: Option<T>,
     answer: &mut Vec<u8>,
 ) -> Result<(), Unanswered> {
@@ -36,16 +35,13 @@ pub(crate) fn tell_read<T: Display + Copy>(
 }
 
 /// Appends a value as it is printed.
-pub(crate) fn tell_printed<T: Display + Copy>(
-    value: T,
-    answer: &mut Vec<u8>,
-) -> Result<(), Unanswered> {
+pub fn tell_printed<T: Display + Copy>(value: T, answer: &mut Vec<u8>) -> Result<(), Unanswered> {
     write_printed(value, answer)?;
     Ok(write_line("", answer)?)
 }
 
 /// Appends a value that stood at the front of bytes, and how many bytes are left.
-pub(crate) fn tell_left<T: Display + Copy>(
+pub fn tell_left<T: Display + Copy>(
     value: T,
     left: &[u8],
     answer: &mut Vec<u8>,
@@ -57,16 +53,13 @@ pub(crate) fn tell_left<T: Display + Copy>(
 }
 
 /// Appends bytes and a line feed.
-pub(crate) fn tell_bytes(bytes: &[u8], answer: &mut Vec<u8>) -> Result<(), Unanswered> {
+pub fn tell_bytes(bytes: &[u8], answer: &mut Vec<u8>) -> Result<(), Unanswered> {
     answer.extend_from_slice(bytes)?;
     Ok(write_line("", answer)?)
 }
 
 /// Appends a value as it is printed, with no line feed.
-pub(crate) fn write_printed<T: Display + Copy>(
-    value: T,
-    answer: &mut Vec<u8>,
-) -> Result<(), Unanswered> {
+pub fn write_printed<T: Display + Copy>(value: T, answer: &mut Vec<u8>) -> Result<(), Unanswered> {
     let printed = value.to_string(*answer.allocator())?;
     Ok(write_text(printed.as_str(), answer)?)
 }

@@ -8,7 +8,7 @@ use wf_tape::Record;
 
 /// Appends a line: the record to store and the messages to send after that, each `nothing` where there is
 /// none.
-pub(crate) fn tell_step(
+pub fn tell_step(
     record: Option<&Record>,
     messages: &[Message],
     maps: Maps<'_>,
@@ -21,7 +21,7 @@ pub(crate) fn tell_step(
 }
 
 /// Appends a line: the messages to send, `nothing` where there is none.
-pub(crate) fn tell_sent(
+pub fn tell_sent(
     messages: &[Message],
     maps: Maps<'_>,
     answer: &mut Vec<u8>,

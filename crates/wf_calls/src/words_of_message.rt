@@ -10,13 +10,13 @@ use wf_table::Unanswered;
 use wf_table::write::{write_line, write_text};
 
 /// Appends the message in words and a line feed.
-pub(crate) fn tell_message(message: &Message, answer: &mut Vec<u8>) -> Result<(), Unanswered> {
+pub fn tell_message(message: &Message, answer: &mut Vec<u8>) -> Result<(), Unanswered> {
     write_message(message, Maps::NONE, answer)?;
     Ok(write_line("", answer)?)
 }
 
 /// Appends the message in words.
-pub(crate) fn write_message(
+pub fn write_message(
     message: &Message,
     maps: Maps<'_>,
     answer: &mut Vec<u8>,
@@ -47,7 +47,7 @@ pub(crate) fn write_message(
 }
 
 /// Appends a field's name and its value.
-pub(crate) fn write_field<T: Display + Copy>(
+pub fn write_field<T: Display + Copy>(
     name: &str,
     value: T,
     answer: &mut Vec<u8>,
@@ -57,7 +57,7 @@ pub(crate) fn write_field<T: Display + Copy>(
 }
 
 /// Appends a kind with its slot and ballot.
-pub(crate) fn write_at(
+pub fn write_at(
     kind: &str,
     slot: Slot,
     ballot: Ballot,
@@ -97,7 +97,7 @@ fn write_vote(
 }
 
 /// Appends a definition.
-pub(crate) fn write_definition(
+pub fn write_definition(
     canon: &Canon,
     maps: Maps<'_>,
     answer: &mut Vec<u8>,

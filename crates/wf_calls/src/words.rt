@@ -5,17 +5,18 @@ use wf_table::Unanswered;
 
 /// The words that are left.
 #[derive(Clone, Copy)]
-pub(crate) struct Words<'a> {
+pub struct Words<'a> {
     rest: &'a str,
 }
 
 impl<'a> Words<'a> {
-    pub(crate) fn new(words: &'a str) -> Words<'a> {
+    /// The words of a text.
+    pub fn new(words: &'a str) -> Words<'a> {
         Words { rest: words }
     }
 
-    /// The words of an input.
-    pub(crate) fn of(input: &'a [u8]) -> Result<Words<'a>, Unanswered> {
+    /// The words of an input, which has to be UTF-8.
+    pub fn of(input: &'a [u8]) -> Result<Words<'a>, Unanswered> {
         match str::from_utf8(input) {
             Ok(words) => Ok(Words::new(words)),
             Err(_) => Err(Unanswered::BadWords),
@@ -23,7 +24,7 @@ impl<'a> Words<'a> {
     }
 
     /// The next word; an empty one behind the last.
-    pub(crate) fn word(&mut self) -> &'a str {
+    pub fn word(&mut self) -> &'a str {
         match self.rest.split_once(' ') {
             Some((word, rest)) => {
                 self.rest = rest;
@@ -33,52 +34,65 @@ impl<'a> Words<'a> {
         }
     }
 
+    /// All words that are left.
+    pub fn rest(self) -> &'a str {
+        self.rest
+    }
+
     /// Is no word left?
-    pub(crate) fn is_empty(&self) -> bool {
+    pub fn is_empty(&self) -> bool {
         self.rest.is_empty()
     }
 
-    pub(crate) fn byte(&mut self) -> Result<u8, Unanswered> {
+    /// The next word, a number of at most 255.
+    pub fn byte(&mut self) -> Result<u8, Unanswered> {
         match self.word().parse::<u8>() {
             Ok(number) => Ok(number),
             Err(_) => Err(Unanswered::BadWords),
         }
     }
 
-    pub(crate) fn short(&mut self) -> Result<u16, Unanswered> {
+    /// The next word, a number of at most 65,535.
+    pub fn short(&mut self) -> Result<u16, Unanswered> {
         match self.word().parse::<u16>() {
             Ok(number) => Ok(number),
             Err(_) => Err(Unanswered::BadWords),
         }
     }
 
-    pub(crate) fn round(&mut self) -> Result<u32, Unanswered> {
+    /// The next word, the number of a round, or 0.
+    pub fn round(&mut self) -> Result<u32, Unanswered> {
         match self.word().parse::<u32>() {
             Ok(round) => Ok(round),
             Err(_) => Err(Unanswered::BadWords),
         }
     }
 
-    pub(crate) fn count(&mut self) -> Result<usize, Unanswered> {
+    /// The next word, a count.
+    pub fn count(&mut self) -> Result<usize, Unanswered> {
         match self.word().parse::<usize>() {
             Ok(count) => Ok(count),
             Err(_) => Err(Unanswered::BadWords),
         }
     }
 
-    pub(crate) fn node(&mut self) -> Result<NodeId, Unanswered> {
+    /// The next word, the number of a node.
+    pub fn node(&mut self) -> Result<NodeId, Unanswered> {
         NodeId::new(self.byte()?).ok_or(Unanswered::BadWords)
     }
 
-    pub(crate) fn sequence(&mut self) -> Result<Seq, Unanswered> {
+    /// The next word, the number of a sequence.
+    pub fn sequence(&mut self) -> Result<Seq, Unanswered> {
         Seq::new(self.short()?).ok_or(Unanswered::BadWords)
     }
 
-    pub(crate) fn slot(&mut self) -> Result<Slot, Unanswered> {
+    /// The next word, the number of a slot.
+    pub fn slot(&mut self) -> Result<Slot, Unanswered> {
         Slot::new(self.short()?).ok_or(Unanswered::BadWords)
     }
 
-    pub(crate) fn ballot(&mut self) -> Result<Ballot, Unanswered> {
+    /// The next two words, a ballot's round and its node.
+    pub fn ballot(&mut self) -> Result<Ballot, Unanswered> {
         let round = self.round()?;
         let node = self.node()?;
         Ballot::new(round, node).ok_or(Unanswered::BadWords)

@@ -1,11 +1,10 @@
 //! Lines that come many times in a row.
-use crate::asked::Answered;
-use crate::numbers::write_count;
-use std::alloc::Global;
+use crate::write::{write_text, write_whole};
+use std::alloc::{AllocError, Global};
 
 /// A line, with its line feed, and how often it came.
 #[derive(Drop)]
-pub(crate) struct Runs {
+pub struct Runs {
     line: Vec<u8>,
     times: usize,
 }
@@ -20,16 +19,17 @@ impl Runs {
     }
 
     /// Appends what came so far, as `3 times: LINE`, where anything did.
-    pub fn write(&self, answer: &mut Vec<u8>) -> Answered {
+    pub fn write(&self, answer: &mut Vec<u8>) -> Result<(), AllocError> {
         if self.times == 0 {
             return Ok(());
         }
-        write_count(self.times, " times: ", answer)?;
-        Ok(answer.extend_from_slice(&self.line)?)
+        write_whole(self.times as u64, answer)?;
+        write_text(" times: ", answer)?;
+        answer.extend_from_slice(&self.line)
     }
 
     /// Takes the next line, and appends what came before where it is another one.
-    pub fn take(&mut self, line: &[u8], answer: &mut Vec<u8>) -> Answered {
+    pub fn take(&mut self, line: &[u8], answer: &mut Vec<u8>) -> Result<(), AllocError> {
         if self.line.as_slice() != line {
             self.write(answer)?;
             self.times = 0;

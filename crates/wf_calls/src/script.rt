@@ -5,9 +5,8 @@
 //! CALL WORDS          a call and its arguments, in their order: a slot, a node, a round or a sequence is
 //!                     its number, a ballot its round and its node, a map its name
 //! ```
-use crate::spelling::canon_of;
 use std::alloc::Global;
-use wf_canon::Canon;
+use wf_canon::{Canon, CanonFault};
 use wf_table::Unanswered;
 
 /// The line behind each map.
@@ -15,14 +14,23 @@ const END: &str = "endmap\n";
 
 /// The maps of a script.
 #[derive(Clone, Copy)]
-pub(crate) struct Maps<'a> {
+pub struct Maps<'a> {
     script: &'a str,
 }
 
 /// A script's maps and its calls.
-pub(crate) fn read_script(input: &[u8]) -> Result<(Maps<'_>, &str), Unanswered> {
+pub fn read_script(input: &[u8]) -> Result<(Maps<'_>, &str), Unanswered> {
     match str::from_utf8(input) {
         Ok(script) => Ok((Maps { script }, calls_of(script))),
+        Err(_) => Err(Unanswered::BadWords),
+    }
+}
+
+/// The definition of a canonical text.
+pub fn canon_of(alloc: Global, text: &[u8]) -> Result<Canon, Unanswered> {
+    match Canon::from_bytes(alloc, text) {
+        Ok(canon) => Ok(canon),
+        Err(CanonFault::Memory) => Err(Unanswered::Memory),
         Err(_) => Err(Unanswered::BadWords),
     }
 }
@@ -52,7 +60,8 @@ impl<'a> Maps<'a> {
         }
     }
 
-    fn text_of(self, name: &str) -> Option<&'a str> {
+    /// The text of the map of a name.
+    pub fn text_of(self, name: &str) -> Option<&'a str> {
         for map in self.script.split(END) {
             if let Some((known, text)) = named(map) {
                 if known == name {

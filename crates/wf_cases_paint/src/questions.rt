@@ -1,0 +1,39 @@
+//! The questions. A box is its least x, least y, most x and most y, with spaces between.
+//!
+//! ```text
+//! picture BOX, W by H, BACKGROUND[, LAYER ..]    a mapfile            the layers painted from left to right over a colour, and
+//!                                                                     their labels: a letter a pixel, the top row first
+//! part COLUMN ROW, W by H of PICTURE             a mapfile            the same of so many columns and rows of the view's
+//!                                                                     picture from this pixel on
+//! place BOX, W by H, X Y                         a mapfile            where the view shows the point, in sixteenths of a pixel
+//!                                                                     from the left and from the bottom; for a tile also the
+//!                                                                     pixel at which it is cut out
+//! cell EXTENT                                    BOX, W by H          level, column and row of the extent's grid, none
+//! ```
+//!
+//! [`crate::letter`] has the letters.
+use crate::{cell, picture, place};
+use std::alloc::Global;
+use wf_table::{Questions, Unanswered};
+
+/// What is asked of the painter.
+pub(crate) struct Painter;
+
+impl Questions for Painter {
+    fn answer(
+        &self,
+        alloc: Global,
+        words: &str,
+        input: &[u8],
+        answer: &mut Vec<u8>,
+    ) -> Result<(), Unanswered> {
+        let (subject, asked) = words.split_once(' ').unwrap_or((words, ""));
+        match subject {
+            "picture" => picture::ask(alloc, asked, input, answer),
+            "part" => picture::ask_part(alloc, asked, input, answer),
+            "place" => place::ask(alloc, asked, input, answer),
+            "cell" => cell::ask(asked, input, answer),
+            _ => Err(Unanswered::UnknownQuestion),
+        }
+    }
+}
