@@ -1,9 +1,12 @@
 pub mod Checks
 pub mod Fields
 pub mod Head
+pub mod Hearing
 pub mod Memory
+pub mod Notice
 pub mod Reading
 pub mod Request
 pub mod Response
+pub mod Saying
 pub mod Stream
 pub mod Target

@@ -113,6 +113,13 @@ impl<'b> Response<'b> {
         }
     }
 
+    /// The number of the status.
+    pub fn status(&self) -> u16
+        ensures { result ≡ self.now.status }
+    {
+        self.status.as_u16()
+    }
+
     // Writes the lines before the body.
     fn put_lines<K: Sink>(&self, sink: &mut K, progress: &mut Progress)
         ensures written { (start : Option (List ℕ)) → IsProgress start [] (K.written sink.old) progress.old.written progress.old.failed

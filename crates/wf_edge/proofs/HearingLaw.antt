@@ -1,0 +1,32 @@
+-- From why there is no request, and what is written of that, to its outcome.
+use Rattle.std.proofs.Common.{ℕ, List, sym, subst}
+use Rattle.std.specs.Prelude.{Option, Err, IfSome}
+use Rattle.wf_edge.specs.Request.{Request, IsRequestFault, CountsReads}
+use Rattle.wf_edge.specs.Response.{Response}
+use Rattle.wf_edge.specs.Saying.{IsSaid, IsFaultSaid}
+use Rattle.wf_edge.specs.Hearing.{IsUnheard, CountsHearing}
+use Rattle.wf_edge.specs.declared.fault.RequestFault.{RequestFault}
+use Rattle.wf_edge.specs.declared.fault.RequestFault.TheVariants as fault
+use Rattle.wf_edge.specs.declared.outcome.Outcome.{Outcome}
+use Rattle.wf_edge.specs.declared.outcome.Outcome.TheVariants as outcome
+
+pub unheard : (input old new : Option (List ℕ)) (why : RequestFault) (said : Outcome) → IfSome input (λ bytes. IsRequestFault bytes why)
+    → IsFaultSaid why old new said → IsUnheard input old new said
+unheard input old new why said is written = record { why = why; is = is; written = written }
+
+-- a response tells nothing of reads
+said_reads : (response : Response) (old new : Option (List ℕ)) (said : Outcome) (first last : ℕ) → IsSaid response old new said
+    → CountsHearing {T = Request} (Err said) first last
+said_reads response old new (outcome.Sent status count) first last written = tt
+said_reads response old new (outcome.WriteFailed status count) first last written = tt
+said_reads response old new outcome.ReadFailed first last written = absurd written
+said_reads response old new outcome.NoRequest first last written = absurd written
+
+pub fault_reads : (why : RequestFault) (old new : Option (List ℕ)) (said : Outcome) (first last : ℕ) → IsFaultSaid why old new said
+    → CountsReads {T = Request} (Err why) first last → CountsHearing {T = Request} (Err said) first last
+fault_reads (fault.Refused r) old new said first last written counted = said_reads _ old new said first last written
+fault_reads fault.Memory old new said first last written counted = said_reads _ old new said first last written
+fault_reads fault.NoRequest old new said first last written counted =
+    subst (λ o. CountsHearing {T = Request} (Err o) first last) (sym written.0) counted
+fault_reads fault.ReadFailed old new said first last written counted =
+    subst (λ o. CountsHearing {T = Request} (Err o) first last) (sym written.0) counted

@@ -1,0 +1,22 @@
+-- What is heard of a request, or answered where there is none.
+use Rattle.std.specs.Prelude.{◌≡◌, ℕ, List, Option, Result, Ok, Err, IfSome}
+use Rattle.wf_edge.specs.Reading.{Rises}
+use Rattle.wf_edge.specs.Request.{IsRequestFault}
+use Rattle.wf_edge.specs.Saying.{IsFaultSaid}
+use Rattle.wf_edge.specs.declared.fault.RequestFault.{RequestFault}
+use Rattle.wf_edge.specs.declared.outcome.Outcome.{Outcome}
+use Rattle.wf_edge.specs.declared.outcome.Outcome.TheVariants as outcome
+
+-- there is no request in the input, for a reason, and this is what is written of that
+pub record IsUnheard (input old new : Option (List ℕ)) (said : Outcome) : Type 0 where
+  pub why : RequestFault
+  pub is : IfSome input (λ bytes. IsRequestFault bytes why)
+  pub written : IsFaultSaid why old new said
+
+-- A failed read is told only where one has failed, and after one there is no request. A response where memory ran out leaves it open.
+abbrev pub CountsHearing : {T : Type 0} → Result T Outcome → ℕ → ℕ → Type 0
+CountsHearing (Ok request) old new = new ≡ old
+CountsHearing (Err outcome.ReadFailed) old new = Rises old new
+CountsHearing (Err outcome.NoRequest) old new = new ≡ old
+CountsHearing (Err (outcome.Sent status count)) old new = Unit {0}
+CountsHearing (Err (outcome.WriteFailed status count)) old new = Unit {0}

@@ -1,0 +1,84 @@
+-- What is told in one line of plain text: a notice takes no memory (RFC 9110, section 15; RFC 6585, section 5).
+use Rattle.std.specs.Prelude.{ℕ, List, ◌++◌, codes, Option, Some, None}
+use Rattle.wf_edge.specs.Response.{Response}
+use Rattle.wf_edge.specs.declared.fault.RequestFault.{RequestFault}
+use Rattle.wf_edge.specs.declared.fault.RequestFault.TheVariants as fault
+use Rattle.wf_edge.specs.declared.refusal.Allowed.{Allowed}
+use Rattle.wf_edge.specs.declared.refusal.Refusal.{Refusal}
+use Rattle.wf_edge.specs.declared.refusal.Refusal.TheVariants as refusal
+use Rattle.wf_edge.specs.declared.notice.Notice.{Notice}
+use Rattle.wf_edge.specs.declared.notice.Notice.TheVariants as notice
+
+-- the media type of a line
+abbrev pub plain : List ℕ
+plain = codes "text/plain"
+
+-- a text and its end
+abbrev pub text_line : List ℕ → List ℕ
+text_line text = text ++ codes "\n"
+
+-- ---- a refusal is told by its status alone
+
+abbrev pub refusal_status : Refusal → ℕ
+refusal_status refusal.BadRequest = 400
+refusal_status refusal.NotFound = 404
+refusal_status (refusal.MethodNotAllowed method) = 405
+refusal_status refusal.LengthRequired = 411
+refusal_status refusal.ContentTooLarge = 413
+refusal_status refusal.HeadTooLarge = 431
+refusal_status refusal.NotImplemented = 501
+
+abbrev pub refusal_words : Refusal → List ℕ
+refusal_words refusal.BadRequest = codes "400"
+refusal_words refusal.NotFound = codes "404"
+refusal_words (refusal.MethodNotAllowed method) = codes "405"
+refusal_words refusal.LengthRequired = codes "411"
+refusal_words refusal.ContentTooLarge = codes "413"
+refusal_words refusal.HeadTooLarge = codes "431"
+refusal_words refusal.NotImplemented = codes "501"
+
+-- the method that is allowed, where it was another
+abbrev pub allowed_by : Refusal → Option Allowed
+allowed_by refusal.BadRequest = None
+allowed_by refusal.NotFound = None
+allowed_by (refusal.MethodNotAllowed method) = Some method
+allowed_by refusal.LengthRequired = None
+allowed_by refusal.ContentTooLarge = None
+allowed_by refusal.HeadTooLarge = None
+allowed_by refusal.NotImplemented = None
+
+-- ---- a notice
+
+abbrev pub status_of : Notice → ℕ
+status_of (notice.Refused r) = refusal_status r
+status_of notice.TooBig = 400
+status_of notice.Busy = 409
+status_of notice.SequenceFull = 409
+status_of notice.RoundsFull = 409
+status_of notice.Unavailable = 503
+
+abbrev pub words_of : Notice → List ℕ
+words_of (notice.Refused r) = refusal_words r
+words_of notice.TooBig = codes "K1"
+words_of notice.Busy = codes "N2"
+words_of notice.SequenceFull = codes "N3"
+words_of notice.RoundsFull = codes "N4"
+words_of notice.Unavailable = codes "503"
+
+abbrev pub allowed_of : Notice → Option Allowed
+allowed_of (notice.Refused r) = allowed_by r
+allowed_of notice.TooBig = None
+allowed_of notice.Busy = None
+allowed_of notice.SequenceFull = None
+allowed_of notice.RoundsFull = None
+allowed_of notice.Unavailable = None
+
+abbrev pub notice_response : Notice → Response
+notice_response n = record { status = status_of n; media = plain; allowed = allowed_of n; body = text_line (words_of n) }
+
+-- what a client is told where its request can't be read: nothing where it sent none, or where the reading itself failed
+abbrev pub notice_of_fault : RequestFault → Option Notice
+notice_of_fault fault.NoRequest = None
+notice_of_fault fault.ReadFailed = None
+notice_of_fault fault.Memory = Some notice.Unavailable
+notice_of_fault (fault.Refused r) = Some (notice.Refused r)

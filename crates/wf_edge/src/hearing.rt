@@ -1,0 +1,35 @@
+//! A request is heard: read, or refused at once.
+ghost use Rattle.std.specs.Prelude.{◌≡◌, Ok, IfOk, IfErr, OnOk, IfSome};
+ghost use Rattle.std.specs.Io.KnownBytes.{Keeps};
+ghost use Rattle.wf_edge.specs.Checks.{judged};
+ghost use Rattle.wf_edge.specs.Request.{BeginsWith};
+ghost use Rattle.wf_edge.specs.Saying.{CountsSaying};
+ghost use Rattle.wf_edge.specs.Hearing.{IsUnheard, CountsHearing};
+
+use crate::outcome::Outcome;
+use crate::request::Request;
+use crate::saying::say_fault;
+use crate::stream::{Sink, Source};
+use std::alloc::Global;
+
+/// Reads the request at the front of the input. Where there is none to answer, its refusal is written, or 503 where memory ran out, and
+/// this is the outcome; nothing is written where the input is empty or a read failed.
+#[tactic(auto, using(crate::proofs::Known::keeps_same, crate::proofs::HearingLaw::unheard, crate::proofs::HearingLaw::fault_reads))]
+pub fn hear<S: Source, K: Sink>(
+    alloc: Global,
+    source: &mut S,
+    sink: &mut K,
+) -> Result<Request, Outcome>
+    ensures asks { IfOk result (λ request. judged request.head ≡ Ok request.asked) }
+    ensures ok { IfOk result (λ request. IfSome (S.left source.old) (λ input. BeginsWith input request)) }
+    ensures quiet { OnOk result (Keeps (K.written sink.old) (K.written sink.new)) }
+    ensures err { IfErr result (IsUnheard (S.left source.old) (K.written sink.old) (K.written sink.new)) }
+    ensures reads { CountsHearing result (S.failures source.old) (S.failures source.new) }
+    ensures calm { OnOk result (K.failures sink.new ≡ K.failures sink.old) }
+    ensures writes { IfErr result (λ said. CountsSaying said (K.failures sink.old) (K.failures sink.new)) }
+{
+    match Request::read(alloc, source) {
+        Ok(request) => Ok(request),
+        Err(fault) => Err(say_fault(sink, fault)),
+    }
+}
