@@ -1,9 +1,17 @@
 //! The law of agreement at the program's definitions.
 
+ghost use Rattle.std.specs.Prelude.{◌≡◌};
 ghost use Rattle.wf_def.specs.Definition.{Definition};
 ghost use Rattle.wf_law.specs.Laws.{Agreement, KeptPromises, OwnBallots, PromisedMajority};
+ghost use Rattle.wf_model.specs.Table.{most_told};
 
+use crate::happening::MOST_SAID;
 use wf_canon::Canon;
+
+/// The limits of the code are those of the definitions.
+pub fn limits_are_as_defined()
+    ensures said { MOST_SAID ≡ most_told }
+{}
 
 /// A ballot is used by its own node's proposals alone, at a round that the node stored before, for one sequence and one
 /// definition, also after a restart that lost the proposal.

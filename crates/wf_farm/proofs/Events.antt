@@ -1,0 +1,339 @@
+-- One event: the place that it is about is set, and the farm is the model's world after it.
+use Rattle.std.proofs.Common.{◌≡◌, ℕ, zero, suc, Bool, true, false, is_some, List, [], ◌∷◌, ◌++◌, map, length, slice_get, slice_set, Option, Some, None, option_map, Result, Ok, Err, IfOk, IfSome, OnErr, IsSome, refl, sym, ap, subst, ◌∙◌, inl, inr, length-set}
+use Rattle.std.proofs.lemmas.Bool.{cases_eq, false≢true}
+use Rattle.std.proofs.lemmas.List.{append-nil, map-append}
+use Rattle.std.proofs.lemmas.Option.{none-some, same_Some, slice_get-map}
+use Rattle.wf_codec.specs.Message as message
+use Rattle.wf_codec.specs.declared.message.Message.{Message}
+use Rattle.wf_def.specs.Definition.{Definition}
+use Rattle.wf_def.specs.Equality.{definition_eq}
+use Rattle.wf_model.specs.Table as table
+use Rattle.wf_model.specs.Table.{Action, Input}
+use Rattle.wf_model.specs.World as world
+use Rattle.wf_model.specs.World.{World, Turn, input_of, delivered, refusal_of, refused, refused_at, turn, after_turn, after_torn, after_stop, after_restart, happens}
+use Rattle.wf_node.specs.declared.fault.NodeFault.{NodeFault}
+use Rattle.wf_farm.specs.declared.place.Place.{Place}
+use Rattle.wf_farm.specs.Cluster.{AreNodes, Shows, AreMembers, KeepMembers, IsActed, IsTorn, Happens, StayShown}
+use Rattle.wf_farm.specs.Fault.{told}
+use Rattle.wf_farm.specs.Place.{IsNode, IsMember, Stays, IsStepped, IsTornAt, KeepsMember, Stops, Restarts, Steps, DeniesStep, Tears, DeniesTear, number_in, turn_at}
+use Rattle.wf_farm.specs.Turn.{node_after, messages_of, node_torn, node_stopped, node_restarted}
+use Rattle.wf_farm.proofs.Turns.{set_same, turn_is, turn_absent, turn_unsent, refused_is, refused_absent, refused_unsent, turn_sets, torn_sets, stop_sets, restart_sets}
+
+-- ---- places and nodes
+
+-- where there is a place, its node stands at the same number
+pub node_at : (places : List Place) (nodes : List (world.Node Definition)) (i : ℕ) (place : Place) → AreNodes places nodes → slice_get places i ≡ Some place →
+    (node : world.Node Definition) × (slice_get nodes i ≡ Some node) × IsNode place node
+node_at [] nodes i place are e = absurd (none-some place e)
+node_at (p ∷ places) [] i place are e = absurd are
+node_at (p ∷ places) (node ∷ nodes) zero place are e = (node, refl, subst (λ q. IsNode q node) (same_Some p place e) are.0)
+node_at (p ∷ places) (node ∷ nodes) (suc i) place are e = node_at places nodes i place are.1 e
+
+-- where there is none, there is no node
+pub none_at : (places : List Place) (nodes : List (world.Node Definition)) (i : ℕ) → AreNodes places nodes → slice_get places i ≡ None → slice_get nodes i ≡ None
+none_at [] [] i are e = refl
+none_at [] (node ∷ nodes) i are e = absurd are
+none_at (p ∷ places) [] i are e = absurd are
+none_at (p ∷ places) (node ∷ nodes) zero are e = absurd (none-some p (sym e))
+none_at (p ∷ places) (node ∷ nodes) (suc i) are e = none_at places nodes i are.1 e
+
+pub as_many : (places : List Place) (nodes : List (world.Node Definition)) → AreNodes places nodes → length nodes ≡ length places
+as_many [] [] are = refl
+as_many [] (node ∷ nodes) are = absurd are
+as_many (p ∷ places) [] are = absurd are
+as_many (p ∷ places) (node ∷ nodes) are = ap suc (as_many places nodes are.1)
+
+pub set_nodes : (places : List Place) (nodes : List (world.Node Definition)) (i : ℕ) (place : Place) (node : world.Node Definition) → AreNodes places nodes → IsNode place node →
+    AreNodes (slice_set places i place) (slice_set nodes i node)
+set_nodes [] [] i place node are is = tt
+set_nodes [] (x ∷ nodes) i place node are is = absurd are
+set_nodes (p ∷ places) [] i place node are is = absurd are
+set_nodes (p ∷ places) (x ∷ nodes) zero place node are is = (is, are.1)
+set_nodes (p ∷ places) (x ∷ nodes) (suc i) place node are is = (are.0, set_nodes places nodes i place node are.1 is)
+
+-- ---- members
+
+get_set_same : {A : Type 0} (xs : List A) (i : ℕ) (x y z : A) → slice_get xs i ≡ Some y → slice_get (slice_set xs i x) i ≡ Some z → x ≡ z
+get_set_same [] i x y z e h = absurd (none-some y e)
+get_set_same (w ∷ xs) zero x y z e h = same_Some x z h
+get_set_same (w ∷ xs) (suc i) x y z e h = get_set_same xs i x y z e h
+
+get_set_other : {A : Type 0} (xs : List A) (i j : ℕ) (x : A) → (j ≡ i → ⊥) → slice_get (slice_set xs i x) j ≡ slice_get xs j
+get_set_other [] i j x differs = refl
+get_set_other (z ∷ xs) zero zero x differs = absurd (differs refl)
+get_set_other (z ∷ xs) zero (suc j) x differs = refl
+get_set_other (z ∷ xs) (suc i) zero x differs = refl
+get_set_other (z ∷ xs) (suc i) (suc j) x differs = get_set_other xs i j x (λ e. differs (ap suc e))
+
+-- nothing has changed
+pub same_members : (places : List Place) → KeepMembers places places
+same_members places = record { as_many = refl; members = λ are. are }
+
+-- A member that is set where one stood.
+pub place_members : (places : List Place) (i : ℕ) (place after : Place) → slice_get places i ≡ Some place →
+    (IsMember (length places) i place → IsMember (length places) i after) → KeepMembers places (slice_set places i after)
+unfolding AreMembers
+place_members places i place after at keeps = record {
+  as_many = length-set places i after;
+  members = λ are j p e. subst (λ n. IsMember n j p) (sym (length-set places i after)) (elim (cases_eq j i) [
+    | inl same ↦ subst (λ k. IsMember (length places) k p) (sym same)
+        (subst (IsMember (length places) i) (get_set_same places i after place p at (subst (λ k. slice_get (slice_set places i after) k ≡ Some p) same e)) (keeps (are i place at)))
+    | inr differs ↦ are j p (sym (get_set_other places i j after differs) ∙ e)
+  ]);
+}
+
+-- The same where the number of the places and the place's number are given by other names.
+pub cast_members : (places : List Place) (i : ℕ) (place after : Place) (n id : ℕ) → slice_get places i ≡ Some place → n ≡ length places → id ≡ i → (IsMember n id place → IsMember n id after) →
+    KeepMembers places (slice_set places i after)
+cast_members places i place after n id at many is keeps = place_members places i place after at
+    (subst (λ k. IsMember (length places) k place → IsMember (length places) k after) is (subst (λ k. IsMember k id place → IsMember k id after) many keeps))
+
+-- The number that a node's number was made of.
+pub cast_id : (found : Option ℕ) (id number i : ℕ) → found ≡ Some id → IfSome found (λ x. x ≡ number) → number ≡ i → id ≡ i
+cast_id None id number i is made same = absurd (none-some id is)
+cast_id (Some x) id number i is made same = sym (same_Some x id is) ∙ made ∙ same
+
+pub place_keeps : (places : List Place) (i : ℕ) (place after : Place) → slice_get places i ≡ Some place → KeepsMember place after → KeepMembers places (slice_set places i after)
+unfolding KeepsMember
+place_keeps places i place after at keeps = place_members places i place after at (keeps (length places) i)
+
+pub member_at : (places : List Place) (i : ℕ) (place : Place) → AreMembers places → slice_get places i ≡ Some place → IsMember (length places) i place
+unfolding AreMembers
+member_at places i place members at = members i place at
+
+-- ---- a step
+
+module _ (places : List Place) (sent : List Message) (i : ℕ) where
+  module _ (place after : Place) (said : List Message) (action : Action Definition ℕ) (input : Input Definition) (number : Option ℕ)
+      (at : slice_get places i ≡ Some place) (given : input_of (map message.view sent) action ≡ Some input) where
+    -- the input in a shown world
+    given_in : (w : World Definition) → Shows places sent w → input_of w.sent action ≡ Some input
+    given_in w shows = ap (λ ms. input_of ms action) shows.messages ∙ given
+
+    -- A step at a place is the world's.
+    pub place_acts : IsStepped (length places) i input place after (map message.view said) number → IsActed i action number places sent (slice_set places i after) (sent ++ said)
+    place_acts stepped = record {
+      leads = λ w shows.
+          let here = node_at places w.nodes i place shows.nodes at in
+          let t : Option (Turn Definition) = turn_at (length places) i input here.0 in
+          let is_turn = turn_is definition_eq w (length places) i here.0 action input (as_many places w.nodes shows.nodes) here.1 (given_in w shows) in
+          subst (Shows (slice_set places i after) (sent ++ said)) (sym (ap (after_turn w i) is_turn ∙ turn_sets w i here.0 t here.1))
+          (record {
+            nodes = set_nodes places w.nodes i after (node_after t here.0) shows.nodes (stepped.node here.0 here.2);
+            messages = ap (λ ms. ms ++ messages_of t) shows.messages ∙ ap (λ ms. map message.view sent ++ ms) (sym (stepped.messages here.0 here.2)) ∙ sym (map-append message.view sent said);
+          });
+      why = λ w shows.
+          let here = node_at places w.nodes i place shows.nodes at in
+          stepped.refusal here.0 here.2 ∙ sym (ap told (refused_is w i here.0 action input here.1 (given_in w shows)));
+    }
+
+    -- A torn step likewise: nothing is said.
+    pub place_tears : (kept : world.Kept) → IsTornAt kept (length places) i input place after number → IsTorn i action kept number places sent (slice_set places i after) sent
+    place_tears kept torn = record {
+      leads = λ w shows.
+          let here = node_at places w.nodes i place shows.nodes at in
+          let t : Option (Turn Definition) = turn_at (length places) i input here.0 in
+          let is_turn = turn_is definition_eq w (length places) i here.0 action input (as_many places w.nodes shows.nodes) here.1 (given_in w shows) in
+          subst (Shows (slice_set places i after) sent) (sym (ap (after_torn w i kept) is_turn ∙ torn_sets w i kept here.0 t here.1))
+          (record { nodes = set_nodes places w.nodes i after (node_torn kept t here.0) shows.nodes (torn.node here.0 here.2); messages = shows.messages });
+      why = λ w shows.
+          let here = node_at places w.nodes i place shows.nodes at in
+          torn.refusal here.0 here.2 ∙ sym (ap told (refused_is w i here.0 action input here.1 (given_in w shows)));
+    }
+
+  -- A place that stays what it was.
+  pub place_stays : (place after : Place) → slice_get places i ≡ Some place → Stays place after → StayShown places sent (slice_set places i after) sent
+  unfolding Stays StayShown
+  place_stays place after at stays = λ w shows.
+      let here = node_at places w.nodes i place shows.nodes at in
+      record { nodes = subst (AreNodes (slice_set places i after)) (set_same w.nodes i here.0 here.1) (set_nodes places w.nodes i after here.0 shows.nodes (stays here.0 here.2)); messages = shows.messages }
+
+  -- ---- from what a place says of its step, whatever its number and however many nodes there are
+
+  module _ (place after : Place) (action : Action Definition ℕ) (input : Input Definition) (at : slice_get places i ≡ Some place) (members : AreMembers places)
+      (given : input_of (map message.view sent) action ≡ Some input) where
+    pub step_acts : (said : List Message) → Steps input place after (map message.view said) → IsActed i action None places sent (slice_set places i after) (sent ++ said)
+    unfolding Steps
+    step_acts said done = place_acts place after said action input None at given (done (length places) i (member_at places i place members at))
+
+    -- A refused step says nothing.
+    pub refused_acts : (f : NodeFault) (number : ℕ) → DeniesStep input place after f → number_in f ≡ Some number → IsActed i action (Some number) places sent (slice_set places i after) sent
+    unfolding DeniesStep
+    refused_acts f number denied is =
+        subst (λ ms. IsActed i action (Some number) places sent (slice_set places i after) ms) (append-nil sent)
+        (place_acts place after [] action input (Some number) at given ((denied (length places) i (member_at places i place members at)).refused number is))
+
+    -- what is answered of a refusal
+    pub answered_acts : {E : Type 0} (result : Result (Option ℕ) E) (f : NodeFault) → IfOk result (λ number. number ≡ number_in f) → IfOk result IsSome → DeniesStep input place after f →
+        IfOk result (λ number. IsActed i action number places sent (slice_set places i after) sent)
+    answered_acts (Ok None) f is some denied = absurd (false≢true some)
+    answered_acts (Ok (Some number)) f is some denied = refused_acts f number denied (sym is)
+    answered_acts (Err e) f is some denied = tt
+
+    pub tear_acts : (kept : world.Kept) → Tears kept input place after → IsTorn i action kept None places sent (slice_set places i after) sent
+    unfolding Tears
+    tear_acts kept torn = place_tears place after [] action input None at given kept (torn (length places) i (member_at places i place members at))
+
+    pub refused_tears : (kept : world.Kept) (f : NodeFault) (number : ℕ) → DeniesTear kept input place after f → number_in f ≡ Some number →
+        IsTorn i action kept (Some number) places sent (slice_set places i after) sent
+    unfolding DeniesTear
+    refused_tears kept f number denied is = place_tears place after [] action input (Some number) at given kept ((denied (length places) i (member_at places i place members at)).refused number is)
+
+    pub answered_tears : {E : Type 0} (kept : world.Kept) (result : Result (Option ℕ) E) (f : NodeFault) → IfOk result (λ number. number ≡ number_in f) → IfOk result IsSome → DeniesTear kept input place after f →
+        IfOk result (λ number. IsTorn i action kept number places sent (slice_set places i after) sent)
+    answered_tears kept (Ok None) f is some denied = absurd (false≢true some)
+    answered_tears kept (Ok (Some number)) f is some denied = refused_tears kept f number denied (sym is)
+    answered_tears kept (Err e) f is some denied = tt
+
+    -- A torn step that changes nothing at its place changes nothing.
+    pub keeps_torn : (kept : world.Kept) (number : Option ℕ) → ((n j : ℕ) → IsMember n j place → IsTornAt kept n j input place place number) → IsTorn i action kept number places sent places sent
+    keeps_torn kept number torn =
+        subst (λ ps. IsTorn i action kept number places sent ps sent) (set_same places i place at)
+        (place_tears place place [] action input number at given kept (torn (length places) i (member_at places i place members at)))
+
+  -- What a fault leaves, whatever the input was.
+  pub denied_stays : (place after : Place) (input : Input Definition) (f : NodeFault) → slice_get places i ≡ Some place → AreMembers places → DeniesStep input place after f →
+      StayShown places sent (slice_set places i after) sent
+  unfolding DeniesStep
+  denied_stays place after input f at members denied = place_stays place after at (denied (length places) i (member_at places i place members at)).stays
+
+  pub torn_stays : (kept : world.Kept) (place after : Place) (input : Input Definition) (f : NodeFault) → slice_get places i ≡ Some place → AreMembers places → DeniesTear kept input place after f →
+      StayShown places sent (slice_set places i after) sent
+  unfolding DeniesTear
+  torn_stays kept place after input f at members denied = place_stays place after at (denied (length places) i (member_at places i place members at)).stays
+
+  pub nothing_stays : StayShown places sent places sent
+  unfolding StayShown
+  nothing_stays = λ w shows. shows
+
+  -- Where there is no node, and where the message isn't sent, nothing happens.
+  absent_in : slice_get places i ≡ None → (w : World Definition) → Shows places sent w → slice_get w.nodes i ≡ None
+  absent_in none w shows = none_at places w.nodes i shows.nodes none
+
+  pub absent_acts : (action : Action Definition ℕ) → slice_get places i ≡ None → IsActed i action None places sent places sent
+  unfolding after_turn
+  absent_acts action none = record {
+    leads = λ w shows. subst (Shows places sent) (sym (ap (after_turn w i) (turn_absent definition_eq w i action (absent_in none w shows)))) shows;
+    why = λ w shows. sym (ap told (refused_absent w i action (absent_in none w shows)));
+  }
+
+  pub unsent_acts : (action : Action Definition ℕ) → input_of (map message.view sent) action ≡ None → IsActed i action None places sent places sent
+  unfolding after_turn
+  unsent_acts action none = record {
+    leads = λ w shows. subst (Shows places sent) (sym (ap (after_turn w i) (turn_unsent definition_eq w i action (ap (λ ms. input_of ms action) shows.messages ∙ none)))) shows;
+    why = λ w shows. sym (ap told (refused_unsent w i action (ap (λ ms. input_of ms action) shows.messages ∙ none)));
+  }
+
+  pub absent_torn : (action : Action Definition ℕ) (kept : world.Kept) → slice_get places i ≡ None → IsTorn i action kept None places sent places sent
+  unfolding after_torn
+  absent_torn action kept none = record {
+    leads = λ w shows. subst (Shows places sent) (sym (ap (after_torn w i kept) (turn_absent definition_eq w i action (absent_in none w shows)))) shows;
+    why = λ w shows. sym (ap told (refused_absent w i action (absent_in none w shows)));
+  }
+
+  pub unsent_torn : (action : Action Definition ℕ) (kept : world.Kept) → input_of (map message.view sent) action ≡ None → IsTorn i action kept None places sent places sent
+  unfolding after_torn
+  unsent_torn action kept none = record {
+    leads = λ w shows. subst (Shows places sent) (sym (ap (after_torn w i kept) (turn_unsent definition_eq w i action (ap (λ ms. input_of ms action) shows.messages ∙ none)))) shows;
+    why = λ w shows. sym (ap told (refused_unsent w i action (ap (λ ms. input_of ms action) shows.messages ∙ none)));
+  }
+
+  -- ---- a stop and a restart
+
+  pub place_stops : (place after : Place) → slice_get places i ≡ Some place → AreMembers places → Stops place after → Happens (world.Stop i) None places sent (slice_set places i after) sent
+  unfolding happens refused Stops
+  place_stops place after at members stopped = record {
+    leads = λ w shows.
+        let here = node_at places w.nodes i place shows.nodes at in
+        subst (Shows (slice_set places i after) sent) (sym (stop_sets w i here.0 here.1))
+        (record { nodes = set_nodes places w.nodes i after (node_stopped here.0) shows.nodes (stopped (length places) i (member_at places i place members at) here.0 here.2); messages = shows.messages });
+    why = λ w shows. refl;
+  }
+
+  pub absent_stops : slice_get places i ≡ None → Happens (world.Stop i) None places sent places sent
+  unfolding happens refused after_stop
+  absent_stops none = record {
+    leads = λ w shows. subst (Shows places sent) (sym (ap (after_stop w i) (absent_in none w shows))) shows;
+    why = λ w shows. refl;
+  }
+
+  pub place_restarts : (place after : Place) → slice_get places i ≡ Some place → Restarts place after → Happens (world.Restart i) None places sent (slice_set places i after) sent
+  unfolding happens refused Restarts
+  place_restarts place after at restarted = record {
+    leads = λ w shows.
+        let here = node_at places w.nodes i place shows.nodes at in
+        subst (Shows (slice_set places i after) sent) (sym (restart_sets w i here.0 here.1))
+        (record { nodes = set_nodes places w.nodes i after (node_restarted here.0) shows.nodes (restarted here.0 here.2); messages = shows.messages });
+    why = λ w shows. refl;
+  }
+
+  pub absent_restarts : slice_get places i ≡ None → Happens (world.Restart i) None places sent places sent
+  unfolding happens refused after_restart
+  absent_restarts none = record {
+    leads = λ w shows. subst (Shows places sent) (sym (ap (after_restart w i) (absent_in none w shows))) shows;
+    why = λ w shows. refl;
+  }
+
+-- ---- the input of a delivery
+
+-- A message that is sent is the model's at the same number.
+pub sent_message : (sent : List Message) (k : ℕ) (m : Message) → slice_get sent k ≡ Some m → input_of (map message.view sent) (table.Deliver k) ≡ Some (table.Deliver (message.view m))
+unfolding input_of delivered
+sent_message sent k m e = ap delivered (slice_get-map message.view sent k ∙ ap (λ x. option_map message.view x) e)
+
+pub unsent_message : (sent : List Message) (k : ℕ) → slice_get sent k ≡ None → input_of (map message.view sent) (table.Deliver k) ≡ None
+unfolding input_of delivered
+unsent_message sent k e = ap delivered (slice_get-map message.view sent k ∙ ap (λ x. option_map message.view x) e)
+
+-- ---- steps and torn steps are events
+
+module _ (i : ℕ) (number : Option ℕ) (places after : List Place) (sent more : List Message) where
+  pub proposes : (d : Definition) → IsActed i (table.Propose d) number places sent after more → Happens (world.Propose i d) number places sent after more
+  unfolding happens refused
+  proposes d acted = record { leads = acted.leads; why = acted.why }
+
+  pub retries : IsActed i table.Retry number places sent after more → Happens (world.Retry i) number places sent after more
+  unfolding happens refused
+  retries acted = record { leads = acted.leads; why = acted.why }
+
+  pub catches_up : IsActed i table.CatchUp number places sent after more → Happens (world.CatchUp i) number places sent after more
+  unfolding happens refused
+  catches_up acted = record { leads = acted.leads; why = acted.why }
+
+  pub delivers : (k : ℕ) → IsActed i (table.Deliver k) number places sent after more → Happens (world.Deliver i k) number places sent after more
+  unfolding happens refused
+  delivers k acted = record { leads = acted.leads; why = acted.why }
+
+  pub is_torn : (action : Action Definition ℕ) (kept : world.Kept) → IsTorn i action kept number places sent after more → Happens (world.Torn i action kept) number places sent after more
+  unfolding happens refused
+  is_torn action kept torn = record { leads = torn.leads; why = torn.why }
+
+pub ok_map : {A E : Type 0} (P Q : A → Type 0) (result : Result A E) → ((x : A) → P x → Q x) → IfOk result P → IfOk result Q
+ok_map P Q (Ok x) f p = f x p
+ok_map P Q (Err e) f p = tt
+
+-- the input of a step that isn't a delivery
+pub proposal_given : (sent : List Message) (d own : Definition) → own ≡ d → input_of (map message.view sent) (table.Propose d) ≡ Some (table.Propose own)
+unfolding input_of
+proposal_given sent d own same = ap (λ x. Some (table.Propose x)) (sym same)
+
+pub retry_given : (sent : List Message) → input_of (map message.view sent) table.Retry ≡ Some table.Retry
+unfolding input_of
+retry_given sent = refl
+
+pub question_given : (sent : List Message) → input_of (map message.view sent) table.CatchUp ≡ Some table.CatchUp
+unfolding input_of
+question_given sent = refl
+
+pub on_err : {A E P : Type 0} (result : Result A E) → P → OnErr result P
+on_err (Ok x) p = tt
+on_err (Err e) p = p
+
+-- whether an action has an input in this world: its message, where it is a delivery
+pub none_given : (given : Option (Input Definition)) (is : Bool) → is ≡ is_some given → is ≡ false → given ≡ None
+none_given None is e f = refl
+none_given (Some input) is e f = absurd (false≢true (sym f ∙ e))
+
+pub one_given : (given : Option (Input Definition)) (is : Bool) → is ≡ is_some given → is ≡ true → (input : Input Definition) × (given ≡ Some input)
+one_given None is e t = absurd (false≢true (sym e ∙ t))
+one_given (Some input) is e t = (input, refl)

@@ -1,0 +1,5 @@
+mod Turns
+mod Steps
+mod Events
+mod Runs
+mod Worlds

@@ -1,0 +1,460 @@
+-- One place: what the node there does is the farm's model's turn.
+use Rattle.std.proofs.Common.{◌≡◌, ◌≢◌, ℕ, ◌≤◌, true, false, List, [], map, length, take, drop, slice_get, Option, Some, None, Result, Ok, Err, IfOk, IfErr, refl, sym, ap, subst, ◌∙◌, arith, inl, inr, Vec}
+use Rattle.std.proofs.lemmas.Bool.{both_ways}
+use Rattle.std.proofs.lemmas.List.{append-nil, length-map, take-append-drop}
+use Rattle.std.proofs.lemmas.Option.{none-some, same_Some}
+use Rattle.wf_codec.specs.Message as message
+use Rattle.wf_codec.specs.declared.message.Message.{Message}
+use Rattle.wf_def.specs.Definition.{Definition}
+use Rattle.wf_def.specs.Equality.{definition_eq}
+use Rattle.wf_model.specs.Fits.{RowsAreShort}
+use Rattle.wf_model.specs.Message as model
+use Rattle.wf_model.specs.Stored.{Stored, fold, fold_from, nothing_stored}
+use Rattle.wf_model.specs.Working.{Working, Idle}
+use Rattle.wf_model.specs.Table as table
+use Rattle.wf_model.specs.Table.{Input, Refusal, most_told, refusal, refuse_proposal, refuse_retry, row, store}
+use Rattle.wf_model.specs.World as world
+use Rattle.wf_model.specs.World.{refusal_of, turn_of, stored_after, kept_part, input_of, delivered}
+use Rattle.wf_node.specs.Fault as fault
+use Rattle.wf_node.specs.Images.{AllStandFor, StandsFor}
+use Rattle.wf_node.specs.Node.{Node, stored_of, working_of}
+use Rattle.wf_node.specs.Opening.{IsFoldOf}
+use Rattle.wf_node.specs.Step.{row_of, refusal_at, IsRow, IsSameNode}
+use Rattle.wf_node.specs.declared.fault.NodeFault.{NodeFault}
+use Rattle.wf_node.specs.declared.fault.NodeFault.TheVariants as fault_case
+use Rattle.wf_tape.specs.Journal.{Follows, ReadsSame}
+use Rattle.wf_tape.specs.MemoryTape as tape
+use Rattle.wf_tape.specs.MemoryTape.{IsImageOf}
+use Rattle.wf_tape.specs.Records.{AreReadOneWay, IsReadAsNone}
+use Rattle.wf_tape.specs.Tape.{HasRisen, IsBeginning}
+use Rattle.wf_farm.specs.declared.place.Place.{Place}
+use Rattle.wf_farm.specs.declared.place.Place.TheVariants.{Running, Stopped}
+use Rattle.wf_farm.specs.Fault.{number_of, told}
+use Rattle.wf_farm.specs.Place.{IsNode, IsMember, IsChanged, Stays, turn_at, IsStepped, IsTornAt, number_in, IsDenied, IsDeniedTorn, KeepsMember, Stops, Restarts, Steps, DeniesStep, Tears, DeniesTear, TellsWhyNot}
+use Rattle.wf_farm.specs.Start.{fresh_node}
+use Rattle.wf_farm.specs.Turn.{node_after, messages_of, node_torn, node_stopped, working_restarted, node_restarted}
+use Rattle.wf_farm.proofs.Turns.{turn_goes, turn_refused, turn_stopped, running_refusal, stopped_refusal}
+
+abbrev pub node_of : Stored Definition → Option (Working Definition) → world.Node Definition
+node_of stored working = record { stored = stored; working = working }
+
+node_eq : (stored others : Stored Definition) (working held : Option (Working Definition)) → stored ≡ others → working ≡ held → node_of stored working ≡ node_of others held
+node_eq stored others working held e h = ap (λ s. node_of s working) e ∙ ap (λ x. node_of others x) h
+
+-- the node of the model's that a running one is
+abbrev shown : Node tape.Kept → world.Node Definition
+shown node = node_of (stored_of node) (Some (working_of node))
+
+-- A tape in memory counts no failure, so none is told of it.
+pub never_fails : HasRisen 0 0 → ⊥
+never_fails risen = elim risen [ inl less ↦ omega (arith, less) | inr last ↦ omega (arith, last) ]
+
+-- ---- a step
+
+goes_of : (node : Node tape.Kept) (input : Input Definition) → refusal_at node input ≡ None →
+    turn_at node.n node.id input (shown node) ≡ Some (record { stored = stored_of node; row = row_of node input })
+goes_of node input goes = turn_goes definition_eq node.n node.id (stored_of node) (working_of node) input goes
+
+module _ (node after : Node tape.Kept) (input : Input Definition) (said : List Message) (goes : refusal_at node input ≡ None) (is : IsRow node (row_of node input) said after) where
+  stepped_node : node_after (turn_at node.n node.id input (shown node)) (shown node) ≡ shown after
+  unfolding node_after stored_after
+  stepped_node =
+      ap (λ t. node_after t (shown node)) (goes_of node input goes) ∙ node_eq _ _ _ _ (sym is.stored) (ap Some (sym is.working))
+
+  stepped_messages : map message.view said ≡ messages_of (turn_at node.n node.id input (shown node))
+  unfolding messages_of
+  stepped_messages = is.messages ∙ sym (ap messages_of (goes_of node input goes))
+
+  stepped_refusal : None ≡ told (refusal_of (Some (shown node)) (Some input))
+  stepped_refusal = sym (ap told (running_refusal (stored_of node) (working_of node) input ∙ goes))
+
+  done_here : IsStepped node.n node.id input (Running node) (Running after) (map message.view said) None
+  done_here = record {
+    node = λ x e. subst (λ y. node_after (turn_at node.n node.id input y) y ≡ shown after) (sym e) stepped_node;
+    messages = λ x e. subst (λ y. map message.view said ≡ messages_of (turn_at node.n node.id input y)) (sym e) stepped_messages;
+    refusal = λ x e. subst (λ y. None ≡ told (refusal_of (Some y) (Some input))) (sym e) stepped_refusal;
+  }
+
+-- A step that is done is the turn of the node at this place.
+pub step_done : (n i : ℕ) (node after : Node tape.Kept) (input : Input Definition) (said : List Message) → IsMember n i (Running node) → refusal_at node input ≡ None →
+    IsRow node (row_of node input) said after → IsStepped n i input (Running node) (Running after) (map message.view said) None
+step_done n i node after input said member goes is =
+    subst (λ m. IsStepped m i input (Running node) (Running after) (map message.view said) None) member.1
+    (subst (λ j. IsStepped node.n j input (Running node) (Running after) (map message.view said) None) member.0 (done_here node after input said goes is))
+
+-- its node is a member still
+pub done_member : (node after : Node tape.Kept) (input : Input Definition) (said : List Message) → IsRow node (row_of node input) said after → KeepsMember (Running node) (Running after)
+unfolding KeepsMember
+done_member node after input said is = λ n i member. (is.id ∙ member.0, is.n ∙ member.1, is.running)
+
+-- No step says more than eight messages.
+pub said_few : (node after : Node tape.Kept) (input : Input Definition) (said : List Message) → RowsAreShort Definition → IsRow node (row_of node input) said after → length said ≤ most_told
+said_few node after input said short is =
+    omega (arith, length-map said message.view, ap length is.messages, short definition_eq node.n node.id (stored_of node) (working_of node) input)
+
+module _ (node : Node tape.Kept) (input : Input Definition) (why : Refusal) (refused : refusal_at node input ≡ Some why) where
+  refused_here : IsStepped node.n node.id input (Running node) (Running node) [] (Some (number_of why))
+  unfolding node_after messages_of
+  refused_here =
+      let none : turn_at node.n node.id input (shown node) ≡ None = turn_refused definition_eq node.n node.id (stored_of node) (working_of node) input why refused in
+      record {
+        node = λ x e. subst (λ y. node_after (turn_at node.n node.id input y) y ≡ shown node) (sym e) (ap (λ t. node_after t (shown node)) none);
+        messages = λ x e. subst (λ y. [] ≡ messages_of (turn_at node.n node.id input y)) (sym e) (sym (ap messages_of none));
+        refusal = λ x e. subst (λ y. Some (number_of why) ≡ told (refusal_of (Some y) (Some input))) (sym e)
+            (sym (ap told (running_refusal (stored_of node) (working_of node) input ∙ refused)));
+      }
+
+pub step_refused : (n i : ℕ) (node : Node tape.Kept) (input : Input Definition) (why : Refusal) → IsMember n i (Running node) → refusal_at node input ≡ Some why →
+    IsStepped n i input (Running node) (Running node) [] (Some (number_of why))
+step_refused n i node input why member refused =
+    subst (λ m. IsStepped m i input (Running node) (Running node) [] (Some (number_of why))) member.1
+    (subst (λ j. IsStepped node.n j input (Running node) (Running node) [] (Some (number_of why))) member.0 (refused_here node input why refused))
+
+-- a node that is as it was but for its tape
+pub same_stays : (node after : Node tape.Kept) → IsSameNode node after → Stays (Running node) (Running after)
+unfolding Stays
+same_stays node after same = λ x e. e ∙ node_eq _ _ _ _ (sym (ap stored_of same)) (ap Some (sym (ap working_of same)))
+
+-- which number a fault has
+number_why : (f : NodeFault) (number : ℕ) → number_in f ≡ Some number → (why : Refusal) × (fault.refusal_of f ≡ Some why) × (number_of why ≡ number)
+number_why fault_case.Memory number e = absurd (none-some number e)
+number_why fault_case.Busy number e = (table.Busy, refl, same_Some 2 number e)
+number_why fault_case.SequenceFull number e = (table.SequenceFull, refl, same_Some 3 number e)
+number_why fault_case.RoundsFull number e = (table.RoundsFull, refl, same_Some 4 number e)
+number_why fault_case.Halted number e = absurd (none-some number e)
+number_why fault_case.TapeFailed number e = absurd (none-some number e)
+number_why fault_case.Nothing number e = (table.NothingToRetry, refl, same_Some 7 number e)
+
+-- the table's refusals are neither want of memory nor a failure of the tape
+unchanged_by : (f : NodeFault) (why : Refusal) → fault.refusal_of f ≡ Some why → (f ≢ fault_case.Memory) × (f ≢ fault_case.TapeFailed)
+unchanged_by f why e = (
+  λ is. none-some why (ap fault.refusal_of (sym is) ∙ e),
+  λ is. none-some why (ap fault.refusal_of (sym is) ∙ e),
+)
+
+-- After a fault the node is a member still: its tape hasn't failed, since a tape in memory doesn't.
+module _ (node after : Node tape.Kept) (same : IsSameNode node after) where
+  kept_member : after.halted ≡ false → KeepsMember (Running node) (Running after)
+  unfolding KeepsMember
+  kept_member runs = λ n i member. (ap (λ x. x.id) same ∙ member.0, ap (λ x. x.n) same ∙ member.1, runs)
+
+  unchanged_member : (f : NodeFault) (why : Refusal) → fault.refusal_of f ≡ Some why → (f ≢ fault_case.Memory → f ≢ fault_case.TapeFailed → after ≡ node) → KeepsMember (Running node) (Running after)
+  unfolding KeepsMember
+  unchanged_member f why e unchanged =
+      let other = unchanged_by f why e in
+      subst (λ x. KeepsMember (Running node) (Running x)) (sym (unchanged other.0 other.1)) (λ n i member. member)
+
+  pub denied_member : (f : NodeFault) → (f ≡ fault_case.Memory → after.halted ≡ false) → (f ≡ fault_case.TapeFailed → HasRisen 0 0) → (f ≡ fault_case.Halted → node.halted ≡ true) →
+      (f ≢ fault_case.Memory → f ≢ fault_case.TapeFailed → after ≡ node) → KeepsMember (Running node) (Running after)
+  unfolding KeepsMember
+  denied_member fault_case.Memory runs fails halted unchanged = kept_member (runs refl)
+  denied_member fault_case.Busy runs fails halted unchanged = unchanged_member fault_case.Busy table.Busy refl unchanged
+  denied_member fault_case.SequenceFull runs fails halted unchanged = unchanged_member fault_case.SequenceFull table.SequenceFull refl unchanged
+  denied_member fault_case.RoundsFull runs fails halted unchanged = unchanged_member fault_case.RoundsFull table.RoundsFull refl unchanged
+  denied_member fault_case.Halted runs fails halted unchanged = λ n i member. absurd (both_ways node.halted member.2 (halted refl))
+  denied_member fault_case.TapeFailed runs fails halted unchanged = absurd (never_fails (fails refl))
+  denied_member fault_case.Nothing runs fails halted unchanged = unchanged_member fault_case.Nothing table.NothingToRetry refl unchanged
+
+-- A step that a fault ends: the node is as it was, and the table's refusal is that of the farm's model.
+pub step_denied : (n i : ℕ) (node after : Node tape.Kept) (input : Input Definition) (f : NodeFault) → IsMember n i (Running node) → fault.refusal_of f ≡ refusal_at node input →
+    IsSameNode node after → (f ≢ fault_case.Memory → f ≢ fault_case.TapeFailed → after ≡ node) → IsDenied n i input (Running node) (Running after) f
+step_denied n i node after input f member refused same unchanged = record {
+  stays = same_stays node after same;
+  refused = λ number e.
+      let why = number_why f number e in
+      let other = unchanged_by f why.0 why.1 in
+      subst (λ k. IsStepped n i input (Running node) (Running after) [] (Some k)) why.2
+      (subst (λ x. IsStepped n i input (Running node) (Running x) [] (Some (number_of why.0))) (sym (unchanged other.0 other.1))
+      (step_refused n i node input why.0 member (sym refused ∙ why.1)));
+}
+
+-- ---- a step, whatever it answers
+
+module _ {A : Type 0} (node after : Node tape.Kept) (input : Input Definition) where
+  pub any_done : (result : Result (Vec Message A) NodeFault) → (node.halted ≡ false → fault.refused_by result ≡ refusal_at node input) →
+      IfOk result (λ said. IsRow node (row_of node input) said.items after) → IfOk result (λ said. Steps input (Running node) (Running after) (map message.view said.items))
+  unfolding Steps
+  any_done (Ok said) refused is = λ n i member. step_done n i node after input said.items member (sym (refused member.2)) is
+  any_done (Err f) refused is = tt
+
+  pub any_denied : (result : Result (Vec Message A) NodeFault) → (node.halted ≡ false → fault.refused_by result ≡ refusal_at node input) → IfErr result (λ f. IsSameNode node after) →
+      IfErr result (λ f. f ≢ fault_case.Memory → f ≢ fault_case.TapeFailed → after ≡ node) → IfErr result (DeniesStep input (Running node) (Running after))
+  unfolding DeniesStep
+  any_denied (Ok said) refused same unchanged = tt
+  any_denied (Err f) refused same unchanged = λ n i member. step_denied n i node after input f member (refused member.2) same unchanged
+
+  pub any_few : RowsAreShort Definition → (result : Result (Vec Message A) NodeFault) → IfOk result (λ said. IsRow node (row_of node input) said.items after) → IfOk result (λ said. length said.items ≤ most_told)
+  any_few short (Ok said) is = said_few node after input said.items short is
+  any_few short (Err f) is = tt
+
+  pub any_member : (result : Result (Vec Message A) NodeFault) → IfOk result (λ said. IsRow node (row_of node input) said.items after) →
+      (result ≡ Err fault_case.Memory → after.halted ≡ false) → (result ≡ Err fault_case.TapeFailed → HasRisen 0 0) → (result ≡ Err fault_case.Halted → node.halted ≡ true) →
+      IfErr result (λ f. IsSameNode node after) → IfErr result (λ f. f ≢ fault_case.Memory → f ≢ fault_case.TapeFailed → after ≡ node) → KeepsMember (Running node) (Running after)
+  any_member (Ok said) is runs fails halted same unchanged = done_member node after input said.items is
+  any_member (Err f) is runs fails halted same unchanged = denied_member node after same f (λ e. runs (ap Err e)) (λ e. fails (ap Err e)) (λ e. halted (ap Err e)) unchanged
+
+-- A stopped node takes no step.
+pub stopped_steps : (kept : tape.Kept) (input : Input Definition) → Steps input (Stopped kept) (Stopped kept) []
+unfolding Steps node_after messages_of
+stopped_steps kept input = λ n i member. record {
+  node = λ x is. subst (λ t. IsNode (Stopped kept) (node_after t x)) (sym (turn_stopped definition_eq n i x input is.0)) is;
+  messages = λ x is. sym (ap messages_of (turn_stopped definition_eq n i x input is.0));
+  refusal = λ x is. sym (ap told (stopped_refusal x input is.0));
+}
+
+pub same_member : (place : Place) → KeepsMember place place
+unfolding KeepsMember
+same_member place = λ n i member. member
+
+pub member_twice : (before middle after : Place) → KeepsMember before middle → KeepsMember middle after → KeepsMember before after
+unfolding KeepsMember
+member_twice before middle after first second = λ n i member. second n i (first n i member)
+
+-- ---- a stop
+
+-- The tape of a node that was closed stands for what it stored.
+pub closed : (node : Node tape.Kept) (left : tape.Kept) → (node.halted ≡ false → AllStandFor (stored_of node) (IsImageOf left)) → Stops (Running node) (Stopped left)
+unfolding Stops node_stopped
+closed node left stands = λ n i member x e. (refl, subst (λ y. AllStandFor y.stored (IsImageOf left)) (sym e) (stands member.2))
+
+pub still_stopped : (kept : tape.Kept) → Stops (Stopped kept) (Stopped kept)
+unfolding Stops node_stopped
+still_stopped kept = λ n i member x is. (refl, is.1)
+
+-- of a tape alone nothing is asked of a member
+pub stopped_member : (before : Place) (kept : tape.Kept) → KeepsMember before (Stopped kept)
+unfolding KeepsMember
+stopped_member before kept = λ n i member. tt
+
+-- ---- a restart
+
+-- bytes stand for one stored part
+one_stand : AreReadOneWay → (bytes : List ℕ) (stored others : Stored Definition) → StandsFor stored bytes → StandsFor others bytes → stored ≡ others
+one_stand one bytes stored others first second =
+    same_Some stored others (sym first.folds ∙ ap fold (one bytes first.records second.records first.reads second.reads) ∙ second.folds)
+
+begins_itself : (bytes : List ℕ) → IsBeginning bytes bytes
+begins_itself bytes = ([], sym (append-nil bytes))
+
+begins_taken : (n : ℕ) (bytes : List ℕ) → IsBeginning (take n bytes) bytes
+begins_taken n bytes = (drop n bytes, sym (take-append-drop n bytes))
+
+-- all the bytes of a tape are an image of it
+content_is_image : (kept : tape.Kept) → IsImageOf kept kept.bytes
+content_is_image kept = (begins_itself kept.bytes, begins_taken kept.synced kept.bytes)
+
+-- What a tape stands for is one stored part.
+pub one_stored : AreReadOneWay → (kept : tape.Kept) (stored others : Stored Definition) → AllStandFor stored (IsImageOf kept) → AllStandFor others (IsImageOf kept) → stored ≡ others
+one_stored one kept stored others first second =
+    one_stand one kept.bytes stored others (first kept.bytes (content_is_image kept)) (second kept.bytes (content_is_image kept))
+
+-- What opens from a tape stored what the tape stands for, and has no proposal.
+pub opened : AreReadOneWay → (kept : tape.Kept) (node : Node tape.Kept) → IsFoldOf (stored_of node) kept.bytes → working_of node ≡ Idle → Restarts (Stopped kept) (Running node)
+unfolding Restarts node_restarted working_restarted
+opened one kept node fold_of idle = λ x is.
+    let stands : StandsFor x.stored kept.bytes = is.1 kept.bytes (content_is_image kept) in
+    let found : StandsFor (stored_of node) kept.bytes = record { records = fold_of.records; reads = (fold_of.rest, fold_of.tape.reads); folds = fold_of.folds } in
+    ap (λ working. node_of x.stored (working_restarted working)) is.0
+    ∙ node_eq _ _ _ _ (one_stand one kept.bytes x.stored (stored_of node) stands found) (ap Some (sym idle))
+
+pub still_running : (node : Node tape.Kept) → Restarts (Running node) (Running node)
+unfolding Restarts node_restarted working_restarted
+still_running node = λ x e. subst (λ y. node_restarted y ≡ shown node) (sym e) refl
+
+-- A tape that is handed back stands for what it stood for.
+pub not_opened : (kept left : tape.Kept) → Follows ReadsSame (IsImageOf kept) (IsImageOf left) → Stays (Stopped kept) (Stopped left)
+unfolding Stays
+not_opened kept left follows = λ x is. (
+  is.0,
+  λ image left_there.
+      let earlier = follows image left_there in
+      let stands = is.1 earlier.0 earlier.1 in
+      record { records = stands.records; reads = earlier.2 stands.records stands.reads; folds = stands.folds },
+)
+
+fold_none : fold {V = Definition} [] ≡ Some nothing_stored
+unfolding fold fold_from
+fold_none = refl
+
+-- From an empty tape nothing is stored.
+pub opened_empty : IsReadAsNone → (node : Node tape.Kept) → IsFoldOf (stored_of node) [] → working_of node ≡ Idle → IsNode (Running node) fresh_node
+opened_empty none node fold_of idle =
+    node_eq _ _ _ _ (same_Some nothing_stored (stored_of node) (sym fold_none ∙ ap fold (sym (none fold_of.records (fold_of.rest, fold_of.tape.reads))) ∙ fold_of.folds)) (ap Some (sym idle))
+
+-- ---- torn steps
+
+none_told : (why : Refusal) → None ≡ told (Some why) → ⊥
+none_told why e = none-some (number_of why) e
+
+-- A node that would take the step, or is stopped, and then stops: what it had stored, or what the turn leaves.
+module _ (n i : ℕ) (input : Input Definition) (stored : Stored Definition) where
+  stops_after_running : (working : Working Definition) (why : Option Refusal) → refusal stored working input ≡ why → None ≡ told why →
+      node_stopped (node_after (turn_at n i input (node_of stored (Some working))) (node_of stored (Some working)))
+      ≡ node_torn world.After (turn_at n i input (node_of stored (Some working))) (node_of stored (Some working))
+  unfolding node_stopped node_after node_torn kept_part
+  stops_after_running working None e free = rw (turn_goes definition_eq n i stored working input e) refl
+  stops_after_running working (Some why) e free = absurd (none_told why free)
+
+  stops_before_running : (working : Working Definition) (why : Option Refusal) → refusal stored working input ≡ why → None ≡ told why →
+      node_stopped (node_of stored (Some working))
+      ≡ node_torn world.Before (turn_at n i input (node_of stored (Some working))) (node_of stored (Some working))
+  unfolding node_stopped node_torn kept_part
+  stops_before_running working None e free = rw (turn_goes definition_eq n i stored working input e) refl
+  stops_before_running working (Some why) e free = absurd (none_told why free)
+
+  stops_after : (working : Option (Working Definition)) → None ≡ told (refusal_of (Some (node_of stored working)) (Some input)) →
+      node_stopped (node_after (turn_at n i input (node_of stored working)) (node_of stored working))
+      ≡ node_torn world.After (turn_at n i input (node_of stored working)) (node_of stored working)
+  unfolding node_stopped node_after node_torn
+  stops_after None free = rw (turn_stopped definition_eq n i (node_of stored None) input refl) refl
+  stops_after (Some working) free = stops_after_running working (refusal stored working input) refl (free ∙ ap told (running_refusal stored working input))
+
+  stop_torn_before : (working : Option (Working Definition)) → None ≡ told (refusal_of (Some (node_of stored working)) (Some input)) →
+      node_stopped (node_of stored working)
+      ≡ node_torn world.Before (turn_at n i input (node_of stored working)) (node_of stored working)
+  unfolding node_stopped node_torn
+  stop_torn_before None free = rw (turn_stopped definition_eq n i (node_of stored None) input refl) refl
+  stop_torn_before (Some working) free = stops_before_running working (refusal stored working input) refl (free ∙ ap told (running_refusal stored working input))
+
+-- A step, and then a stop: the step is torn after its record.
+pub torn_after : (n i : ℕ) (input : Input Definition) (before middle after : Place) (said : List (model.Message Definition)) → IsStepped n i input before middle said None →
+    IsChanged node_stopped middle after → IsTornAt world.After n i input before after None
+torn_after n i input before middle after said stepped stopped = record {
+  node = λ x is. subst (IsNode after) (stops_after n i input x.stored x.working (stepped.refusal x is)) (stopped (node_after (turn_at n i input x) x) (stepped.node x is));
+  refusal = stepped.refusal;
+}
+
+-- A stop alone, where the step would be done: the step is torn before its record.
+pub torn_before : (n i : ℕ) (input : Input Definition) (before after : Place) → ((x : world.Node Definition) → IsNode before x → None ≡ told (refusal_of (Some x) (Some input))) →
+    IsChanged node_stopped before after → IsTornAt world.Before n i input before after None
+torn_before n i input before after free stopped = record {
+  node = λ x is. subst (IsNode after) (stop_torn_before n i input x.stored x.working (free x is)) (stopped x is);
+  refusal = free;
+}
+
+-- A refused step that is torn changes nothing, whatever would be kept.
+torn_refused : (kept : world.Kept) (n i : ℕ) (input : Input Definition) (before after : Place) (number : ℕ) → IsStepped n i input before after [] (Some number) → Stays before after →
+    ((x : world.Node Definition) → IsNode before x → turn_at n i input x ≡ None) → IsTornAt kept n i input before after (Some number)
+unfolding node_torn Stays
+torn_refused kept n i input before after number stepped stays none = record {
+  node = λ x is. subst (λ t. IsNode after (node_torn kept t x)) (sym (none x is)) (stays x is);
+  refusal = stepped.refusal;
+}
+
+-- where a refusal is told, there is no turn
+no_turn_running : (n i : ℕ) (input : Input Definition) (stored : Stored Definition) (working : Working Definition) (why : Option Refusal) (number : ℕ) → refusal stored working input ≡ why → Some number ≡ told why →
+    turn_at n i input (node_of stored (Some working)) ≡ None
+no_turn_running n i input stored working None number e is = absurd (none-some number (sym is))
+no_turn_running n i input stored working (Some why) number e is = turn_refused definition_eq n i stored working input why e
+
+no_turn_parts : (n i : ℕ) (input : Input Definition) (stored : Stored Definition) (working : Option (Working Definition)) (number : ℕ) →
+    Some number ≡ told (refusal_of (Some (node_of stored working)) (Some input)) → turn_at n i input (node_of stored working) ≡ None
+no_turn_parts n i input stored None number is = turn_stopped definition_eq n i (node_of stored None) input refl
+no_turn_parts n i input stored (Some working) number is =
+    no_turn_running n i input stored working (refusal stored working input) number refl (is ∙ ap told (running_refusal stored working input))
+
+pub no_turn : (n i : ℕ) (input : Input Definition) (x : world.Node Definition) (number : ℕ) → Some number ≡ told (refusal_of (Some x) (Some input)) → turn_at n i input x ≡ None
+no_turn n i input x number is = no_turn_parts n i input x.stored x.working number is
+
+-- A step that a fault ends is torn likewise: nothing has changed.
+pub torn_denied : (kept : world.Kept) (n i : ℕ) (input : Input Definition) (before after : Place) (f : NodeFault) → IsDenied n i input before after f → IsDeniedTorn kept n i input before after f
+torn_denied kept n i input before after f denied = record {
+  stays = denied.stays;
+  refused = λ number e.
+      let stepped = denied.refused number e in
+      torn_refused kept n i input before after number stepped denied.stays (λ x is. no_turn n i input x number (stepped.refusal x is));
+}
+
+-- Where no fault tells why not, the table doesn't refuse.
+pub free_where_none : (why : Option Refusal) → fault.IsWhyNot why None → None ≡ told why
+free_where_none why none = sym (ap told none)
+
+some_told : (why : Option Refusal) → (why ≡ None → ⊥) → (number : ℕ) × (Some number ≡ told why)
+some_told None not_none = absurd (not_none refl)
+some_told (Some why) not_none = (number_of why, refl)
+
+-- A step that would be refused is torn: nothing has changed, and the refusal is told.
+pub refused_before : (kept : world.Kept) (n i : ℕ) (input : Input Definition) (place : Place) (f : NodeFault) →
+    ((x : world.Node Definition) → IsNode place x → fault.IsWhyNot (refusal_of (Some x) (Some input)) (Some f)) → IsTornAt kept n i input place place (number_in f)
+unfolding node_torn
+refused_before kept n i input place f why = record {
+  node = λ x is.
+      let number = some_told (refusal_of (Some x) (Some input)) (why x is).1 in
+      subst (λ t. IsNode place (node_torn kept t x)) (sym (no_turn n i input x number.0 number.1)) is;
+  refusal = λ x is. ap told (why x is).0;
+}
+
+-- ---- why a step wouldn't be done
+
+why_running : (node : Node tape.Kept) (x : world.Node Definition) (input : Input Definition) (result : Option NodeFault) → IsNode (Running node) x →
+    fault.IsWhyNot (refusal (stored_of node) (working_of node) input) result → fault.IsWhyNot (refusal_of (Some x) (Some input)) result
+why_running node x input result is why =
+    subst (λ y. fault.IsWhyNot (refusal_of (Some y) (Some input)) result) (sym is)
+    (subst (λ r. fault.IsWhyNot r result) (sym (running_refusal (stored_of node) (working_of node) input)) why)
+
+-- the table's refusal of an action by its kind: a delivery and a question have none
+abbrev WhyNotAt : Stored Definition → Working Definition → table.Action Definition ℕ → Option NodeFault → Type 0
+WhyNotAt stored working (table.Propose d) result = fault.IsWhyNot (refuse_proposal stored working) result
+WhyNotAt stored working table.Retry result = fault.IsWhyNot (refuse_retry stored working) result
+WhyNotAt stored working table.CatchUp result = result ≡ None
+WhyNotAt stored working (table.Deliver k) result = result ≡ None
+
+free_of_none : (why : Option Refusal) (result : Option NodeFault) → why ≡ None → result ≡ None → fault.IsWhyNot why result
+free_of_none why result e none = subst (fault.IsWhyNot why) (sym none) e
+
+why_delivered : (message : Option (model.Message Definition)) (stored : Stored Definition) (working : Working Definition) (input : Input Definition) (result : Option NodeFault) →
+    delivered message ≡ Some input → result ≡ None → fault.IsWhyNot (refusal stored working input) result
+unfolding delivered refusal
+why_delivered None stored working input result given none = absurd (none-some input given)
+why_delivered (Some message) stored working input result given none =
+    subst (λ y. fault.IsWhyNot (refusal stored working y) result) (same_Some (table.Deliver message) input given) (free_of_none None result refl none)
+
+-- A proposal and a second try: the table asks for nothing of the definition. A question and a delivery are never refused.
+pub why_not_running : (node : Node tape.Kept) (x : world.Node Definition) (sent : List (model.Message Definition)) (action : table.Action Definition ℕ) (input : Input Definition) (result : Option NodeFault) →
+    IsNode (Running node) x → input_of sent action ≡ Some input → WhyNotAt (stored_of node) (working_of node) action result → fault.IsWhyNot (refusal_of (Some x) (Some input)) result
+unfolding input_of refusal
+why_not_running node x sent (table.Propose d) input result is given why =
+    why_running node x input result is (subst (λ y. fault.IsWhyNot (refusal (stored_of node) (working_of node) y) result) (same_Some (table.Propose d) input given) why)
+why_not_running node x sent table.Retry input result is given why =
+    why_running node x input result is (subst (λ y. fault.IsWhyNot (refusal (stored_of node) (working_of node) y) result) (same_Some table.Retry input given) why)
+why_not_running node x sent table.CatchUp input result is given why =
+    why_running node x input result is (subst (λ y. fault.IsWhyNot (refusal (stored_of node) (working_of node) y) result) (same_Some table.CatchUp input given) (free_of_none None result refl why))
+why_not_running node x sent (table.Deliver k) input result is given why = why_running node x input result is (why_delivered (slice_get sent k) (stored_of node) (working_of node) input result given why)
+
+pub why_not_stopped : (kept : tape.Kept) (x : world.Node Definition) (input : Input Definition) → IsNode (Stopped kept) x → fault.IsWhyNot (refusal_of (Some x) (Some input)) None
+why_not_stopped kept x input is = stopped_refusal x input is.0
+
+-- ---- torn steps, whichever node stands there
+
+-- A step, and then a stop.
+pub step_stops : (input : Input Definition) (before middle after : Place) (said : List (model.Message Definition)) → Steps input before middle said → KeepsMember before middle → Stops middle after →
+    Tears world.After input before after
+unfolding Steps Stops Tears KeepsMember
+step_stops input before middle after said steps keeps stops = λ n i member. torn_after n i input before middle after said (steps n i member) (stops n i (keeps n i member))
+
+pub denied_tears : (kept : world.Kept) (input : Input Definition) (before after : Place) (f : NodeFault) → DeniesStep input before after f → DeniesTear kept input before after f
+unfolding DeniesStep DeniesTear
+denied_tears kept input before after f denies = λ n i member. torn_denied kept n i input before after f (denies n i member)
+
+-- A stop alone, where the table has no refusal.
+pub stops_before : (action : table.Action Definition ℕ) (sent : List (model.Message Definition)) (input : Input Definition) (before after : Place) → TellsWhyNot before action None →
+    input_of sent action ≡ Some input → Stops before after → Tears world.Before input before after
+unfolding TellsWhyNot Stops Tears
+stops_before action sent input before after free given stops = λ n i member.
+    torn_before n i input before after (λ x is. free_where_none (refusal_of (Some x) (Some input)) (free n i x sent input member is given)) (stops n i member)
+
+-- Nothing at all, where it has one.
+pub refused_stays : (kept : world.Kept) (action : table.Action Definition ℕ) (sent : List (model.Message Definition)) (input : Input Definition) (place : Place) (f : NodeFault) → TellsWhyNot place action (Some f) →
+    input_of sent action ≡ Some input → (n i : ℕ) → IsMember n i place → IsTornAt kept n i input place place (number_in f)
+unfolding TellsWhyNot
+refused_stays kept action sent input place f why given n i member = refused_before kept n i input place f (λ x is. why n i x sent input member is given)
+
+-- why not, as the places say it
+pub tells_running : (node : Node tape.Kept) (action : table.Action Definition ℕ) (result : Option NodeFault) → (node.halted ≡ false → WhyNotAt (stored_of node) (working_of node) action result) →
+    TellsWhyNot (Running node) action result
+unfolding TellsWhyNot
+tells_running node action result why = λ n i x sent input member is given. why_not_running node x sent action input result is given (why member.2)
+
+pub tells_stopped : (kept : tape.Kept) (action : table.Action Definition ℕ) → TellsWhyNot (Stopped kept) action None
+unfolding TellsWhyNot
+tells_stopped kept action = λ n i x sent input member is given. why_not_stopped kept x input is

@@ -1,0 +1,22 @@
+-- The message of that number is handed to the node; where it isn't sent, nothing happens.
+use Rattle.std.proofs.Common.{◌≡◌, length, map, Some, refl, sym, subst, arith}
+use Rattle.std.proofs.lemmas.Option.{slice_get_past, slice_get_read}
+use Rattle.wf_codec.specs.Message.{view}
+use Rattle.wf_model.specs.Table as table
+use Rattle.wf_model.specs.World.{input_of}
+use Rattle.wf_farm.proofs.Events.{nothing_stays, sent_message, unsent_acts, unsent_message}
+use Rattle.wf_farm.proofs.cluster.Cluster.deliver.Goals as goal
+
+pub returns-then-number-len-clause-done : goal.returns-then-number-len-clause-done
+returns-then-number-len-clause-done c =
+    unsent_acts c.args.self.now.places.items c.args.self.now.sent.items c.args.node (table.Deliver c.args.number)
+    (unsent_message c.args.self.now.sent.items c.args.number (slice_get_past c.args.self.now.sent.items c.args.number (omega (arith, c.if-number-len.true, c.len.ensures))))
+
+pub returns-in-Ok-clause-done : goal.returns-in-Ok-clause-done
+returns-in-Ok-clause-done c =
+    let at = slice_get_read c.args.self.now.sent.items (length c.args.self.now.sent.items) c.args.number c.index.result.now refl (omega (arith, c.if-number-len.false, c.len.ensures)) c.index.ensures in
+    c.step.ensures.done (table.Deliver c.args.number)
+    (subst (λ m. input_of (map view c.args.self.now.sent.items) (table.Deliver c.args.number) ≡ Some (table.Deliver (view m))) (sym c.in-Ok.ensures.copy) (sent_message c.args.self.now.sent.items c.args.number c.index.result.now at))
+
+pub returns-in-Err-clause-err : goal.returns-in-Err-clause-err
+returns-in-Err-clause-err c = nothing_stays c.args.self.now.places.items c.args.self.now.sent.items c.args.node

@@ -1,0 +1,33 @@
+-- The headline on a farm: what its nodes publish under one sequence is one definition.
+use Rattle.std.specs.Prelude.{◌≡◌, ℕ, slice_get, Option, Some, None}
+use Rattle.wf_def.specs.Definition.{Definition}
+use Rattle.wf_model.specs.Stored.{Stored, definition_at}
+use Rattle.wf_model.specs.World.{World}
+use Rattle.wf_node.specs.Images.{AllStandFor}
+use Rattle.wf_node.specs.Node.{stored_of}
+use Rattle.wf_tape.specs.MemoryTape.{IsImageOf}
+use Rattle.wf_farm.specs.declared.place.Place.{Place}
+use Rattle.wf_farm.specs.declared.place.Place.TheVariants.{Running, Stopped}
+use Rattle.wf_farm.specs.Farm.{Farm, Shows}
+
+-- what the node at a place stored, running or stopped
+abbrev pub HasStored : Option Place → Stored Definition → Type 0
+HasStored None stored = ⊥
+HasStored (Some (Running node)) stored = stored ≡ stored_of node
+HasStored (Some (Stopped tape)) stored = AllStandFor stored (IsImageOf tape)
+
+-- node i published this definition under sequence s
+pub record Publishes (farm : Farm) (i s : ℕ) (d : Definition) : Type 0 where
+  pub stored : Stored Definition
+  pub has : HasStored (slice_get farm.places i) stored
+  pub entry : definition_at stored.history s ≡ Some d
+
+-- no two nodes publish different definitions under one sequence
+unfoldable pub HasOneHistory : Farm → Type 0
+HasOneHistory farm = (i j s : ℕ) (c d : Definition) → Publishes farm i s c → Publishes farm j s d → c ≡ d
+
+-- The farm is one world and no other.
+pub record IsOneWorld (farm : Farm) : Type 0 where
+  pub the_world : World Definition
+  pub shown : Shows farm the_world
+  pub no_other : (w : World Definition) → Shows farm w → w ≡ the_world

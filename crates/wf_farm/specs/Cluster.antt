@@ -1,0 +1,73 @@
+-- The nodes and the messages of a farm, as a world of the model, and what events do to both.
+use Rattle.std.specs.Prelude.{◌≡◌, ℕ, ⊤, List, [], ◌∷◌, length, map, slice_get, Option, Some, None}
+use Rattle.wf_codec.specs.Message as message
+use Rattle.wf_codec.specs.declared.message.Message.{Message}
+use Rattle.wf_def.specs.Definition.{Definition}
+use Rattle.wf_def.specs.Equality.{definition_eq}
+use Rattle.wf_model.specs.Table.{Action, Refusal}
+use Rattle.wf_model.specs.World as world
+use Rattle.wf_model.specs.World.{World, Event, refused, refused_at, turn, after_turn, after_torn, after_stop, after_restart, happens, steps}
+use Rattle.wf_farm.specs.declared.place.Place.{Place}
+use Rattle.wf_farm.specs.Fault.{told}
+use Rattle.wf_farm.specs.Place.{IsNode, IsMember}
+
+-- place by place, these nodes of the model's
+abbrev pub AreNodes : List Place → List (world.Node Definition) → Type 0
+AreNodes [] [] = ⊤
+AreNodes [] (node ∷ nodes) = ⊥
+AreNodes (place ∷ places) [] = ⊥
+AreNodes (place ∷ places) (node ∷ nodes) = IsNode place node × AreNodes places nodes
+
+-- The places and the messages are this world.
+pub record Shows (places : List Place) (sent : List Message) (w : World Definition) : Type 0 where
+  pub nodes : AreNodes places w.nodes
+  pub messages : w.sent ≡ map message.view sent
+
+-- at each place its own node stands, and none has failed
+unfoldable pub AreMembers : List Place → Type 0
+AreMembers places = (i : ℕ) (place : Place) → slice_get places i ≡ Some place → IsMember (length places) i place
+
+-- The members are as many as before, and none has failed.
+pub record KeepMembers (before after : List Place) : Type 0 where
+  pub as_many : length after ≡ length before
+  pub members : AreMembers before → AreMembers after
+
+-- Whatever world was shown, it is shown after the change.
+abbrev pub Turns : (World Definition → World Definition) → List Place → List Message → List Place → List Message → Type 0
+Turns change places sent places_after sent_after =
+    (w : World Definition) → Shows places sent w → Shows places_after sent_after (change w)
+
+-- nothing has changed that a world shows
+unfoldable pub StayShown : List Place → List Message → List Place → List Message → Type 0
+StayShown places sent places_after sent_after = Turns (λ w. w) places sent places_after sent_after
+
+-- a run of these events
+unfoldable pub Moves : List (Event Definition) → List Place → List Message → List Place → List Message → Type 0
+Moves events places sent places_after sent_after = Turns (λ w. steps definition_eq w events) places sent places_after sent_after
+
+-- what is told of an action or an event is why it is refused in the world before
+abbrev pub TellsWhy : (World Definition → Option Refusal) → Option ℕ → List Place → List Message → Type 0
+TellsWhy why number places sent = (w : World Definition) → Shows places sent w → number ≡ told (why w)
+
+-- a step, a torn step and any event, done whole
+pub record IsActed (i : ℕ) (action : Action Definition ℕ) (number : Option ℕ) (places : List Place) (sent : List Message) (places_after : List Place) (sent_after : List Message) : Type 0 where
+  pub leads : Turns (λ w. after_turn w i (turn definition_eq w i action)) places sent places_after sent_after
+  pub why : TellsWhy (λ w. refused_at w i action) number places sent
+
+pub record IsTorn (i : ℕ) (action : Action Definition ℕ) (kept : world.Kept) (number : Option ℕ) (places : List Place) (sent : List Message) (places_after : List Place) (sent_after : List Message) : Type 0 where
+  pub leads : Turns (λ w. after_torn w i kept (turn definition_eq w i action)) places sent places_after sent_after
+  pub why : TellsWhy (λ w. refused_at w i action) number places sent
+
+pub record Happens (event : Event Definition) (number : Option ℕ) (places : List Place) (sent : List Message) (places_after : List Place) (sent_after : List Message) : Type 0 where
+  pub leads : Turns (λ w. happens definition_eq w event) places sent places_after sent_after
+  pub why : TellsWhy (λ w. refused w event) number places sent
+
+-- why the last of the events is refused, None where there is none
+unfoldable pub last_refused : World Definition → List (Event Definition) → Option Refusal
+last_refused w [] = None
+last_refused w (event ∷ []) = refused w event
+last_refused w (event ∷ next ∷ rest) = last_refused (happens definition_eq w event) (next ∷ rest)
+
+pub record HaveRun (events : List (Event Definition)) (number : Option ℕ) (places : List Place) (sent : List Message) (places_after : List Place) (sent_after : List Message) : Type 0 where
+  pub leads : Moves events places sent places_after sent_after
+  pub why : TellsWhy (λ w. last_refused w events) number places sent

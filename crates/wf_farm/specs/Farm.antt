@@ -1,0 +1,71 @@
+-- A farm as contracts see it, and what is true of each.
+use Rattle.std.specs.Prelude.{◌≡◌, ◌≤◌, ℕ, List, length, take, Option, Some, None}
+use Rattle.wf_codec.specs.declared.message.Message.{Message}
+use Rattle.wf_def.specs.Definition.{Definition}
+use Rattle.wf_def.specs.Equality.{definition_eq}
+use Rattle.wf_model.specs.Stored.{Stored}
+use Rattle.wf_model.specs.Working.{Working}
+use Rattle.wf_model.specs.World as world
+use Rattle.wf_model.specs.World.{World, Event, after, steps}
+use Rattle.wf_node.specs.Node as shown_node
+use Rattle.wf_node.specs.Node.{stored_of, working_of}
+use Rattle.wf_tape.specs.MemoryTape as memory
+use Rattle.wf_farm.specs.declared.place.Place.{Place}
+use Rattle.wf_farm.specs.declared.place.Place.TheVariants.{Running, Stopped}
+use Rattle.wf_farm.specs.declared.fault.FarmFault.{FarmFault}
+use Rattle.wf_farm.specs.declared.fault.FarmFault.TheVariants.{Memory, NoNode}
+use Rattle.wf_farm.specs.Cluster as cluster
+use Rattle.wf_farm.specs.Cluster.{AreMembers, Moves}
+
+-- Its nodes' places and all messages ever sent; from which message on they count as not pumped yet; and the number of
+-- the refusal of the last run's last event, if that was refused.
+pub record Farm : Type 0 where
+  pub places : List Place
+  pub sent : List Message
+  pub pumped : ℕ
+  pub refused : Option ℕ
+
+-- The farm is this world.
+abbrev pub Shows : Farm → World Definition → Type 0
+Shows farm w = cluster.Shows farm.places farm.sent w
+
+-- how many nodes it has
+abbrev pub size : Farm → ℕ
+size farm = length farm.places
+
+-- Some events lead from the start to a world that these are.
+pub record IsReached (places : List Place) (sent : List Message) : Type 0 where
+  pub events : List (Event Definition)
+  pub shows : cluster.Shows places sent (after definition_eq (length places) events)
+
+-- What is true of each farm: it has 1 to 64 nodes, which run or wait to be restarted; and some events have led to it.
+pub record IsFarm (places : List Place) (sent : List Message) (pumped : ℕ) : Type 0 where
+  pub some : 1 ≤ length places
+  pub most : length places ≤ 64
+  pub members : AreMembers places
+  pub pumped_within : pumped ≤ length sent
+  pub reached : IsReached places sent
+
+-- the farm after these events
+abbrev pub Runs : List (Event Definition) → Farm → Farm → Type 0
+Runs events before after = Moves events before.places before.sent after.places after.sent
+
+-- The farm where memory was wanted: so many of the events are done.
+abbrev pub RunsPart : FarmFault → List (Event Definition) → Farm → Farm → Type 0
+RunsPart (Memory done) events before after = (done ≤ length events) × Runs (take done events) before after
+RunsPart NoNode events before after = ⊥
+
+-- the fault is want of memory before anything was done
+abbrev pub IsAtOnce : FarmFault → Type 0
+IsAtOnce fault = fault ≡ Memory 0
+
+-- the node that runs at a place
+abbrev pub running_in : Option Place → Option (shown_node.Node memory.Kept)
+running_in None = None
+running_in (Some (Running node)) = Some node
+running_in (Some (Stopped tape)) = None
+
+-- node i of a world as it is lent: both its parts, or None where it is absent or stopped
+abbrev pub IsRunningIn : Option (world.Node Definition) → Option (shown_node.Node memory.Kept) → Type 0
+IsRunningIn there None = (stored : Stored Definition) (working : Working Definition) → there ≡ Some (record { stored = stored; working = Some working }) → ⊥
+IsRunningIn there (Some node) = there ≡ Some (record { stored = stored_of node; working = Some (working_of node) })

@@ -1,0 +1,32 @@
+-- What an event does to its node alone, and what it says.
+use Rattle.std.specs.Prelude.{List, [], Option, Some, None}
+use Rattle.wf_model.specs.Message.{Message}
+use Rattle.wf_model.specs.Working.{Working, Idle}
+use Rattle.wf_model.specs.World.{Node, Turn, Kept, stored_after, kept_part}
+
+-- the node after a step; one that isn't stepped stays
+unfoldable pub node_after : {V : Type 0} → Option (Turn V) → Node V → Node V
+node_after None node = node
+node_after (Some turn) node = record { stored = stored_after turn; working = Some turn.row.working }
+
+-- the messages of a step
+unfoldable pub messages_of : {V : Type 0} → Option (Turn V) → List (Message V)
+messages_of None = []
+messages_of (Some turn) = turn.row.messages
+
+-- the node after a torn step
+unfoldable pub node_torn : {V : Type 0} → Kept → Option (Turn V) → Node V → Node V
+node_torn kept None node = node
+node_torn kept (Some turn) node = record { stored = kept_part kept turn; working = None }
+
+-- the node once it is stopped
+unfoldable pub node_stopped : {V : Type 0} → Node V → Node V
+node_stopped node = record { stored = node.stored; working = None }
+
+-- the working part of a node that was to be restarted: a stopped one begins anew
+unfoldable pub working_restarted : {V : Type 0} → Option (Working V) → Option (Working V)
+working_restarted None = Some Idle
+working_restarted (Some working) = Some working
+
+unfoldable pub node_restarted : {V : Type 0} → Node V → Node V
+node_restarted node = record { stored = node.stored; working = working_restarted node.working }

@@ -1,0 +1,147 @@
+//! Farms in memory.
+
+use crate::cluster::Cluster;
+use crate::event::Event;
+use crate::fault::FarmFault;
+use std::alloc::Global;
+use std::marker::Model;
+use wf_canon::Canon;
+use wf_codec::Message;
+use wf_model::steps_in_turn;
+use wf_tape::records_are_read_one_way;
+
+/// A farm: its nodes, which run or wait to be restarted, and all messages that they ever sent. Each farm is reached
+/// from the start by some events, so that its nodes agree ([`Farm::agree`]).
+#[derive(Drop)]
+pub struct Farm {
+    pub(crate) cluster: Cluster,
+    // The first message that doesn't count as pumped.
+    pub(crate) pumped: usize,
+    // The number of the last event's refusal.
+    pub(crate) refused: Option<u8>,
+}
+
+impl Model for Farm {
+    ghost use Rattle.std.specs.Coded.{codes};
+    ghost use Rattle.std.specs.FinMap as map;
+    ghost use Rattle.wf_farm.specs.Farm.{Farm, IsFarm};
+
+    ghost Value = { Farm };
+
+    ghost coded = { Prim.hlevel (codes, map.code) };
+
+    ghost view = { λ f. record {
+      places = f.cluster.places.items;
+      sent = f.cluster.sent.items;
+      pumped = f.pumped;
+      refused = f.refused;
+    } };
+
+    ghost invariant = { λ f. IsFarm f.cluster.places.items f.cluster.sent.items f.pumped };
+}
+
+impl Farm {
+    ghost use Rattle.std.specs.Prelude.{◌≡◌, ◌≤◌, length, map, slice_get, None, IfOk, IfErr, OnOk, OnErr};
+    ghost use Rattle.std.specs.Option.{option_copied};
+    ghost use Rattle.wf_model.specs.World.{World, start};
+    ghost use Rattle.wf_def.specs.Definition.{Definition};
+    ghost use Rattle.wf_farm.specs.Agreement.{HasOneHistory, IsOneWorld};
+    ghost use Rattle.wf_farm.specs.Cluster.{TellsWhy, last_refused};
+    ghost use Rattle.wf_farm.specs.Event.{view};
+    ghost use Rattle.wf_farm.specs.Farm.{IsAtOnce, Runs, RunsPart, Shows, size};
+
+    /// A farm of n nodes, all of which run, with all parts empty: the model's start. F1 with 0 where a growth was
+    /// refused.
+    #[tactic(auto, using(crate::proofs::Worlds::farm_started))]
+    pub fn new(alloc: Global, n: u8) -> Result<Farm, FarmFault>
+        requires some { 1 ≤ n }
+        requires most { n ≤ 64 }
+        ensures start { IfOk result (λ farm. Shows farm (start n)) }
+        ensures size { IfOk result (λ farm. size farm ≡ n) }
+        ensures fresh { IfOk result (λ farm. (farm.pumped ≡ 0) × (farm.refused ≡ None)) }
+        ensures memory { IfErr result IsAtOnce }
+    {
+        match Cluster::new(alloc, n) {
+            Ok(cluster) => Ok(Farm {
+                cluster,
+                pumped: 0,
+                refused: None,
+            }),
+            Err(_) => Err(FarmFault::Memory(0)),
+        }
+    }
+
+    /// The events happen, one after the other: what world the farm was, it is the model's world after them. F1 names how
+    /// many events were done where a growth was refused, and the farm is the world after these.
+    #[tactic(auto, using(crate::proofs::Worlds::farm_moved))]
+    pub fn run(&mut self, alloc: Global, events: &[Event]) -> Result<(), FarmFault>
+        ensures done { OnOk result (Runs (map view events.now) self.old self.new) }
+        ensures refused { OnOk result (TellsWhy (λ w. last_refused w (map view events.now)) self.new.refused self.old.places self.old.sent) }
+        ensures part { IfErr result (λ fault. RunsPart fault (map view events.now) self.old self.new) }
+        ensures none { OnErr result (self.new.refused ≡ None) }
+        ensures size { size self.new ≡ size self.old }
+        ensures pumped { self.new.pumped ≡ self.old.pumped }
+    {
+        // The law of the model: the events of two lists in turn are those of the one list.
+        steps_in_turn::<Canon>();
+        match self.cluster.run(alloc, events) {
+            Ok(number) => {
+                self.refused = number;
+                Ok(())
+            }
+            Err(done) => {
+                self.refused = None;
+                Err(FarmFault::Memory(done))
+            }
+        }
+    }
+
+    /// The number of the fault by which the last event of the last run was refused: 2, 3, 4 or 7. None where it wasn't.
+    pub fn refused(&self) -> Option<u8>
+        ensures { result ≡ self.now.refused }
+    {
+        self.refused
+    }
+
+    /// How many nodes the farm has, running and stopped ones: 1 to 64.
+    pub fn size(&self) -> usize
+        ensures value { result ≡ size self.now }
+        ensures some { 1 ≤ result }
+        ensures most { result ≤ 64 }
+    {
+        self.cluster.places.len()
+    }
+
+    /// The message of that number; None where it isn't sent yet.
+    pub fn sent(&self, number: usize) -> Option<&Message>
+        ensures { option_copied result ≡ slice_get self.now.sent number }
+    {
+        self.cluster.sent.get(number)
+    }
+
+    /// How many messages were sent.
+    pub fn sent_count(&self) -> usize
+        ensures { result ≡ length self.now.sent }
+    {
+        self.cluster.sent.len()
+    }
+
+    /// All messages so far count as pumped. The world is as it was.
+    pub fn skip(&mut self)
+        ensures { self.new ≡ record self.old { pumped = length self.old.sent } }
+    {
+        self.pumped = self.cluster.sent.len();
+    }
+
+    /// The headline, of the farm that the caller holds: whatever happened to it, no two of its nodes, running or
+    /// stopped, publish different definitions under one sequence. And the farm is one world of the model.
+    #[tactic(auto, using(crate::proofs::Worlds::agree_reached, crate::proofs::Worlds::one_world))]
+    pub fn agree(&self)
+        ensures agree { HasOneHistory self.now }
+        ensures world { IsOneWorld self.now }
+    {
+        let _ = &self.cluster;
+        crate::law::agreement();
+        records_are_read_one_way();
+    }
+}

@@ -1,0 +1,275 @@
+//! One event of a farm.
+
+ghost use Rattle.std.specs.Prelude.{◌≡◌, ◌≤◌, ◌+◌, ◌++◌, ℕ, is_some, length, map, option_map, None, Some, IfOk, IsSome, OnErr, vec_len, vec_capacity};
+ghost use Rattle.wf_codec.specs.Message.{view as view_message};
+ghost use Rattle.wf_def.specs.Definition.{Definition};
+ghost use Rattle.wf_model.specs.Table.{Action as ModelAction, Deliver};
+ghost use Rattle.wf_model.specs.World as world;
+ghost use Rattle.wf_model.specs.World.{input_of};
+ghost use Rattle.wf_node.specs.Input.{view as view_input};
+ghost use Rattle.wf_farm.specs.Cluster.{AreMembers, Happens, IsActed, IsTorn, KeepMembers, StayShown};
+ghost use Rattle.wf_farm.specs.Event.{view, view_action, view_kept};
+ghost use Rattle.wf_farm.specs.Place.{number_in};
+
+use crate::cluster::Cluster;
+use crate::event::{Action, Event, Kept};
+use crate::fault::refusal_number;
+use std::alloc::{AllocError, Global};
+use wf_ballot::NodeId;
+use wf_codec::Message;
+use wf_node::{Input, NodeFault};
+
+/// The most messages that one step hands out: those that answer an Ask.
+pub(crate) const MOST_SAID: usize = 8;
+
+impl Cluster {
+    /// The event happens whole, and the number of its refusal is answered, if its node refuses; or memory is wanted,
+    /// and the world is as it was.
+    #[tactic(auto, using(crate::proofs::Events::same_members))]
+    pub(crate) fn happen(&mut self, alloc: Global, event: &Event) -> Result<Option<u8>, AllocError>
+        requires members { AreMembers self.old.places.items }
+        requires size { length self.old.places.items ≤ 64 }
+        ensures done { IfOk result (λ number. Happens (view event.now) number self.old.places.items self.old.sent.items self.new.places.items self.new.sent.items) }
+        ensures err { OnErr result (StayShown self.old.places.items self.old.sent.items self.new.places.items self.new.sent.items) }
+        ensures members { KeepMembers self.old.places.items self.new.places.items }
+        ensures grows { length self.old.sent.items ≤ length self.new.sent.items }
+    {
+        match event {
+            Event::Propose(node, canon) => match canon.copy() {
+                Ok(own) => self.step(alloc, *node, Input::Propose(own)),
+                Err(fault) => Err(fault),
+            },
+            Event::Retry(node) => self.step(alloc, *node, Input::Retry),
+            Event::CatchUp(node) => self.step(alloc, *node, Input::CatchUp),
+            Event::Deliver(node, number) => self.deliver(alloc, *node, *number),
+            Event::Stop(node) => {
+                self.stop(alloc, *node);
+                Ok(None)
+            }
+            Event::Restart(node) => self.restart(alloc, *node),
+            Event::Torn(node, action, kept) => self.tear(alloc, *node, action, *kept),
+        }
+    }
+
+    /// A message is handed to a node, if both are there.
+    #[tactic(auto, using(crate::proofs::Events::same_members))]
+    pub(crate) fn deliver(
+        &mut self,
+        alloc: Global,
+        node: usize,
+        number: usize,
+    ) -> Result<Option<u8>, AllocError>
+        requires members { AreMembers self.old.places.items }
+        ensures grows { length self.old.sent.items ≤ length self.new.sent.items }
+        ensures done { IfOk result (λ refused. IsActed node (Deliver number) refused self.old.places.items self.old.sent.items self.new.places.items self.new.sent.items) }
+        ensures err { OnErr result (StayShown self.old.places.items self.old.sent.items self.new.places.items self.new.sent.items) }
+        ensures members { KeepMembers self.old.places.items self.new.places.items }
+    {
+        if number >= self.sent.len() {
+            return Ok(None);
+        }
+        match self.sent[number].copy() {
+            Ok(copy) => self.step(alloc, node, Input::Deliver(copy)),
+            Err(fault) => Err(fault),
+        }
+    }
+
+    /// A step of a node, if it is there and runs: what it says is sent. Room for that is made before, since a node that
+    /// has stepped can't go back.
+    #[tactic(auto, using(crate::proofs::Events::same_members))]
+    fn step(&mut self, alloc: Global, node: usize, input: Input) -> Result<Option<u8>, AllocError>
+        requires members { AreMembers self.old.places.items }
+        ensures grows { length self.old.sent.items ≤ length self.new.sent.items }
+        ensures done { (action : ModelAction Definition ℕ) → input_of (map view_message self.old.sent.items) action ≡ Some (view_input input) →
+            IfOk result (λ refused. IsActed node action refused self.old.places.items self.old.sent.items self.new.places.items self.new.sent.items) }
+        ensures err { OnErr result (StayShown self.old.places.items self.old.sent.items self.new.places.items self.new.sent.items) }
+        ensures members { KeepMembers self.old.places.items self.new.places.items }
+    {
+        if node >= self.places.len() {
+            drop(input);
+            return Ok(None);
+        }
+        if self.sent.reserve(MOST_SAID).is_err() {
+            drop(input);
+            return Err(AllocError);
+        }
+        match self.places[node].step(alloc, input) {
+            Ok(said) => {
+                send(&mut self.sent, said);
+                Ok(None)
+            }
+            Err(fault) => answer(fault),
+        }
+    }
+
+    /// A node stops, if it is there.
+    #[tactic(auto, using(crate::proofs::Events::same_members))]
+    fn stop(&mut self, alloc: Global, node: usize)
+        requires members { AreMembers self.old.places.items }
+        ensures done { Happens (world.Stop node) None self.old.places.items self.old.sent.items self.new.places.items self.new.sent.items }
+        ensures members { KeepMembers self.old.places.items self.new.places.items }
+        ensures grows { length self.old.sent.items ≤ length self.new.sent.items }
+    {
+        if node < self.places.len() {
+            self.places[node].stop(alloc);
+        }
+    }
+
+    /// A stopped node comes back, if it is there.
+    #[tactic(auto, using(crate::proofs::Events::same_members))]
+    fn restart(&mut self, alloc: Global, node: usize) -> Result<Option<u8>, AllocError>
+        requires members { AreMembers self.old.places.items }
+        requires size { length self.old.places.items ≤ 64 }
+        ensures done { IfOk result (λ number. Happens (world.Restart node) number self.old.places.items self.old.sent.items self.new.places.items self.new.sent.items) }
+        ensures err { OnErr result (StayShown self.old.places.items self.old.sent.items self.new.places.items self.new.sent.items) }
+        ensures members { KeepMembers self.old.places.items self.new.places.items }
+        ensures grows { length self.old.sent.items ≤ length self.new.sent.items }
+    {
+        let n = self.places.len();
+        if node >= n {
+            return Ok(None);
+        }
+        // There are at most 64 places, so each number is a node's.
+        let id = NodeId::new(node as u8).unwrap();
+        match self.places[node].restart(alloc, id, n as u8) {
+            Ok(()) => Ok(None),
+            Err(fault) => Err(fault),
+        }
+    }
+
+    /// A step of a node, if it is there and runs, that is torn before its record is stored or after.
+    fn tear(
+        &mut self,
+        alloc: Global,
+        node: usize,
+        action: &Action,
+        kept: Kept,
+    ) -> Result<Option<u8>, AllocError>
+        requires members { AreMembers self.old.places.items }
+        ensures done { IfOk result (λ number. IsTorn node (view_action action.now) (view_kept kept) number self.old.places.items self.old.sent.items self.new.places.items self.new.sent.items) }
+        ensures err { OnErr result (StayShown self.old.places.items self.old.sent.items self.new.places.items self.new.sent.items) }
+        ensures members { KeepMembers self.old.places.items self.new.places.items }
+        ensures grows { length self.old.sent.items ≤ length self.new.sent.items }
+    {
+        match kept {
+            Kept::Before => Ok(self.tear_before(alloc, node, action)),
+            Kept::After => self.tear_after(alloc, node, action),
+        }
+    }
+
+    /// A step of a node, if it is there and runs, that is torn before its record is stored: nothing is done of it, and
+    /// the node stops, unless it would refuse. It takes no memory.
+    #[tactic(auto, using(crate::proofs::Events::same_members))]
+    fn tear_before(&mut self, alloc: Global, node: usize, action: &Action) -> Option<u8>
+        requires members { AreMembers self.old.places.items }
+        ensures done { IsTorn node (view_action action.now) world.Before result self.old.places.items self.old.sent.items self.new.places.items self.new.sent.items }
+        ensures members { KeepMembers self.old.places.items self.new.places.items }
+        ensures grows { length self.old.sent.items ≤ length self.new.sent.items }
+    {
+        if node >= self.places.len() {
+            return None;
+        }
+        if !self.is_sent(action) {
+            return None;
+        }
+        match self.places[node].refusal(action) {
+            Some(fault) => refusal_number(fault),
+            None => {
+                self.places[node].stop(alloc);
+                None
+            }
+        }
+    }
+
+    /// A step of a node, if it is there and runs, that is torn after its record is stored: it is done, its messages are
+    /// lost, and the node stops.
+    #[tactic(auto, using(crate::proofs::Events::same_members))]
+    fn tear_after(
+        &mut self,
+        alloc: Global,
+        node: usize,
+        action: &Action,
+    ) -> Result<Option<u8>, AllocError>
+        requires members { AreMembers self.old.places.items }
+        ensures done { IfOk result (λ number. IsTorn node (view_action action.now) world.After number self.old.places.items self.old.sent.items self.new.places.items self.new.sent.items) }
+        ensures err { OnErr result (StayShown self.old.places.items self.old.sent.items self.new.places.items self.new.sent.items) }
+        ensures members { KeepMembers self.old.places.items self.new.places.items }
+        ensures grows { length self.old.sent.items ≤ length self.new.sent.items }
+    {
+        if node >= self.places.len() {
+            return Ok(None);
+        }
+        match self.input_of(action) {
+            Ok(Some(input)) => match self.places[node].tear_after(alloc, input) {
+                Ok(()) => Ok(None),
+                Err(fault) => answer(fault),
+            },
+            Ok(None) => Ok(None),
+            Err(fault) => Err(fault),
+        }
+    }
+
+    /// Is there an input: the message, where the action is a delivery?
+    #[tactic(auto, unfolding(wf_model::specs::World::input_of, wf_model::specs::World::delivered))]
+    fn is_sent(&self, action: &Action) -> bool
+        ensures { result ≡ is_some (input_of (map view_message self.now.sent.items) (view_action action.now)) }
+    {
+        match action {
+            Action::Propose(_) => true,
+            Action::Retry => true,
+            Action::CatchUp => true,
+            Action::Deliver(number) => *number < self.sent.len(),
+        }
+    }
+
+    /// The input of an action; None where its message isn't sent.
+    #[tactic(auto, using(crate::proofs::Events::sent_message), unfolding(wf_model::specs::World::input_of, wf_model::specs::World::delivered))]
+    fn input_of(&self, action: &Action) -> Result<Option<Input>, AllocError>
+        ensures { IfOk result (λ input. option_map view_input input ≡ input_of (map view_message self.now.sent.items) (view_action action.now)) }
+    {
+        match action {
+            Action::Propose(canon) => match canon.copy() {
+                Ok(own) => Ok(Some(Input::Propose(own))),
+                Err(fault) => Err(fault),
+            },
+            Action::Retry => Ok(Some(Input::Retry)),
+            Action::CatchUp => Ok(Some(Input::CatchUp)),
+            Action::Deliver(number) => self.message(*number),
+        }
+    }
+
+    /// The delivery of a message; None where it isn't sent.
+    #[tactic(auto, using(crate::proofs::Events::sent_message), unfolding(wf_model::specs::World::input_of, wf_model::specs::World::delivered))]
+    fn message(&self, number: usize) -> Result<Option<Input>, AllocError>
+        ensures { IfOk result (λ input. option_map view_input input ≡ input_of (map view_message self.now.sent.items) (Deliver number)) }
+    {
+        match self.sent.get(number) {
+            None => Ok(None),
+            Some(message) => match message.copy() {
+                Ok(copy) => Ok(Some(Input::Deliver(copy))),
+                Err(fault) => Err(fault),
+            },
+        }
+    }
+}
+
+/// The messages are sent. There is room for them, so that nothing fails.
+fn send(sent: &mut Vec<Message>, mut said: Vec<Message>)
+    requires { vec_len sent.old + vec_len said ≤ vec_capacity sent.old }
+    ensures { sent.new.items ≡ sent.old.items ++ said.items }
+{
+    let Ok(()) = sent.append(&mut said) else {
+        unreachable!()
+    };
+}
+
+/// The number of the table's refusal; else memory was wanted, since the tape of a node here doesn't fail.
+fn answer(fault: NodeFault) -> Result<Option<u8>, AllocError>
+    ensures number { IfOk result (λ number. number ≡ number_in fault) }
+    ensures some { IfOk result IsSome }
+{
+    match refusal_number(fault) {
+        Some(number) => Ok(Some(number)),
+        None => Err(AllocError),
+    }
+}

@@ -1,0 +1,33 @@
+//! A run of events.
+
+ghost use Rattle.std.specs.Prelude.{◌≡◌, ◌≤◌, length, map, take, IfOk, IfErr};
+ghost use Rattle.wf_farm.specs.Cluster.{AreMembers, HaveRun, KeepMembers, Moves};
+ghost use Rattle.wf_farm.specs.Event.{view};
+
+use crate::cluster::Cluster;
+use crate::event::Event;
+use std::alloc::Global;
+
+impl Cluster {
+    /// The events happen in turn, and the number of the last one's refusal is answered, if it is refused. Where memory
+    /// is wanted, so many of them have happened, and no other.
+    #[tactic(auto, using(crate::proofs::Events::same_members))]
+    pub(crate) fn run(&mut self, alloc: Global, events: &[Event]) -> Result<Option<u8>, usize>
+        requires members { AreMembers self.old.places.items }
+        requires size { length self.old.places.items ≤ 64 }
+        ensures done { IfOk result (λ number. HaveRun (map view events.now) number self.old.places.items self.old.sent.items self.new.places.items self.new.sent.items) }
+        ensures most { IfErr result (λ done. done ≤ length events.now) }
+        ensures part { IfErr result (λ done. Moves (take done (map view events.now)) self.old.places.items self.old.sent.items self.new.places.items self.new.sent.items) }
+        ensures members { KeepMembers self.old.places.items self.new.places.items }
+        ensures grows { length self.old.sent.items ≤ length self.new.sent.items }
+    {
+        let mut refused = None;
+        for done in 0..events.len() {
+            match self.happen(alloc, &events[done]) {
+                Ok(number) => refused = number,
+                Err(_) => return Err(done),
+            }
+        }
+        Ok(refused)
+    }
+}

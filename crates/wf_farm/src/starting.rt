@@ -1,0 +1,76 @@
+//! The nodes that a farm begins with.
+
+ghost use Rattle.std.specs.Prelude.{◌≡◌, ◌<◌, ◌≤◌, ◌+◌, [], length, IfOk, OnOk};
+ghost use Rattle.wf_model.specs.World.{start};
+ghost use Rattle.wf_farm.specs.Cluster.{AreMembers, Shows};
+ghost use Rattle.wf_farm.specs.Place.{IsMember, IsNode};
+ghost use Rattle.wf_farm.specs.Start.{fresh_node, AreFresh};
+
+use crate::cluster::Cluster;
+use crate::place::Place;
+use std::alloc::{AllocError, Global};
+use wf_ballot::NodeId;
+use wf_node::Node;
+use wf_tape::{MemoryTape, records_are_read_one_way};
+
+impl Cluster {
+    /// n nodes, all of which run, with all parts empty, and no message.
+    #[tactic(auto, using(crate::proofs::Worlds::start_shown, crate::proofs::Worlds::start_members, crate::proofs::Worlds::none_fresh))]
+    pub(crate) fn new(alloc: Global, n: u8) -> Result<Cluster, AllocError>
+        requires { n ≤ 64 }
+        ensures size { IfOk result (λ cluster. length cluster.places.items ≡ n) }
+        ensures members { IfOk result (λ cluster. AreMembers cluster.places.items) }
+        ensures shows { IfOk result (λ cluster. Shows cluster.places.items cluster.sent.items (start n)) }
+        ensures sent { IfOk result (λ cluster. cluster.sent.items ≡ []) }
+    {
+        let mut places = Vec::new(alloc);
+        for number in 0..n {
+            // The number is below 64, so it is a node's.
+            let id = NodeId::new(number).unwrap();
+            add_node(alloc, &mut places, id, n)?;
+        }
+        Ok(Cluster {
+            places,
+            sent: Vec::new(alloc),
+        })
+    }
+}
+
+/// Adds node `id` of n, with an empty tape.
+#[tactic(auto, using(crate::proofs::Worlds::one_more_fresh))]
+fn add_node(alloc: Global, places: &mut Vec<Place>, id: NodeId, n: u8) -> Result<(), AllocError>
+    requires most { n ≤ 64 }
+    requires member { id < n }
+    requires next { length places.old.items ≡ id }
+    requires fresh { AreFresh n 0 places.old.items }
+    ensures fresh { OnOk result (AreFresh n 0 places.new.items) }
+    ensures size { OnOk result (length places.new.items ≡ id + 1) }
+{
+    match first_node(alloc, id, n) {
+        Ok(place) => {
+            places.push(place)?;
+            Ok(())
+        }
+        Err(fault) => Err(fault),
+    }
+}
+
+/// Node `id` of n, with an empty tape.
+#[tactic(auto, using(crate::proofs::Steps::opened_empty))]
+fn first_node(alloc: Global, id: NodeId, n: u8) -> Result<Place, AllocError>
+    requires most { n ≤ 64 }
+    requires member { id < n }
+    ensures node { IfOk result (λ place. IsNode place fresh_node) }
+    ensures member { IfOk result (IsMember n id) }
+{
+    // The law of the tape: no bytes are read as no record.
+    records_are_read_one_way();
+    match Node::open(alloc, MemoryTape::new(Vec::new(alloc)), id, n) {
+        Ok(node) => Ok(Place::Running(node)),
+        // An empty tape is refused for want of memory alone.
+        Err((tape, _)) => {
+            drop(tape);
+            Err(AllocError)
+        }
+    }
+}

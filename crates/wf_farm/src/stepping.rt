@@ -1,0 +1,108 @@
+//! What an event does to one node.
+
+ghost use Rattle.std.specs.Prelude.{◌<◌, ◌≤◌, length, map, OnOk, OnErr, IfOk, IfErr};
+ghost use Rattle.wf_codec.specs.Message.{view as view_message};
+ghost use Rattle.wf_model.specs.Table.{most_told};
+ghost use Rattle.wf_node.specs.Input.{view};
+ghost use Rattle.wf_farm.specs.Place.{DeniesStep, IsMember, KeepsMember, Restarts, Stays, Steps, Stops};
+
+use crate::place::Place;
+use std::alloc::{AllocError, Global};
+use std::mem::replace;
+use wf_ballot::NodeId;
+use wf_canon::Canon;
+use wf_codec::Message;
+use wf_model::rows_are_short;
+use wf_node::{Input, Node, NodeFault};
+use wf_tape::{MemoryTape, records_are_read_one_way};
+
+impl Place {
+    /// A step of the node. A stopped node says nothing. A fault leaves the node as it was.
+    #[tactic(auto, using(crate::proofs::Steps::any_done, crate::proofs::Steps::any_denied, crate::proofs::Steps::any_few, crate::proofs::Steps::any_member, crate::proofs::Steps::stopped_steps, crate::proofs::Steps::same_member))]
+    pub(crate) fn step(&mut self, alloc: Global, input: Input) -> Result<Vec<Message>, NodeFault>
+        ensures done { IfOk result (λ said. Steps (view input) self.old self.new (map view_message said.items)) }
+        ensures denied { IfErr result (DeniesStep (view input) self.old self.new) }
+        ensures few { IfOk result (λ said. length said.items ≤ most_told) }
+        ensures member { KeepsMember self.old self.new }
+    {
+        // The law of the model: no row hands out more than eight messages.
+        rows_are_short::<Canon>();
+        match self {
+            Place::Running(node) => node.step(alloc, input),
+            Place::Stopped(_) => {
+                drop(input);
+                Ok(Vec::new(alloc))
+            }
+        }
+    }
+
+    /// The node stops: its tape is all that is left of it. A stopped node stays so.
+    pub(crate) fn stop(&mut self, alloc: Global)
+        ensures stopped { Stops self.old self.new }
+        ensures member { KeepsMember self.old self.new }
+    {
+        let before = replace(self, Place::blank(alloc));
+        drop(replace(self, before.stopped()));
+    }
+
+    /// What is left of a place where the node stops.
+    fn stopped(self) -> Place
+        ensures stopped { Stops self result }
+        ensures member { KeepsMember self result }
+    {
+        match self {
+            Place::Running(node) => Place::Stopped(node.close()),
+            Place::Stopped(tape) => Place::Stopped(tape),
+        }
+    }
+
+    /// A stopped node opens with its tape, as node `id` of n. A running node stays as it is. Want of memory leaves the
+    /// node stopped, with what it had stored.
+    pub(crate) fn restart(&mut self, alloc: Global, id: NodeId, n: u8) -> Result<(), AllocError>
+        requires nodes { n ≤ 64 }
+        requires member { id < n }
+        ensures restarted { OnOk result (Restarts self.old self.new) }
+        ensures err { OnErr result (Stays self.old self.new) }
+        ensures member { IsMember n id self.old → IsMember n id self.new }
+    {
+        let before = replace(self, Place::blank(alloc));
+        match before.reopened(alloc, id, n) {
+            Ok(after) => {
+                drop(replace(self, after));
+                Ok(())
+            }
+            Err(after) => {
+                drop(replace(self, after));
+                Err(AllocError)
+            }
+        }
+    }
+
+    /// A place whose node comes back as node `id` of n; where memory is wanted, the place with the tape that was handed
+    /// back.
+    #[tactic(auto, using(crate::proofs::Steps::opened, crate::proofs::Steps::not_opened, crate::proofs::Steps::still_running))]
+    fn reopened(self, alloc: Global, id: NodeId, n: u8) -> Result<Place, Place>
+        requires nodes { n ≤ 64 }
+        requires member { id < n }
+        ensures restarted { IfOk result (Restarts self) }
+        ensures err { IfErr result (Stays self) }
+        ensures member { IfOk result (λ after. IsMember n id self → IsMember n id after) }
+        ensures err_member { IfErr result (λ after. IsMember n id self → IsMember n id after) }
+    {
+        // The law of the tape: what it stands for is one stored part.
+        records_are_read_one_way();
+        match self {
+            Place::Running(node) => Ok(Place::Running(node)),
+            Place::Stopped(tape) => match Node::open(alloc, tape, id, n) {
+                Ok(node) => Ok(Place::Running(node)),
+                // A tape in memory that a node left is refused for want of memory alone.
+                Err((tape, _)) => Err(Place::Stopped(tape)),
+            },
+        }
+    }
+
+    /// What stands in a place while its node is moved: a tape without a byte. It takes no memory.
+    fn blank(alloc: Global) -> Place {
+        Place::Stopped(MemoryTape::new(Vec::new(alloc)))
+    }
+}
