@@ -94,12 +94,7 @@ fn allowed_method(notice: Notice) -> Option<Allowed>
 pub fn told(notice: Notice) -> Response<'static>
     ensures { result ≡ notice_response notice }
 {
-    Response::new(
-        status(notice),
-        PLAIN,
-        allowed_method(notice),
-        line(notice),
-    )
+    Response::new(status(notice), PLAIN, allowed_method(notice), line(notice))
 }
 
 /// What a client is told where its request can't be read. Nothing is told where it sent none, or where a read failed.

@@ -16,10 +16,10 @@ use Rattle.wf_farm.specs.declared.place.Place.TheVariants.{Running, Stopped}
 use Rattle.wf_farm.specs.Agreement.{HasStored, HasOneHistory, IsOneWorld}
 use Rattle.wf_farm.specs.Cluster.{AreNodes, AreMembers, KeepMembers, Moves}
 use Rattle.wf_farm.specs.Cluster as cluster
-use Rattle.wf_farm.specs.Farm.{Farm, IsFarm, IsReached, IsRunningIn, running_in}
+use Rattle.wf_farm.specs.Farm.{Farm, IsFarm, IsReached}
 use Rattle.wf_farm.specs.Place.{IsNode, IsMember}
 use Rattle.wf_farm.specs.Start.{fresh_node, AreFresh}
-use Rattle.wf_farm.proofs.Events.{node_at, none_at}
+use Rattle.wf_farm.proofs.Events.{node_at}
 use Rattle.wf_farm.proofs.Steps.{node_of, one_stored}
 use Rattle.wf_farm.proofs.Turns.{world_of}
 
@@ -148,17 +148,3 @@ agree_reached law one farm reached = λ i j s c d first second.
     (law.facts definition_eq (length farm.places) reached.events).same_definition empty_map i j s c d
     (published_by one farm.places w i s c (slice_get farm.places i) first.stored reached.shows.nodes refl first.has first.entry)
     (published_by one farm.places w j s d (slice_get farm.places j) second.stored reached.shows.nodes refl second.has second.entry)
-
--- ---- a node that is lent
-
-lent_at : (place : Place) (node : world.Node Definition) (nodes : List (world.Node Definition)) (i : ℕ) → slice_get nodes i ≡ Some node → IsNode place node → IsRunningIn (slice_get nodes i) (running_in (Some place))
-lent_at (Running held) node nodes i at is = at ∙ ap Some is
-lent_at (Stopped kept) node nodes i at is = λ stored working e.
-    none-some working (sym is.0 ∙ ap (λ (x : world.Node Definition). x.working) (same_Some node (node_of stored (Some working)) (sym at ∙ e)))
-
-pub lent_node : (places : List Place) (sent : List Message) (w : World Definition) (i : ℕ) (there : Option Place) → slice_get places i ≡ there → cluster.Shows places sent w →
-    IsRunningIn (slice_get w.nodes i) (running_in there)
-lent_node places sent w i None at shows = λ stored working e. none-some _ (sym (none_at places w.nodes i shows.nodes at) ∙ e)
-lent_node places sent w i (Some place) at shows =
-    let here = node_at places w.nodes i place shows.nodes at in
-    lent_at place here.0 w.nodes i here.1 here.2

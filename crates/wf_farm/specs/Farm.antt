@@ -1,17 +1,10 @@
 -- A farm as contracts see it, and what is true of each.
-use Rattle.std.specs.Prelude.{◌≡◌, ◌≤◌, ℕ, List, length, take, Option, Some, None}
+use Rattle.std.specs.Prelude.{◌≡◌, ◌≤◌, ℕ, List, length, take, Option}
 use Rattle.wf_codec.specs.declared.message.Message.{Message}
 use Rattle.wf_def.specs.Definition.{Definition}
 use Rattle.wf_def.specs.Equality.{definition_eq}
-use Rattle.wf_model.specs.Stored.{Stored}
-use Rattle.wf_model.specs.Working.{Working}
-use Rattle.wf_model.specs.World as world
-use Rattle.wf_model.specs.World.{World, Event, after, steps}
-use Rattle.wf_node.specs.Node as shown_node
-use Rattle.wf_node.specs.Node.{stored_of, working_of}
-use Rattle.wf_tape.specs.MemoryTape as memory
+use Rattle.wf_model.specs.World.{World, Event, after}
 use Rattle.wf_farm.specs.declared.place.Place.{Place}
-use Rattle.wf_farm.specs.declared.place.Place.TheVariants.{Running, Stopped}
 use Rattle.wf_farm.specs.declared.fault.FarmFault.{FarmFault}
 use Rattle.wf_farm.specs.declared.fault.FarmFault.TheVariants.{Memory, NoNode}
 use Rattle.wf_farm.specs.Cluster as cluster
@@ -58,14 +51,3 @@ RunsPart NoNode events before after = ⊥
 -- the fault is want of memory before anything was done
 abbrev pub IsAtOnce : FarmFault → Type 0
 IsAtOnce fault = fault ≡ Memory 0
-
--- the node that runs at a place
-abbrev pub running_in : Option Place → Option (shown_node.Node memory.Kept)
-running_in None = None
-running_in (Some (Running node)) = Some node
-running_in (Some (Stopped tape)) = None
-
--- node i of a world as it is lent: both its parts, or None where it is absent or stopped
-abbrev pub IsRunningIn : Option (world.Node Definition) → Option (shown_node.Node memory.Kept) → Type 0
-IsRunningIn there None = (stored : Stored Definition) (working : Working Definition) → there ≡ Some (record { stored = stored; working = Some working }) → ⊥
-IsRunningIn there (Some node) = there ≡ Some (record { stored = stored_of node; working = Some (working_of node) })
