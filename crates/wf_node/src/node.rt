@@ -1,7 +1,7 @@
 use crate::fault::NodeFault;
 use crate::machine::Machine;
 use std::marker::Model;
-use wf_ballot::Seq;
+use wf_ballot::{NodeId, Seq};
 use wf_def::map::MapDef;
 use wf_learner::History;
 use wf_proposer::Standing;
@@ -39,6 +39,13 @@ impl<T: Tape> Node<T> {
     ghost use Rattle.wf_node.specs.Node.{stored_of, working_of};
     ghost use Rattle.wf_proposer.specs.Standing.{standing_of};
     ghost use Rattle.wf_proposer.specs.declared.standing.Standing.TheVariants.{None};
+
+    /// The node's number.
+    pub fn id(&self) -> NodeId
+        ensures { result ≡ self.now.id }
+    {
+        self.machine.proposer.id()
+    }
 
     /// The last published sequence, 0 where there is none. A halted node tells what it had published before.
     pub fn published(&self) -> Seq

@@ -38,6 +38,13 @@ impl Proposer {
         }
     }
 
+    /// The number of the proposer's node.
+    pub fn id(&self) -> NodeId
+        ensures { result ≡ self.now.node }
+    {
+        self.node
+    }
+
     /// How the node's proposal stands.
     pub fn proposal(&self) -> Standing
         ensures { result ≡ standing_of (working_of self.now) }
