@@ -1,0 +1,81 @@
+#!/usr/bin/env python3
+"""Tries tools/geojson_to_map.py on the data in tools/geojson.
+
+    python3 tools/try_geojson.py [PROGRAM]
+
+Compares each map with the one that is kept beside the data, and each refusal with its line. PROGRAM, the built wfarm
+(crates/wfarm/out/wfarm), is asked for the canonical text of each map besides: that has to be the map itself.
+"""
+
+import json
+import pathlib
+import subprocess
+import sys
+import tempfile
+
+TOOLS = pathlib.Path(__file__).resolve().parent
+DATA = TOOLS / "geojson"
+
+MAPS = {
+    "harbour.map": ["--name", "harbour", "--title", "The harbour", "--layer", "harbour.geojson", "--items", "name,kind", "--label", "name"]
+    + ["--class-by", "kind", "--class", "ferry=0,0,200", "--width", "2"],
+    "wards.map": ["--name", "wards", "--layer", "wards.geojson", "--items", "ward,party", "--class-by", "party", "--class", "red=#c02020"]
+    + ["--class", "blue=#2020c0", "--outline", "0,0,0", "--label", "ward"],
+}
+
+
+def feature(kind, coordinates, **properties):
+    return {"type": "Feature", "properties": properties, "geometry": {"type": kind, "coordinates": coordinates}}
+
+
+def line(points):
+    return [[i / 1000, (i * i % 7) / 1000] for i in range(points)]
+
+
+# Made data, the options behind it, and a beginning of the line that refuses it.
+REFUSED = {
+    "too many features": ([feature("Point", [i, 0]) for i in range(2001)], [], "2001 features, over the limit of 2000"),
+    "too many points": ([feature("LineString", line(20001))], [], "20001 points, over the limit of 20000"),
+    "too many bytes": ([feature("LineString", line(4000))], [], "the map has "),
+    "a long text": ([feature("Point", [1, 1], note="x" * 1001)], ["--items", "note"], "layer made: the attributes of feature 1: 1001 bytes"),
+    "a label that isn't kept": ([feature("Point", [1, 1])], ["--label", "name"], "layer made: attribute 'name' isn't among --items"),
+    "a pole in metres": ([feature("Point", [1, 90])], ["--crs", "3857"], "latitude 90.0 can't be drawn in EPSG:3857"),
+    "one point": ([feature("Point", [1, 1])], [], "the extent 1 1 1 1 is empty"),
+    "a collection": ([{"type": "Feature", "properties": {}, "geometry": {"type": "GeometryCollection"}}], [], "made.geojson: feature 1 is a GeometryCollection"),
+}
+
+
+def run(words, folder):
+    return subprocess.run([sys.executable, str(TOOLS / "geojson_to_map.py"), *words], cwd=folder, capture_output=True)
+
+
+def differs(name, words, program):
+    made = run(words, DATA)
+    if made.stdout != (DATA / name).read_bytes():
+        return f"{name}: another map, or none: {made.stderr.decode().strip()}"
+    if program and subprocess.run([program, "canon"], input=made.stdout, capture_output=True).stdout != made.stdout:
+        return f"{name}: {program} has another canonical text"
+    return None
+
+
+def taken(name, features, words, begins):
+    with tempfile.TemporaryDirectory() as folder:
+        (pathlib.Path(folder) / "made.geojson").write_text(json.dumps({"type": "FeatureCollection", "features": features}))
+        made = run(["--name", "made", "--layer", "made.geojson", *words], folder)
+    if made.returncode != 1 or not made.stderr.decode().startswith("error: " + begins):
+        return f"{name}: status {made.returncode}, {made.stderr.decode().strip()}"
+    return None
+
+
+def main():
+    program = str(pathlib.Path(sys.argv[1]).resolve()) if len(sys.argv) > 1 else None
+    wrong = [differs(name, words, program) for name, words in MAPS.items()]
+    wrong += [taken(name, *case) for name, case in REFUSED.items()]
+    for line_ in filter(None, wrong):
+        print(line_)
+    print(f"{len(wrong)} tried, {sum(1 for entry in wrong if entry)} wrong")
+    return 1 if any(wrong) else 0
+
+
+if __name__ == "__main__":
+    sys.exit(main())
