@@ -1,9 +1,10 @@
 //! Which part of a map is asked for, and in which size.
-ghost use Rattle.std.specs.Prelude.{◌≤◌, ◌+ℤ◌, ◌≤ℤ◌, pos, IsTrue};
+ghost use Rattle.std.specs.Prelude.{◌≤◌, ◌<◌, ◌+ℤ◌, ◌≤ℤ◌, pos, length, All, IsTrue};
 ghost use Rattle.wf_paint.specs.Grid.{least_cell};
 ghost use Rattle.wf_paint.specs.View.{most_pixels};
 
 use std::alloc::Global;
+use wf_def::color::Color;
 use wf_def::extent::Extent;
 use wf_def::map::MapDef;
 use wf_def::micro::Micro;
@@ -11,6 +12,7 @@ use wf_def::point::Point;
 use wf_mapfile::fault::MapFault;
 use wf_mapfile::read;
 use wf_paint::view::View;
+use wf_picture::picture::draw;
 use wf_table::Unanswered;
 
 /// A box and a size in pixels.
@@ -43,6 +45,30 @@ impl Frame {
         let (low, high) = (bbox.miny(), bbox.maxy());
         if is_side(width) && is_side(height) && is_wide(left, right) && is_wide(low, high) {
             Ok(View::of(map, &bbox, width, height))
+        } else {
+            Err(Unanswered::BadWords)
+        }
+    }
+
+    /// The file of the picture of this part of the map, under the same condition.
+    pub fn file(
+        self,
+        alloc: Global,
+        map: &MapDef,
+        layers: &[usize],
+        background: Color,
+    ) -> Result<Vec<u8>, Unanswered>
+        requires { All (λ i. i < length map.now.layers) layers.now }
+    {
+        let Frame {
+            bbox,
+            width,
+            height,
+        } = self;
+        let (left, right) = (bbox.minx(), bbox.maxx());
+        let (low, high) = (bbox.miny(), bbox.maxy());
+        if is_side(width) && is_side(height) && is_wide(left, right) && is_wide(low, high) {
+            Ok(draw(alloc, map, layers, &bbox, width, height, background)?)
         } else {
             Err(Unanswered::BadWords)
         }

@@ -1,8 +1,9 @@
 //! Pictures of a map's layers with their labels.
-ghost use Rattle.std.specs.Prelude.{◌<◌, ◌↔◌, IsTrue, All, length};
+ghost use Rattle.std.specs.Prelude.{◌<◌, All, length};
 
-use crate::frame::{Frame, read_map, read_pixels, split_frame};
-use crate::letter::{color_of, letter_of};
+use crate::frame::{read_map, read_pixels};
+use crate::letter::letter_of;
+use crate::request::{Request, are_below, places_of, split_request};
 use std::alloc::Global;
 use wf_def::color::Color;
 use wf_def::map::MapDef;
@@ -53,13 +54,11 @@ fn ask_shown(
     mapfile: &[u8],
     answer: &mut Vec<u8>,
 ) -> Result<(), Unanswered> {
-    let (sides, size, rest) = split_frame(asked)?;
-    let frame = Frame::read(sides, size)?;
-    let (background, layers) = rest.split_once(", ").unwrap_or((rest, ""));
-    let background = color_of(background)?;
+    let (sides, size, background, layers) = split_request(asked)?;
+    let request = Request::read(sides, size, background)?;
     match read_map(alloc, mapfile) {
         Ok(map) => {
-            let told = tell_picture(alloc, &map, layers, frame, background, window, answer);
+            let told = tell_picture(alloc, &map, layers, request, window, answer);
             drop(map);
             told
         }
@@ -71,17 +70,16 @@ fn tell_picture(
     alloc: Global,
     map: &MapDef,
     layers: &str,
-    frame: Frame,
-    background: Color,
+    request: Request,
     window: Option<Window>,
     answer: &mut Vec<u8>,
 ) -> Result<(), Unanswered> {
-    let view = frame.view(map)?;
+    let view = request.frame.view(map)?;
     let layers = places_of(alloc, map, layers)?;
     if !are_below(&layers, map.layer_count()) {
         return Err(Unanswered::BadWords);
     }
-    match paint(alloc, map, &layers, &view, background) {
+    match paint(alloc, map, &layers, &view, request.background) {
         Ok(mut pixmap) => {
             let labelled = label(alloc, map, &layers, &view, &mut pixmap);
             let told = tell_labelled(labelled, &pixmap, window, answer);
@@ -166,36 +164,6 @@ fn bytes_behind(pixmap: &Pixmap, above: u32, column: u32) -> Option<&[u8]> {
         .checked_mul(pixmap.width() as usize)?
         .checked_add(column as usize)?;
     pixmap.bytes().get(pixels.checked_mul(3)?..)
-}
-
-/// The places of the layers of these names.
-fn places_of(alloc: Global, map: &MapDef, names: &str) -> Result<Vec<usize>, Unanswered> {
-    let mut places = Vec::new(alloc);
-    for name in names.split_whitespace() {
-        let place = place_of(map, name).ok_or(Unanswered::BadWords)?;
-        if places.push(place).is_err() {
-            return Err(Unanswered::Memory);
-        }
-    }
-    Ok(places)
-}
-
-/// The place of the layer of a name.
-fn place_of(map: &MapDef, name: &str) -> Option<usize> {
-    for place in 0..map.layer_count() {
-        let (known, _) = map.layer(place);
-        if known.as_str() == name {
-            return Some(place);
-        }
-    }
-    None
-}
-
-/// Whether each of the places is below the count.
-fn are_below(places: &[usize], count: usize) -> bool
-    ensures { IsTrue result ↔ All (λ place. place < count) places.now }
-{
-    places.iter().all(|&place| place < count)
 }
 
 fn write_rows(pixmap: &Pixmap, answer: &mut Vec<u8>) -> Result<(), Unanswered> {

@@ -5,6 +5,7 @@
 //!                                                                     their labels: a letter a pixel, the top row first
 //! part COLUMN ROW, W by H of PICTURE             a mapfile            the same of so many columns and rows of the view's
 //!                                                                     picture from this pixel on
+//! file BOX, W by H, BACKGROUND[, LAYER ..]       a mapfile            the layers' picture as a file, cut to its tile
 //! place BOX, W by H, X Y                         a mapfile            where the view shows the point, in sixteenths of a pixel
 //!                                                                     from the left and from the bottom; for a tile also the
 //!                                                                     pixel at which it is cut out
@@ -12,7 +13,7 @@
 //! ```
 //!
 //! [`crate::letter`] has the letters.
-use crate::{cell, picture, place};
+use crate::{cell, file, picture, place};
 use std::alloc::Global;
 use wf_table::{Questions, Unanswered};
 
@@ -31,6 +32,7 @@ impl Questions for Painter {
         match subject {
             "picture" => picture::ask(alloc, asked, input, answer),
             "part" => picture::ask_part(alloc, asked, input, answer),
+            "file" => file::ask(alloc, asked, input, answer),
             "place" => place::ask(alloc, asked, input, answer),
             "cell" => cell::ask(asked, input, answer),
             _ => Err(Unanswered::UnknownQuestion),

@@ -1,0 +1,4 @@
+pub mod ImageLemmas
+pub mod ViewLemmas
+pub mod TileLemmas
+pub mod PictureLemmas

@@ -1,0 +1,65 @@
+-- What drawing the placed labels over what is painted leaves of a picture.
+use Rattle.std.proofs.Common.{◌≡◌, ℕ, List, Result, Ok, Err, IfOk, ℤ, sym, ap, subst₂, ◌∙◌}
+use Rattle.wf_def.specs.Definition.{Definition}
+use Rattle.wf_def.specs.Extent.{ExtentValue}
+use Rattle.wf_def.specs.declared.color.Color.{Color}
+use Rattle.wf_paint.specs.Operation.{operations, color_at}
+use Rattle.wf_paint.specs.Pixmap.{PixmapValue, IsPicture}
+use Rattle.wf_paint.specs.Tile.{IsViewOf}
+use Rattle.wf_paint.specs.View.{ViewValue}
+use Rattle.wf_paint.specs.declared.corner.Corner.{Corner}
+use Rattle.wf_label.specs.Ink.{inked, IsInked}
+use Rattle.wf_label.specs.Label.{candidates}
+use Rattle.wf_label.specs.Placed.{PlacedValue}
+use Rattle.wf_label.specs.Placing.{IsPlacing, EachListHasOnePlacing, PlacedIsThePlacing, placed_of}
+use Rattle.wf_picture.specs.Image.{image}
+use Rattle.wf_picture.specs.Picture.{placed, labelled, corner_of, crop, picture, IsImageOf}
+
+-- labels over a picture make the picture of their colours over its own
+inked_over : (labels : List PlacedValue) (width height : ℕ) (below : ℤ → ℤ → Color) (old new : PixmapValue) → IsPicture width height below old → IsInked labels old new →
+    IsPicture width height (λ column row. inked labels (below column row) column row) new
+inked_over labels width height below old new shows drawn = record {
+  wide = drawn.width ∙ shows.wide;
+  high = drawn.height ∙ shows.high;
+  pixels = λ i within.
+      let here = shows.pixels i within in
+      let over = drawn.pixels i (rw (shows.wide, shows.high) within) in
+      let w = shows.wide in
+      let h = shows.high in
+      cc;
+}
+
+-- the labels that are placed are those of the definition
+same_placing : EachListHasOnePlacing → PlacedIsThePlacing → (map : Definition) (layers : List ℕ) (view : ViewValue) (labels : List PlacedValue) →
+    IsPlacing view (candidates map layers view) labels → labels ≡ placed map layers view
+unfolding placed
+same_placing one computed map layers view labels is =
+    one view (candidates map layers view) (placed_of view (candidates map layers view)) labels (computed view (candidates map layers view)) is
+
+pub labelled_over : EachListHasOnePlacing → PlacedIsThePlacing → (map : Definition) (layers : List ℕ) (view : ViewValue) (background : Color) (labels : List PlacedValue) (old new : PixmapValue) →
+    IsPlacing view (candidates map layers view) labels → IsPicture view.width view.height (color_at (operations map layers view) background) old → IsInked labels old new →
+    IsPicture view.width view.height (labelled map layers view background) new
+unfolding labelled
+labelled_over one computed map layers view background labels old new is shows drawn =
+    let same = same_placing one computed map layers view labels is in
+    inked_over (placed map layers view) view.width view.height (color_at (operations map layers view) background) old new shows (rw same at drawn)
+
+-- what holds of a result's value holds of it when it follows from what is known of it
+pub ok_gives : {X E : Type 0} {P Q : X → Type 0} (r : Result X E) → ((x : X) → P x → Q x) → IfOk r P → IfOk r Q
+ok_gives (Ok x) follows known = follows x known
+ok_gives (Err e) follows known = tt
+
+-- the file of the part at the view's corner is the request's image
+pub image_drawn : (map : Definition) (layers : List ℕ) (box : ExtentValue) (width height : ℕ) (background : Color) (view : ViewValue) (p : PixmapValue) (corner : Corner) (bytes : List ℕ) →
+    IsViewOf map.extent box width height view → IsPicture view.width view.height (labelled map layers view background) p → corner ≡ corner_of view →
+    ((whole : ℤ → ℤ → Color) → IsPicture p.width p.height whole p → bytes ≡ image width height (crop corner whole)) →
+    IsImageOf map layers box width height background bytes
+unfolding picture
+image_drawn map layers box width height background view p corner bytes is shows at written =
+    let own : IsPicture p.width p.height (labelled map layers view background) p =
+    subst₂ (λ (w h : ℕ). IsPicture w h (labelled map layers view background) p) (sym shows.wide) (sym shows.high) shows in
+    record {
+      view = view;
+      is = is;
+      file = written (labelled map layers view background) own ∙ ap (λ (c : Corner). image width height (crop c (labelled map layers view background))) at;
+    }

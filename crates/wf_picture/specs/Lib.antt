@@ -1,0 +1,3 @@
+pub mod Image
+pub mod Picture
+pub mod Tiles

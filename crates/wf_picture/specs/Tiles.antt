@@ -1,0 +1,34 @@
+-- Tiles: which of them are drawn in one view, and that each is a part of one picture.
+use Rattle.std.specs.Prelude.{◌≡◌, ℕ, true, List, pos}
+use Rattle.wf_def.specs.Definition.{Definition}
+use Rattle.wf_def.specs.Extent.{ExtentValue}
+use Rattle.wf_def.specs.declared.color.Color.{Color}
+use Rattle.wf_paint.specs.Exact.{quotient}
+use Rattle.wf_paint.specs.Grid.{fits, tile_pixels}
+use Rattle.wf_paint.specs.Tile.{tile_start, tile_view}
+use Rattle.wf_paint.specs.declared.cell.GridCell.{GridCell}
+use Rattle.wf_paint.specs.declared.corner.Corner.{Corner}
+use Rattle.wf_picture.specs.Image.{image}
+use Rattle.wf_picture.specs.Picture.{labelled, crop, IsImageOf}
+
+-- two cells of one level are among the same four columns and the same four rows
+pub record ShareAView (cell other : GridCell) : Type 0 where
+  pub level : cell.z ≡ other.z
+  pub columns : quotient cell.col (pos 4) ≡ quotient other.col (pos 4)
+  pub rows : quotient cell.row (pos 4) ≡ quotient other.row (pos 4)
+
+-- then one picture is drawn for both
+abbrev pub SharedViewsHaveOnePicture : Type 0
+SharedViewsHaveOnePicture = (map : Definition) (layers : List ℕ) (background : Color) (cell other : GridCell) → ShareAView cell other →
+    labelled map layers (tile_view map.extent cell) background ≡ labelled map layers (tile_view map.extent other) background
+
+-- where a cell's tile lies in it
+abbrev pub tile_corner : GridCell → Corner
+tile_corner cell = record { column = tile_start cell.col; row = tile_start cell.row }
+
+-- and each of their tiles is the part of it that lies there
+abbrev pub TilesAreCropsOfOnePicture : Type 0
+TilesAreCropsOfOnePicture = (map : Definition) (layers : List ℕ) (background : Color) (cell other : GridCell) → ShareAView cell other →
+    (box : ExtentValue) (width height : ℕ) → fits map.extent box width height other ≡ true →
+    (bytes : List ℕ) → IsImageOf map layers box width height background bytes →
+    bytes ≡ image tile_pixels tile_pixels (crop (tile_corner other) (labelled map layers (tile_view map.extent cell) background))

@@ -1,0 +1,99 @@
+//! Pictures as files.
+ghost use Rattle.std.specs.Prelude.{◌≡◌, ◌≤◌, ◌<◌, ◌+◌, ◌-◌, ◌*◌, ◌++◌, ℤ, take, drop, IfOk, OnOk};
+ghost use Rattle.wf_def.specs.declared.color.Color.{Color as Pixel};
+ghost use Rattle.wf_paint.specs.Pixmap.{IsPicture, IsPixmap};
+ghost use Rattle.wf_picture.specs.Image.{header, image, pixel_bytes, row_bytes};
+ghost use Rattle.wf_picture.specs.Picture.{crop};
+
+use itoa::Buffer;
+use std::alloc::{AllocError, Global};
+use wf_paint::corner::Corner;
+use wf_paint::pixmap::Pixmap;
+
+/// The file of the part of a picture that begins at the corner: a header, then three bytes a pixel (Netpbm, PPM, raw form).
+#[tactic(auto, unfolding(crate::specs::Image::image))]
+pub(crate) fn image(
+    alloc: Global,
+    pixmap: &Pixmap,
+    corner: Corner,
+    width: u32,
+    height: u32,
+) -> Result<Vec<u8>, AllocError>
+    requires columns { corner.column + width ≤ pixmap.now.width }
+    requires rows { corner.row + height ≤ pixmap.now.height }
+    ensures { IfOk result (λ file. (whole : ℤ → ℤ → Pixel) → IsPicture pixmap.now.width pixmap.now.height whole pixmap.now → file.items ≡ image width height (crop corner whole)) }
+{
+    let mut file = Vec::new(alloc);
+    push_header(&mut file, width, height)?;
+    push_rows(&mut file, pixmap, corner, width, height)?;
+    Ok(file)
+}
+
+/// Adds the header: the form of the file, its width and height in pixels, and the greatest value of a byte.
+#[tactic(auto, unfolding(crate::specs::Image::header))]
+fn push_header(file: &mut Vec<u8>, width: u32, height: u32) -> Result<(), AllocError>
+    ensures { OnOk result (file.new.items ≡ file.old.items ++ header width height) }
+{
+    let mut digits = Buffer::new();
+    file.extend_from_slice(b"P6\n")?;
+    file.extend_from_slice(digits.format(width).as_bytes())?;
+    file.extend_from_slice(b" ")?;
+    file.extend_from_slice(digits.format(height).as_bytes())?;
+    file.extend_from_slice(b"\n255\n")
+}
+
+/// Adds the rows of the part of the picture that begins at the corner, the top one first.
+#[tactic(auto, unfolding(crate::specs::Image::pixel_bytes))]
+fn push_rows(
+    file: &mut Vec<u8>,
+    pixmap: &Pixmap,
+    corner: Corner,
+    width: u32,
+    height: u32,
+) -> Result<(), AllocError>
+    requires columns { corner.column + width ≤ pixmap.now.width }
+    requires rows { corner.row + height ≤ pixmap.now.height }
+    ensures { OnOk result ((whole : ℤ → ℤ → Pixel) → IsPicture pixmap.now.width pixmap.now.height whole pixmap.now → file.new.items ≡ file.old.items ++ pixel_bytes width height (crop corner whole)) }
+{
+    for row in (0..height).rev() {
+        push_row(file, pixmap, corner, width, row)?;
+    }
+    Ok(())
+}
+
+/// Adds a row of that part, which is counted from the corner's upward.
+fn push_row(
+    file: &mut Vec<u8>,
+    pixmap: &Pixmap,
+    corner: Corner,
+    width: u32,
+    row: u32,
+) -> Result<(), AllocError>
+    requires columns { corner.column + width ≤ pixmap.now.width }
+    requires row { corner.row + row < pixmap.now.height }
+    ensures { OnOk result ((whole : ℤ → ℤ → Pixel) → IsPicture pixmap.now.width pixmap.now.height whole pixmap.now → file.new.items ≡ file.old.items ++ row_bytes width (crop corner whole) row) }
+{
+    let first = first_of(pixmap, corner, row);
+    file.extend_from_slice(pixels_from(pixmap, first, width))?;
+    Ok(())
+}
+
+/// The place of the row's first pixel, the places counted row by row from the picture's upper left.
+fn first_of(pixmap: &Pixmap, corner: Corner, row: u32) -> usize
+    requires column { corner.column ≤ pixmap.now.width }
+    requires row { corner.row + row < pixmap.now.height }
+    ensures { result ≡ (pixmap.now.height - 1 - (corner.row + row)) * pixmap.now.width + corner.column }
+{
+    let above = pixmap.height() - 1 - (corner.row + row);
+    above as usize * pixmap.width() as usize + corner.column as usize
+}
+
+/// The bytes of so many pixels from a place on.
+fn pixels_from(pixmap: &Pixmap, first: usize, count: u32) -> &[u8]
+    requires { first + count ≤ pixmap.now.width * pixmap.now.height }
+    ensures value { result.now ≡ take (3 * count) (drop (3 * first) pixmap.now.bytes) }
+    ensures within { IsPixmap pixmap.now }
+{
+    let bytes = pixmap.bytes();
+    &bytes[3 * first..3 * (first + count as usize)]
+}
