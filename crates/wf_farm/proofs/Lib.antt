@@ -1,5 +1,9 @@
 mod Turns
 mod Steps
 mod Events
+mod Idle
 mod Runs
 mod Worlds
+mod Listed
+mod Rounds
+mod Pumping

@@ -12,7 +12,7 @@ use Rattle.wf_farm.specs.Cluster.{Shows, KeepMembers, StayShown, Moves, Happens,
 use Rattle.wf_farm.specs.Fault.{told}
 
 -- one event more, at the end
-steps_more : (w : World Definition) (events : List (Event Definition)) (event : Event Definition) →
+pub steps_more : (w : World Definition) (events : List (Event Definition)) (event : Event Definition) →
     steps definition_eq w (events ++ event ∷ []) ≡ happens definition_eq (steps definition_eq w events) event
 unfolding steps
 steps_more w [] event = refl

@@ -458,3 +458,26 @@ tells_running node action result why = λ n i x sent input member is given. why_
 pub tells_stopped : (kept : tape.Kept) (action : table.Action Definition ℕ) → TellsWhyNot (Stopped kept) action None
 unfolding TellsWhyNot
 tells_stopped kept action = λ n i x sent input member is given. why_not_stopped kept x input is
+
+-- A question and a delivery are never refused.
+pub tells_no_question : (place : Place) → TellsWhyNot place table.CatchUp None
+tells_no_question (Running node) = tells_running node table.CatchUp None (λ runs. refl)
+tells_no_question (Stopped kept) = tells_stopped kept table.CatchUp
+
+pub tells_no_delivery : (place : Place) (k : ℕ) → TellsWhyNot place (table.Deliver k) None
+tells_no_delivery (Running node) k = tells_running node (table.Deliver k) None (λ runs. refl)
+tells_no_delivery (Stopped kept) k = tells_stopped kept (table.Deliver k)
+
+-- A step that is refused changes nothing.
+pub refused_step : (n i : ℕ) (input : Input Definition) (place : Place) (f : NodeFault) →
+    ((x : world.Node Definition) → IsNode place x → fault.IsWhyNot (refusal_of (Some x) (Some input)) (Some f)) → IsStepped n i input place place [] (number_in f)
+unfolding node_after messages_of
+refused_step n i input place f why = record {
+  node = λ x is.
+      let number = some_told (refusal_of (Some x) (Some input)) (why x is).1 in
+      subst (λ t. IsNode place (node_after t x)) (sym (no_turn n i input x number.0 number.1)) is;
+  messages = λ x is.
+      let number = some_told (refusal_of (Some x) (Some input)) (why x is).1 in
+      sym (ap messages_of (no_turn n i input x number.0 number.1));
+  refusal = λ x is. ap told (why x is).0;
+}

@@ -4,7 +4,7 @@ use Rattle.std.proofs.lemmas.Option.{none-some, same_Some}
 use Rattle.wf_codec.specs.declared.message.Message.{Message}
 use Rattle.wf_def.specs.Definition.{Definition, empty_map}
 use Rattle.wf_def.specs.Equality.{definition_eq}
-use Rattle.wf_law.specs.Laws.{Agreement}
+use Rattle.wf_law.specs.Laws.{Agreement, IsBeginning}
 use Rattle.wf_model.specs.Chosen.{history_of, history, definition}
 use Rattle.wf_model.specs.Steps.{StepsInTurn}
 use Rattle.wf_model.specs.Stored.{Stored, definition_at}
@@ -113,6 +113,8 @@ pub one_world : AreReadOneWay → (farm : Farm) → IsReached farm.places farm.s
 one_world one farm reached = record {
   the_world = after definition_eq (length farm.places) reached.events;
   shown = reached.shows;
+  events = reached.events;
+  reached = refl;
   no_other = λ w shows.
       let there = after definition_eq (length farm.places) reached.events in
       ap (λ ns. world_of ns w.sent) (one_list one farm.places w.nodes there.nodes shows.nodes reached.shows.nodes)
@@ -139,6 +141,34 @@ published_by one places w i s d None stored are at has e = absurd has
 published_by one places w i s d (Some place) stored are at has e =
     let here = node_at places w.nodes i place are at in
     entry_at stored.history w i s d (ap history_of here.1 ∙ ap (λ (x : Stored Definition). x.history) (sym (stored_at one place here.0 stored here.2 has))) e
+
+-- what a place stored has the list of the world's node
+history_at : AreReadOneWay → (places : List Place) (w : World Definition) (i : ℕ) (there : Option Place) (stored : Stored Definition) → AreNodes places w.nodes → slice_get places i ≡ there →
+    HasStored there stored → history w i ≡ stored.history
+unfolding history history_of
+history_at one places w i None stored are at has = absurd has
+history_at one places w i (Some place) stored are at has =
+    let here = node_at places w.nodes i place are at in
+    ap history_of here.1 ∙ ap (λ (x : Stored Definition). x.history) (sym (stored_at one place here.0 stored here.2 has))
+
+-- What a place has published before a run begins what it has published after it.
+pub grown : Agreement Definition → AreReadOneWay → StepsInTurn Definition → (places after_places : List Place) (sent after_sent : List Message) (more : List (Event Definition)) →
+    length after_places ≡ length places → IsReached places sent → Moves more places sent after_places after_sent →
+    (i : ℕ) (old new : Stored Definition) → HasStored (slice_get places i) old → HasStored (slice_get after_places i) new → IsBeginning old.history new.history
+unfolding reached_on
+grown law one in_turn places after_places sent after_sent more long reached moves i old new was is =
+    let ended = reached_on in_turn places after_places sent after_sent more long reached moves in
+    let before = after definition_eq (length places) reached.events in
+    let now = after definition_eq (length after_places) (reached.events ++ more) in
+    subst (λ h. IsBeginning h new.history) (history_at one places before i (slice_get places i) old reached.shows.nodes refl was)
+    (subst (λ h. IsBeginning (history before i) h) (history_at one after_places now i (slice_get after_places i) new ended.shows.nodes refl is)
+    (subst (λ k. IsBeginning (history before i) (history (after definition_eq k (reached.events ++ more)) i)) (sym long)
+    (law.grows definition_eq (length places) i reached.events more)))
+
+pub grown_still : Agreement Definition → AreReadOneWay → StepsInTurn Definition → (places : List Place) (sent : List Message) → IsReached places sent →
+    (i : ℕ) (old new : Stored Definition) → HasStored (slice_get places i) old → HasStored (slice_get places i) new → IsBeginning old.history new.history
+unfolding Moves steps
+grown_still law one in_turn places sent reached = grown law one in_turn places places sent sent [] refl reached (λ w shows. shows)
 
 -- Whatever led to the farm, no two of its nodes publish different definitions under one sequence.
 pub agree_reached : Agreement Definition → AreReadOneWay → (farm : Farm) → IsReached farm.places farm.sent → HasOneHistory farm

@@ -1,14 +1,16 @@
 -- The headline on a farm: what its nodes publish under one sequence is one definition.
-use Rattle.std.specs.Prelude.{◌≡◌, ℕ, slice_get, Option, Some, None}
+use Rattle.std.specs.Prelude.{◌≡◌, ℕ, List, slice_get, Option, Some, None}
 use Rattle.wf_def.specs.Definition.{Definition}
 use Rattle.wf_model.specs.Stored.{Stored, definition_at}
-use Rattle.wf_model.specs.World.{World}
+use Rattle.wf_def.specs.Equality.{definition_eq}
+use Rattle.wf_law.specs.Laws.{IsBeginning}
+use Rattle.wf_model.specs.World.{World, Event, after}
 use Rattle.wf_node.specs.Images.{AllStandFor}
 use Rattle.wf_node.specs.Node.{stored_of}
 use Rattle.wf_tape.specs.MemoryTape.{IsImageOf}
 use Rattle.wf_farm.specs.declared.place.Place.{Place}
 use Rattle.wf_farm.specs.declared.place.Place.TheVariants.{Running, Stopped}
-use Rattle.wf_farm.specs.Farm.{Farm, Shows}
+use Rattle.wf_farm.specs.Farm.{Farm, Shows, size}
 
 -- what the node at a place stored, running or stopped
 abbrev pub HasStored : Option Place → Stored Definition → Type 0
@@ -26,8 +28,14 @@ pub record Publishes (farm : Farm) (i s : ℕ) (d : Definition) : Type 0 where
 unfoldable pub HasOneHistory : Farm → Type 0
 HasOneHistory farm = (i j s : ℕ) (c d : Definition) → Publishes farm i s c → Publishes farm j s d → c ≡ d
 
--- The farm is one world and no other.
+-- What each place has published, running or stopped, stands at the beginning of what it has published afterwards.
+unfoldable pub HistoriesGrow : Farm → Farm → Type 0
+HistoriesGrow before after = (i : ℕ) (old new : Stored Definition) → HasStored (slice_get before.places i) old → HasStored (slice_get after.places i) new → IsBeginning old.history new.history
+
+-- The farm is one world and no other, and some events lead to that from the start.
 pub record IsOneWorld (farm : Farm) : Type 0 where
   pub the_world : World Definition
   pub shown : Shows farm the_world
   pub no_other : (w : World Definition) → Shows farm w → w ≡ the_world
+  pub events : List (Event Definition)
+  pub reached : the_world ≡ after definition_eq (size farm) events

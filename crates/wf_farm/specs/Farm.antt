@@ -1,10 +1,13 @@
 -- A farm as contracts see it, and what is true of each.
-use Rattle.std.specs.Prelude.{◌≡◌, ◌≤◌, ℕ, List, length, take, Option}
+use Rattle.std.specs.Prelude.{◌≡◌, ◌≤◌, ◌<◌, ℕ, List, length, take, Option, Some, None}
 use Rattle.wf_codec.specs.declared.message.Message.{Message}
 use Rattle.wf_def.specs.Definition.{Definition}
 use Rattle.wf_def.specs.Equality.{definition_eq}
 use Rattle.wf_model.specs.World.{World, Event, after}
+use Rattle.wf_node.specs.Node.{Node}
+use Rattle.wf_tape.specs.MemoryTape.{Kept}
 use Rattle.wf_farm.specs.declared.place.Place.{Place}
+use Rattle.wf_farm.specs.declared.place.Place.TheVariants.{Running, Stopped}
 use Rattle.wf_farm.specs.declared.fault.FarmFault.{FarmFault}
 use Rattle.wf_farm.specs.declared.fault.FarmFault.TheVariants.{Memory, NoNode}
 use Rattle.wf_farm.specs.Cluster as cluster
@@ -26,6 +29,12 @@ Shows farm w = cluster.Shows farm.places farm.sent w
 abbrev pub size : Farm → ℕ
 size farm = length farm.places
 
+-- the node at a place, where one runs there
+abbrev pub running_in : Option Place → Option (Node Kept)
+running_in None = None
+running_in (Some (Running node)) = Some node
+running_in (Some (Stopped tape)) = None
+
 -- Some events lead from the start to a world that these are.
 pub record IsReached (places : List Place) (sent : List Message) : Type 0 where
   pub events : List (Event Definition)
@@ -45,7 +54,7 @@ Runs events before after = Moves events before.places before.sent after.places a
 
 -- The farm where memory was wanted: so many of the events are done.
 abbrev pub RunsPart : FarmFault → List (Event Definition) → Farm → Farm → Type 0
-RunsPart (Memory done) events before after = (done ≤ length events) × Runs (take done events) before after
+RunsPart (Memory done) events before after = (done < length events) × Runs (take done events) before after
 RunsPart NoNode events before after = ⊥
 
 -- the fault is want of memory before anything was done

@@ -6,3 +6,5 @@ pub mod Cluster
 pub mod Start
 pub mod Farm
 pub mod Agreement
+pub mod Pump
+pub mod Progress

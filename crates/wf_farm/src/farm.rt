@@ -8,7 +8,8 @@ use std::marker::Model;
 use wf_canon::Canon;
 use wf_codec::Message;
 use wf_model::steps_in_turn;
-use wf_tape::records_are_read_one_way;
+use wf_node::Node;
+use wf_tape::{MemoryTape, records_are_read_one_way};
 
 /// A farm: its nodes, which run or wait to be restarted, and all messages that they ever sent. Each farm is reached
 /// from the start by some events, so that its nodes agree ([`Farm::agree`]).
@@ -45,10 +46,10 @@ impl Farm {
     ghost use Rattle.std.specs.Option.{option_copied};
     ghost use Rattle.wf_model.specs.World.{World, start};
     ghost use Rattle.wf_def.specs.Definition.{Definition};
-    ghost use Rattle.wf_farm.specs.Agreement.{HasOneHistory, IsOneWorld};
+    ghost use Rattle.wf_farm.specs.Agreement.{HasOneHistory, HistoriesGrow, IsOneWorld};
     ghost use Rattle.wf_farm.specs.Cluster.{TellsWhy, last_refused};
     ghost use Rattle.wf_farm.specs.Event.{view};
-    ghost use Rattle.wf_farm.specs.Farm.{IsAtOnce, Runs, RunsPart, Shows, size};
+    ghost use Rattle.wf_farm.specs.Farm.{IsAtOnce, Runs, RunsPart, Shows, running_in, size};
 
     /// A farm of n nodes, all of which run, with all parts empty: the model's start. F1 with 0 where a growth was
     /// refused.
@@ -72,18 +73,23 @@ impl Farm {
     }
 
     /// The events happen, one after the other: what world the farm was, it is the model's world after them. F1 names how
-    /// many events were done where a growth was refused, and the farm is the world after these.
+    /// many events were done where a growth was refused, and the farm is the world after these. Either way no node's
+    /// published list goes back: it begins the one afterwards.
     #[tactic(auto, using(crate::proofs::Worlds::farm_moved))]
     pub fn run(&mut self, alloc: Global, events: &[Event]) -> Result<(), FarmFault>
         ensures done { OnOk result (Runs (map view events.now) self.old self.new) }
         ensures refused { OnOk result (TellsWhy (λ w. last_refused w (map view events.now)) self.new.refused self.old.places self.old.sent) }
         ensures part { IfErr result (λ fault. RunsPart fault (map view events.now) self.old self.new) }
         ensures none { OnErr result (self.new.refused ≡ None) }
+        ensures grows { HistoriesGrow self.old self.new }
         ensures size { size self.new ≡ size self.old }
         ensures pumped { self.new.pumped ≡ self.old.pumped }
     {
-        // The law of the model: the events of two lists in turn are those of the one list.
+        // The laws of the model and of the tape: the events of two lists in turn are those of the one list, lists only
+        // grow, and what a tape stands for is one stored part.
         steps_in_turn::<Canon>();
+        crate::law::agreement();
+        records_are_read_one_way();
         match self.cluster.run(alloc, events) {
             Ok(number) => {
                 self.refused = number;
@@ -110,6 +116,13 @@ impl Farm {
         ensures most { result ≤ 64 }
     {
         self.cluster.places.len()
+    }
+
+    /// The node of that number where it runs; None where it is absent or stopped.
+    pub fn node(&self, number: usize) -> Option<&Node<MemoryTape>>
+        ensures { option_copied result ≡ running_in (slice_get self.now.places number) }
+    {
+        self.cluster.places.get(number)?.running()
     }
 
     /// The message of that number; None where it isn't sent yet.

@@ -9,7 +9,7 @@ use wf_node::NodeFault;
 /// Why a farm doesn't do what it is asked.
 #[derive(Clone, Copy, Debug, PartialEq, Eq, Error)]
 pub enum FarmFault {
-    /// F1: a growth was refused. So many events are done.
+    /// F1: a growth was refused. So many events are done, or so many deliveries of a pump.
     #[error("F1: out of memory after {0}")]
     Memory(usize),
     /// F2: the node is absent or stopped.

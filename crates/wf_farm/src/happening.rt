@@ -1,14 +1,15 @@
 //! One event of a farm.
 
-ghost use Rattle.std.specs.Prelude.{◌≡◌, ◌≤◌, ◌+◌, ◌++◌, ℕ, is_some, length, map, option_map, None, Some, IfOk, IsSome, OnErr, vec_len, vec_capacity};
+ghost use Rattle.std.specs.Prelude.{◌≡◌, ◌<◌, ◌≤◌, ◌+◌, ◌++◌, ℕ, true, is_some, length, map, option_map, slice_get, None, Some, IfOk, IsSome, OnErr, vec_len, vec_capacity};
 ghost use Rattle.wf_codec.specs.Message.{view as view_message};
 ghost use Rattle.wf_def.specs.Definition.{Definition};
-ghost use Rattle.wf_model.specs.Table.{Action as ModelAction, Deliver};
+ghost use Rattle.wf_model.specs.Table.{Action as ModelAction, Deliver, Propose, Retry};
 ghost use Rattle.wf_model.specs.World as world;
 ghost use Rattle.wf_model.specs.World.{input_of};
 ghost use Rattle.wf_node.specs.Input.{view as view_input};
 ghost use Rattle.wf_farm.specs.Cluster.{AreMembers, Happens, IsActed, IsTorn, KeepMembers, StayShown};
 ghost use Rattle.wf_farm.specs.Event.{view, view_action, view_kept};
+ghost use Rattle.wf_farm.specs.Farm.{running_in};
 ghost use Rattle.wf_farm.specs.Place.{number_in};
 
 use crate::cluster::Cluster;
@@ -16,6 +17,7 @@ use crate::event::{Action, Event, Kept};
 use crate::fault::refusal_number;
 use std::alloc::{AllocError, Global};
 use wf_ballot::NodeId;
+use wf_canon::Canon;
 use wf_codec::Message;
 use wf_node::{Input, NodeFault};
 
@@ -35,11 +37,8 @@ impl Cluster {
         ensures grows { length self.old.sent.items ≤ length self.new.sent.items }
     {
         match event {
-            Event::Propose(node, canon) => match canon.copy() {
-                Ok(own) => self.step(alloc, *node, Input::Propose(own)),
-                Err(fault) => Err(fault),
-            },
-            Event::Retry(node) => self.step(alloc, *node, Input::Retry),
+            Event::Propose(node, canon) => self.propose(alloc, *node, canon),
+            Event::Retry(node) => self.retry(alloc, *node),
             Event::CatchUp(node) => self.step(alloc, *node, Input::CatchUp),
             Event::Deliver(node, number) => self.deliver(alloc, *node, *number),
             Event::Stop(node) => {
@@ -51,7 +50,52 @@ impl Cluster {
         }
     }
 
-    /// A message is handed to a node, if both are there.
+    /// A node begins a proposal, if it is there and runs. Whether it refuses is asked before memory is.
+    #[tactic(auto, using(crate::proofs::Events::same_members))]
+    fn propose(
+        &mut self,
+        alloc: Global,
+        node: usize,
+        canon: &Canon,
+    ) -> Result<Option<u8>, AllocError>
+        requires members { AreMembers self.old.places.items }
+        ensures grows { length self.old.sent.items ≤ length self.new.sent.items }
+        ensures done { IfOk result (λ refused. IsActed node (Propose canon.now) refused self.old.places.items self.old.sent.items self.new.places.items self.new.sent.items) }
+        ensures err { OnErr result (StayShown self.old.places.items self.old.sent.items self.new.places.items self.new.sent.items) }
+        ensures members { KeepMembers self.old.places.items self.new.places.items }
+    {
+        if !self.runs(node) {
+            return Ok(None);
+        }
+        match self.places[node].proposal_refusal() {
+            Some(fault) => Ok(refusal_number(fault)),
+            None => match canon.copy() {
+                Ok(own) => self.step(alloc, node, Input::Propose(own)),
+                Err(fault) => Err(fault),
+            },
+        }
+    }
+
+    /// A node's running proposal begins anew, if the node is there and runs. Whether it refuses is asked before memory
+    /// is.
+    #[tactic(auto, using(crate::proofs::Events::same_members))]
+    fn retry(&mut self, alloc: Global, node: usize) -> Result<Option<u8>, AllocError>
+        requires members { AreMembers self.old.places.items }
+        ensures grows { length self.old.sent.items ≤ length self.new.sent.items }
+        ensures done { IfOk result (λ refused. IsActed node Retry refused self.old.places.items self.old.sent.items self.new.places.items self.new.sent.items) }
+        ensures err { OnErr result (StayShown self.old.places.items self.old.sent.items self.new.places.items self.new.sent.items) }
+        ensures members { KeepMembers self.old.places.items self.new.places.items }
+    {
+        if !self.runs(node) {
+            return Ok(None);
+        }
+        match self.places[node].retry_refusal() {
+            Some(fault) => Ok(refusal_number(fault)),
+            None => self.step(alloc, node, Input::Retry),
+        }
+    }
+
+    /// A message is handed to a node, if both are there and the node runs.
     #[tactic(auto, using(crate::proofs::Events::same_members))]
     pub(crate) fn deliver(
         &mut self,
@@ -65,6 +109,9 @@ impl Cluster {
         ensures err { OnErr result (StayShown self.old.places.items self.old.sent.items self.new.places.items self.new.sent.items) }
         ensures members { KeepMembers self.old.places.items self.new.places.items }
     {
+        if !self.runs(node) {
+            return Ok(None);
+        }
         if number >= self.sent.len() {
             return Ok(None);
         }
@@ -85,7 +132,7 @@ impl Cluster {
         ensures err { OnErr result (StayShown self.old.places.items self.old.sent.items self.new.places.items self.new.sent.items) }
         ensures members { KeepMembers self.old.places.items self.new.places.items }
     {
-        if node >= self.places.len() {
+        if !self.runs(node) {
             drop(input);
             return Ok(None);
         }
@@ -181,10 +228,36 @@ impl Cluster {
         }
     }
 
-    /// A step of a node, if it is there and runs, that is torn after its record is stored: it is done, its messages are
-    /// lost, and the node stops.
+    /// A step of a node, if it is there and runs, that is torn after its record is stored. Whether it has any effect is
+    /// asked before memory is.
     #[tactic(auto, using(crate::proofs::Events::same_members))]
     fn tear_after(
+        &mut self,
+        alloc: Global,
+        node: usize,
+        action: &Action,
+    ) -> Result<Option<u8>, AllocError>
+        requires members { AreMembers self.old.places.items }
+        ensures done { IfOk result (λ number. IsTorn node (view_action action.now) world.After number self.old.places.items self.old.sent.items self.new.places.items self.new.sent.items) }
+        ensures err { OnErr result (StayShown self.old.places.items self.old.sent.items self.new.places.items self.new.sent.items) }
+        ensures members { KeepMembers self.old.places.items self.new.places.items }
+        ensures grows { length self.old.sent.items ≤ length self.new.sent.items }
+    {
+        if !self.runs(node) {
+            return Ok(None);
+        }
+        if !self.is_sent(action) {
+            return Ok(None);
+        }
+        match self.places[node].refusal(action) {
+            Some(fault) => Ok(refusal_number(fault)),
+            None => self.tear_done(alloc, node, action),
+        }
+    }
+
+    /// The same of a step that isn't refused: it is done, its messages are lost, and the node stops.
+    #[tactic(auto, using(crate::proofs::Events::same_members))]
+    fn tear_done(
         &mut self,
         alloc: Global,
         node: usize,
@@ -206,6 +279,17 @@ impl Cluster {
             },
             Ok(None) => Ok(None),
             Err(fault) => Err(fault),
+        }
+    }
+
+    /// Does the node of that number run?
+    fn runs(&self, node: usize) -> bool
+        ensures value { result ≡ is_some (running_in (slice_get self.now.places.items node)) }
+        ensures within { result ≡ true → node < length self.now.places.items }
+    {
+        match self.places.get(node) {
+            Some(place) => place.running().is_some(),
+            None => false,
         }
     }
 

@@ -1,14 +1,16 @@
 //! A farm of nodes in memory, what may happen to it, and the law of agreement on it.
 //!
 //! Its model: the world of `wf_model`, its nodes and all messages ever sent. A [`Farm`] is seen as its places, its
-//! messages and from which message on they count as not passed yet; `Shows` (`specs/Farm.antt`) says which world that is: a node that runs shows
-//! both its parts, and a stopped one stored what its tape stands for. An [`Event`] is the model's, a message by its
-//! number.
+//! messages and from which message on they count as not pumped yet; `Shows` (`specs/Farm.antt`) says which world that
+//! is: a node that runs shows both its parts, and a stopped one stored what its tape stands for. An [`Event`] is the
+//! model's, a message by its number.
 //!
-//! It promises that a farm begins as the model's start, that a run of events leaves exactly the model's world after
-//! them, and the world after the first of them where memory is wanted; and, since each farm is reached from the start,
-//! that no two of its nodes, running or stopped, publish different definitions under one sequence: [`Farm::agree`]. The
-//! four laws are those of `wf_law`, at the program's definitions.
+//! It promises that a farm begins as the model's start; that a run of events leaves exactly the model's world after
+//! them, and that a pump is a run of deliveries and nothing else, of each message not pumped yet to each of its targets
+//! (`specs/Pump.antt`); where memory is wanted, the world after those that are done, as many as the fault names; that
+//! what a node published stays at the beginning of what it publishes after a run or a pump; and, since each farm is
+//! reached from the start, that no two of its nodes, running or stopped, publish different definitions under one
+//! sequence: [`Farm::agree`]. The four laws are those of `wf_law`, at the program's definitions.
 //!
 //! It doesn't know time, nor whether anything is ever published, nor that a refusal for memory was needed.
 #![tactic(auto)]
@@ -19,10 +21,14 @@ mod farm;
 mod fault;
 mod happening;
 mod law;
+mod lending;
 mod place;
+mod progress;
+mod pump;
 mod running;
 mod starting;
 mod stepping;
+mod targets;
 mod tearing;
 
 pub use event::{Action, Event, Kept};

@@ -1,6 +1,6 @@
 //! A run of events.
 
-ghost use Rattle.std.specs.Prelude.{◌≡◌, ◌≤◌, length, map, take, IfOk, IfErr};
+ghost use Rattle.std.specs.Prelude.{◌≡◌, ◌<◌, ◌≤◌, length, map, take, IfOk, IfErr};
 ghost use Rattle.wf_farm.specs.Cluster.{AreMembers, HaveRun, KeepMembers, Moves};
 ghost use Rattle.wf_farm.specs.Event.{view};
 
@@ -16,7 +16,7 @@ impl Cluster {
         requires members { AreMembers self.old.places.items }
         requires size { length self.old.places.items ≤ 64 }
         ensures done { IfOk result (λ number. HaveRun (map view events.now) number self.old.places.items self.old.sent.items self.new.places.items self.new.sent.items) }
-        ensures most { IfErr result (λ done. done ≤ length events.now) }
+        ensures most { IfErr result (λ done. done < length events.now) }
         ensures part { IfErr result (λ done. Moves (take done (map view events.now)) self.old.places.items self.old.sent.items self.new.places.items self.new.sent.items) }
         ensures members { KeepMembers self.old.places.items self.new.places.items }
         ensures grows { length self.old.sent.items ≤ length self.new.sent.items }

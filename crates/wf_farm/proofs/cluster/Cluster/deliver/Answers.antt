@@ -1,11 +1,16 @@
--- The message of that number is handed to the node; where it isn't sent, nothing happens.
+-- The message of that number is handed to the node; where it isn't sent, or no node runs there, nothing happens.
 use Rattle.std.proofs.Common.{◌≡◌, length, map, Some, refl, sym, subst, arith}
 use Rattle.std.proofs.lemmas.Option.{slice_get_past, slice_get_read}
 use Rattle.wf_codec.specs.Message.{view}
 use Rattle.wf_model.specs.Table as table
 use Rattle.wf_model.specs.World.{input_of}
 use Rattle.wf_farm.proofs.Events.{nothing_stays, sent_message, unsent_acts, unsent_message}
+use Rattle.wf_farm.proofs.Idle.{idle_acts}
 use Rattle.wf_farm.proofs.cluster.Cluster.deliver.Goals as goal
+
+pub returns-then-not-runs-clause-done : goal.returns-then-not-runs-clause-done
+returns-then-not-runs-clause-done c =
+    idle_acts c.args.self.now.places.items c.args.self.now.sent.items c.args.node (table.Deliver c.args.number) c.requires.members c.runs.result c.runs.ensures.value c.if-not-runs.true
 
 pub returns-then-number-len-clause-done : goal.returns-then-number-len-clause-done
 returns-then-number-len-clause-done c =

@@ -4,32 +4,29 @@ use Rattle.wf_model.specs.Table as table
 use Rattle.wf_model.specs.World as world
 use Rattle.wf_farm.specs.Cluster.{Happens, IsActed, IsTorn}
 use Rattle.wf_farm.specs.Event.{view, view_action, view_kept}
-use Rattle.wf_farm.proofs.Events.{catches_up, delivers, is_torn, nothing_stays, ok_map, proposal_given, proposes, question_given, retries, retry_given}
+use Rattle.wf_farm.proofs.Events.{catches_up, delivers, is_torn, ok_map, proposes, question_given, retries}
 use Rattle.wf_farm.proofs.cluster.Cluster.happen.Goals as goal
 
-pub returns-in-Ok-clause-done : goal.returns-in-Ok-clause-done
-returns-in-Ok-clause-done c =
-    subst (λ e. IfOk c.step.result (λ number. Happens (view e) number c.args.self.now.places.items c.args.self.now.sent.items c.step.new.self.places.items c.step.new.self.sent.items)) (sym c.in-Propose.is)
-    (ok_map (λ number. IsActed c.in-Propose.node (table.Propose c.in-Propose.canon) number c.args.self.now.places.items c.args.self.now.sent.items c.step.new.self.places.items c.step.new.self.sent.items) (λ number. Happens (world.Propose c.in-Propose.node c.in-Propose.canon) number c.args.self.now.places.items c.args.self.now.sent.items c.step.new.self.places.items c.step.new.self.sent.items) c.step.result
-    (λ number done. proposes c.in-Propose.node number c.args.self.now.places.items c.step.new.self.places.items c.args.self.now.sent.items c.step.new.self.sent.items c.in-Propose.canon done)
-    (c.step.ensures.done (table.Propose c.in-Propose.canon) (proposal_given c.args.self.now.sent.items c.in-Propose.canon c.in-Ok.own c.in-Ok.ensures)))
-
-pub returns-in-Err-clause-err : goal.returns-in-Err-clause-err
-returns-in-Err-clause-err c = nothing_stays c.args.self.now.places.items c.args.self.now.sent.items c.in-Propose.node
+pub returns-in-Propose-clause-done : goal.returns-in-Propose-clause-done
+returns-in-Propose-clause-done c =
+    subst (λ e. IfOk c.propose.result (λ number. Happens (view e) number c.args.self.now.places.items c.args.self.now.sent.items c.propose.new.self.places.items c.propose.new.self.sent.items)) (sym c.in-Propose.is)
+    (ok_map (λ number. IsActed c.in-Propose.node (table.Propose c.in-Propose.canon) number c.args.self.now.places.items c.args.self.now.sent.items c.propose.new.self.places.items c.propose.new.self.sent.items) (λ number. Happens (world.Propose c.in-Propose.node c.in-Propose.canon) number c.args.self.now.places.items c.args.self.now.sent.items c.propose.new.self.places.items c.propose.new.self.sent.items) c.propose.result
+    (λ number done. proposes c.in-Propose.node number c.args.self.now.places.items c.propose.new.self.places.items c.args.self.now.sent.items c.propose.new.self.sent.items c.in-Propose.canon done)
+    c.propose.ensures.done)
 
 pub returns-in-Retry-clause-done : goal.returns-in-Retry-clause-done
 returns-in-Retry-clause-done c =
-    subst (λ e. IfOk c.step-in-Retry.result (λ number. Happens (view e) number c.args.self.now.places.items c.args.self.now.sent.items c.step-in-Retry.new.self.places.items c.step-in-Retry.new.self.sent.items)) (sym c.in-Retry.is)
-    (ok_map (λ number. IsActed c.in-Retry.node table.Retry number c.args.self.now.places.items c.args.self.now.sent.items c.step-in-Retry.new.self.places.items c.step-in-Retry.new.self.sent.items) (λ number. Happens (world.Retry c.in-Retry.node) number c.args.self.now.places.items c.args.self.now.sent.items c.step-in-Retry.new.self.places.items c.step-in-Retry.new.self.sent.items) c.step-in-Retry.result
-    (λ number done. retries c.in-Retry.node number c.args.self.now.places.items c.step-in-Retry.new.self.places.items c.args.self.now.sent.items c.step-in-Retry.new.self.sent.items done)
-    (c.step-in-Retry.ensures.done table.Retry (retry_given c.args.self.now.sent.items)))
+    subst (λ e. IfOk c.retry.result (λ number. Happens (view e) number c.args.self.now.places.items c.args.self.now.sent.items c.retry.new.self.places.items c.retry.new.self.sent.items)) (sym c.in-Retry.is)
+    (ok_map (λ number. IsActed c.in-Retry.node table.Retry number c.args.self.now.places.items c.args.self.now.sent.items c.retry.new.self.places.items c.retry.new.self.sent.items) (λ number. Happens (world.Retry c.in-Retry.node) number c.args.self.now.places.items c.args.self.now.sent.items c.retry.new.self.places.items c.retry.new.self.sent.items) c.retry.result
+    (λ number done. retries c.in-Retry.node number c.args.self.now.places.items c.retry.new.self.places.items c.args.self.now.sent.items c.retry.new.self.sent.items done)
+    c.retry.ensures.done)
 
 pub returns-in-CatchUp-clause-done : goal.returns-in-CatchUp-clause-done
 returns-in-CatchUp-clause-done c =
-    subst (λ e. IfOk c.step-in-CatchUp.result (λ number. Happens (view e) number c.args.self.now.places.items c.args.self.now.sent.items c.step-in-CatchUp.new.self.places.items c.step-in-CatchUp.new.self.sent.items)) (sym c.in-CatchUp.is)
-    (ok_map (λ number. IsActed c.in-CatchUp.node table.CatchUp number c.args.self.now.places.items c.args.self.now.sent.items c.step-in-CatchUp.new.self.places.items c.step-in-CatchUp.new.self.sent.items) (λ number. Happens (world.CatchUp c.in-CatchUp.node) number c.args.self.now.places.items c.args.self.now.sent.items c.step-in-CatchUp.new.self.places.items c.step-in-CatchUp.new.self.sent.items) c.step-in-CatchUp.result
-    (λ number done. catches_up c.in-CatchUp.node number c.args.self.now.places.items c.step-in-CatchUp.new.self.places.items c.args.self.now.sent.items c.step-in-CatchUp.new.self.sent.items done)
-    (c.step-in-CatchUp.ensures.done table.CatchUp (question_given c.args.self.now.sent.items)))
+    subst (λ e. IfOk c.step.result (λ number. Happens (view e) number c.args.self.now.places.items c.args.self.now.sent.items c.step.new.self.places.items c.step.new.self.sent.items)) (sym c.in-CatchUp.is)
+    (ok_map (λ number. IsActed c.in-CatchUp.node table.CatchUp number c.args.self.now.places.items c.args.self.now.sent.items c.step.new.self.places.items c.step.new.self.sent.items) (λ number. Happens (world.CatchUp c.in-CatchUp.node) number c.args.self.now.places.items c.args.self.now.sent.items c.step.new.self.places.items c.step.new.self.sent.items) c.step.result
+    (λ number done. catches_up c.in-CatchUp.node number c.args.self.now.places.items c.step.new.self.places.items c.args.self.now.sent.items c.step.new.self.sent.items done)
+    (c.step.ensures.done table.CatchUp (question_given c.args.self.now.sent.items)))
 
 pub returns-in-Deliver-clause-done : goal.returns-in-Deliver-clause-done
 returns-in-Deliver-clause-done c =

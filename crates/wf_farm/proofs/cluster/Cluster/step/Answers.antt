@@ -1,14 +1,15 @@
--- The step of the node at the place is the world's; where there is no node, nothing happens.
-use Rattle.std.proofs.Common.{◌++◌, length, slice_set, None, IfOk, refl, sym, ap, subst, ◌∙◌, arith}
-use Rattle.std.proofs.lemmas.Option.{slice_get_past, slice_get_read}
+-- The step of the node at the place is the world's; where no node runs, nothing happens.
+use Rattle.std.proofs.Common.{◌++◌, length, slice_set, None, IfOk, refl, sym, ap, subst, ◌∙◌}
+use Rattle.std.proofs.lemmas.Option.{slice_get_read}
 use Rattle.wf_node.specs.Input.{view}
 use Rattle.wf_farm.specs.Cluster.{IsActed, StayShown}
-use Rattle.wf_farm.proofs.Events.{absent_acts, answered_acts, denied_stays, nothing_stays, on_err, place_keeps, step_acts}
+use Rattle.wf_farm.proofs.Events.{answered_acts, denied_stays, nothing_stays, on_err, place_keeps, step_acts}
+use Rattle.wf_farm.proofs.Idle.{idle_acts}
 use Rattle.wf_farm.proofs.cluster.Cluster.step.Goals as goal
 
-pub returns-then-node-len-clause-done : goal.returns-then-node-len-clause-done
-returns-then-node-len-clause-done c = λ action given.
-    absent_acts c.args.self.now.places.items c.args.self.now.sent.items c.args.node action (slice_get_past c.args.self.now.places.items c.args.node (omega (arith, c.if-node-len.true, c.len.ensures)))
+pub returns-then-not-runs-clause-done : goal.returns-then-not-runs-clause-done
+returns-then-not-runs-clause-done c = λ action given.
+    idle_acts c.args.self.now.places.items c.args.self.now.sent.items c.args.node action c.requires.members c.runs.result c.runs.ensures.value c.if-not-runs.true
 
 pub returns-then-is_err-clause-err : goal.returns-then-is_err-clause-err
 returns-then-is_err-clause-err c =
@@ -16,29 +17,29 @@ returns-then-is_err-clause-err c =
 
 pub returns-in-Ok-clause-done : goal.returns-in-Ok-clause-done
 returns-in-Ok-clause-done c = λ action given.
-    let at = slice_get_read c.args.self.now.places.items (length c.args.self.now.places.items) c.args.node c.index_mut.result.now refl (omega (arith, c.if-node-len.false, c.len.ensures)) c.index_mut.ensures.value in
+    let at = slice_get_read c.args.self.now.places.items (length c.args.self.now.places.items) c.args.node c.index_mut.result.now refl (c.runs.ensures.within c.if-not-runs.false) c.index_mut.ensures.value in
     subst (λ ms. IsActed c.args.node action None c.args.self.now.places.items c.args.self.now.sent.items (slice_set c.args.self.now.places.items c.args.node c.step.new.self) ms) (sym (c.send.ensures ∙ ap (λ ms. ms ++ c.in-Ok.said.items) c.reserve.ensures.items))
     (step_acts c.args.self.now.places.items c.args.self.now.sent.items c.args.node c.index_mut.result.now c.step.new.self action (view c.args.input) at c.requires.members given c.in-Ok.said.items c.in-Ok.ensures.done)
 
 pub returns-in-Ok-clause-members : goal.returns-in-Ok-clause-members
 returns-in-Ok-clause-members c =
-    let at = slice_get_read c.args.self.now.places.items (length c.args.self.now.places.items) c.args.node c.index_mut.result.now refl (omega (arith, c.if-node-len.false, c.len.ensures)) c.index_mut.ensures.value in
+    let at = slice_get_read c.args.self.now.places.items (length c.args.self.now.places.items) c.args.node c.index_mut.result.now refl (c.runs.ensures.within c.if-not-runs.false) c.index_mut.ensures.value in
     place_keeps c.args.self.now.places.items c.args.node c.index_mut.result.now c.step.new.self at c.step.ensures.member
 
 pub returns-in-Err-clause-done : goal.returns-in-Err-clause-done
 returns-in-Err-clause-done c = λ action given.
-    let at = slice_get_read c.args.self.now.places.items (length c.args.self.now.places.items) c.args.node c.index_mut.result.now refl (omega (arith, c.if-node-len.false, c.len.ensures)) c.index_mut.ensures.value in
+    let at = slice_get_read c.args.self.now.places.items (length c.args.self.now.places.items) c.args.node c.index_mut.result.now refl (c.runs.ensures.within c.if-not-runs.false) c.index_mut.ensures.value in
     subst (λ ms. IfOk c.answer.result (λ number. IsActed c.args.node action number c.args.self.now.places.items c.args.self.now.sent.items (slice_set c.args.self.now.places.items c.args.node c.step.new.self) ms)) (sym c.reserve.ensures.items)
     (answered_acts c.args.self.now.places.items c.args.self.now.sent.items c.args.node c.index_mut.result.now c.step.new.self action (view c.args.input) at c.requires.members given c.answer.result c.in-Err.fault c.answer.ensures.number c.answer.ensures.some c.in-Err.ensures.denied)
 
 pub returns-in-Err-clause-err : goal.returns-in-Err-clause-err
 returns-in-Err-clause-err c =
-    let at = slice_get_read c.args.self.now.places.items (length c.args.self.now.places.items) c.args.node c.index_mut.result.now refl (omega (arith, c.if-node-len.false, c.len.ensures)) c.index_mut.ensures.value in
+    let at = slice_get_read c.args.self.now.places.items (length c.args.self.now.places.items) c.args.node c.index_mut.result.now refl (c.runs.ensures.within c.if-not-runs.false) c.index_mut.ensures.value in
     on_err c.answer.result
     (subst (λ ms. StayShown c.args.self.now.places.items c.args.self.now.sent.items (slice_set c.args.self.now.places.items c.args.node c.step.new.self) ms) (sym c.reserve.ensures.items)
     (denied_stays c.args.self.now.places.items c.args.self.now.sent.items c.args.node c.index_mut.result.now c.step.new.self (view c.args.input) c.in-Err.fault at c.requires.members c.in-Err.ensures.denied))
 
 pub returns-in-Err-clause-members : goal.returns-in-Err-clause-members
 returns-in-Err-clause-members c =
-    let at = slice_get_read c.args.self.now.places.items (length c.args.self.now.places.items) c.args.node c.index_mut.result.now refl (omega (arith, c.if-node-len.false, c.len.ensures)) c.index_mut.ensures.value in
+    let at = slice_get_read c.args.self.now.places.items (length c.args.self.now.places.items) c.args.node c.index_mut.result.now refl (c.runs.ensures.within c.if-not-runs.false) c.index_mut.ensures.value in
     place_keeps c.args.self.now.places.items c.args.node c.index_mut.result.now c.step.new.self at c.step.ensures.member

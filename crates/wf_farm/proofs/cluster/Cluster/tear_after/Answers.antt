@@ -1,45 +1,28 @@
--- The step of the node at the place is torn after its record; where there is no node or no input, nothing happens.
-use Rattle.std.proofs.Common.{length, option_map, refl, sym, ap, ◌∙◌, arith}
-use Rattle.std.proofs.lemmas.Option.{slice_get_past, slice_get_read}
-use Rattle.wf_model.specs.World.{After}
-use Rattle.wf_node.specs.Input.{view}
+-- Where no node runs, where there is no input, and where the step is refused, nothing happens.
+use Rattle.std.proofs.Common.{length, map, refl, sym, subst}
+use Rattle.std.proofs.lemmas.Option.{slice_get_read}
+use Rattle.wf_codec.specs.Message.{view as view_message}
+use Rattle.wf_model.specs.World.{After, input_of}
+use Rattle.wf_farm.specs.Cluster.{IsTorn}
 use Rattle.wf_farm.specs.Event.{view_action}
-use Rattle.wf_farm.proofs.Events.{absent_torn, answered_tears, nothing_stays, on_err, place_keeps, tear_acts, torn_stays, unsent_torn}
+use Rattle.wf_farm.specs.Place.{number_in}
+use Rattle.wf_farm.proofs.Events.{keeps_torn, none_given, one_given, unsent_torn}
+use Rattle.wf_farm.proofs.Idle.{idle_torn}
+use Rattle.wf_farm.proofs.Steps.{refused_stays}
 use Rattle.wf_farm.proofs.cluster.Cluster.tear_after.Goals as goal
 
-pub returns-then-node-len-clause-done : goal.returns-then-node-len-clause-done
-returns-then-node-len-clause-done c =
-    absent_torn c.args.self.now.places.items c.args.self.now.sent.items c.args.node (view_action c.args.action.now) After (slice_get_past c.args.self.now.places.items c.args.node (omega (arith, c.if-node-len.true, c.len.ensures)))
+pub returns-then-not-runs-clause-done : goal.returns-then-not-runs-clause-done
+returns-then-not-runs-clause-done c = idle_torn c.args.self.now.places.items c.args.self.now.sent.items c.args.node (view_action c.args.action.now) c.requires.members c.runs.result c.runs.ensures.value c.if-not-runs.true
 
-pub returns-in-Ok-clause-done : goal.returns-in-Ok-clause-done
-returns-in-Ok-clause-done c =
-    let at = slice_get_read c.args.self.now.places.items (length c.args.self.now.places.items) c.args.node c.index_mut.result.now refl (omega (arith, c.if-node-len.false, c.len.ensures)) c.index_mut.ensures.value in
-    tear_acts c.args.self.now.places.items c.args.self.now.sent.items c.args.node c.index_mut.result.now c.tear_after.new.self (view_action c.args.action.now) (view c.in-Ok-Some.input) at c.requires.members (sym c.in-Ok-Some.ensures ∙ ap (λ x. option_map view x) c.in-Ok-Some.field-0-is) After c.in-Ok.ensures.done
+pub returns-then-not-is_sent-clause-done : goal.returns-then-not-is_sent-clause-done
+returns-then-not-is_sent-clause-done c =
+    unsent_torn c.args.self.now.places.items c.args.self.now.sent.items c.args.node (view_action c.args.action.now) After
+    (none_given (input_of (map view_message c.args.self.now.sent.items) (view_action c.args.action.now)) c.is_sent.result c.is_sent.ensures c.if-not-is_sent.true)
 
-pub returns-in-Ok-clause-members : goal.returns-in-Ok-clause-members
-returns-in-Ok-clause-members c =
-    let at = slice_get_read c.args.self.now.places.items (length c.args.self.now.places.items) c.args.node c.index_mut.result.now refl (omega (arith, c.if-node-len.false, c.len.ensures)) c.index_mut.ensures.value in
-    place_keeps c.args.self.now.places.items c.args.node c.index_mut.result.now c.tear_after.new.self at c.tear_after.ensures.member
-
-pub returns-in-Err-tear_after-clause-done : goal.returns-in-Err-tear_after-clause-done
-returns-in-Err-tear_after-clause-done c =
-    let at = slice_get_read c.args.self.now.places.items (length c.args.self.now.places.items) c.args.node c.index_mut.result.now refl (omega (arith, c.if-node-len.false, c.len.ensures)) c.index_mut.ensures.value in
-    answered_tears c.args.self.now.places.items c.args.self.now.sent.items c.args.node c.index_mut.result.now c.tear_after.new.self (view_action c.args.action.now) (view c.in-Ok-Some.input) at c.requires.members (sym c.in-Ok-Some.ensures ∙ ap (λ x. option_map view x) c.in-Ok-Some.field-0-is) After c.answer.result c.in-Err-tear_after.fault c.answer.ensures.number c.answer.ensures.some c.in-Err-tear_after.ensures.denied
-
-pub returns-in-Err-tear_after-clause-err : goal.returns-in-Err-tear_after-clause-err
-returns-in-Err-tear_after-clause-err c =
-    let at = slice_get_read c.args.self.now.places.items (length c.args.self.now.places.items) c.args.node c.index_mut.result.now refl (omega (arith, c.if-node-len.false, c.len.ensures)) c.index_mut.ensures.value in
-    on_err c.answer.result
-    (torn_stays c.args.self.now.places.items c.args.self.now.sent.items c.args.node After c.index_mut.result.now c.tear_after.new.self (view c.in-Ok-Some.input) c.in-Err-tear_after.fault at c.requires.members c.in-Err-tear_after.ensures.denied)
-
-pub returns-in-Err-tear_after-clause-members : goal.returns-in-Err-tear_after-clause-members
-returns-in-Err-tear_after-clause-members c =
-    let at = slice_get_read c.args.self.now.places.items (length c.args.self.now.places.items) c.args.node c.index_mut.result.now refl (omega (arith, c.if-node-len.false, c.len.ensures)) c.index_mut.ensures.value in
-    place_keeps c.args.self.now.places.items c.args.node c.index_mut.result.now c.tear_after.new.self at c.tear_after.ensures.member
-
-pub returns-in-Ok-None-clause-done : goal.returns-in-Ok-None-clause-done
-returns-in-Ok-None-clause-done c =
-    unsent_torn c.args.self.now.places.items c.args.self.now.sent.items c.args.node (view_action c.args.action.now) After (sym c.in-Ok-None.ensures ∙ ap (λ x. option_map view x) c.in-Ok-None.field-0-is)
-
-pub returns-in-Err-clause-err : goal.returns-in-Err-clause-err
-returns-in-Err-clause-err c = nothing_stays c.args.self.now.places.items c.args.self.now.sent.items c.args.node
+pub returns-in-Some-clause-done : goal.returns-in-Some-clause-done
+returns-in-Some-clause-done c =
+    let at = slice_get_read c.args.self.now.places.items (length c.args.self.now.places.items) c.args.node c.index.result.now refl (c.runs.ensures.within c.if-not-runs.false) c.index.ensures in
+    let given = one_given (input_of (map view_message c.args.self.now.sent.items) (view_action c.args.action.now)) c.is_sent.result c.is_sent.ensures c.if-not-is_sent.false in
+    subst (λ number. IsTorn c.args.node (view_action c.args.action.now) After number c.args.self.now.places.items c.args.self.now.sent.items c.args.self.now.places.items c.args.self.now.sent.items) (sym c.refusal_number.ensures)
+    (keeps_torn c.args.self.now.places.items c.args.self.now.sent.items c.args.node c.index.result.now c.index.result.now (view_action c.args.action.now) given.0 at c.requires.members given.1 After (number_in c.in-Some.fault)
+    (refused_stays After (view_action c.args.action.now) (map view_message c.args.self.now.sent.items) given.0 c.index.result.now c.in-Some.fault c.in-Some.ensures given.1))

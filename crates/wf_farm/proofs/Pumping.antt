@@ -1,0 +1,40 @@
+-- What a farm says of a pump.
+use Rattle.std.proofs.Common.{◌≡◌, ℕ, ◌+◌, ◌≤◌, Bool, List, length, Result, IfOk, IfErr, inr, sym, subst, ◌∙◌}
+use Rattle.wf_farm.specs.declared.fault.FarmFault.{FarmFault}
+use Rattle.wf_farm.specs.declared.progress.End.{End}
+use Rattle.wf_farm.specs.declared.progress.End.TheVariants.{Done, Stopped, NoMemory}
+use Rattle.wf_farm.specs.declared.progress.Progress.{Progress}
+use Rattle.wf_farm.specs.Farm.{Farm, size}
+use Rattle.wf_farm.specs.Progress.{HasCome, IsEnd, outcome}
+use Rattle.wf_farm.specs.Pump.{AreTargets, begun, Pumps, IsPumped, IsPumpedPart, most_deliveries}
+
+module _ (names : List ℕ) (before after : Farm) (n : ℕ) (targets items : List ℕ) (p : Progress) (many : n ≡ size before) (same : targets ≡ items) (are : AreTargets n names items)
+    (come : HasCome targets before.pumped p before.places before.sent after.places after.sent) (pumped : after.pumped ≡ before.pumped + p.whole + begun p.some) where
+  abbrev a_pump : Pumps names before after
+  a_pump = record {
+    targets = targets;
+    are_targets = subst (λ k. AreTargets k names targets) many (subst (AreTargets n names) (sym same) are);
+    whole = p.whole;
+    some = p.some;
+    part = come.part;
+    runs = come.moves;
+    pumped = pumped;
+    within = subst (λ k. k ≤ length after.sent) (sym pumped) come.within;
+  }
+
+  done_end : (end : End) → IsEnd before.pumped (length after.sent) p end → IfOk (outcome p end) (IsPumped names before after)
+  done_end Done end = (a_pump, (subst (λ k. k ≤ most_deliveries) (sym come.count) come.most, end.0, end.1))
+  done_end Stopped end = (a_pump, (come.count ∙ end.0, end.1))
+  done_end NoMemory end = tt
+
+  part_end : (end : End) → IsEnd before.pumped (length after.sent) p end → IfErr (outcome p end) (IsPumpedPart names before after)
+  part_end Done end = tt
+  part_end Stopped end = tt
+  part_end NoMemory end = inr (a_pump, come.count, end)
+
+  module _ (end : End) (is : IsEnd before.pumped (length after.sent) p end) (result : Result Bool FarmFault) (told : result ≡ outcome p end) where
+    pub pump_done : IfOk result (IsPumped names before after)
+    pump_done = subst (λ r. IfOk r (IsPumped names before after)) (sym told) (done_end end is)
+
+    pub pump_part : IfErr result (IsPumpedPart names before after)
+    pump_part = subst (λ r. IfErr r (IsPumpedPart names before after)) (sym told) (part_end end is)

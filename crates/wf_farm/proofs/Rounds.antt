@@ -1,0 +1,113 @@
+-- What a pump has delivered: one delivery more, and a round that is whole.
+use Rattle.std.proofs.Common.{◌≡◌, ℕ, zero, suc, ◌+◌, ◌<◌, ◌≤◌, Bool, true, false, Option, List, [], ◌∷◌, ◌++◌, length, take, get_or, refl, sym, ap, subst, ◌∙◌, arith, length-append, if◌then◌else◌, ◌==◌}
+use Rattle.std.proofs.lemmas.List.{append-nil, append_assoc, take_all, take_more}
+use Rattle.wf_codec.specs.declared.message.Message.{Message}
+use Rattle.wf_def.specs.Equality.{definition_eq}
+use Rattle.wf_model.specs.Table as table
+use Rattle.wf_model.specs.World.{Deliver, happens, steps}
+use Rattle.wf_farm.specs.declared.place.Place.{Place}
+use Rattle.wf_farm.specs.declared.progress.Progress.{Progress}
+use Rattle.wf_farm.specs.Cluster.{Shows, Moves, IsActed, StayShown}
+use Rattle.wf_farm.specs.Progress.{HasCome, next}
+use Rattle.wf_farm.specs.Pump.{begun, deliveries, most_deliveries, rounds, to_each}
+use Rattle.wf_farm.proofs.Runs.{steps_more}
+
+-- ---- the deliveries
+
+to_each_append : (nodes more : List ℕ) (k : ℕ) → to_each (nodes ++ more) k ≡ to_each nodes k ++ to_each more k
+unfolding to_each
+to_each_append [] more k = refl
+to_each_append (i ∷ nodes) more k = ap (λ es. Deliver i k ∷ es) (to_each_append nodes more k)
+
+-- one delivery more in a round
+one_more : (targets : List ℕ) (first whole some : ℕ) → some < length targets →
+    deliveries targets first whole some ++ Deliver (get_or targets some 0) (first + whole) ∷ [] ≡ deliveries targets first whole (some + 1)
+unfolding to_each deliveries
+one_more targets first whole some within =
+    append_assoc (rounds targets first whole) (to_each (take some targets) (first + whole)) (Deliver (get_or targets some 0) (first + whole) ∷ [])
+    ∙ ap (λ es. rounds targets first whole ++ es) (sym (to_each_append (take some targets) (get_or targets some 0 ∷ []) (first + whole))
+    ∙ ap (λ nodes. to_each nodes (first + whole)) (sym (take_more targets some 0 within)))
+
+-- rounds and one more
+rounds_more : (targets : List ℕ) (first whole : ℕ) → rounds targets first whole ++ to_each targets (first + whole) ≡ rounds targets first (suc whole)
+unfolding rounds
+rounds_more targets first zero = ap (to_each targets) (omega arith) ∙ sym (append-nil (to_each targets first))
+rounds_more targets first (suc whole) =
+    append_assoc (to_each targets first) (rounds targets (suc first) whole) (to_each targets (first + suc whole))
+    ∙ ap (λ es. to_each targets first ++ es) (ap (λ k. rounds targets (suc first) whole ++ to_each targets k) (omega arith) ∙ rounds_more targets (suc first) whole)
+
+-- a round that is whole is one round more
+whole_round : (targets : List ℕ) (first whole some : ℕ) → some ≡ length targets → deliveries targets first whole some ≡ deliveries targets first (whole + 1) 0
+unfolding to_each deliveries
+whole_round targets first whole some all =
+    ap (λ nodes. rounds targets first whole ++ to_each nodes (first + whole)) (take_all some targets (omega (arith, all)))
+    ∙ rounds_more targets first whole ∙ ap (rounds targets first) (omega arith) ∙ sym (append-nil (rounds targets first (whole + 1)))
+
+no_deliveries : (targets : List ℕ) (first : ℕ) → deliveries targets first 0 0 ≡ []
+unfolding rounds to_each deliveries
+no_deliveries targets first = refl
+
+begun_most : (some : ℕ) → begun some ≤ 1
+begun_most zero = omega arith
+begun_most (suc some) = omega arith
+
+-- ---- how far a pump has come
+
+module _ (targets : List ℕ) (first : ℕ) (places : List Place) (sent : List Message) where
+  -- Nothing is delivered yet.
+  pub come_start : 0 < length targets → first ≤ length sent → HasCome targets first (record { whole = 0; some = 0; done = 0 }) places sent places sent
+  unfolding Moves steps
+  come_start some within = record {
+    moves = λ w shows. subst (λ es. Shows places sent (steps definition_eq w es)) (sym (no_deliveries targets first)) shows;
+    count = ap length (no_deliveries targets first);
+    part = some;
+    within = omega (arith, within);
+    most = omega arith;
+  }
+
+  module _ (p : Progress) (middle after : List Place) (said more : List Message) where
+    -- A delivery that changes nothing.
+    pub come_still : HasCome targets first p places sent middle said → StayShown middle said after more → length said ≤ length more → HasCome targets first p places sent after more
+    unfolding Moves StayShown
+    come_still come stays grows = record {
+      moves = λ w shows. stays (steps definition_eq w (deliveries targets first p.whole p.some)) (come.moves w shows);
+      count = come.count;
+      part = come.part;
+      within = omega (arith, come.within, grows);
+      most = come.most;
+    }
+
+    module _ (number : Option ℕ) (come : HasCome targets first p places sent middle said) (left : first + p.whole < length said) (may : p.done < most_deliveries)
+        (acted : IsActed (get_or targets p.some 0) (table.Deliver (first + p.whole)) number middle said after more) (grows : length said ≤ length more) where
+      moves_on : Moves (deliveries targets first p.whole (p.some + 1)) places sent after more
+      unfolding Moves happens
+      moves_on = λ w shows.
+          let so_far = deliveries targets first p.whole p.some in let event = Deliver (get_or targets p.some 0) (first + p.whole) in
+          subst (λ es. Shows after more (steps definition_eq w es)) (one_more targets first p.whole p.some come.part)
+          (subst (Shows after more) (sym (steps_more w so_far event)) (acted.leads (steps definition_eq w so_far) (come.moves w shows)))
+
+      counts_on : length (deliveries targets first p.whole (p.some + 1)) ≡ p.done + 1
+      counts_on =
+          ap length (sym (one_more targets first p.whole p.some come.part)) ∙ length-append (deliveries targets first p.whole p.some) (Deliver (get_or targets p.some 0) (first + p.whole) ∷ []) ∙ ap (λ k. k + 1) come.count
+
+      come_by : (whole : Bool) → (p.some + 1 == length targets) ≡ whole → HasCome targets first
+          (if whole then record { whole = p.whole + 1; some = 0; done = p.done + 1 } else record { whole = p.whole; some = p.some + 1; done = p.done + 1 }) places sent after more
+      come_by true all =
+          let is = whole_round targets first p.whole (p.some + 1) (grind (arith, all)) in record {
+            moves = subst (λ es. Moves es places sent after more) is moves_on;
+            count = ap length (sym is) ∙ counts_on;
+            part = omega (arith, come.part);
+            within = omega (arith, left, grows);
+            most = omega (arith, may);
+          }
+      come_by false some = record {
+        moves = moves_on;
+        count = counts_on;
+        part = grind (arith, some, come.part);
+        within = omega (arith, left, grows, begun_most (p.some + 1));
+        most = omega (arith, may);
+      }
+
+      -- A delivery more.
+      pub come_on : HasCome targets first (next (length targets) p) places sent after more
+      come_on = come_by (p.some + 1 == length targets) refl

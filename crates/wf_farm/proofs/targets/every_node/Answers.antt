@@ -1,0 +1,8 @@
+-- Every node's number stands at its own place.
+use Rattle.std.proofs.Common.{subst, arith}
+use Rattle.wf_farm.proofs.Listed.{IsUpTo, up_to_targets}
+use Rattle.wf_farm.proofs.targets.every_node.Goals as goal
+
+pub returns-clause-targets : goal.returns-clause-targets
+returns-clause-targets c =
+    up_to_targets c.args.n c.loop-node.nodes.items (subst (λ k. IsUpTo k c.loop-node.nodes.items) (omega (arith, c.loop-node-test.false, c.loop-node.auto.node-end)) c.loop-node.invariant)

@@ -1,0 +1,37 @@
+-- How far a pump has come, and how it ended.
+use Rattle.std.specs.Prelude.{◌≡◌, ◌<◌, ◌≤◌, ◌+◌, ℕ, Bool, true, false, List, length, Result, Ok, Err, if◌then◌else◌, ◌==◌}
+use Rattle.wf_codec.specs.declared.message.Message.{Message}
+use Rattle.wf_farm.specs.declared.place.Place.{Place}
+use Rattle.wf_farm.specs.declared.fault.FarmFault.{FarmFault}
+use Rattle.wf_farm.specs.declared.fault.FarmFault.TheVariants.{Memory}
+use Rattle.wf_farm.specs.declared.progress.End.{End}
+use Rattle.wf_farm.specs.declared.progress.End.TheVariants.{Done, Stopped, NoMemory}
+use Rattle.wf_farm.specs.declared.progress.Progress.{Progress}
+use Rattle.wf_farm.specs.Cluster.{Moves}
+use Rattle.wf_farm.specs.Pump.{begun, deliveries, most_deliveries}
+
+-- one delivery more: to the next of so many targets, or the round is whole
+abbrev pub next : ℕ → Progress → Progress
+next targets p = if p.some + 1 == targets
+    then record { whole = p.whole + 1; some = 0; done = p.done + 1 }
+    else record { whole = p.whole; some = p.some + 1; done = p.done + 1 }
+
+-- These deliveries have led from one world to the other.
+pub record HasCome (targets : List ℕ) (first : ℕ) (p : Progress) (places : List Place) (sent : List Message) (places_after : List Place) (sent_after : List Message) : Type 0 where
+  pub moves : Moves (deliveries targets first p.whole p.some) places sent places_after sent_after
+  pub count : length (deliveries targets first p.whole p.some) ≡ p.done
+  pub part : p.some < length targets
+  pub within : first + p.whole + begun p.some ≤ length sent_after
+  pub most : p.done ≤ most_deliveries
+
+-- nothing is left; so many deliveries are done, and some are left; or memory was wanted before that
+abbrev pub IsEnd : ℕ → ℕ → Progress → End → Type 0
+IsEnd first count p Done = (p.some ≡ 0) × (first + p.whole ≡ count)
+IsEnd first count p Stopped = (p.done ≡ most_deliveries) × (first + p.whole < count)
+IsEnd first count p NoMemory = p.done < most_deliveries
+
+-- what is told of the end
+abbrev pub outcome : Progress → End → Result Bool FarmFault
+outcome p Done = Ok false
+outcome p Stopped = Ok true
+outcome p NoMemory = Err (Memory p.done)

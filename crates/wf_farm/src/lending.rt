@@ -1,0 +1,21 @@
+//! The node of a place, as others may look at it.
+
+ghost use Rattle.std.specs.Prelude.{◌≡◌, Some};
+ghost use Rattle.std.specs.Option.{option_copied};
+ghost use Rattle.wf_farm.specs.Farm.{running_in};
+
+use crate::place::Place;
+use wf_node::Node;
+use wf_tape::MemoryTape;
+
+impl Place {
+    /// The node, where it runs.
+    pub(crate) fn running(&self) -> Option<&Node<MemoryTape>>
+        ensures { option_copied result ≡ running_in (Some self.now) }
+    {
+        match self {
+            Place::Running(node) => Some(node),
+            Place::Stopped(_) => None,
+        }
+    }
+}

@@ -1,0 +1,83 @@
+ghost use Rattle.std.specs.Prelude.{◌≡◌, ◌+◌, ◌<◌, ◌^◌};
+ghost use Rattle.wf_farm.specs.Progress.{next, outcome};
+ghost use Rattle.wf_farm.specs.Pump.{begun};
+
+use crate::fault::FarmFault;
+
+/// How far a pump has come: so many whole rounds, so many deliveries of one round more, and so many in all.
+#[derive(Clone, Copy)]
+pub struct Progress {
+    pub whole: usize,
+    pub some: usize,
+    pub done: usize,
+}
+
+/// How a pump ended.
+#[derive(Clone, Copy)]
+pub enum End {
+    /// No delivery is left.
+    Done,
+    /// As many deliveries are done as a pump does, and some are left.
+    Stopped,
+    /// A growth was refused.
+    NoMemory,
+}
+
+impl Progress {
+    /// Nothing is delivered yet.
+    pub fn start() -> Progress
+        ensures { result ≡ record { whole = 0; some = 0; done = 0 } }
+    {
+        Progress {
+            whole: 0,
+            some: 0,
+            done: 0,
+        }
+    }
+
+    /// One delivery more, where so many are a round.
+    pub fn next(self, round: usize) -> Progress
+        requires part { self.some < round }
+        requires whole { self.whole + 1 < 2 ^ 64 }
+        requires done { self.done + 1 < 2 ^ 64 }
+        ensures { result ≡ next round self }
+    {
+        let done = self.done + 1;
+        if self.some + 1 == round {
+            Progress {
+                whole: self.whole + 1,
+                some: 0,
+                done,
+            }
+        } else {
+            Progress {
+                whole: self.whole,
+                some: self.some + 1,
+                done,
+            }
+        }
+    }
+
+    /// The first message that isn't pumped now, where that was `first` before.
+    pub fn pumped(self, first: usize) -> usize
+        requires { first + self.whole + begun self.some < 2 ^ 64 }
+        ensures { result ≡ first + self.whole + begun self.some }
+    {
+        if self.some == 0 {
+            first + self.whole
+        } else {
+            first + self.whole + 1
+        }
+    }
+
+    /// What is told of its end.
+    pub fn told(self, end: End) -> Result<bool, FarmFault>
+        ensures { result ≡ outcome self end }
+    {
+        match end {
+            End::Done => Ok(false),
+            End::Stopped => Ok(true),
+            End::NoMemory => Err(FarmFault::Memory(self.done)),
+        }
+    }
+}

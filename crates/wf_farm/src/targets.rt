@@ -1,0 +1,34 @@
+//! The nodes that a pump delivers to.
+
+ghost use Rattle.std.specs.Prelude.{◌≡◌, ◌<◌, [], length, IfOk};
+ghost use Rattle.wf_farm.specs.Pump.{AreTargets};
+
+use std::alloc::{AllocError, Global};
+
+/// The nodes that are named, each once, ascending; every node of n where none is named.
+pub(crate) fn targets_of(alloc: Global, names: &[usize], n: usize) -> Result<Vec<usize>, AllocError>
+    requires { 0 < n }
+    ensures targets { IfOk result (λ targets. AreTargets n names.now targets.items) }
+    ensures some { IfOk result (λ targets. 0 < length targets.items) }
+{
+    if names.is_empty() {
+        return every_node(alloc, n);
+    }
+    let mut targets = Vec::from_slice(alloc, names)?;
+    targets.sort_unstable();
+    targets.dedup();
+    Ok(targets)
+}
+
+/// Every node of n, ascending.
+#[tactic(auto, using(crate::proofs::Listed::none_up_to, crate::proofs::Listed::one_up_to))]
+fn every_node(alloc: Global, n: usize) -> Result<Vec<usize>, AllocError>
+    ensures targets { IfOk result (λ targets. AreTargets n [] targets.items) }
+    ensures size { IfOk result (λ targets. length targets.items ≡ n) }
+{
+    let mut nodes = Vec::new(alloc);
+    for node in 0..n {
+        nodes.push(node)?;
+    }
+    Ok(nodes)
+}
