@@ -1,4 +1,4 @@
-//! One request, heard or answered at once.
+//! How a request is read and its response written; and a request that is heard, or answered at once.
 use std::alloc::Global;
 use wf_edge::hearing::hear;
 use wf_edge::memory::{Bytes, Output};
@@ -58,6 +58,19 @@ impl Exchange {
             room,
         }
     }
+
+    /// The reader that gives a request so.
+    pub(crate) fn reader(self, input: &[u8]) -> Result<Bytes<'_>, Unanswered> {
+        if self.piece == 0 {
+            return Err(Unanswered::BadWords);
+        }
+        Ok(Bytes::new(input, self.piece, self.until_failure))
+    }
+
+    /// The writer that takes a response so.
+    pub(crate) fn writer(self, alloc: Global) -> Output {
+        Output::new(alloc, self.room)
+    }
 }
 
 fn write_counted(
@@ -73,8 +86,8 @@ fn write_counted(
     Ok(write_line(" bytes", answer)?)
 }
 
-// Appends what became of a request that isn't heard.
-fn tell_outcome(outcome: Outcome, answer: &mut Vec<u8>) -> Result<(), Unanswered> {
+/// Appends what became of a request.
+pub(crate) fn tell_outcome(outcome: Outcome, answer: &mut Vec<u8>) -> Result<(), Unanswered> {
     match outcome {
         Outcome::Sent(status, count) => write_counted("sent ", status, count, answer),
         Outcome::WriteFailed(status, count) => write_counted("cut ", status, count, answer),
@@ -100,8 +113,8 @@ fn tell_request(request: &Request, answer: &mut Vec<u8>) -> Result<(), Unanswere
     Ok(write_line(" bytes", answer)?)
 }
 
-// Appends what was written, in whole lines.
-fn tell_written(written: &[u8], answer: &mut Vec<u8>) -> Result<(), Unanswered> {
+/// Appends what was written, in whole lines.
+pub(crate) fn tell_written(written: &[u8], answer: &mut Vec<u8>) -> Result<(), Unanswered> {
     answer.extend_from_slice(written)?;
     match written.last() {
         Some(last) if *last != b'\n' => Ok(write_line("", answer)?),
@@ -128,11 +141,8 @@ pub(crate) fn tell_hearing(
     input: &[u8],
     answer: &mut Vec<u8>,
 ) -> Result<(), Unanswered> {
-    if way.piece == 0 {
-        return Err(Unanswered::BadWords);
-    }
-    let mut reader = Bytes::new(input, way.piece, way.until_failure);
-    let mut writer = Output::new(alloc, way.room);
+    let mut reader = way.reader(input)?;
+    let mut writer = way.writer(alloc);
     let heard = hear(alloc, &mut reader, &mut writer);
     let told = tell(&heard, writer.bytes(), answer);
     drop(heard);

@@ -69,6 +69,7 @@ pub(crate) fn caps(asked: Asked<'_>, answer: &mut Vec<u8>) -> Answered {
 fn write_asked_for(asked_for: Line<'_>, answer: &mut Vec<u8>) -> Answered {
     match asked_for {
         Line::Canon => Ok(write_line("canon", answer)?),
+        Line::Run => Ok(write_line("run", answer)?),
         Line::Caps { seq, query } => {
             write_text("caps ", answer)?;
             write_whole(u64::from(seq), answer)?;

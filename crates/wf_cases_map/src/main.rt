@@ -1,7 +1,8 @@
 //! Cases about numbers, texts, definitions, tokens, mapfiles, canonical texts, capabilities and command lines.
 //!
 //! Standard input is a table of cases (`wf_table` has its language); standard output is the report, whose last line has the counts. Each
-//! question is one function, by subject: `numbers`, `texts`, `definitions`, `tokens`, `mapfiles`, `canonical`, `requests`, `reports`.
+//! question is one function, by subject: `numbers`, `texts`, `definitions`, `tokens`, `mapfiles`, `canonical`, `requests`, `maps`,
+//! `reports`.
 //! `shown` has how definitions are shown.
 //!
 //! It promises nothing but that it runs safely to its end: what the cases show is in the table.
@@ -12,6 +13,7 @@ mod canonical;
 mod commands;
 mod definitions;
 mod mapfiles;
+mod maps;
 mod numbers;
 mod questions;
 mod reports;

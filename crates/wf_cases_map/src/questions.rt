@@ -1,7 +1,8 @@
 //! The questions by their names.
 use crate::asked::{Answered, Asked};
 use crate::{
-    canonical, commands, definitions, mapfiles, numbers, reports, requests, tables, texts, tokens,
+    canonical, commands, definitions, mapfiles, maps, numbers, reports, requests, tables, texts,
+    tokens,
 };
 use std::alloc::Global;
 use wf_table::{Questions, Unanswered};
@@ -85,6 +86,8 @@ fn about_canonical_texts(question: &str, asked: Asked<'_>, answer: &mut Vec<u8>)
 fn about_requests(question: &str, asked: Asked<'_>, answer: &mut Vec<u8>) -> Answered {
     match question {
         "request" => requests::request(asked, answer),
+        "get" => maps::get(asked, answer),
+        "drawn" => maps::drawn(asked, answer),
         "caps" => commands::caps(asked, answer),
         "report" => reports::report_of(asked, answer),
         "line" => commands::command_line(asked, answer),

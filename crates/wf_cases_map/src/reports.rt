@@ -1,4 +1,4 @@
-//! Reports of exceptions, also of those that no request is answered with yet.
+//! Reports of exceptions, also each by itself.
 use crate::asked::{Answered, Asked};
 use wf_table::Unanswered;
 use wf_wms::report::report;

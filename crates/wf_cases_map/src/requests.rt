@@ -56,7 +56,7 @@ pub(crate) fn sequence(word: &str) -> Result<u16, Unanswered>
     }
 }
 
-fn tell_summary(given: Answer, answer: &mut Vec<u8>) -> Answered {
+pub(crate) fn tell_summary(given: Answer, answer: &mut Vec<u8>) -> Answered {
     let told = write_summary(&given, answer);
     drop(given);
     told

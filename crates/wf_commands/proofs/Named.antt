@@ -30,6 +30,7 @@ name_met (Some b) = refl
 asks_of : (p : Text × List Row) (rows : List Row) → p.1 ≡ rows → p.0 ≡ codes "caps" → ((l : Line) → ¬ (IsCapsOf rows l)) → (l : Line) → ¬ (Asks (Some p) l)
 asks_of p rows has named none (lines.Caps seq query) asks = none (lines.Caps seq query) (rw has at asks.1)
 asks_of p rows has named none lines.Canon asks = let clash : codes "caps" ≡ codes "canon" = sym named ∙ asks in cc
+asks_of p rows has named none lines.Run asks = let clash : codes "caps" ≡ codes "run" = sym named ∙ asks in cc
 
 pub none_asked : (line : Option Line) (met : Option (Text × List Row)) (rows : List Row) → option_map (λ p. p.1) met ≡ Some rows
     → option_map (λ p. p.0) met ≡ Some (codes "caps") → IfNone line ((l : Line) → ¬ (IsCapsOf rows l)) → IfNone line ((l : Line) → ¬ (Asks met l))

@@ -19,10 +19,12 @@ module _ (output : Definition → List ℕ) (refuses : CanonFault → Definition
   written_outcome (Err (faults.Map fault)) d means within writes =
       (λ other. let clash : true ≡ false = sym writes.0 ∙ other in cc, writes.1)
   written_outcome (Err faults.Read) d means within writes = absurd writes
+  written_outcome (Err (faults.Script fault)) d means within writes = absurd writes
 
   pub fault_outcome : (fault : RunFault) → IsReadingFault input fault → IsOutcome output refuses input old old (Err fault)
   fault_outcome (faults.Map fault) why = (why, keeps_same old)
   fault_outcome (faults.Canon fault) why = absurd why
+  fault_outcome (faults.Script fault) why = absurd why
   fault_outcome faults.Read why = keeps_same old
   fault_outcome faults.Write why = absurd why
 
@@ -34,11 +36,13 @@ no_more_reads bytes refuses old new (Err faults.Write) before after writes same 
 no_more_reads bytes refuses old new (Err (faults.Canon fault)) before after writes same = same
 no_more_reads bytes refuses old new (Err (faults.Map fault)) before after writes same = λ other. same
 no_more_reads bytes refuses old new (Err faults.Read) before after writes same = absurd writes
+no_more_reads bytes refuses old new (Err (faults.Script fault)) before after writes same = absurd writes
 
 -- before the input was read no write fails
 pub no_writes_yet : (input : Option (List ℕ)) (fault : RunFault) (count : ℕ) → IsReadingFault input fault
     → CountsWrites {T = Unit {0}} (Err fault) count count
 no_writes_yet input (faults.Map fault) count why = refl
 no_writes_yet input (faults.Canon fault) count why = refl
+no_writes_yet input (faults.Script fault) count why = refl
 no_writes_yet input faults.Read count why = refl
 no_writes_yet input faults.Write count why = absurd why

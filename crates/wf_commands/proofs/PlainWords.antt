@@ -15,7 +15,7 @@ use Rattle.clap.specs.Takes.{bundle_passes, default_passes, flag_word_passes, is
 use Rattle.clap.specs.ValueTests.{accepts}
 use Rattle.clap.specs.declared.builder.value_parser.ValueParser.TheVariants.{Signed}
 use Rattle.clap.specs.Walk.{Held, Row, finished, nothing_held, pushed, settled, walk, Rule, Text, Walk, after_step, arg_by_index, first_of, idle, long_or_other, short_or_plain, trailing, to_positional, value, walk_from, walked, word_met}
-use Rattle.wf_commands.specs.CommandLine.{caps_shape, PlainCapsIsAsked, PlainCanonIsAsked, is_plain, program}
+use Rattle.wf_commands.specs.CommandLine.{caps_shape, PlainCapsIsAsked, PlainCanonIsAsked, PlainRunIsAsked, is_plain, program}
 use Rattle.wf_commands.specs.Line.{IsSequence}
 use Rattle.wf_commands.specs.declared.line.Line.TheVariants as lines
 
@@ -133,7 +133,12 @@ caps_asked word query (lines.Caps seq asked) plain_word plain_query is =
     let found = caps_rows word query plain_word plain_query in
     (caps_taken word query plain_word plain_query (sequence_accepted word seq plain_word is.0), rw found.1 (refl, (word, query, found.2, found.3, is)))
 caps_asked word query lines.Canon plain_word plain_query is = absurd is
+caps_asked word query lines.Run plain_word plain_query is = absurd is
 
 pub canon_asked : PlainCanonIsAsked
 unfolding clap_on_literals
 canon_asked = (refl, refl)
+
+pub run_asked : PlainRunIsAsked
+unfolding clap_on_literals
+run_asked = (refl, refl)

@@ -33,7 +33,11 @@ caps_shape = record (new_shape (codes "caps")) { rules = sequence_rule ∷ query
 abbrev pub canon_shape : Shape
 canon_shape = new_shape (codes "canon")
 
--- The program is given one of the two commands, or asked for its version or for help. What its parser reads of it:
+-- `run`
+abbrev pub run_shape : Shape
+run_shape = new_shape (codes "run")
+
+-- The program is given one of the three commands, or asked for its version or for help. What its parser reads of it:
 abbrev pub program : App
 program = record {
   top = record (new_shape (codes "wfarm")) {
@@ -42,7 +46,7 @@ program = record {
     has_version = true;
     subcommand_required = true;
   };
-  subs = caps_shape ∷ canon_shape ∷ [];
+  subs = caps_shape ∷ canon_shape ∷ run_shape ∷ [];
 }
 
 -- ---- what a line is asked for by
@@ -51,6 +55,7 @@ program = record {
 abbrev pub IsCapsLine : Text → Text → Line → Type 0
 IsCapsLine word query (lines.Caps seq asked) = IsSequence word seq × (asked.now ≡ query)
 IsCapsLine word query lines.Canon = ⊥
+IsCapsLine word query lines.Run = ⊥
 
 -- The line is `caps` with the words that were found for SEQ and QUERY.
 abbrev pub IsCapsOf : List Row → Line → Type 0
@@ -62,6 +67,7 @@ abbrev pub Asks : Option (Text × List Row) → Line → Type 0
 Asks None line = ⊥
 Asks (Some named) (lines.Caps seq query) = (named.0 ≡ codes "caps") × IsCapsOf named.1 (lines.Caps seq query)
 Asks (Some named) lines.Canon = named.0 ≡ codes "canon"
+Asks (Some named) lines.Run = named.0 ≡ codes "run"
 
 -- why words are refused: where the parser takes them and they ask for a line, memory ran out
 abbrev pub IsWhyRefused : List Text → ErrorKind → Type 0
@@ -81,3 +87,7 @@ PlainCapsIsAsked = (word query : Text) (line : Line) → is_plain word ≡ true 
 -- The command line's parser takes `canon` alone, and it asks for the canonical text.
 abbrev pub PlainCanonIsAsked : Type 0
 PlainCanonIsAsked = (takes program (codes "canon" ∷ []) ≡ true) × Asks (subcommand_of program (codes "canon" ∷ [])) lines.Canon
+
+-- The command line's parser takes `run` alone, and it asks for a script to be played.
+abbrev pub PlainRunIsAsked : Type 0
+PlainRunIsAsked = (takes program (codes "run" ∷ []) ≡ true) × Asks (subcommand_of program (codes "run" ∷ [])) lines.Run

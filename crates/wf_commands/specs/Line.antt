@@ -9,6 +9,7 @@ use Rattle.wf_commands.specs.declared.line.Line.TheVariants as lines
 abbrev pub IsInRange : Line → Type 0
 IsInRange (lines.Caps seq query) = seq ≤ last_sequence
 IsInRange lines.Canon = ⊤
+IsInRange lines.Run = ⊤
 
 -- A word stands for an update sequence: decimal digits, a plus before them at most, of a number in the range.
 pub record IsSequence (word : List ℕ) (seq : ℕ) : Type 0 where

@@ -1,5 +1,5 @@
 -- What a run of a command reads and writes, and why it fails.
-use Rattle.std.specs.Prelude.{◌≡◌, ℕ, List, Option, Result, Ok, Err, false, true, take, IfSome}
+use Rattle.std.specs.Prelude.{◌≡◌, ◌+◌, ℕ, List, Option, Result, Ok, Err, false, true, take, IfSome}
 use Rattle.std.specs.Io.KnownBytes.{Appends, Keeps}
 use Rattle.wf_def.specs.Definition.{Definition}
 use Rattle.wf_def.specs.Limits.{IsWithinLimits}
@@ -9,7 +9,9 @@ use Rattle.wf_canon.specs.Canon.{canon}
 use Rattle.wf_canon.specs.Refusal.{IsCauseOf}
 use Rattle.wf_canon.specs.declared.fault.CanonFault.{CanonFault}
 use Rattle.wf_wms.specs.Answer.{description}
-use Rattle.wf_edge.specs.Reading.{AppendsPart, Rises}
+use Rattle.wf_edge.specs.Reading.{Rises}
+use Rattle.wf_script.specs.Fault as script
+use Rattle.wf_script.specs.Lines.{most_script_bytes}
 use Rattle.wf_commands.specs.declared.line.Line.{Line}
 use Rattle.wf_commands.specs.declared.line.Line.TheVariants as lines
 use Rattle.wf_commands.specs.declared.fault.RunFault.{RunFault}
@@ -19,21 +21,15 @@ use Rattle.wf_commands.specs.declared.fault.RunFault.TheVariants as faults
 abbrev pub most_input_bytes : ℕ
 most_input_bytes = 65537
 
+-- how much of the input each command reads: of a script one byte more than the longest has
+abbrev pub most_read : Line → ℕ
+most_read (lines.Caps seq query) = most_input_bytes
+most_read lines.Canon = most_input_bytes
+most_read lines.Run = most_script_bytes + 1
+
 -- what is judged in place of an input: its beginning
 abbrev pub judged : List ℕ → List ℕ
 judged input = take most_input_bytes input
-
--- ---- what is asked for
-
--- what a command writes about a definition
-abbrev pub output : Line → Definition → List ℕ
-output (lines.Caps seq query) d = (description seq d query.now).bytes
-output lines.Canon d = canon d
-
--- a definition that has no output of a command: its canonical text is too long
-abbrev pub IsRefused : Line → CanonFault → Definition → Type 0
-IsRefused (lines.Caps seq query) fault d = ⊥
-IsRefused lines.Canon fault d = IsCauseOf fault d
 
 -- ---- the outcome of a run
 
@@ -46,6 +42,7 @@ abbrev pub IsInputFault : RunFault → Type 0
 IsInputFault (faults.Map fault) = is_memory fault ≡ true
 IsInputFault faults.Read = Unit {0}
 IsInputFault (faults.Canon fault) = ⊥
+IsInputFault (faults.Script fault) = ⊥
 IsInputFault faults.Write = ⊥
 
 -- why bytes give no definition: other than for want of memory, they mean none
@@ -53,6 +50,7 @@ abbrev pub IsMapFault : List ℕ → RunFault → Type 0
 IsMapFault bytes (faults.Map fault) = is_memory fault ≡ false → MeansNothing bytes
 IsMapFault bytes faults.Read = ⊥
 IsMapFault bytes (faults.Canon fault) = ⊥
+IsMapFault bytes (faults.Script fault) = ⊥
 IsMapFault bytes faults.Write = ⊥
 
 -- why an input gives no definition: other than for want of memory, a map fault comes only where it means none
@@ -60,7 +58,12 @@ abbrev pub IsReadingFault : Option (List ℕ) → RunFault → Type 0
 IsReadingFault input (faults.Map fault) = is_memory fault ≡ false → IfSome input MeansNothing
 IsReadingFault input faults.Read = Unit {0}
 IsReadingFault input (faults.Canon fault) = ⊥
+IsReadingFault input (faults.Script fault) = ⊥
 IsReadingFault input faults.Write = ⊥
+
+-- a beginning of the bytes was put behind what was written
+abbrev pub AppendsPart : Option (List ℕ) → Option (List ℕ) → List ℕ → Type 0
+AppendsPart old new bytes = (count : ℕ) × Appends old new (take count bytes)
 
 -- What is written of an output: all of it, or a part where the writer failed; nothing where the output can't be had.
 abbrev pub IsWriting : List ℕ → (CanonFault → Type 0) → Option (List ℕ) → Option (List ℕ) → Result (Unit {0}) RunFault → Type 0
@@ -69,6 +72,7 @@ IsWriting bytes refuses old new (Err faults.Write) = AppendsPart old new bytes
 IsWriting bytes refuses old new (Err (faults.Canon fault)) = refuses fault × Keeps old new
 IsWriting bytes refuses old new (Err (faults.Map fault)) = (is_memory fault ≡ true) × Keeps old new
 IsWriting bytes refuses old new (Err faults.Read) = ⊥
+IsWriting bytes refuses old new (Err (faults.Script fault)) = ⊥
 
 -- What a run writes about the definition that the input means: the whole output, or a part where the writer failed.
 -- With any other fault nothing is written.
@@ -79,6 +83,22 @@ IsOutcome output refuses input old new (Err faults.Write) = MeansOne (λ d. Appe
 IsOutcome output refuses input old new (Err (faults.Canon fault)) = MeansOne (refuses fault) input × Keeps old new
 IsOutcome output refuses input old new (Err (faults.Map fault)) = (is_memory fault ≡ false → IfSome input MeansNothing) × Keeps old new
 IsOutcome output refuses input old new (Err faults.Read) = Keeps old new
+IsOutcome output refuses input old new (Err (faults.Script fault)) = ⊥
+
+-- What is written of a script: nothing where it can't be read or isn't one. What its orders write is shown by cases.
+abbrev pub IsPlayed : Option (List ℕ) → Option (List ℕ) → Result (Unit {0}) RunFault → Type 0
+IsPlayed old new (Ok done) = Unit {0}
+IsPlayed old new (Err faults.Write) = Unit {0}
+IsPlayed old new (Err (faults.Script fault)) = script.is_memory fault ≡ false → Keeps old new
+IsPlayed old new (Err faults.Read) = Keeps old new
+IsPlayed old new (Err (faults.Map fault)) = ⊥
+IsPlayed old new (Err (faults.Canon fault)) = ⊥
+
+-- the outcome of what is asked for
+abbrev pub IsOutcomeOf : Line → Option (List ℕ) → Option (List ℕ) → Option (List ℕ) → Result (Unit {0}) RunFault → Type 0
+IsOutcomeOf (lines.Caps seq query) input old new result = IsOutcome (λ d. (description seq d query.now).bytes) (λ _ _. ⊥) input old new result
+IsOutcomeOf lines.Canon input old new result = IsOutcome canon IsCauseOf input old new result
+IsOutcomeOf lines.Run input old new result = IsPlayed old new result
 
 -- ---- the counts of failures
 
@@ -88,6 +108,7 @@ CountsReads (Ok x) old new = new ≡ old
 CountsReads (Err faults.Read) old new = Rises old new
 CountsReads (Err (faults.Map fault)) old new = is_memory fault ≡ false → new ≡ old
 CountsReads (Err (faults.Canon fault)) old new = new ≡ old
+CountsReads (Err (faults.Script fault)) old new = script.is_memory fault ≡ false → new ≡ old
 CountsReads (Err faults.Write) old new = new ≡ old
 
 -- A write fault comes exactly where a write has failed.

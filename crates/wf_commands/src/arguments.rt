@@ -1,11 +1,11 @@
 //! Reading the command line.
-ghost use Rattle.std.specs.Prelude.{◌≡◌, ℕ, IfErr, IfNone, IfOk, IfSome, false, map};
+ghost use Rattle.std.specs.Prelude.{◌≡◌, ◌∷◌, [], ℕ, IfErr, IfNone, IfOk, IfSome, false, map};
 ghost use Rattle.clap.specs.Matches.{found_of};
 ghost use Rattle.clap.specs.Simple.{app_of, shape_of, subcommand_of, subcommand_rows_of};
 ghost use Rattle.clap.specs.Values.{kind_of};
 ghost use Rattle.clap.specs.Walk.{rows_of, rule_of};
 ghost use Rattle.clap.specs.declared.builder.command.Command.TheViews.{out-Command};
-ghost use Rattle.wf_commands.specs.CommandLine.{Asks, IsCapsOf, IsWhyRefused, PlainCanonIsAsked, PlainCapsIsAsked, program, caps_shape, canon_shape, sequence_rule, query_rule};
+ghost use Rattle.wf_commands.specs.CommandLine.{Asks, IsCapsOf, IsWhyRefused, PlainCanonIsAsked, PlainCapsIsAsked, PlainRunIsAsked, program, caps_shape, canon_shape, run_shape, sequence_rule, query_rule};
 ghost use Rattle.wf_commands.specs.Line.{IsInRange, IsSequence};
 ghost use Rattle.wf_commands.specs.declared.line.Line.{Line};
 
@@ -23,6 +23,13 @@ Faults: map fault M1 to M12, read fault";
 
 const CANON_HELP: &str = "Limits: the mapfile has at most 65,536 bytes, its canonical text 32,768
 Faults: map fault M1 to M12, canon fault K1 and K3, read fault";
+
+const RUN_HELP: &str =
+    "Lines: nodes N first; then map NAME, its lines, endmap; propose I NAME, retry I, catchup I,
+deliver I K .., stop I, restart I, torn I before E, torn I after E, pump, pump I .., skip;
+published, sent, proposal I, definition I S, same
+Limits: the script has at most 1,048,576 bytes, 10,000 lines and 64 maps
+Faults: script fault S1 to S4 with the line, read fault";
 
 static NO_WORDS: [&str; 0] = [];
 
@@ -68,9 +75,19 @@ fn canon_command<'a>(alloc: Global) -> Command<'a>
         .after_help(CANON_HELP)
 }
 
-// All that the program takes.
-fn command<'a>(alloc: Global) -> Result<Command<'a>, AllocError>
-    ensures { IfOk result (λ command. app_of command ≡ program) }
+// `run`.
+fn run_command<'a>(alloc: Global) -> Command<'a>
+    ensures shape { shape_of result ≡ run_shape }
+    ensures local { (out-Command result).has_globals ≡ false }
+{
+    Command::new(alloc, "run")
+        .about("Plays the script on standard input on a farm in memory")
+        .after_help(RUN_HELP)
+}
+
+// The commands about a mapfile.
+fn mapfile_commands<'a>(alloc: Global) -> Result<Command<'a>, AllocError>
+    ensures { IfOk result (λ command. app_of command ≡ record program { subs = caps_shape ∷ canon_shape ∷ [] }) }
 {
     let caps = caps_command(alloc)?;
     Command::new(alloc, "wfarm")
@@ -79,7 +96,15 @@ fn command<'a>(alloc: Global) -> Result<Command<'a>, AllocError>
         .no_binary_name(true)
         .subcommand_required(true)
         .subcommand(caps)?
-        .subcommand(canon_command(alloc))?
+        .subcommand(canon_command(alloc))
+}
+
+// All that the program takes.
+fn command<'a>(alloc: Global) -> Result<Command<'a>, AllocError>
+    ensures { IfOk result (λ command. app_of command ≡ program) }
+{
+    mapfile_commands(alloc)?
+        .subcommand(run_command(alloc))?
         .bin_name("wfarm")
 }
 
@@ -128,6 +153,7 @@ fn asked<'a>(matches: &ArgMatches<'a>) -> Option<Line<'a>>
     match matches.subcommand() {
         Some(("caps", found)) => caps(found),
         Some(("canon", _)) => Some(Line::Canon),
+        Some(("run", _)) => Some(Line::Run),
         _ => None,
     }
 }
@@ -152,9 +178,10 @@ pub fn line<'a, S: AsStr>(alloc: Global, words: &'a [S]) -> Result<Line<'a>, Err
     }
 }
 
-/// `caps` with an update sequence and a query, and `canon` alone, ask for these lines, where no word
-/// begins with a hyphen.
+/// `caps` with an update sequence and a query, `canon` alone and `run` alone ask for these lines, where no
+/// word begins with a hyphen.
 pub fn plain_words_are_taken()
     ensures caps { PlainCapsIsAsked }
     ensures canon { PlainCanonIsAsked }
+    ensures run { PlainRunIsAsked }
 {}

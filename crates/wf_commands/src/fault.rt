@@ -2,6 +2,7 @@
 use thiserror::Error;
 use wf_canon::CanonFault;
 use wf_mapfile::fault::MapFault;
+use wf_script::ScriptFault;
 
 /// Why a run failed. The text is the line for standard error.
 #[derive(Clone, Copy, Debug, PartialEq, Eq, Error)]
@@ -12,6 +13,9 @@ pub enum RunFault {
     /// The map's canonical text can't be had.
     #[error("canon fault {0}")]
     Canon(CanonFault),
+    /// The input is no script, or memory ran out while it was read or played.
+    #[error("script fault {0}")]
+    Script(ScriptFault),
     /// The reader failed; nothing was judged.
     #[error("read fault")]
     Read,

@@ -7,11 +7,12 @@
 //! [`stream::Source`] and [`stream::Sink`], which count the calls that failed: [`stream::Stream`] makes
 //! them of those of std.
 //!
-//! It promises, of [`run::run_line`], that a run that succeeds has written exactly what was asked for:
-//! the answer at that sequence to that query, or the canonical text, for the one map that its input
-//! means; that a fault of a map or a text comes only for that cause, and a read or write fault exactly
+//! It promises, of [`run::run_line`], that a run about a mapfile that succeeds has written exactly what was
+//! asked for: the answer at that sequence to that query, or the canonical text, for the one map that its
+//! input means; that a fault of a map or a text comes only for that cause, and a read or write fault exactly
 //! where a call has failed; that nothing is written before another fault, and a beginning of the output
-//! before a write fault; and that no more than 65,537 bytes are read. Of [`arguments::line`] it promises
+//! before a write fault; that no more than 65,537 bytes are read of a mapfile and 1,048,577 of a script; and
+//! that nothing is written where the input is no script. Of [`arguments::line`] it promises
 //! the line that the words ask for, by the rules of the kit's parser of command lines, and that words
 //! that ask for one are refused for want of memory alone. What standard input holds, what became of the
 //! bytes behind standard output, and what text is printed for a refused command line, no contract says.

@@ -7,4 +7,6 @@ pub enum Line<'a> {
     Caps { seq: u16, query: &'a str },
     /// Write the canonical text of the mapfile on standard input.
     Canon,
+    /// Play the script on standard input.
+    Run,
 }

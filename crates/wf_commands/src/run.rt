@@ -8,7 +8,8 @@ ghost use Rattle.wf_wms.specs.Answer.{description};
 ghost use Rattle.wf_ballot.specs.Sequence.{last_sequence};
 ghost use Rattle.wf_commands.specs.Line.{IsInRange};
 ghost use Rattle.wf_edge.specs.Reading.{TakesUpTo};
-ghost use Rattle.wf_commands.specs.Run.{most_input_bytes, judged, output, IsRefused, IsInputFault, IsMapFault, IsReadingFault, IsWriting, IsOutcome, CountsReads, CountsWrites};
+ghost use Rattle.wf_script.specs.Lines.{most_script_bytes};
+ghost use Rattle.wf_commands.specs.Run.{most_input_bytes, most_read, judged, IsInputFault, IsMapFault, IsReadingFault, IsWriting, IsOutcome, IsOutcomeOf, IsPlayed, CountsReads, CountsWrites};
 
 use crate::fault::RunFault;
 use crate::line::Line;
@@ -19,6 +20,7 @@ use wf_ballot::SEQUENCES;
 use wf_canon::Canon;
 use wf_def::map::MapDef;
 use wf_mapfile::fault::MapFault;
+use wf_script::PlayFault;
 use wf_wms::describe;
 
 /// How much of the input is read, in bytes: one more than the longest mapfile has.
@@ -170,6 +172,26 @@ pub fn run_canon<S: Source, K: Sink>(
     }
 }
 
+/// Reads a script to its end, or to the byte that makes it too long, and plays it on a farm in memory. What it writes is shown
+/// by cases, and what the farm does by the contracts of `wf_script`.
+pub fn run_script<S: Source, K: Sink>(
+    alloc: Global,
+    source: &mut S,
+    sink: &mut K,
+) -> Result<(), RunFault>
+    ensures outcome { IsPlayed (K.written sink.old) (K.written sink.new) result }
+    ensures most { TakesUpTo (most_script_bytes + 1) (S.left source.old) (S.left source.new) }
+    ensures reads { CountsReads result (S.failures source.old) (S.failures source.new) }
+    ensures writes { CountsWrites result (K.failures sink.old) (K.failures sink.new) }
+{
+    match wf_script::run_script(alloc, source, sink) {
+        Ok(()) => Ok(()),
+        Err(PlayFault::Script(fault)) => Err(RunFault::Script(fault)),
+        Err(PlayFault::Read) => Err(RunFault::Read),
+        Err(PlayFault::Write) => Err(RunFault::Write),
+    }
+}
+
 /// Does what a command line asks for.
 pub fn run_line<S: Source, K: Sink>(
     alloc: Global,
@@ -178,15 +200,15 @@ pub fn run_line<S: Source, K: Sink>(
     sink: &mut K,
 ) -> Result<(), RunFault>
     requires { IsInRange line }
-    // Exactly what is asked for is written, about the definition that the input means.
-    ensures outcome { IsOutcome (output line.entry) (IsRefused line.entry)
-        (S.left source.old) (K.written sink.old) (K.written sink.new) result }
-    ensures most { TakesUpTo most_input_bytes (S.left source.old) (S.left source.new) }
+    // About a mapfile exactly what is asked for is written, of the definition that the input means.
+    ensures outcome { IsOutcomeOf line.entry (S.left source.old) (K.written sink.old) (K.written sink.new) result }
+    ensures most { TakesUpTo (most_read line.entry) (S.left source.old) (S.left source.new) }
     ensures reads { CountsReads result (S.failures source.old) (S.failures source.new) }
     ensures writes { CountsWrites result (K.failures sink.old) (K.failures sink.new) }
 {
     match line {
         Line::Caps { seq, query } => run_caps(alloc, source, sink, seq, query.as_bytes()),
         Line::Canon => run_canon(alloc, source, sink),
+        Line::Run => run_script(alloc, source, sink),
     }
 }

@@ -2,7 +2,7 @@
 use Rattle.std.proofs.Common.{◌≡◌, ◌∙◌, ◌+◌, ◌≤◌, ℕ, List, [], refl, sym, ap, ◌++◌, length, take, drop, arith}
 use Rattle.std.specs.Prelude.{Option, Some, None, Result, Ok, Err}
 use Rattle.std.proofs.lemmas.List.{append-nil, append_assoc, take_all, take_at, take-append-drop, length-append}
-use Rattle.wf_edge.specs.Reading.{AppendsPart, ReadsPiece, TakesUpTo}
+use Rattle.wf_edge.specs.Reading.{ReadsPiece, TakesUpTo}
 use Rattle.std.specs.Prelude.{IfSome}
 use Rattle.std.specs.Io.KnownBytes.{Keeps, Appends, Consumes, IsAtEnd, ReadConsumes, WriteAppends}
 
@@ -98,11 +98,6 @@ appends_keeps (Some xs) None c bytes appends keeps = absurd appends
 appends_keeps (Some xs) (Some ys) None bytes appends keeps = absurd keeps
 appends_keeps (Some xs) (Some ys) (Some zs) bytes appends keeps = keeps ∙ appends
 
--- a front of the bytes is a beginning
-pub appends_part : (a b : Option (List ℕ)) (bytes front rest : List ℕ) → bytes ≡ front ++ rest → Appends a b front → AppendsPart a b bytes
-appends_part a b bytes front rest split appends =
-    (length front, let is : take (length front) bytes ≡ front = ap (take (length front)) split ∙ take_at front rest (length front) refl in rw is appends)
-
 -- a write of some of the rest
 pub write_step : (a b c : Option (List ℕ)) (bytes front rest : List ℕ) (count : ℕ) → bytes ≡ front ++ rest → Appends a b front
     → Appends b c (take count rest) → (longer : List ℕ) × (bytes ≡ longer ++ drop count rest) × Appends a c longer
@@ -111,8 +106,3 @@ write_step a b c bytes front rest count split first second = (
   split ∙ ap (λ xs. front ++ xs) (sym (take-append-drop count rest)) ∙ sym (append_assoc front (take count rest) (drop count rest)),
   appends_more a b c front (take count rest) first second,
 )
-
--- a write that failed after a front was written
-pub part_kept : (a b c : Option (List ℕ)) (bytes rest : List ℕ) → ((front : List ℕ) × (bytes ≡ front ++ rest) × Appends a b front) → Keeps b c
-    → AppendsPart a c bytes
-part_kept a b c bytes rest (front, split, appends) keeps = appends_part a c bytes front rest split (appends_keeps a b c front appends keeps)

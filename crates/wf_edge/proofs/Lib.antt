@@ -5,5 +5,7 @@ mod HeadLaw
 mod HearingLaw
 pub mod Known
 mod NumberLaw
+mod PublishLaw
 mod RequestLaw
+mod ServingLaw
 mod Written

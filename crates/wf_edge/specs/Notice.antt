@@ -1,5 +1,7 @@
 -- What is told in one line of plain text: a notice takes no memory (RFC 9110, section 15; RFC 6585, section 5).
-use Rattle.std.specs.Prelude.{ℕ, List, ◌++◌, codes, Option, Some, None}
+use Rattle.std.specs.Prelude.{◌≡◌, ℕ, List, ◌++◌, codes, Option, Some, None, Result, Ok, Err}
+use Rattle.wf_node.specs.declared.fault.NodeFault.{NodeFault}
+use Rattle.wf_node.specs.declared.fault.NodeFault.TheVariants as node
 use Rattle.wf_edge.specs.Response.{Response}
 use Rattle.wf_edge.specs.declared.fault.RequestFault.{RequestFault}
 use Rattle.wf_edge.specs.declared.fault.RequestFault.TheVariants as fault
@@ -82,3 +84,25 @@ notice_of_fault fault.NoRequest = None
 notice_of_fault fault.ReadFailed = None
 notice_of_fault fault.Memory = Some notice.Unavailable
 notice_of_fault (fault.Refused r) = Some (notice.Refused r)
+
+-- What a node's fault is told as. That there is nothing to try again never answers a proposal.
+abbrev pub notice_of : NodeFault → Notice
+notice_of node.Memory = notice.Unavailable
+notice_of node.Busy = notice.Busy
+notice_of node.SequenceFull = notice.SequenceFull
+notice_of node.RoundsFull = notice.RoundsFull
+notice_of node.Halted = notice.Unavailable
+notice_of node.TapeFailed = notice.Unavailable
+notice_of node.Nothing = notice.Unavailable
+
+-- ---- a page or a notice
+
+-- the response that is written: a page, or a notice in its place
+abbrev pub response_of : Result Response Notice → Response
+response_of (Ok page) = page
+response_of (Err n) = notice_response n
+
+-- the page is that response; it may only be missing for want of memory
+abbrev pub IsGiven : Response → Result Response Notice → Type 0
+IsGiven response (Ok page) = page ≡ response
+IsGiven response (Err n) = n ≡ notice.Unavailable

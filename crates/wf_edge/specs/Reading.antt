@@ -1,7 +1,7 @@
 -- What the calls of a reader or a writer do to known bytes, and how they count their failures.
-use Rattle.std.specs.Prelude.{◌≡◌, ◌≢◌, ◌+◌, ◌-◌, ◌^◌, ◌≤◌, ◌++◌, ℕ, min, List, length, take, Option, Result, MatchResult}
+use Rattle.std.specs.Prelude.{◌≡◌, ◌≢◌, ◌+◌, ◌-◌, ◌^◌, ◌≤◌, ◌++◌, ℕ, min, List, length, Option, Result, MatchResult}
 use Rattle.std.specs.IoError.{error_kind}
-use Rattle.std.specs.Io.KnownBytes.{Appends, Consumes}
+use Rattle.std.specs.Io.KnownBytes.{Consumes}
 use Rattle.std.specs.declared.io.Error.{Error}
 use Rattle.std.specs.declared.io.ErrorKind.TheVariants.{OutOfMemory}
 
@@ -25,7 +25,3 @@ TakesUpTo limit old new = (bytes : List ℕ) × (length bytes ≤ limit) × Cons
 abbrev pub ReadsPiece : ℕ → Option (List ℕ) → Option (List ℕ) → List ℕ → List ℕ → Type 0
 ReadsPiece count old new before after =
     (piece : List ℕ) × (length piece ≡ count) × Consumes old new piece × (after ≡ before ++ piece)
-
--- a beginning of the bytes was put behind what was written
-abbrev pub AppendsPart : Option (List ℕ) → Option (List ℕ) → List ℕ → Type 0
-AppendsPart old new bytes = (count : ℕ) × Appends old new (take count bytes)

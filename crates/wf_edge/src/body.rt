@@ -1,5 +1,5 @@
 //! The body of a request.
-ghost use Rattle.std.specs.Prelude.{◌≡◌, ◌++◌, IfOk, IfErr, IfSome};
+ghost use Rattle.std.specs.Prelude.{◌≡◌, ◌++◌, IfOk, IfErr, IfSome, IsOk};
 ghost use Rattle.wf_edge.specs.Request.{IsBody, IsBodyFault, CountsReads};
 
 use crate::fault::RequestFault;
@@ -16,9 +16,9 @@ fn join(alloc: Global, front: &[u8], rest: &[u8]) -> Result<Vec<u8>, AllocError>
     Ok(whole)
 }
 
-/// Reads a body of so many bytes, of which these came behind the head. A byte behind the body may be among them, and isn't looked at.
+// Reads a body of so many bytes, some of which may be among those behind the head.
 #[tactic(auto, using(crate::proofs::BodyLaw::body_joined, crate::proofs::BodyLaw::body_cut))]
-pub fn read_body<S: Source>(
+fn read_missing<S: Source>(
     alloc: Global,
     source: &mut S,
     behind: &[u8],
@@ -43,4 +43,23 @@ pub fn read_body<S: Source>(
         Err(error) if error.kind() == ErrorKind::OutOfMemory => Err(RequestFault::Memory),
         Err(_) => Err(RequestFault::ReadFailed),
     }
+}
+
+/// Reads a body of so many bytes, of which these came behind the head. A byte behind the body may be among them, and isn't looked at.
+/// A body of no bytes takes no memory and reads nothing.
+pub fn read_body<S: Source>(
+    alloc: Global,
+    source: &mut S,
+    behind: &[u8],
+    length: usize,
+) -> Result<Vec<u8>, RequestFault>
+    ensures ok { IfOk result (λ body. IfSome (S.left source.old) (λ left. IsBody (behind.now ++ left) length body.items)) }
+    ensures err { IfErr result (λ fault. IfSome (S.left source.old) (λ left. IsBodyFault (behind.now ++ left) length fault)) }
+    ensures reads { CountsReads result (S.failures source.old) (S.failures source.new) }
+    ensures empty { length ≡ 0 → IsOk result × (source.new ≡ source.old) }
+{
+    if length == 0 {
+        return Ok(Vec::new(alloc));
+    }
+    read_missing(alloc, source, behind, length)
 }

@@ -1,6 +1,5 @@
 //! A request is heard: read, or refused at once.
 ghost use Rattle.std.specs.Prelude.{◌≡◌, Ok, IfOk, IfErr, OnOk, IfSome};
-ghost use Rattle.std.specs.Io.KnownBytes.{Keeps};
 ghost use Rattle.wf_edge.specs.Checks.{judged};
 ghost use Rattle.wf_edge.specs.Request.{BeginsWith};
 ghost use Rattle.wf_edge.specs.Saying.{CountsSaying};
@@ -14,7 +13,7 @@ use std::alloc::Global;
 
 /// Reads the request at the front of the input. Where there is none to answer, its refusal is written, or 503 where memory ran out, and
 /// this is the outcome; nothing is written where the input is empty or a read failed.
-#[tactic(auto, using(crate::proofs::Known::keeps_same, crate::proofs::HearingLaw::unheard, crate::proofs::HearingLaw::fault_reads))]
+#[tactic(auto, using(crate::proofs::HearingLaw::unheard, crate::proofs::HearingLaw::fault_reads))]
 pub fn hear<S: Source, K: Sink>(
     alloc: Global,
     source: &mut S,
@@ -22,10 +21,10 @@ pub fn hear<S: Source, K: Sink>(
 ) -> Result<Request, Outcome>
     ensures asks { IfOk result (λ request. judged request.head ≡ Ok request.asked) }
     ensures ok { IfOk result (λ request. IfSome (S.left source.old) (λ input. BeginsWith input request)) }
-    ensures quiet { OnOk result (Keeps (K.written sink.old) (K.written sink.new)) }
+    ensures quiet { OnOk result (sink.new ≡ sink.old) }
     ensures err { IfErr result (IsUnheard (S.left source.old) (K.written sink.old) (K.written sink.new)) }
-    ensures reads { CountsHearing result (S.failures source.old) (S.failures source.new) }
-    ensures calm { OnOk result (K.failures sink.new ≡ K.failures sink.old) }
+    ensures heard { OnOk result (S.failures source.new ≡ S.failures source.old) }
+    ensures reads { IfErr result (λ said. CountsHearing said (S.failures source.old) (S.failures source.new)) }
     ensures writes { IfErr result (λ said. CountsSaying said (K.failures sink.old) (K.failures sink.new)) }
 {
     match Request::read(alloc, source) {

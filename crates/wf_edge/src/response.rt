@@ -5,7 +5,7 @@ ghost use Rattle.wf_edge.specs.Reading.{Rises};
 ghost use Rattle.wf_edge.specs.Response.{reason, allow_line, head_bytes, response_bytes, IsCount, WritesPart, IsProgress, CountsProgress};
 
 use crate::refusal::Allowed;
-use crate::stream::Sink;
+use crate::stream::{Sink, write_all};
 use http::StatusCode;
 use itoa::Buffer;
 use std::marker::Model;
@@ -14,23 +14,6 @@ use std::marker::Model;
 #[derive(Clone, Copy)]
 pub struct CutShort {
     pub written: u64,
-}
-
-// Writes all the bytes, or fails after so many of them.
-fn write_piece<K: Sink>(sink: &mut K, bytes: &[u8]) -> Result<(), usize>
-    ensures whole { OnOk result (Appends (K.written sink.old) (K.written sink.new) bytes.now) }
-    ensures part { IfErr result (λ count. (count ≤ length bytes.now) × Appends (K.written sink.old) (K.written sink.new) (take count bytes.now)) }
-    ensures calm { OnOk result (K.failures sink.new ≡ K.failures sink.old) }
-    ensures cause { OnErr result (Rises (K.failures sink.old) (K.failures sink.new)) }
-{
-    let mut rest = bytes;
-    while !rest.is_empty() {
-        match sink.write(rest) {
-            Ok(count) => rest = rest.split_at(count).1,
-            Err(_) => return Err(bytes.len() - rest.len()),
-        }
-    }
-    Ok(())
 }
 
 // How far the writing of a response has come.
@@ -52,7 +35,7 @@ fn put<K: Sink>(sink: &mut K, progress: &mut Progress, piece: &[u8])
     if progress.failed {
         return;
     }
-    match write_piece(sink, piece) {
+    match write_all(sink, piece) {
         Ok(()) => progress.written = progress.written.saturating_add(piece.len() as u64),
         Err(count) => {
             progress.written = progress.written.saturating_add(count as u64);

@@ -2,7 +2,7 @@
 ghost use Rattle.std.specs.Prelude.{◌≡◌, ◌<◌, ◌≤◌, ℕ, List, None, Option, IfErr, IfOk, IfSome, OnErr, OnOk, length, take};
 ghost use Rattle.std.specs.Io.{ReadsAtMost, WritesAtMost};
 ghost use Rattle.std.specs.Io.KnownBytes.{Appends, IsAtEnd, ReadConsumes, WriteAppends};
-ghost use Rattle.wf_edge.specs.Reading.{AppendsPart, Counts, IsReadError, ReadsPiece, Rises, TakesUpTo};
+ghost use Rattle.wf_edge.specs.Reading.{Counts, IsReadError, ReadsPiece, Rises, TakesUpTo};
 
 use std::alloc::Global;
 use std::io;
@@ -174,11 +174,10 @@ pub fn read_up_to<S: Source>(alloc: Global, source: &mut S, limit: usize) -> io:
     Ok(bytes)
 }
 
-/// Writes all the bytes. After an error a part may be written.
-#[tactic(auto, using(crate::proofs::Known::appends_none))]
-pub fn write_all<S: Sink>(sink: &mut S, bytes: &[u8]) -> io::Result<()>
+/// Writes all the bytes, or fails after so many of them.
+pub fn write_all<S: Sink>(sink: &mut S, bytes: &[u8]) -> Result<(), usize>
     ensures whole { OnOk result (Appends (S.written sink.old) (S.written sink.new) bytes.now) }
-    ensures part { OnErr result (AppendsPart (S.written sink.old) (S.written sink.new) bytes.now) }
+    ensures part { IfErr result (λ count. (count ≤ length bytes.now) × Appends (S.written sink.old) (S.written sink.new) (take count bytes.now)) }
     ensures calm { OnOk result (S.failures sink.new ≡ S.failures sink.old) }
     ensures cause { OnErr result (Rises (S.failures sink.old) (S.failures sink.new)) }
 {
@@ -186,7 +185,7 @@ pub fn write_all<S: Sink>(sink: &mut S, bytes: &[u8]) -> io::Result<()>
     while !rest.is_empty() {
         match sink.write(rest) {
             Ok(count) => rest = rest.split_at(count).1,
-            Err(error) => return Err(error),
+            Err(_) => return Err(bytes.len() - rest.len()),
         }
     }
     Ok(())

@@ -1,15 +1,16 @@
 //! How a notice is told.
 ghost use Rattle.std.specs.Prelude.{◌≡◌};
-ghost use Rattle.wf_edge.specs.Notice.{text_line, refusal_status, refusal_words, allowed_by, status_of, words_of, allowed_of, notice_response, notice_of_fault};
+ghost use Rattle.wf_edge.specs.Notice.{text_line, refusal_status, refusal_words, allowed_by, status_of, words_of, allowed_of, notice_response, notice_of, notice_of_fault};
 
 use crate::fault::RequestFault;
 use crate::notice::Notice;
 use crate::refusal::{Allowed, Refusal};
 use crate::response::Response;
 use http::StatusCode;
+use wf_node::NodeFault;
 
 /// The media type of a line of text.
-const PLAIN: &str = "text/plain";
+pub(crate) const PLAIN: &str = "text/plain";
 
 fn refusal_status(refusal: Refusal) -> StatusCode
     ensures { result ≡ refusal_status refusal }
@@ -105,5 +106,19 @@ pub fn notice_of_fault(fault: RequestFault) -> Option<Notice>
         RequestFault::NoRequest | RequestFault::ReadFailed => None,
         RequestFault::Memory => Some(Notice::Unavailable),
         RequestFault::Refused(refusal) => Some(Notice::Refused(refusal)),
+    }
+}
+
+/// What a node's fault is told as. `Nothing` never answers a proposal.
+pub(crate) fn notice_of(fault: NodeFault) -> Notice
+    ensures { result ≡ notice_of fault }
+{
+    match fault {
+        NodeFault::Busy => Notice::Busy,
+        NodeFault::SequenceFull => Notice::SequenceFull,
+        NodeFault::RoundsFull => Notice::RoundsFull,
+        NodeFault::Memory | NodeFault::Halted | NodeFault::TapeFailed | NodeFault::Nothing => {
+            Notice::Unavailable
+        }
     }
 }

@@ -7,3 +7,4 @@ mod Worlds
 mod Listed
 mod Rounds
 mod Pumping
+mod Answered

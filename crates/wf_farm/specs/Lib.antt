@@ -8,3 +8,4 @@ pub mod Farm
 pub mod Agreement
 pub mod Pump
 pub mod Progress
+pub mod Answering

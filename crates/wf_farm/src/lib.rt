@@ -10,11 +10,14 @@
 //! (`specs/Pump.antt`); where memory is wanted, the world after those that are done, as many as the fault names; that
 //! what a node published stays at the beginning of what it publishes after a run or a pump; and, since each farm is
 //! reached from the start, that no two of its nodes, running or stopped, publish different definitions under one
-//! sequence: [`Farm::agree`]. The four laws are those of `wf_law`, at the program's definitions.
+//! sequence: [`Farm::agree`]. A node that runs answers clients as `wf_wms` does, from what it published
+//! ([`Farm::answer`]), and two that stand at one sequence, or that are asked for one map, answer the same query with the
+//! same bytes: [`Farm::answers_agree`]. The four laws are those of `wf_law`, at the program's definitions.
 //!
 //! It doesn't know time, nor whether anything is ever published, nor that a refusal for memory was needed.
 #![tactic(auto)]
 
+mod answering;
 mod cluster;
 mod event;
 mod farm;

@@ -8,6 +8,8 @@
 #[cfg(test)]
 mod commands;
 #[cfg(test)]
+mod edge;
+#[cfg(test)]
 mod map;
 #[cfg(test)]
 mod node;

@@ -1,1 +1,5 @@
+pub mod EntriesLaw
+pub mod HistoryLaw
 pub mod LayerLines
+pub mod LayersLaw
+pub mod ServiceLaw

@@ -1,6 +1,9 @@
 -- The answer to a request: the exception of the first check that fails, else what the request asks for.
-use Rattle.std.specs.Prelude.{ℕ, List, [], ◌∷◌, bytes_eq, codes, Option, Some, None, if◌then◌else◌}
+use Rattle.std.specs.Prelude.{◌≡◌, ℕ, List, [], ◌∷◌, bytes_eq, codes, Option, Some, None, Result, Ok, Err, if◌then◌else◌}
 use Rattle.wf_def.specs.Definition.{Definition}
+use Rattle.wf_learner.specs.History.{map_at}
+use Rattle.wf_picture.specs.Picture.{IsImageOf}
+use Rattle.wf_wms.specs.MapRequest.{Picture, map_request, map_sequence}
 use Rattle.wf_wms.specs.Query.{pairs_of, parameter}
 use Rattle.wf_wms.specs.UpdateSequence.{sequence_rule}
 use Rattle.wf_wms.specs.Exception.{exception_report}
@@ -12,6 +15,8 @@ use Rattle.wf_wms.specs.declared.exception.Exception.{Exception}
 use Rattle.wf_wms.specs.declared.exception.Exception.TheVariants as exception
 use Rattle.wf_wms.specs.declared.kind.Kind.{Kind}
 use Rattle.wf_wms.specs.declared.kind.Kind.TheVariants as kind
+use Rattle.wf_wms.specs.declared.operation.Operation.{Operation}
+use Rattle.wf_wms.specs.declared.operation.Operation.TheVariants.{Capabilities, Map}
 
 -- what a client gets: what kind of answer it is, its media type and its bytes
 pub record AnswerValue : Type 0 where
@@ -37,11 +42,11 @@ first_failing [] = None
 first_failing (None ∷ checks) = first_failing checks
 first_failing (Some e ∷ checks) = Some e
 
--- REQUEST names an operation (OGC 06-042, 7.2.3.4): of one map alone the metadata can be had, and no picture
-abbrev pub check_request : Option (List ℕ) → Option Exception
-check_request None = Some (exception.MissingParameter Request)
-check_request (Some request) =
-    if bytes_eq request (codes "GetCapabilities") then None else Some exception.OperationNotSupported
+-- the operation that REQUEST names (7.1)
+abbrev pub operation_of : Option (List ℕ) → Result Operation Exception
+operation_of None = Err (exception.MissingParameter Request)
+operation_of (Some request) = if bytes_eq request (codes "GetCapabilities") then Ok Capabilities
+    else (if bytes_eq request (codes "GetMap") then Ok Map else Err exception.OperationNotSupported)
 
 -- SERVICE is WMS (7.2.3.3)
 abbrev pub check_service : Option (List ℕ) → Option Exception
@@ -57,18 +62,78 @@ check_sequence standing.Equal = Some exception.CurrentUpdateSequence
 check_sequence standing.Above = Some exception.InvalidUpdateSequence
 
 -- why a query gets no metadata at the sequence s, where it gets none
-unfoldable pub description_fault : ℕ → List (List ℕ × List ℕ) → Option Exception
-description_fault s pairs = first_failing (
-    check_request (parameter (codes "REQUEST") pairs)
-    ∷ check_service (parameter (codes "SERVICE") pairs)
+unfoldable pub metadata_fault : ℕ → List (List ℕ × List ℕ) → Option Exception
+metadata_fault s pairs = first_failing (
+    check_service (parameter (codes "SERVICE") pairs)
     ∷ check_sequence (sequence_rule (parameter (codes "UPDATESEQUENCE") pairs) s)
     ∷ [])
 
--- the refusal, or the metadata
 abbrev pub refusal_or_metadata : Option Exception → ℕ → Definition → AnswerValue
 refusal_or_metadata None s d = metadata s d
 refusal_or_metadata (Some e) s d = refusal e
 
+-- the answer to GetCapabilities
+unfoldable pub metadata_answer : ℕ → Definition → List (List ℕ × List ℕ) → AnswerValue
+metadata_answer s d pairs = refusal_or_metadata (metadata_fault s pairs) s d
+
+-- the answer to an operation, where GetMap is none of this server's
+abbrev pub description_to : Result Operation Exception → ℕ → Definition → List (List ℕ × List ℕ) → AnswerValue
+description_to (Err e) s d pairs = refusal e
+description_to (Ok Capabilities) s d pairs = metadata_answer s d pairs
+description_to (Ok Map) s d pairs = refusal exception.OperationNotSupported
+
 -- the answer about one map definition at an update sequence, to a query
 unfoldable pub description : ℕ → Definition → List ℕ → AnswerValue
-description s d query = refusal_or_metadata (description_fault s (pairs_of query)) s d
+description s d query = description_to (operation_of (parameter (codes "REQUEST") (pairs_of query))) s d (pairs_of query)
+
+-- the media type of a picture
+abbrev pub pixmap : List ℕ
+pixmap = codes "image/x-portable-pixmap"
+
+-- the answer is the picture that is asked for of a map
+pub record IsPictureOf (d : Definition) (picture : Picture) (answer : AnswerValue) : Type 0 where
+  pub of_kind : answer.kind ≡ kind.Map
+  pub of_media : answer.media ≡ pixmap
+  pub image : IsImageOf d picture.layers picture.canvas.bbox picture.canvas.width picture.canvas.height picture.canvas.background answer.bytes
+
+-- the picture, or the exception of the first check that fails
+abbrev pub IsMapAnswer : Definition → Result Picture Exception → AnswerValue → Type 0
+IsMapAnswer d (Err e) answer = answer ≡ refusal e
+IsMapAnswer d (Ok picture) answer = IsPictureOf d picture answer
+
+-- the answer to an operation
+abbrev pub IsAnswerTo : Result Operation Exception → ℕ → Definition → List (List ℕ × List ℕ) → AnswerValue → Type 0
+IsAnswerTo (Err e) s d pairs answer = answer ≡ refusal e
+IsAnswerTo (Ok Capabilities) s d pairs answer = answer ≡ metadata_answer s d pairs
+IsAnswerTo (Ok Map) s d pairs answer = IsMapAnswer d (map_request s d pairs) answer
+
+abbrev pub or_own : ℕ → Result ℕ Exception → ℕ
+or_own s (Ok other) = other
+or_own s (Err e) = s
+
+-- the sequence whose map an operation describes or draws: for GetMap the one that MAPSEQ names, else the server's own
+abbrev pub subject_of : Result Operation Exception → ℕ → List (List ℕ × List ℕ) → ℕ
+subject_of (Err e) s pairs = s
+subject_of (Ok Capabilities) s pairs = s
+subject_of (Ok Map) s pairs = or_own s (map_sequence s pairs)
+
+-- The answer to an operation at the sequence s, of a history, whose first entry is that of sequence 1. Of the history, it depends on
+-- the map that is described or drawn alone.
+pub record IsAnswerOn (operation : Result Operation Exception) (s : ℕ) (history : List Definition) (pairs : List (List ℕ × List ℕ)) (answer : AnswerValue) : Type 0 where
+  pub map : Definition
+  pub is_published : map_at history (subject_of operation s pairs) ≡ Some map
+  pub is_answer : IsAnswerTo operation s map pairs answer
+
+-- the answer to a query
+unfoldable pub IsAnswerOf : ℕ → List Definition → List ℕ → AnswerValue → Type 0
+IsAnswerOf s history query answer = IsAnswerOn (operation_of (parameter (codes "REQUEST") (pairs_of query))) s history (pairs_of query) answer
+
+-- the sequence of the map that a query is about
+unfoldable pub subject : ℕ → List ℕ → ℕ
+subject s query = subject_of (operation_of (parameter (codes "REQUEST") (pairs_of query))) s (pairs_of query)
+
+-- so histories that agree on that map have one answer
+abbrev pub EachQueryHasOneAnswer : Type 0
+EachQueryHasOneAnswer = (s : ℕ) (history other : List Definition) (query : List ℕ) (answer another : AnswerValue) →
+    map_at history (subject s query) ≡ map_at other (subject s query) →
+    IsAnswerOf s history query answer → IsAnswerOf s other query another → another ≡ answer

@@ -1,6 +1,9 @@
 pub mod Answer
+pub mod Background
 pub mod Capabilities
+pub mod Digits
 pub mod Exception
+pub mod MapRequest
 pub mod Query
 pub mod UpdateSequence
 pub mod Xml

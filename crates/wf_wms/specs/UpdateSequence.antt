@@ -1,14 +1,11 @@
 -- The UPDATESEQUENCE parameter: OGC 06-042, 7.2.3.5 and its table 4. The rows for a value that is no
 -- number and for an empty value are this profile's own.
-use Rattle.std.specs.Prelude.{ℕ, ◌+◌, ◌-◌, ◌*◌, List, [], ◌∷◌, fold, nat_lt, ◌==◌, Option, Some, None, if◌then◌else◌}
+use Rattle.std.specs.Prelude.{ℕ, List, [], ◌∷◌, nat_lt, ◌==◌, Option, Some, None, if◌then◌else◌}
 use Rattle.std.specs.List.{list_all}
 use Rattle.std.specs.Char.{is_ascii_digit}
+use Rattle.wf_wms.specs.Digits.{number_of_digits}
 use Rattle.wf_wms.specs.declared.standing.Standing.{Standing}
 use Rattle.wf_wms.specs.declared.standing.Standing.TheVariants.{Absent, NoNumber, Below, Equal, Above}
-
--- the whole number that decimal digits stand for, however many there are
-abbrev pub number_of_digits : List ℕ → ℕ
-number_of_digits digits = fold (λ number digit. 10 * number + (digit - 48)) 0 digits
 
 -- a number, beside the sequence s
 abbrev pub standing_of : ℕ → ℕ → Standing

@@ -1,7 +1,9 @@
 //! Answers.
-ghost use Rattle.std.specs.Prelude.{◌≡◌, IfOk};
-ghost use Rattle.wf_wms.specs.Answer.{refusal, metadata};
+ghost use Rattle.std.specs.Prelude.{◌≡◌, ◌<◌, All, IfOk, length};
+ghost use Rattle.wf_wms.specs.Answer.{refusal, metadata, IsPictureOf};
+ghost use Rattle.wf_wms.specs.MapRequest.{IsCanvas};
 
+use crate::canvas::Canvas;
 use crate::capabilities::capabilities;
 use crate::exception::Exception;
 use crate::kind::Kind;
@@ -9,9 +11,13 @@ use crate::report::report;
 use std::alloc::{AllocError, Global};
 use std::marker::Model;
 use wf_def::map::MapDef;
+use wf_picture::picture::draw;
 
 /// The media type of both XML documents.
 const XML: &str = "text/xml";
+
+/// The media type of pictures: a pixmap in the raw form of Netpbm's PPM format.
+const PIXMAP: &str = "image/x-portable-pixmap";
 
 /// What a client gets.
 #[derive(Drop)]
@@ -50,6 +56,33 @@ impl Answer {
             kind: Kind::Capabilities,
             media: XML,
             bytes: capabilities(alloc, seq, map)?,
+        })
+    }
+
+    /// The answer with a picture of the layers in these places among the map's, the lowest first.
+    pub(crate) fn picture(
+        alloc: Global,
+        map: &MapDef,
+        layers: &[usize],
+        canvas: Canvas,
+    ) -> Result<Self, AllocError>
+        requires layers { All (λ place. place < length map.now.layers) layers.now }
+        requires canvas { IsCanvas canvas }
+        ensures { IfOk result (λ answer. IsPictureOf map.now (record { layers = layers.now; canvas = canvas }) answer) }
+    {
+        let bytes = draw(
+            alloc,
+            map,
+            layers,
+            &canvas.bbox,
+            canvas.width,
+            canvas.height,
+            canvas.background,
+        )?;
+        Ok(Answer {
+            kind: Kind::Map,
+            media: PIXMAP,
+            bytes,
         })
     }
 }

@@ -1,24 +1,26 @@
 //! Requests about one map definition.
 ghost use Rattle.std.specs.Prelude.{◌≡◌, ◌≤◌, IfOk, option_map};
 ghost use Rattle.wf_ballot.specs.Sequence.{last_sequence};
-ghost use Rattle.wf_wms.specs.Answer.{check_request, check_service, check_sequence, description_fault, description};
+ghost use Rattle.wf_wms.specs.Answer.{check_service, check_sequence, description, metadata_answer, metadata_fault, operation_of};
 
 use crate::answer::Answer;
 use crate::exception::{Exception, Parameter};
+use crate::operation::Operation;
 use crate::query::Query;
 use crate::standing::Standing;
 use crate::update_sequence::standing;
 use std::alloc::{AllocError, Global};
 use wf_def::map::MapDef;
 
-// REQUEST names the one operation that needs no picture.
-fn check_request(request: Option<&str>) -> Option<Exception>
-    ensures { result ≡ check_request (option_map (λ text. text.now) request.entry) }
+/// The operation that REQUEST names (OGC 06-042, 7.1).
+pub(crate) fn operation(request: Option<&str>) -> Result<Operation, Exception>
+    ensures { result ≡ operation_of (option_map (λ text. text.now) request.entry) }
 {
     match request {
-        None => Some(Exception::MissingParameter(Parameter::Request)),
-        Some("GetCapabilities") => None,
-        Some(_) => Some(Exception::OperationNotSupported),
+        None => Err(Exception::MissingParameter(Parameter::Request)),
+        Some("GetCapabilities") => Ok(Operation::Capabilities),
+        Some("GetMap") => Ok(Operation::Map),
+        Some(_) => Err(Exception::OperationNotSupported),
     }
 }
 
@@ -42,14 +44,31 @@ fn check_sequence(standing: Standing) -> Option<Exception>
     }
 }
 
-// The exception of the first check that fails.
-#[tactic(auto, unfolding(crate::specs::Answer::description_fault))]
-fn fault(query: &Query, seq: u16) -> Option<Exception>
-    ensures { result ≡ description_fault seq query.now }
+// The exception of the first check of GetCapabilities that fails.
+#[tactic(auto, unfolding(crate::specs::Answer::metadata_fault))]
+fn metadata_fault(query: &Query, seq: u16) -> Option<Exception>
+    ensures { result ≡ metadata_fault seq query.now }
 {
-    check_request(query.parameter("REQUEST"))
-        .or_else(|| check_service(query.parameter("SERVICE")))
-        .or_else(|| check_sequence(standing(query.parameter("UPDATESEQUENCE"), seq)))
+    check_service(query.parameter("SERVICE")).or_else(|| check_sequence(standing(
+        query.parameter("UPDATESEQUENCE"),
+        seq,
+    )))
+}
+
+/// The answer to GetCapabilities (OGC 06-042, 7.2).
+#[tactic(auto, unfolding(crate::specs::Answer::metadata_answer))]
+pub(crate) fn metadata_answer(
+    alloc: Global,
+    seq: u16,
+    map: &MapDef,
+    query: &Query,
+) -> Result<Answer, AllocError>
+    ensures { IfOk result (λ answer. answer ≡ metadata_answer seq map.now query.now) }
+{
+    match metadata_fault(query, seq) {
+        Some(exception) => Answer::refusal(alloc, exception),
+        None => Answer::metadata(alloc, seq, map),
+    }
 }
 
 /// The answer about one map definition at an update sequence. GetCapabilities is answered (OGC
@@ -60,8 +79,9 @@ pub fn describe(alloc: Global, seq: u16, map: &MapDef, query: &[u8]) -> Result<A
     ensures { IfOk result (λ answer. answer ≡ description seq map.now query.now) }
 {
     let query = Query::read(alloc, query)?;
-    match fault(&query, seq) {
-        Some(exception) => Answer::refusal(alloc, exception),
-        None => Answer::metadata(alloc, seq, map),
+    match operation(query.parameter("REQUEST")) {
+        Err(exception) => Answer::refusal(alloc, exception),
+        Ok(Operation::Capabilities) => metadata_answer(alloc, seq, map, &query),
+        Ok(Operation::Map) => Answer::refusal(alloc, Exception::OperationNotSupported),
     }
 }

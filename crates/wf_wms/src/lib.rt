@@ -2,22 +2,41 @@
 //!
 //! An answer is seen as its kind, its media type and its bytes. `specs/Answer.antt` defines it as the
 //! exception of the first check that fails, else what the request asks for, over the pairs of the query
-//! as the URL Standard's form syntax has them; `specs/Capabilities.antt` and `specs/Exception.antt` are
-//! the two documents, line by line.
+//! as the URL Standard's form syntax has them; `specs/MapRequest.antt` has the checks of GetMap, parameter
+//! by parameter and then in order; `specs/Capabilities.antt` and `specs/Exception.antt` are the two
+//! documents, line by line. Which bytes a picture has is defined in wf_picture.
 //!
-//! It promises that [`describe`] gives exactly the defined answer about one map definition, want of
-//! memory aside, in time proportional to the query and the map. It draws no pictures yet: GetMap is an
-//! operation that isn't supported here. It says nothing of how a query or an answer travels.
+//! It promises that [`service::answer`] gives the defined answer at an update sequence and a history, and
+//! [`describe`] that about one map definition, where GetMap is an operation that isn't supported, want of
+//! memory aside. A query has one such answer, which depends on the history only through the map that it
+//! describes or draws ([`law::each_query_has_one_answer`]). It says nothing of how a query or an answer
+//! travels, and keeps no picture.
 #![tactic(auto)]
 
 mod answer;
+mod axes;
+mod background;
+mod bounding_box;
+mod canvas;
 mod capabilities;
+mod crs;
 mod description;
+mod digits;
+mod entries;
 mod exception;
+mod format;
 mod kind;
+pub mod law;
+mod layers;
+mod map_request;
+mod map_sequence;
+mod operation;
 mod query;
 pub mod report;
+pub mod service;
+mod size;
 mod standing;
+mod styles;
 mod update_sequence;
 mod xml;
 

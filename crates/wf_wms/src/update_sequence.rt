@@ -1,29 +1,9 @@
 //! The UPDATESEQUENCE parameter (OGC 06-042, 7.2.3.5).
-ghost use Rattle.std.specs.Prelude.{◌≡◌, ◌^◌, ◌-◌, min, option_map};
-ghost use Rattle.std.specs.List.{list_all};
-ghost use Rattle.std.specs.Char.{is_ascii_digit};
-ghost use Rattle.wf_wms.specs.UpdateSequence.{number_of_digits, standing_of, sequence_rule};
+ghost use Rattle.std.specs.Prelude.{◌≡◌, option_map};
+ghost use Rattle.wf_wms.specs.UpdateSequence.{standing_of, sequence_rule};
 
+use crate::digits::{is_all_digits, number_of};
 use crate::standing::Standing;
-
-// The whole number that decimal digits stand for, or `u64::MAX` where it is greater.
-fn number_of(digits: &str) -> u64
-    ensures { result ≡ min (number_of_digits digits.now) (2 ^ 64 - 1) }
-{
-    let mut number = 0u64;
-    for digit in digits.as_bytes() {
-        number = number
-            .saturating_mul(10)
-            .saturating_add(u64::from(digit.saturating_sub(b'0')));
-    }
-    number
-}
-
-fn is_all_digits(text: &str) -> bool
-    ensures { result ≡ list_all is_ascii_digit text.now }
-{
-    text.as_bytes().iter().all(|byte| byte.is_ascii_digit())
-}
 
 fn compared(number: u64, seq: u16) -> Standing
     ensures { result ≡ standing_of number seq }

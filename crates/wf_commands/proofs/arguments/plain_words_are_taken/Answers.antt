@@ -1,4 +1,4 @@
-use Rattle.wf_commands.proofs.PlainWords.{canon_asked, caps_asked}
+use Rattle.wf_commands.proofs.PlainWords.{canon_asked, caps_asked, run_asked}
 use Rattle.wf_commands.proofs.arguments.plain_words_are_taken.Goals as goal
 
 pub returns-clause-caps : goal.returns-clause-caps
@@ -6,3 +6,6 @@ returns-clause-caps c = caps_asked
 
 pub returns-clause-canon : goal.returns-clause-canon
 returns-clause-canon c = canon_asked
+
+pub returns-clause-run : goal.returns-clause-run
+returns-clause-run c = run_asked

@@ -5,6 +5,6 @@ use Rattle.wf_edge.proofs.response.put.Goals as goal
 
 pub returns-in-Err-clause-written : goal.returns-in-Err-clause-written
 returns-in-Err-clause-written g c = λ start bytes before.
-    piece_cut start (g.K.Sink.written c.args.sink.now) (g.K.Sink.written c.write_piece.new.sink) bytes c.args.piece.now c.args.progress.now.written c.in-Err.count _
+    piece_cut start (g.K.Sink.written c.args.sink.now) (g.K.Sink.written c.write_all.new.sink) bytes c.args.piece.now c.args.progress.now.written c.in-Err.count _
     c.in-Err.ensures.part c.saturating_add-progress-in-Err.ensures
     (subst (λ failed. IsProgress start bytes (g.K.Sink.written c.args.sink.now) c.args.progress.now.written failed) c.if-progress.false before)

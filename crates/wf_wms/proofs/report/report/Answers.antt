@@ -1,4 +1,4 @@
-use Rattle.std.proofs.Common.{◌≡◌, ◌++◌, append_assoc}
+use Rattle.std.proofs.Common.{append_assoc}
 use Rattle.wf_wms.specs.Exception.{exception_report}
 use Rattle.wf_wms.proofs.report.report.Goals as goal
 

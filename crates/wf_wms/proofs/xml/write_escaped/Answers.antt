@@ -1,4 +1,4 @@
-use Rattle.std.proofs.Common.{rules, ◌≡◌, ◌∙◌, ap, sym, arith, ◌+◌, ◌<◌, ◌++◌, List, [], length, drop, get_or, append_assoc, append-nil}
+use Rattle.std.proofs.Common.{◌≡◌, sym, ◌+◌, ◌++◌, [], drop, get_or, append_assoc, append-nil}
 use Rattle.std.proofs.lemmas.List.{at_drop_more, at_drop_all}
 use Rattle.wf_wms.specs.Xml.{escape, escape_byte}
 use Rattle.wf_wms.proofs.xml.write_escaped.Goals as goal

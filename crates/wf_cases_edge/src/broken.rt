@@ -1,0 +1,49 @@
+//! A tape that takes nothing.
+use std::alloc::Global;
+use wf_tape::{Tape, TapeFault};
+
+/// An empty tape whose device fails where something is to be appended.
+#[derive(Drop)]
+pub(crate) struct Broken {
+    failures: u64,
+}
+
+impl Broken {
+    /// A tape that hasn't failed yet.
+    pub(crate) fn new() -> Self {
+        Broken { failures: 0 }
+    }
+}
+
+impl Tape for Broken {
+    ghost use Rattle.std.specs.Prelude.{[]};
+
+    ghost honest = { ⊥ };
+
+    ghost content = { λ _. [] };
+
+    ghost images = { λ _ _. Unit {0} };
+
+    ghost failed = { λ t. t.failures };
+
+    fn read(&mut self, alloc: Global) -> Result<Vec<u8>, TapeFault> {
+        Ok(Vec::new(alloc))
+    }
+
+    fn append(&mut self, _bytes: &[u8]) -> Result<(), TapeFault> {
+        self.failures = self.failures.saturating_add(1);
+        Err(TapeFault::Device)
+    }
+
+    fn sync(&mut self) -> Result<(), TapeFault> {
+        Ok(())
+    }
+
+    fn replace(&mut self, _bytes: &[u8]) -> Result<(), TapeFault> {
+        Ok(())
+    }
+
+    fn failures(&self) -> u64 {
+        self.failures
+    }
+}

@@ -1,0 +1,110 @@
+-- From a body to the step Propose, or to why there is none.
+use Rattle.std.proofs.Common.{◌≡◌, ◌≢◌, ◌∙◌, ℕ, ◌≤◌, Bool, true, false, cond, List, length, Vec, IsSome, refl, sym, ap, subst}
+use Rattle.std.specs.Prelude.{Result, Ok, Err, IfOk, IfErr, OnOk}
+use Rattle.wf_canon.specs.Canon.{canon, most_canon_bytes}
+use Rattle.wf_canon.specs.Refusal.{IsCauseOf}
+use Rattle.wf_canon.specs.declared.fault.CanonFault.{CanonFault}
+use Rattle.wf_canon.specs.declared.fault.CanonFault.TheVariants as canonical
+use Rattle.wf_codec.specs.declared.message.Message.{Message}
+use Rattle.wf_def.specs.Definition.{Definition}
+use Rattle.wf_mapfile.specs.Meaning.{Means, MeansNothing}
+use Rattle.wf_mapfile.specs.Reading.{is_memory}
+use Rattle.wf_mapfile.specs.declared.fault.MapFault.{MapFault}
+use Rattle.wf_model.specs.Table.{Propose, store}
+use Rattle.wf_node.specs.Fault.{refused_by}
+use Rattle.wf_node.specs.Images.{AllStandFor, EachStandsFor}
+use Rattle.wf_node.specs.Node.{Node, stored_of}
+use Rattle.wf_node.specs.Step.{IsRow, IsSameNode, TakesMemory, row_of, refusal_at}
+use Rattle.wf_node.specs.declared.fault.NodeFault.{NodeFault}
+use Rattle.wf_node.specs.declared.fault.NodeFault.TheVariants as node
+use Rattle.wf_tape.specs.Tape.{IsUnchanged, HasRisen}
+use Rattle.wf_edge.specs.Response.{Response}
+use Rattle.wf_edge.specs.Page.{accepted_page}
+use Rattle.wf_edge.specs.Publish.{IsMapOf, IsWhyNoMap, IsProposed, IsPublished, unwritten}
+use Rattle.wf_edge.specs.declared.publish_fault.PublishFault.{PublishFault}
+use Rattle.wf_edge.specs.declared.publish_fault.PublishFault.TheVariants as fault
+
+-- ---- the map of the body
+
+unread_step : (body : List ℕ) (why : MapFault) (memory : Bool) → is_memory why ≡ memory → (memory ≡ false → MeansNothing body)
+    → IsWhyNoMap body (cond memory fault.Memory (fault.Map why))
+unread_step body why true is nothing = tt
+unread_step body why false is nothing = (is, nothing refl)
+
+pub why_unread : (body : List ℕ) (why : MapFault) (told : PublishFault) → told ≡ cond (is_memory why) fault.Memory (fault.Map why)
+    → (is_memory why ≡ false → MeansNothing body) → IsWhyNoMap body told
+why_unread body why told is nothing = subst (λ f. IsWhyNoMap body f) (sym is) (unread_step body why (is_memory why) refl nothing)
+
+unwritten_step : (body : List ℕ) (d : Definition) (why : CanonFault) → Means body d → IsCauseOf why d → IsWhyNoMap body (unwritten why)
+unwritten_step body d canonical.TooBig means cause = (d, means, cause)
+unwritten_step body d canonical.NotCanonical means cause = tt
+unwritten_step body d canonical.Memory means cause = tt
+
+pub why_unwritten : (body : List ℕ) (d : Definition) (why : CanonFault) (told : PublishFault) → Means body d → IsCauseOf why d → told ≡ unwritten why
+    → IsWhyNoMap body told
+why_unwritten body d why told means cause is = subst (λ f. IsWhyNoMap body f) (sym is) (unwritten_step body d why means cause)
+
+pub is_map : (body : List ℕ) (d c : Definition) → Means body d → c ≡ d → length (canon d) ≤ most_canon_bytes → IsMapOf body c
+is_map body d c means is short = subst (λ x. IsMapOf body x) (sym is) (record { means = means; short = short })
+
+module _ {T A : Type 0} (honest : Type 0) (content : T → List ℕ) (images : T → List ℕ → Type 0) (failures : T → ℕ) where
+  -- ---- the step
+
+  not_halted : (before : Node T) (result : Result (Vec Message A) NodeFault) → (result ≡ Err node.Halted → before.halted ≡ true) → before.halted ≡ false
+      → result ≢ Err node.Halted
+  not_halted before result halts runs is = let both : true ≡ false = sym (halts is) ∙ runs in cc
+
+  stays : (before after : Node T) (result : Result (Vec Message A) NodeFault) → result ≡ Err node.Halted
+      → IfErr result (λ why. why ≢ node.Memory → why ≢ node.TapeFailed → after ≡ before) → after ≡ before
+  stays before after result is unchanged =
+      let here : node.Halted ≢ node.Memory → node.Halted ≢ node.TapeFailed → after ≡ before =
+      subst (λ r. IfErr r (λ why. why ≢ node.Memory → why ≢ node.TapeFailed → after ≡ before)) is unchanged in
+      here (λ e. cc) (λ e. cc)
+
+  -- what a node promises of its step is the step Propose
+  pub proposed : (before after : Node T) (d : Definition) (result : Result (Vec Message A) NodeFault)
+      → (before.halted ≡ true → result ≡ Err node.Halted)
+      → (result ≡ Err node.Halted → before.halted ≡ true)
+      → (before.halted ≡ false → refused_by result ≡ refusal_at before (Propose d))
+      → IfOk result (λ messages. IsRow before (row_of before (Propose d)) messages.items after)
+      → (honest → OnOk result (AllStandFor (stored_of after) (images after.tape)))
+      → IfErr result (λ why. why ≢ node.Memory → why ≢ node.TapeFailed → after ≡ before)
+      → IfErr result (λ why. IsSameNode before after)
+      → (result ≡ Err node.Memory → after.halted ≡ false)
+      → (honest → result ≡ Err node.Memory → IsUnchanged (content before.tape) (content after.tape) (images before.tape) (images after.tape))
+      → (result ≡ Err node.Memory → TakesMemory before (Propose d))
+      → (result ≡ Err node.TapeFailed → HasRisen (failures before.tape) (failures after.tape))
+      → (result ≡ Err node.TapeFailed → IsSome (row_of before (Propose d)).entry)
+      → (result ≡ Err node.TapeFailed → after.halted ≡ true)
+      → (honest → result ≡ Err node.TapeFailed → EachStandsFor (stored_of before) (store (stored_of before) (row_of before (Propose d)).entry) (images after.tape))
+      → IsProposed honest content images failures before d result after
+  proposed before after d result halted running refused row on_tape unchanged same memory same_tape takes failed writes halts torn = record {
+    refused = λ is. (halted is, stays before after result (halted is) unchanged);
+    steps = λ is. record {
+      running = not_halted before result running is;
+      refused = refused is;
+      done = row;
+      on_tape = on_tape;
+      unchanged = unchanged;
+      same = same;
+      still_running = memory;
+      same_tape = same_tape;
+      takes = takes;
+      failed = failed;
+      writes = writes;
+      halts = halts;
+      torn = torn;
+    };
+  }
+
+  -- ---- what becomes of the body
+
+  pub accepted : (body : List ℕ) (before after : Node T) (d : Definition) (last : ℕ) (page : Response) (messages : Vec Message A) → IsMapOf body d
+      → last ≡ length before.parts.history → page ≡ accepted_page last → IsProposed honest content images failures before d (Ok messages) after
+      → IsPublished honest content images failures body before (Ok (page, messages)) after
+  accepted body before after d last page messages means is tells step = (d, means, step, tells ∙ ap (λ n. accepted_page n) is)
+
+  pub node_fails : (body : List ℕ) (before after : Node T) (d : Definition) (why : NodeFault) → IsMapOf body d
+      → IsProposed {A = A} honest content images failures before d (Err why) after
+      → IsPublished {A = A} honest content images failures body before (Err (fault.Node why)) after
+  node_fails body before after d why means step = (d, means, step)

@@ -1,0 +1,114 @@
+-- From what was heard, answered and written to the outcome of a request.
+use Rattle.std.proofs.Common.{◌≡◌, ℕ, List, [], Vec, refl, sym, subst}
+use Rattle.std.specs.Prelude.{Option, Result, Ok, Err, IfSome}
+use Rattle.wf_codec.specs.declared.message.Message.{Message}
+use Rattle.wf_node.specs.Node.{Node}
+use Rattle.wf_edge.specs.Request.{Request, IsRequestFault, BeginsWith}
+use Rattle.wf_edge.specs.Response.{Response}
+use Rattle.wf_edge.specs.Notice.{response_of}
+use Rattle.wf_edge.specs.Publish.{IsPublished}
+use Rattle.wf_edge.specs.Saying.{IsSaid, IsFaultSaid}
+use Rattle.wf_edge.specs.Hearing.{IsUnheard, CountsHearing}
+use Rattle.wf_edge.specs.Serving.{Asks, TellsPublish, GivesPublish, GivesTo, Gives, IsServed, MovesOnce, Stays, Proposes, IsOutcome}
+use Rattle.wf_edge.specs.declared.fault.RequestFault.{RequestFault}
+use Rattle.wf_edge.specs.declared.fault.RequestFault.TheVariants as fault
+use Rattle.wf_edge.specs.declared.notice.Notice.{Notice}
+use Rattle.wf_edge.specs.declared.notice.Notice.TheVariants as notice
+use Rattle.wf_edge.specs.declared.outcome.Outcome.{Outcome}
+use Rattle.wf_edge.specs.declared.outcome.Outcome.TheVariants as outcome
+use Rattle.wf_edge.specs.declared.publish_fault.PublishFault.{PublishFault}
+use Rattle.wf_edge.specs.declared.publish_fault.PublishFault.TheVariants as publish
+use Rattle.wf_edge.specs.declared.resource.Asked.{Asked}
+use Rattle.wf_edge.specs.declared.resource.Asked.TheVariants as asked
+use Rattle.wf_edge.proofs.HearingLaw.{calm_reads}
+
+module _ {T A : Type 0} (honest : Type 0) (content : T → List ℕ) (images : T → List ℕ → Type 0) (failures : T → ℕ) where
+  pub gives_published : (body : List ℕ) (before after : Node T) (done : Result (Response × Vec Message A) PublishFault) (answer : Result Response Notice)
+      (sent : Vec Message A) → IsPublished honest content images failures body before done after → TellsPublish done answer sent
+      → GivesPublish honest content images failures body before answer sent after
+  gives_published body before after done answer sent becomes told = record { done = done; published = becomes; tells = told }
+
+  -- a request was answered by what it asks for, and the answer written
+  pub request_served : (kind : Asked) (request : Request) (old new : Option (List ℕ)) (before after : Node T) (answer : Result Response Notice)
+      (sent : Vec Message A) (said : Outcome) → kind ≡ request.asked → GivesTo honest content images failures kind request before answer sent after
+      → IsSaid (response_of answer) old new said → IsServed honest content images failures request old new before sent after said
+  request_served kind request old new before after answer sent said is given written = record {
+    answer = answer;
+    gives = subst (λ k. GivesTo honest content images failures k request before answer sent after) is given;
+    written = written;
+  }
+
+  -- ---- what a request does to the node
+
+  published_moves : (body : List ℕ) (before after : Node T) (done : Result (Response × Vec Message A) PublishFault) (answer : Result Response Notice)
+      (sent : Vec Message A) → IsPublished honest content images failures body before done after → TellsPublish done answer sent
+      → MovesOnce honest content images failures before sent after
+  published_moves body before after (Ok done) answer sent becomes told = Proposes becomes.0 (Ok done.1) becomes.2 told.1
+  published_moves body before after (Err (publish.Node why)) answer sent becomes told = Proposes becomes.0 (Err why) becomes.2 told.1
+  published_moves body before after (Err (publish.Map why)) answer sent becomes told = Stays (record { same = becomes.1; quiet = told.1 })
+  published_moves body before after (Err publish.TooBig) answer sent becomes told = Stays (record { same = becomes.1; quiet = told.1 })
+  published_moves body before after (Err publish.Memory) answer sent becomes told = Stays (record { same = becomes; quiet = told.1 })
+
+  given_moves : (kind : Asked) (request : Request) (before after : Node T) (answer : Result Response Notice) (sent : Vec Message A)
+      → GivesTo honest content images failures kind request before answer sent after → MovesOnce honest content images failures before sent after
+  given_moves asked.Wms request before after answer sent given = Stays given.1
+  given_moves asked.Status request before after answer sent given = Stays given.1
+  given_moves (asked.Publish bytes) request before after answer sent given = published_moves request.body before after given.done answer sent given.published given.tells
+
+  pub served_moves : (request : Request) (old new : Option (List ℕ)) (before after : Node T) (sent : Vec Message A) (said : Outcome)
+      → IsServed honest content images failures request old new before sent after said → MovesOnce honest content images failures before sent after
+  served_moves request old new before after sent said served = given_moves request.asked request before after served.answer sent served.gives
+
+  pub unheard_moves : (node : Node T) (sent : Vec Message A) → sent.items ≡ [] → MovesOnce honest content images failures node sent node
+  unheard_moves node sent quiet = Stays (record { same = refl; quiet = quiet })
+
+  -- ---- the outcome
+
+  -- an answer that is written is the outcome
+  said_outcome : (input old new : Option (List ℕ)) (heard : Result Request RequestFault) (before after : Node T) (answer : Result Response Notice)
+      (sent : Vec Message A) (said : Outcome) → IfSome input (λ bytes. Asks bytes heard) → Gives honest content images failures heard before answer sent after
+      → IsSaid (response_of answer) old new said → IsOutcome honest content images failures input old new before sent after said
+  said_outcome input old new heard before after answer sent (outcome.Sent status count) asks given written = record {
+    response = response_of answer;
+    responds = record { heard = heard; asks = asks; answer = answer; gives = given; is = refl };
+    written = written.0;
+    status_is = written.1;
+    count_is = written.2;
+  }
+  said_outcome input old new heard before after answer sent (outcome.WriteFailed status count) asks given written = record {
+    response = response_of answer;
+    responds = record { heard = heard; asks = asks; answer = answer; gives = given; is = refl };
+    written = written.0;
+    status_is = written.1;
+  }
+  said_outcome input old new heard before after answer sent outcome.ReadFailed asks given written = absurd written
+  said_outcome input old new heard before after answer sent outcome.NoRequest asks given written = absurd written
+
+  pub served_outcome : (input old new : Option (List ℕ)) (request : Request) (before after : Node T) (sent : Vec Message A) (said : Outcome)
+      → IfSome input (λ bytes. BeginsWith bytes request) → IsServed honest content images failures request old new before sent after said
+      → IsOutcome honest content images failures input old new before sent after said
+  served_outcome input old new request before after sent said begins served =
+      said_outcome input old new (Ok request) before after served.answer sent said begins served.gives served.written
+
+  fault_outcome : (input old new : Option (List ℕ)) (why : RequestFault) (node : Node T) (sent : Vec Message A) (said : Outcome)
+      → IfSome input (λ bytes. IsRequestFault bytes why) → sent.items ≡ [] → IsFaultSaid why old new said
+      → IsOutcome honest content images failures input old new node sent node said
+  fault_outcome input old new (fault.Refused r) node sent said asks quiet written =
+      said_outcome input old new (Err (fault.Refused r)) node node (Err (notice.Refused r)) sent said asks (refl, record { same = refl; quiet = quiet }) written
+  fault_outcome input old new fault.Memory node sent said asks quiet written =
+      said_outcome input old new (Err fault.Memory) node node (Err notice.Unavailable) sent said asks (refl, record { same = refl; quiet = quiet }) written
+  fault_outcome input old new fault.NoRequest node sent said asks quiet written =
+      subst (λ o. IsOutcome honest content images failures input old new node sent node o) (sym written.0) (asks, record { same = refl; quiet = quiet }, written.1)
+  fault_outcome input old new fault.ReadFailed node sent said asks quiet written =
+      subst (λ o. IsOutcome honest content images failures input old new node sent node o) (sym written.0) (record { same = refl; quiet = quiet }, written.1)
+
+  -- where there is no request, its refusal is the outcome, or nothing
+  pub unheard_outcome : (input old new : Option (List ℕ)) (node : Node T) (sent : Vec Message A) (said : Outcome) → IsUnheard input old new said
+      → sent.items ≡ [] → IsOutcome honest content images failures input old new node sent node said
+  unheard_outcome input old new node sent said unheard quiet =
+      fault_outcome input old new unheard.why node sent said unheard.is quiet unheard.written
+
+  -- where a request was heard, no read has failed
+  pub served_reads : (request : Request) (old new : Option (List ℕ)) (before after : Node T) (sent : Vec Message A) (said : Outcome) (first last : ℕ)
+      → last ≡ first → IsServed honest content images failures request old new before sent after said → CountsHearing said first last
+  served_reads request old new before after sent said first last calm served = calm_reads _ old new said first last calm served.written

@@ -1,0 +1,86 @@
+-- What a node answers with a page of its own: the map service, where it stands, what it accepted, and the fault of a map.
+use Rattle.std.specs.Prelude.{◌≡◌, ℕ, ◌+◌, List, ◌++◌, codes, decimal, length, None, Result, Ok, Err, if◌then◌else◌}
+use Rattle.wf_def.specs.Definition.{Definition}
+use Rattle.wf_mapfile.specs.declared.fault.MapFault.{MapFault}
+use Rattle.wf_mapfile.specs.declared.fault.MapFault.TheVariants as map
+use Rattle.wf_node.specs.Node.{Node, working_of}
+use Rattle.wf_proposer.specs.Standing.{standing_of}
+use Rattle.wf_proposer.specs.declared.standing.Standing.{Standing}
+use Rattle.wf_proposer.specs.declared.standing.Standing.TheVariants as standing
+use Rattle.wf_wms.specs.Answer.{AnswerValue, IsAnswerOf}
+use Rattle.wf_edge.specs.Response.{Response}
+use Rattle.wf_edge.specs.Notice.{plain, text_line}
+use Rattle.wf_edge.specs.declared.notice.Notice.{Notice}
+use Rattle.wf_edge.specs.declared.notice.Notice.TheVariants as notice
+
+-- a page of one line
+abbrev pub line_page : ℕ → List ℕ → Response
+line_page status words = record { status = status; media = plain; allowed = None; body = text_line words }
+
+-- ---- GET /wms
+
+-- the page of an answer of the map service: the status is 200 also where the answer is an exception
+abbrev pub service_page : AnswerValue → Response
+service_page answer = record { status = 200; media = answer.media; allowed = None; body = answer.bytes }
+
+-- the page of what the map service answers to a query at the last published sequence
+pub record IsServicePage (history : List Definition) (query : List ℕ) (page : Response) : Type 0 where
+  pub answer : AnswerValue
+  pub is_answer : IsAnswerOf (length history) history query answer
+  pub is_page : page ≡ service_page answer
+
+-- that page is given; it may only be missing for want of memory
+abbrev pub IsServiceGiven : List Definition → List ℕ → Result Response Notice → Type 0
+IsServiceGiven history query (Ok page) = IsServicePage history query page
+IsServiceGiven history query (Err n) = n ≡ notice.Unavailable
+
+-- ---- GET /status
+
+abbrev pub standing_words : Standing → List ℕ
+standing_words standing.None = codes "none"
+standing_words standing.Running = codes "running"
+standing_words (standing.Published s) = codes "published " ++ decimal s
+standing_words (standing.Overtaken s) = codes "overtaken " ++ decimal s
+
+-- how a node's proposal stands: a halted node has none
+abbrev pub standing_at : {T : Type 0} → Node T → Standing
+standing_at node = if node.halted then standing.None else standing_of (working_of node)
+
+-- who the node is, what it published last and how its proposal stands
+unfoldable pub status_words : ℕ → ℕ → Standing → List ℕ
+status_words id published stands =
+    codes "node " ++ decimal id ++ codes " published " ++ decimal published ++ codes " proposal " ++ standing_words stands
+
+abbrev pub status_page : {T : Type 0} → Node T → Response
+status_page node = line_page 200 (status_words node.id (length node.parts.history) (standing_at node))
+
+-- ---- POST /publish
+
+-- the sequence that the map was proposed for
+unfoldable pub accepted_words : ℕ → List ℕ
+accepted_words published = codes "accepted for " ++ decimal (published + 1)
+
+abbrev pub accepted_page : ℕ → Response
+accepted_page published = line_page 202 (accepted_words published)
+
+-- the number of a fault, and its place
+unfoldable pub at_place : List ℕ → ℕ → List ℕ
+at_place number place = number ++ codes " " ++ decimal place
+
+abbrev pub fault_words : MapFault → List ℕ
+fault_words map.Memory = codes "M1"
+fault_words map.TooLong = codes "M2"
+fault_words (map.NotUtf8 place) = at_place (codes "M3") place
+fault_words (map.BadToken place) = at_place (codes "M4") place
+fault_words (map.UnexpectedWord place) = at_place (codes "M5") place
+fault_words (map.MissingEnd place) = at_place (codes "M6") place
+fault_words (map.BadNumber place) = at_place (codes "M7") place
+fault_words (map.OutOfRange place) = at_place (codes "M8") place
+fault_words map.Missing = codes "M9"
+fault_words (map.Repeated place) = at_place (codes "M10") place
+fault_words map.TooMany = codes "M11"
+fault_words (map.Trailing place) = at_place (codes "M12") place
+
+-- the page of a body that is no map: 503 is told for want of memory, never M1
+abbrev pub bad_map_page : MapFault → Response
+bad_map_page fault = line_page 400 (fault_words fault)

@@ -1,0 +1,63 @@
+-- What becomes of a map that is published: the step Propose of the node, or a fault before it.
+use Rattle.std.specs.Prelude.{◌≡◌, ℕ, ◌<◌, ◌≤◌, true, false, List, length, Result, Ok, Err, Vec}
+use Rattle.wf_canon.specs.Canon.{canon, most_canon_bytes}
+use Rattle.wf_canon.specs.declared.fault.CanonFault.{CanonFault}
+use Rattle.wf_canon.specs.declared.fault.CanonFault.TheVariants as canonical
+use Rattle.wf_codec.specs.declared.message.Message.{Message}
+use Rattle.wf_def.specs.Definition.{Definition}
+use Rattle.wf_mapfile.specs.Meaning.{Means, MeansNothing}
+use Rattle.wf_mapfile.specs.Reading.{is_memory}
+use Rattle.wf_model.specs.Table.{Propose}
+use Rattle.wf_node.specs.Node.{Node}
+use Rattle.wf_node.specs.Step.{IsStep}
+use Rattle.wf_node.specs.declared.fault.NodeFault.{NodeFault}
+use Rattle.wf_node.specs.declared.fault.NodeFault.TheVariants.{Halted}
+use Rattle.wf_edge.specs.Response.{Response}
+use Rattle.wf_edge.specs.Notice.{notice_of, IsGiven}
+use Rattle.wf_edge.specs.Page.{accepted_page, bad_map_page}
+use Rattle.wf_edge.specs.declared.notice.Notice.{Notice}
+use Rattle.wf_edge.specs.declared.notice.Notice.TheVariants as notice
+use Rattle.wf_edge.specs.declared.publish_fault.PublishFault.{PublishFault}
+use Rattle.wf_edge.specs.declared.publish_fault.PublishFault.TheVariants as fault
+
+-- the body means that map, and its canonical text is within the limit
+pub record IsMapOf (body : List ℕ) (d : Definition) : Type 0 where
+  pub means : Means body d
+  pub short : length (canon d) ≤ most_canon_bytes
+
+-- why a body has no map to propose: it means none, or its canonical text is over the limit; or memory ran out
+abbrev pub IsWhyNoMap : List ℕ → PublishFault → Type 0
+IsWhyNoMap body (fault.Map why) = (is_memory why ≡ false) × MeansNothing body
+IsWhyNoMap body fault.TooBig = (d : Definition) × Means body d × (most_canon_bytes < length (canon d))
+IsWhyNoMap body fault.Memory = Unit {0}
+IsWhyNoMap body (fault.Node why) = ⊥
+
+-- what a fault of writing the canonical text of a definition is told as
+abbrev pub unwritten : CanonFault → PublishFault
+unwritten canonical.TooBig = fault.TooBig
+unwritten canonical.NotCanonical = fault.Memory
+unwritten canonical.Memory = fault.Memory
+
+module _ {T A : Type 0} (honest : Type 0) (content : T → List ℕ) (images : T → List ℕ → Type 0) (failures : T → ℕ) where
+  -- the step Propose of the definition; a halted node refuses it, and stays as it is
+  pub record IsProposed (before : Node T) (d : Definition) (result : Result (Vec Message A) NodeFault) (after : Node T) : Type 0 where
+    pub refused : before.halted ≡ true → (result ≡ Err Halted) × (after ≡ before)
+    pub steps : before.halted ≡ false → IsStep honest content images failures before (Propose d) result after
+
+  -- What becomes of the body. Accepted: the node made the step Propose, and these are its messages. A node's fault is that step's. With any
+  -- other fault no step was made.
+  abbrev pub IsPublished : List ℕ → Node T → Result (Response × Vec Message A) PublishFault → Node T → Type 0
+  IsPublished body before (Ok done) after =
+      (d : Definition) × IsMapOf body d × IsProposed before d (Ok done.1) after × (done.0 ≡ accepted_page (length before.parts.history))
+  IsPublished body before (Err (fault.Node why)) after = (d : Definition) × IsMapOf body d × IsProposed before d (Err why) after
+  IsPublished body before (Err (fault.Map why)) after = IsWhyNoMap body (fault.Map why) × (after ≡ before)
+  IsPublished body before (Err fault.TooBig) after = IsWhyNoMap body fault.TooBig × (after ≡ before)
+  IsPublished body before (Err fault.Memory) after = after ≡ before
+
+-- How a fault is told: 400 for a body that is no map, or none with a canonical text; 409 where the step table refuses now; 503 for want of
+-- memory, also of the page, and for a node that is halted or whose tape fails.
+abbrev pub TellsFault : PublishFault → Result Response Notice → Type 0
+TellsFault (fault.Map why) answer = IsGiven (bad_map_page why) answer
+TellsFault fault.TooBig answer = answer ≡ Err notice.TooBig
+TellsFault fault.Memory answer = answer ≡ Err notice.Unavailable
+TellsFault (fault.Node why) answer = answer ≡ Err (notice_of why)

@@ -1,0 +1,115 @@
+-- What one request does: its response, the step that the node makes of it, and what is written.
+use Rattle.std.specs.Prelude.{◌≡◌, ℕ, List, [], length, Option, Result, Ok, Err, IfSome, Vec}
+use Rattle.std.specs.Io.KnownBytes.{Appends, Keeps}
+use Rattle.wf_codec.specs.declared.message.Message.{Message}
+use Rattle.wf_def.specs.Definition.{Definition}
+use Rattle.wf_node.specs.Node.{Node}
+use Rattle.wf_node.specs.declared.fault.NodeFault.{NodeFault}
+use Rattle.wf_edge.specs.Request.{Request, BeginsWith, IsRequestFault}
+use Rattle.wf_edge.specs.Response.{Response, response_bytes, IsCount, WritesPart}
+use Rattle.wf_edge.specs.Target.{query_of}
+use Rattle.wf_edge.specs.Notice.{response_of, IsGiven}
+use Rattle.wf_edge.specs.Page.{status_page, IsServiceGiven}
+use Rattle.wf_edge.specs.Publish.{IsProposed, IsPublished, TellsFault}
+use Rattle.wf_edge.specs.Saying.{IsSaid}
+use Rattle.wf_edge.specs.declared.fault.RequestFault.{RequestFault}
+use Rattle.wf_edge.specs.declared.fault.RequestFault.TheVariants as fault
+use Rattle.wf_edge.specs.declared.notice.Notice.{Notice}
+use Rattle.wf_edge.specs.declared.notice.Notice.TheVariants as notice
+use Rattle.wf_edge.specs.declared.publish_fault.PublishFault.{PublishFault}
+use Rattle.wf_edge.specs.declared.resource.Asked.{Asked}
+use Rattle.wf_edge.specs.declared.resource.Asked.TheVariants as asked
+use Rattle.wf_edge.specs.declared.outcome.Outcome.{Outcome}
+use Rattle.wf_edge.specs.declared.outcome.Outcome.TheVariants as outcome
+
+-- ---- what the input asks for
+
+-- the input begins with that request, or there is none for that reason
+abbrev pub Asks : List ℕ → Result Request RequestFault → Type 0
+Asks input (Ok request) = BeginsWith input request
+Asks input (Err why) = IsRequestFault input why
+
+-- ---- what it is given
+
+-- the node is as it was, and sends nothing
+pub record IsUnmoved {T A : Type 0} (before : Node T) (sent : Vec Message A) (after : Node T) : Type 0 where
+  pub same : after ≡ before
+  pub quiet : sent.items ≡ []
+
+-- what becomes of a publish is told: a page and the step's messages, or a fault and none
+abbrev pub TellsPublish : {A : Type 0} → Result (Response × Vec Message A) PublishFault → Result Response Notice → Vec Message A → Type 0
+TellsPublish (Ok done) answer sent = (answer ≡ Ok done.0) × (sent ≡ done.1)
+TellsPublish (Err why) answer sent = TellsFault why answer × (sent.items ≡ [])
+
+-- exactly the messages of a step are handed out; none where it was refused or failed
+abbrev pub HandsOut : {A : Type 0} → Result (Vec Message A) NodeFault → Vec Message A → Type 0
+HandsOut (Ok messages) sent = sent ≡ messages
+HandsOut (Err why) sent = sent.items ≡ []
+
+module _ {T A : Type 0} (honest : Type 0) (content : T → List ℕ) (images : T → List ℕ → Type 0) (failures : T → ℕ) where
+  -- what a publish of a body gives: its messages are the step's, whatever becomes of the answer
+  pub record GivesPublish (body : List ℕ) (before : Node T) (answer : Result Response Notice) (sent : Vec Message A) (after : Node T) : Type 0 where
+    pub done : Result (Response × Vec Message A) PublishFault
+    pub published : IsPublished honest content images failures body before done after
+    pub tells : TellsPublish done answer sent
+
+  -- What is given to a request, by what it asks for. Only a publish moves the node.
+  abbrev pub GivesTo : Asked → Request → Node T → Result Response Notice → Vec Message A → Node T → Type 0
+  GivesTo asked.Wms request before answer sent after =
+      IsServiceGiven before.parts.history (query_of request.head.target) answer × IsUnmoved before sent after
+  GivesTo asked.Status request before answer sent after = IsGiven (status_page before) answer × IsUnmoved before sent after
+  GivesTo (asked.Publish bytes) request before answer sent after = GivesPublish request.body before answer sent after
+
+  -- what is given to what was read: a refusal and want of memory are told, and leave the node as it was
+  abbrev pub Gives : Result Request RequestFault → Node T → Result Response Notice → Vec Message A → Node T → Type 0
+  Gives (Ok request) before answer sent after = GivesTo request.asked request before answer sent after
+  Gives (Err (fault.Refused r)) before answer sent after = (answer ≡ Err (notice.Refused r)) × IsUnmoved before sent after
+  Gives (Err fault.Memory) before answer sent after = (answer ≡ Err notice.Unavailable) × IsUnmoved before sent after
+  Gives (Err fault.NoRequest) before answer sent after = ⊥
+  Gives (Err fault.ReadFailed) before answer sent after = ⊥
+
+  -- That is a response to the input, with what it does to the node and the messages that the node sends.
+  pub record Responds (input : Option (List ℕ)) (before : Node T) (response : Response) (sent : Vec Message A) (after : Node T) : Type 0 where
+    pub heard : Result Request RequestFault
+    pub asks : IfSome input (λ bytes. Asks bytes heard)
+    pub answer : Result Response Notice
+    pub gives : Gives heard before answer sent after
+    pub is : response ≡ response_of answer
+
+  -- for the crate's own contracts: a request was answered, and that was written of the answer
+  pub record IsServed (request : Request) (old new : Option (List ℕ)) (before : Node T) (sent : Vec Message A) (after : Node T) (said : Outcome) : Type 0 where
+    pub answer : Result Response Notice
+    pub gives : GivesTo request.asked request before answer sent after
+    pub written : IsSaid (response_of answer) old new said
+
+  -- ---- what one request may do to a node, whether or not the input is known
+
+  -- nothing; or one step Propose, and exactly its messages are handed out
+  pub data MovesOnce (before : Node T) (sent : Vec Message A) (after : Node T) : Type 0 where
+    Stays : IsUnmoved before sent after → MovesOnce before sent after
+    Proposes : (d : Definition) (result : Result (Vec Message A) NodeFault) → IsProposed honest content images failures before d result after
+        → HandsOut result sent → MovesOnce before sent after
+
+  -- ---- the outcome
+
+  -- a response was written whole, with that status and so many bytes
+  pub record SendsAll (input old new : Option (List ℕ)) (before : Node T) (sent : Vec Message A) (after : Node T) (status count : ℕ) : Type 0 where
+    pub response : Response
+    pub responds : Responds input before response sent after
+    pub written : Appends old new (response_bytes response)
+    pub status_is : status ≡ response.status
+    pub count_is : IsCount (length (response_bytes response)) count
+
+  -- the first bytes of a response were written, so many, and then the writer failed
+  pub record SendsPart (input old new : Option (List ℕ)) (before : Node T) (sent : Vec Message A) (after : Node T) (status count : ℕ) : Type 0 where
+    pub response : Response
+    pub responds : Responds input before response sent after
+    pub written : WritesPart (response_bytes response) old new count
+    pub status_is : status ≡ response.status
+
+  -- What became of one request. There is none only where the input is empty; then, and where the reader failed, nothing is written.
+  abbrev pub IsOutcome : Option (List ℕ) → Option (List ℕ) → Option (List ℕ) → Node T → Vec Message A → Node T → Outcome → Type 0
+  IsOutcome input old new before sent after (outcome.Sent status count) = SendsAll input old new before sent after status count
+  IsOutcome input old new before sent after (outcome.WriteFailed status count) = SendsPart input old new before sent after status count
+  IsOutcome input old new before sent after outcome.ReadFailed = IsUnmoved before sent after × Keeps old new
+  IsOutcome input old new before sent after outcome.NoRequest = IfSome input (λ bytes. bytes ≡ []) × IsUnmoved before sent after × Keeps old new

@@ -1,0 +1,78 @@
+//! What a node answers, and leaves itself as it is.
+ghost use Rattle.std.specs.Prelude.{◌≡◌, length, IfOk};
+ghost use Rattle.wf_edge.specs.Notice.{IsGiven};
+ghost use Rattle.wf_edge.specs.Page.{service_page, IsServiceGiven, status_page, accepted_page, bad_map_page};
+ghost use Rattle.wf_wms.specs.Answer.{IsAnswerOf};
+
+use crate::line::{accepted_line, fault_line, status_line};
+use crate::notice::Notice;
+use crate::page::Page;
+use crate::telling::PLAIN;
+use http::StatusCode;
+use std::alloc::{AllocError, Global};
+use wf_ballot::Seq;
+use wf_mapfile::fault::MapFault;
+use wf_node::Node;
+use wf_tape::Tape;
+use wf_wms::Answer;
+use wf_wms::service::answer;
+
+// What the map service answers to a query at the last published sequence.
+fn answer_at<T: Tape>(alloc: Global, node: &Node<T>, query: &[u8]) -> Result<Answer, AllocError>
+    ensures { IfOk result (λ answer. IsAnswerOf (length node.now.parts.history) node.now.parts.history query.now answer) }
+{
+    let history = node.history();
+    answer(alloc, history.published().number(), history, query)
+}
+
+// The page of an answer of the map service.
+fn service_page(answer: Answer) -> Page
+    ensures { result ≡ service_page answer }
+{
+    let Answer { media, bytes, .. } = answer;
+    Page::new(StatusCode::OK, media, bytes)
+}
+
+/// The page of what the map service answers to a query.
+pub(crate) fn answer_query<T: Tape>(
+    alloc: Global,
+    node: &Node<T>,
+    query: &[u8],
+) -> Result<Page, Notice>
+    ensures { IsServiceGiven node.now.parts.history query.now result }
+{
+    match answer_at(alloc, node, query) {
+        Ok(answer) => Ok(service_page(answer)),
+        Err(_) => Err(Notice::Unavailable),
+    }
+}
+
+/// Where the node stands.
+pub(crate) fn tell_status<T: Tape>(alloc: Global, node: &Node<T>) -> Result<Page, Notice>
+    ensures { IsGiven (status_page node.now) result }
+{
+    match status_line(alloc, node.id(), node.published(), node.proposal()) {
+        Ok(line) => Ok(Page::new(StatusCode::OK, PLAIN, line)),
+        Err(_) => Err(Notice::Unavailable),
+    }
+}
+
+/// That a map is accepted for the sequence after the last published.
+pub(crate) fn accept(alloc: Global, published: Seq) -> Result<Page, Notice>
+    ensures { IsGiven (accepted_page published) result }
+{
+    match accepted_line(alloc, published) {
+        Ok(line) => Ok(Page::new(StatusCode::ACCEPTED, PLAIN, line)),
+        Err(_) => Err(Notice::Unavailable),
+    }
+}
+
+/// Why a body is no map.
+pub(crate) fn tell_fault(alloc: Global, fault: MapFault) -> Result<Page, Notice>
+    ensures { IsGiven (bad_map_page fault) result }
+{
+    match fault_line(alloc, fault) {
+        Ok(line) => Ok(Page::new(StatusCode::BAD_REQUEST, PLAIN, line)),
+        Err(_) => Err(Notice::Unavailable),
+    }
+}

@@ -1,0 +1,141 @@
+//! A map is published: it is read, made canonical, and proposed by the node.
+ghost use Rattle.std.specs.Prelude.{◌≡◌, IfOk, IfErr, if◌then◌else◌};
+ghost use Rattle.wf_mapfile.specs.Meaning.{Means};
+ghost use Rattle.wf_mapfile.specs.Reading.{is_memory};
+ghost use Rattle.wf_edge.specs.Publish.{IsMapOf, IsWhyNoMap, IsProposed, IsPublished, TellsFault, unwritten};
+
+use crate::answering::{accept, tell_fault};
+use crate::notice::Notice;
+use crate::page::Page;
+use crate::publish_fault::PublishFault;
+use crate::telling::notice_of;
+use std::alloc::Global;
+use wf_canon::{Canon, CanonFault};
+use wf_codec::Message;
+use wf_def::map::MapDef;
+use wf_mapfile::fault::MapFault;
+use wf_mapfile::read;
+use wf_node::{Input, Node, NodeFault};
+use wf_tape::Tape;
+
+// Why a body that can't be read isn't proposed.
+fn unread(fault: MapFault) -> PublishFault
+    ensures { result ≡ (if is_memory fault then PublishFault.Memory else PublishFault.Map fault) }
+{
+    match fault {
+        MapFault::Memory => PublishFault::Memory,
+        _ => PublishFault::Map(fault),
+    }
+}
+
+// Why a map without a canonical text isn't proposed.
+fn unwritten(fault: CanonFault) -> PublishFault
+    ensures { result ≡ unwritten fault }
+{
+    match fault {
+        CanonFault::TooBig => PublishFault::TooBig,
+        CanonFault::NotCanonical | CanonFault::Memory => PublishFault::Memory,
+    }
+}
+
+// The map that a body means.
+#[tactic(auto, using(crate::proofs::PublishLaw::why_unread))]
+fn map_in(alloc: Global, body: &[u8]) -> Result<MapDef, PublishFault>
+    ensures ok { IfOk result (λ map. Means body.now map) }
+    ensures err { IfErr result (IsWhyNoMap body.now) }
+{
+    match read(alloc, body) {
+        Ok(map) => Ok(map),
+        Err(fault) => Err(unread(fault)),
+    }
+}
+
+// The map of a body, with its canonical text.
+#[tactic(auto, using(crate::proofs::PublishLaw::is_map, crate::proofs::PublishLaw::why_unwritten))]
+fn canon_of(alloc: Global, body: &[u8], map: &MapDef) -> Result<Canon, PublishFault>
+    requires { Means body.now map.now }
+    ensures ok { IfOk result (IsMapOf body.now) }
+    ensures err { IfErr result (IsWhyNoMap body.now) }
+{
+    match Canon::of(alloc, map) {
+        Ok(canon) => Ok(canon),
+        Err(fault) => Err(unwritten(fault)),
+    }
+}
+
+// The map that a body means, with its canonical text.
+fn canon_in(alloc: Global, body: &[u8]) -> Result<Canon, PublishFault>
+    ensures ok { IfOk result (IsMapOf body.now) }
+    ensures err { IfErr result (IsWhyNoMap body.now) }
+{
+    match map_in(alloc, body) {
+        Ok(map) => {
+            let canon = canon_of(alloc, body, &map);
+            drop(map);
+            canon
+        }
+        Err(fault) => Err(fault),
+    }
+}
+
+// The node's step Propose.
+fn propose<T: Tape>(
+    alloc: Global,
+    node: &mut Node<T>,
+    canon: Canon,
+) -> Result<Vec<Message>, NodeFault>
+    ensures { IsProposed T.honest T.content T.images T.failed node.old canon result node.new }
+{
+    node.step(alloc, Input::Propose(canon))
+}
+
+// Proposes a map. The page is made before, so that the step is the last that takes memory.
+#[tactic(auto, using(crate::proofs::PublishLaw::accepted, crate::proofs::PublishLaw::node_fails))]
+fn publish_map<T: Tape>(
+    alloc: Global,
+    node: &mut Node<T>,
+    body: &[u8],
+    canon: Canon,
+) -> Result<(Page, Vec<Message>), PublishFault>
+    requires { IsMapOf body.now canon }
+    ensures { IsPublished T.honest T.content T.images T.failed body.now node.old result node.new }
+{
+    let Ok(page) = accept(alloc, node.published()) else {
+        drop(canon);
+        return Err(PublishFault::Memory);
+    };
+    match propose(alloc, node, canon) {
+        Ok(messages) => Ok((page, messages)),
+        Err(fault) => {
+            drop(page);
+            Err(PublishFault::Node(fault))
+        }
+    }
+}
+
+/// Publishes the map in a body: the node's step Propose, with the page that tells so and the messages of the step. No step is made
+/// where the body is no map, its canonical text is too long, or memory runs out before.
+pub(crate) fn publish<T: Tape>(
+    alloc: Global,
+    node: &mut Node<T>,
+    body: &[u8],
+) -> Result<(Page, Vec<Message>), PublishFault>
+    ensures { IsPublished T.honest T.content T.images T.failed body.now node.old result node.new }
+{
+    match canon_in(alloc, body) {
+        Ok(canon) => publish_map(alloc, node, body, canon),
+        Err(fault) => Err(fault),
+    }
+}
+
+/// What is told of a map that isn't proposed.
+pub(crate) fn tell_publish_fault(alloc: Global, fault: PublishFault) -> Result<Page, Notice>
+    ensures { TellsFault fault result }
+{
+    match fault {
+        PublishFault::Map(fault) => tell_fault(alloc, fault),
+        PublishFault::TooBig => Err(Notice::TooBig),
+        PublishFault::Memory => Err(Notice::Unavailable),
+        PublishFault::Node(fault) => Err(notice_of(fault)),
+    }
+}

@@ -1,0 +1,59 @@
+//! What is answered to a request.
+ghost use Rattle.wf_edge.specs.Serving.{GivesPublish, GivesTo};
+
+use crate::answering::{answer_query, tell_status};
+use crate::notice::Notice;
+use crate::page::Page;
+use crate::publish::{publish, tell_publish_fault};
+use crate::request::Request;
+use crate::resource::Asked;
+use std::alloc::Global;
+use wf_codec::Message;
+use wf_node::Node;
+use wf_tape::Tape;
+
+/// A page or a notice in its place, and the messages that the node sends.
+#[derive(Drop)]
+pub(crate) struct Reply {
+    pub(crate) answer: Result<Page, Notice>,
+    pub(crate) messages: Vec<Message>,
+}
+
+// The reply to a publish.
+#[tactic(auto, using(crate::proofs::ServingLaw::gives_published))]
+fn reply_to_publish<T: Tape>(alloc: Global, node: &mut Node<T>, body: &[u8]) -> Reply
+    ensures { GivesPublish T.honest T.content T.images T.failed body.now node.old result.answer result.messages node.new }
+{
+    match publish(alloc, node, body) {
+        Ok((page, messages)) => Reply {
+            answer: Ok(page),
+            messages,
+        },
+        Err(fault) => Reply {
+            answer: tell_publish_fault(alloc, fault),
+            messages: Vec::new(alloc),
+        },
+    }
+}
+
+/// The reply to a request that asks for this. Only a publish moves the node.
+pub(crate) fn reply_to<T: Tape>(
+    alloc: Global,
+    node: &mut Node<T>,
+    asked: Asked,
+    request: &Request,
+) -> Reply
+    ensures { GivesTo T.honest T.content T.images T.failed asked request.now node.old result.answer result.messages node.new }
+{
+    match asked {
+        Asked::Wms => Reply {
+            answer: answer_query(alloc, node, request.query()),
+            messages: Vec::new(alloc),
+        },
+        Asked::Status => Reply {
+            answer: tell_status(alloc, node),
+            messages: Vec::new(alloc),
+        },
+        Asked::Publish(_) => reply_to_publish(alloc, node, request.body()),
+    }
+}

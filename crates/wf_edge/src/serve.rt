@@ -1,0 +1,85 @@
+//! One request is served.
+ghost use Rattle.wf_edge.specs.Hearing.{CountsHearing};
+ghost use Rattle.wf_edge.specs.Notice.{response_of};
+ghost use Rattle.wf_edge.specs.Saying.{IsSaid, CountsSaying};
+ghost use Rattle.wf_edge.specs.Serving.{IsServed, IsOutcome, MovesOnce};
+
+use crate::hearing::hear;
+use crate::notice::Notice;
+use crate::outcome::Outcome;
+use crate::page::Page;
+use crate::reply::{Reply, reply_to};
+use crate::request::Request;
+use crate::saying::say;
+use crate::stream::{Sink, Source};
+use crate::telling::told;
+use std::alloc::Global;
+use wf_codec::Message;
+use wf_node::Node;
+use wf_tape::Tape;
+
+/// What became of one request, and the messages that the node hands out.
+#[derive(Drop)]
+pub struct Served {
+    pub outcome: Outcome,
+    /// To be delivered whatever became of the response.
+    pub messages: Vec<Message>,
+}
+
+// Writes a page, or the notice in its place.
+fn say_answer<K: Sink>(sink: &mut K, answer: &Result<Page, Notice>) -> Outcome
+    ensures said { IsSaid (response_of answer.now) (K.written sink.old) (K.written sink.new) result }
+    ensures writes { CountsSaying result (K.failures sink.old) (K.failures sink.new) }
+{
+    match answer {
+        Ok(page) => say(sink, &page.response()),
+        Err(notice) => say(sink, &told(*notice)),
+    }
+}
+
+// Answers a request and writes the answer. The messages are handed out whatever becomes of that.
+#[tactic(auto, using(crate::proofs::ServingLaw::request_served))]
+fn serve_request<K: Sink, T: Tape>(
+    alloc: Global,
+    sink: &mut K,
+    node: &mut Node<T>,
+    request: &Request,
+) -> Served
+    ensures served { IsServed T.honest T.content T.images T.failed request.now (K.written sink.old) (K.written sink.new) node.old result.messages node.new result.outcome }
+    ensures writes { CountsSaying result.outcome (K.failures sink.old) (K.failures sink.new) }
+{
+    let Reply { answer, messages } = reply_to(alloc, node, request.asked(), request);
+    let outcome = say_answer(sink, &answer);
+    drop(answer);
+    Served { outcome, messages }
+}
+
+/// Serves one request: reads it, answers it by the node, and writes the response. What is written is a beginning of the response, all of
+/// it where `Sent`; where the reader failed or the input is empty, nothing is written. POST /publish whose checks pass, whose body is a
+/// map with a canonical text, and for whose answer there is memory, is the node's step Propose, and its messages are handed out whatever
+/// became of the write; anything else leaves the node as it was. Want of memory is answered with 503; after the step of a publish no
+/// memory is asked for.
+#[tactic(auto, using(crate::proofs::ServingLaw::served_outcome, crate::proofs::ServingLaw::unheard_outcome, crate::proofs::ServingLaw::served_reads, crate::proofs::ServingLaw::unheard_moves))]
+pub fn serve_one<S: Source, K: Sink, T: Tape>(
+    alloc: Global,
+    source: &mut S,
+    sink: &mut K,
+    node: &mut Node<T>,
+) -> Served
+    ensures outcome { IsOutcome T.honest T.content T.images T.failed (S.left source.old) (K.written sink.old) (K.written sink.new) node.old result.messages node.new result.outcome }
+    ensures moves { MovesOnce T.honest T.content T.images T.failed node.old result.messages node.new }
+    ensures reads { CountsHearing result.outcome (S.failures source.old) (S.failures source.new) }
+    ensures writes { CountsSaying result.outcome (K.failures sink.old) (K.failures sink.new) }
+{
+    match hear(alloc, source, sink) {
+        Ok(request) => {
+            let served = serve_request(alloc, sink, node, &request);
+            drop(request);
+            served
+        }
+        Err(outcome) => Served {
+            outcome,
+            messages: Vec::new(alloc),
+        },
+    }
+}

@@ -1,0 +1,101 @@
+-- Nodes that stand at one sequence have one answer to a query.
+use Rattle.std.proofs.Common.{◌≡◌, ℕ, zero, suc, List, length, slice_get, Option, Some, None, Ok, codes, refl, sym, ap, subst, ◌∙◌}
+use Rattle.std.proofs.lemmas.Option.{none-some, same_Some}
+use Rattle.wf_def.specs.Definition.{Definition}
+use Rattle.wf_learner.specs.History.{map_at}
+use Rattle.wf_node.specs.Node.{Node, stored_of}
+use Rattle.wf_tape.specs.MemoryTape.{Kept}
+use Rattle.wf_wms.specs.Answer.{AnswerValue, EachQueryHasOneAnswer, IsAnswerOf, IsAnswerOn, IsMapAnswer, operation_of, or_own, subject}
+use Rattle.wf_wms.specs.MapRequest.{map_request, map_sequence, picture_in}
+use Rattle.wf_wms.specs.Query.{pairs_of}
+use Rattle.wf_farm.specs.declared.fault.FarmFault.TheVariants.{Memory, NoNode}
+use Rattle.wf_farm.specs.declared.place.Place.{Place}
+use Rattle.wf_farm.specs.declared.place.Place.TheVariants.{Running, Stopped}
+use Rattle.wf_farm.specs.Agreement.{HasOneHistory, HasStored}
+use Rattle.wf_farm.specs.Answering.{Answers, AsksForMap, HasOneAnswer, HasOneMapAnswer, IsNoAnswer, sequence_at, sequence_in}
+use Rattle.wf_farm.specs.Farm.{Farm, running_in}
+
+-- ---- an answer and a fault
+
+-- The node that runs there answered, at as many definitions as its list has.
+pub answered : (farm : Farm) (i s : ℕ) (node : Node Kept) (history : List Definition) (query : List ℕ) (answer : AnswerValue) → Some node ≡ running_in (slice_get farm.places i) →
+    history ≡ node.parts.history → s ≡ length history → IsAnswerOf s history query answer → Answers farm i (sequence_at farm i) query answer
+answered farm i s node history query answer runs same long is =
+    let stands : s ≡ length node.parts.history = long ∙ ap (λ (h : List Definition). length h) same in
+    subst (λ t. Answers farm i t query answer) (stands ∙ ap sequence_in runs)
+    (record { node = node; runs = sym runs; stands = sym stands; is_answer = subst (λ h. IsAnswerOf s h query answer) same is })
+
+pub none_runs : (there : Option (Node Kept)) → None ≡ there → IsNoAnswer there NoNode
+none_runs there none = subst (λ t. IsNoAnswer t NoNode) none refl
+
+pub memory_wanted : (there : Option (Node Kept)) (node : Node Kept) → Some node ≡ there → IsNoAnswer there (Memory 0)
+memory_wanted there node runs = subst (λ t. IsNoAnswer t (Memory 0)) runs refl
+
+-- ---- one answer
+
+-- a node that runs stored what it shows
+running_stored : (there : Option Place) (node : Node Kept) → running_in there ≡ Some node → HasStored there (stored_of node)
+running_stored None node runs = absurd (none-some node runs)
+running_stored (Some (Running held)) node runs = ap (λ (x : Node Kept). stored_of x) (sym (same_Some held node runs))
+running_stored (Some (Stopped tape)) node runs = absurd (none-some node runs)
+
+-- the maps that two nodes have at a sequence are one
+one_map : (farm : Farm) (i j k : ℕ) (node other : Node Kept) (map another : Definition) → HasOneHistory farm →
+    running_in (slice_get farm.places i) ≡ Some node → running_in (slice_get farm.places j) ≡ Some other →
+    map_at node.parts.history k ≡ Some map → map_at other.parts.history k ≡ Some another → map ≡ another
+unfolding HasOneHistory map_at
+one_map farm i j zero node other map another one runs also here there = same_Some map another (sym here ∙ there)
+one_map farm i j (suc k) node other map another one runs also here there =
+    one i j (suc k) map another
+    (record { stored = stored_of node; has = running_stored (slice_get farm.places i) node runs; entry = here })
+    (record { stored = stored_of other; has = running_stored (slice_get farm.places j) other also; entry = there })
+
+-- the map that an answer is about is published
+its_map : (s : ℕ) (history : List Definition) (query : List ℕ) (answer : AnswerValue) → IsAnswerOf s history query answer →
+    (map : Definition) × (map_at history (subject s query) ≡ Some map)
+unfolding IsAnswerOf subject
+its_map s history query answer is = (is.map, is.is_published)
+
+-- one answer at the sequence s, of two nodes' lists
+one_at : EachQueryHasOneAnswer → (farm : Farm) → HasOneHistory farm → (i j s : ℕ) (node other : Node Kept) (query : List ℕ) (answer another : AnswerValue) →
+    running_in (slice_get farm.places i) ≡ Some node → running_in (slice_get farm.places j) ≡ Some other →
+    IsAnswerOf s node.parts.history query answer → IsAnswerOf s other.parts.history query another → another ≡ answer
+one_at law farm one i j s node other query answer another runs also is is_other =
+    let here = its_map s node.parts.history query answer is in
+    let there = its_map s other.parts.history query another is_other in
+    let same : here.0 ≡ there.0 = one_map farm i j (subject s query) node other here.0 there.0 one runs also here.1 there.1 in
+    law s node.parts.history other.parts.history query answer another (here.1 ∙ ap (λ m. Some m) same ∙ sym there.1) is is_other
+
+pub one_answer : EachQueryHasOneAnswer → (farm : Farm) → HasOneHistory farm → HasOneAnswer farm
+unfolding HasOneAnswer
+one_answer law farm one = λ i j s query answer another first second.
+    one_at law farm one i j s first.node second.node query answer another first.runs second.runs first.is_answer second.is_answer
+
+-- ---- one map that is asked for
+
+-- with a sequence that is named well, the request is its picture
+asked_picture : (s m : ℕ) (d : Definition) (pairs : List (List ℕ × List ℕ)) → map_sequence s pairs ≡ Ok m → map_request s d pairs ≡ picture_in d pairs
+unfolding map_request
+asked_picture s m d pairs asked = rw asked refl
+
+-- the same map drawn, at another sequence that the server stands at
+drawn_elsewhere : (s t m : ℕ) (history : List Definition) (pairs : List (List ℕ × List ℕ)) (answer : AnswerValue) → map_sequence s pairs ≡ Ok m → map_sequence t pairs ≡ Ok m →
+    IsAnswerOn (operation_of (Some (codes "GetMap"))) t history pairs answer → IsAnswerOn (operation_of (Some (codes "GetMap"))) s history pairs answer
+drawn_elsewhere s t m history pairs answer here there is = record {
+  map = is.map;
+  is_published = ap (λ k. map_at history (or_own s k)) here ∙ sym (ap (λ k. map_at history (or_own t k)) there) ∙ is.is_published;
+  is_answer = subst (λ asked. IsMapAnswer is.map asked answer) (asked_picture t m is.map pairs there ∙ sym (asked_picture s m is.map pairs here)) is.is_answer;
+}
+
+answer_elsewhere : (s t m : ℕ) (history : List Definition) (query : List ℕ) (answer : AnswerValue) → AsksForMap m s query → AsksForMap m t query →
+    IsAnswerOf t history query answer → IsAnswerOf s history query answer
+unfolding IsAnswerOf
+answer_elsewhere s t m history query answer here there is =
+    let at : ℕ → Option (List ℕ) → Type 0 = λ k request. IsAnswerOn (operation_of request) k history (pairs_of query) answer in
+    subst (at s) (sym here.request) (drawn_elsewhere s t m history (pairs_of query) answer here.sequence there.sequence (subst (at t) there.request is))
+
+pub one_map_answer : EachQueryHasOneAnswer → (farm : Farm) → HasOneHistory farm → HasOneMapAnswer farm
+unfolding HasOneMapAnswer
+one_map_answer law farm one = λ i j s t m query answer another asks also first second.
+    one_at law farm one i j s first.node second.node query answer another first.runs second.runs first.is_answer
+    (answer_elsewhere s t m second.node.parts.history query another asks also second.is_answer)

@@ -1,0 +1,17 @@
+-- A script as contracts see it.
+use Rattle.std.specs.Prelude.{◌≤◌, ℕ}
+use Rattle.wf_ballot.specs.Node.{most_nodes}
+use Rattle.wf_script.specs.Lines.{most_lines, most_maps}
+
+-- How many nodes its farm has, and how many maps and orders it has. What these are is shown by cases.
+pub record Script : Type 0 where
+  pub nodes : ℕ
+  pub maps : ℕ
+  pub orders : ℕ
+
+-- Each of these is within its limit.
+pub record IsScript (script : Script) : Type 0 where
+  pub some : 1 ≤ script.nodes
+  pub nodes : script.nodes ≤ most_nodes
+  pub maps : script.maps ≤ most_maps
+  pub orders : script.orders ≤ most_lines

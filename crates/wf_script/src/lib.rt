@@ -1,0 +1,44 @@
+//! Scripts: what happens to a farm in memory, a line each, and what is asked of it.
+//!
+//! A [`Script`] is read whole before anything happens. A line feed ends a line, and a carriage return before it is
+//! dropped. Empty lines and lines that begin with `#` are skipped, but not within a map. Spaces part words. The first
+//! line is `nodes N`. A number has 1 to 9 digits.
+//!
+//! ```text
+//! map NAME, lines, endmap                names a map definition; NAME is 1 to 32 letters and digits
+//! propose I NAME, retry I, catchup I     a step of node I
+//! deliver I K ..                         message K to node I, for each K in turn
+//! stop I, restart I                      node I stops, or comes back
+//! torn I before E, torn I after E        node I stops within E: propose NAME, retry, catchup or deliver K
+//! pump, pump I ..                        messages that aren't pumped yet go to each node, or to those named
+//! skip                                   all messages so far count as pumped
+//! published, sent, proposal I, definition I S, same
+//! ```
+//!
+//! A [`Session`] is the farm on which a script is played, an order after the other; [`run_script`] does both over any reader
+//! and writer.
+//!
+//! Its model: of a script, how many nodes, maps and orders it has; of a session, its farm.
+//!
+//! It promises of each order, whatever it is, that the farm has gone on by some events of the model, that no node's list
+//! lost a map, and that the farm's nodes agree ([`Session::perform`]); so two running nodes never publish different maps
+//! ([`Session::differ`]). Of a script it promises its limits, and of a run that a fault of the reader or the writer comes
+//! for that cause, and that nothing is written where the input is no script. Which words are which order, and what is
+//! written, no contract says: cases show it.
+#![tactic(auto)]
+
+mod answer;
+mod fault;
+mod lines;
+mod maps;
+mod order;
+mod run;
+mod script;
+mod session;
+mod words;
+
+pub use fault::{PlayFault, ScriptFault};
+pub use maps::MOST_MAPS;
+pub use run::run_script;
+pub use script::{MOST_LINES, MOST_SCRIPT_BYTES, Script};
+pub use session::Session;

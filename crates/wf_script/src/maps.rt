@@ -1,0 +1,108 @@
+//! The maps of a script, by their names.
+
+ghost use Rattle.std.specs.Prelude.{◌≡◌, ◌<◌, ◌≤◌, ◌↔◌, length, IsTrue};
+ghost use Rattle.wf_script.specs.Lines.{most_maps};
+
+use crate::fault::Wrong;
+use std::alloc::{AllocError, Global};
+use wf_canon::{Canon, CanonFault};
+use wf_mapfile::fault::MapFault;
+
+/// The most maps of a script.
+pub const MOST_MAPS: usize = 64;
+
+/// The longest name of a map, in bytes.
+const MOST_NAME_BYTES: usize = 32;
+
+/// A definition and its name.
+#[derive(Drop)]
+pub(crate) struct Named {
+    name: String,
+    canon: Canon,
+}
+
+/// The maps so far, in their order in the script.
+#[derive(Drop)]
+pub(crate) struct Maps {
+    pub(crate) named: Vec<Named>,
+    ghost most: { length named.items ≤ most_maps },
+}
+
+impl Maps {
+    pub(crate) fn new(alloc: Global) -> Maps {
+        Maps {
+            named: Vec::new(alloc),
+        }
+    }
+
+    /// Is there no room for one more?
+    pub(crate) fn is_full(&self) -> bool
+        ensures { IsTrue result ↔ (length self.now.named.items ≡ most_maps) }
+    {
+        self.named.len() == MOST_MAPS
+    }
+
+    /// Adds a map behind the others.
+    pub(crate) fn add(&mut self, alloc: Global, name: &str, canon: Canon) -> Result<(), AllocError>
+        requires { length self.old.named.items < most_maps }
+    {
+        match String::from_str(alloc, name) {
+            Ok(name) => {
+                self.named.push(Named { name, canon })?;
+                Ok(())
+            }
+            Err(error) => {
+                drop(canon);
+                Err(error)
+            }
+        }
+    }
+
+    /// The number of the map of this name, counted from 0.
+    pub(crate) fn number_of(&self, name: &str) -> Option<usize> {
+        self.named.iter().position(|map| map.name.as_str() == name)
+    }
+
+    /// The definition of the map of this number.
+    pub(crate) fn canon(&self, number: usize) -> Option<&Canon> {
+        match self.named.get(number) {
+            Some(map) => Some(&map.canon),
+            None => None,
+        }
+    }
+
+    /// The name of the first map with this canonical text.
+    pub(crate) fn name_of(&self, text: &[u8]) -> Option<&str> {
+        for map in &self.named {
+            if map.canon.text() == text {
+                return Some(map.name.as_str());
+            }
+        }
+        None
+    }
+}
+
+/// Is it a name of a map: 1 to 32 letters and digits?
+pub(crate) fn is_name(word: &str) -> bool {
+    !word.is_empty() && word.len() <= MOST_NAME_BYTES && are_letters(word.as_bytes())
+}
+
+fn are_letters(word: &[u8]) -> bool {
+    word.iter().all(|byte| byte.is_ascii_alphanumeric())
+}
+
+/// The definition of a map's text.
+pub(crate) fn canon_of(alloc: Global, text: &[u8]) -> Result<Canon, Wrong> {
+    let map = match wf_mapfile::read(alloc, text) {
+        Ok(map) => map,
+        Err(MapFault::Memory) => return Err(Wrong::Memory),
+        Err(_) => return Err(Wrong::BadMap),
+    };
+    let canon = Canon::of(alloc, &map);
+    drop(map);
+    match canon {
+        Ok(canon) => Ok(canon),
+        Err(CanonFault::Memory) => Err(Wrong::Memory),
+        Err(_) => Err(Wrong::BadMap),
+    }
+}

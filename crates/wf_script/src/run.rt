@@ -1,0 +1,105 @@
+//! A script is read and played, over any reader and writer.
+
+ghost use Rattle.std.specs.Prelude.{◌≡◌, ◌+◌, IfErr, IfOk, OnOk};
+ghost use Rattle.wf_edge.specs.Reading.{TakesUpTo};
+ghost use Rattle.wf_script.specs.Lines.{most_script_bytes};
+ghost use Rattle.wf_script.specs.Fault.{CountsReads, CountsWrites, IsMemory, IsInputFault, IsReadingFault, IsPlayingFault, KeepsQuiet};
+
+use crate::fault::{PlayFault, ScriptFault};
+use crate::script::{MOST_SCRIPT_BYTES, Script};
+use crate::session::Session;
+use std::alloc::Global;
+use std::io::ErrorKind;
+use wf_edge::stream::{Sink, Source, read_up_to, write_all};
+
+/// Reads a script to its end, or to the byte that makes it too long, and plays it: what each order writes is written once
+/// it is performed. A fault of the script, before its first order is performed, comes with nothing written; S1 at an order
+/// comes with what the orders before it wrote.
+#[tactic(auto, using(crate::proofs::Faults::no_writes_yet))]
+pub fn run_script<S: Source, K: Sink>(
+    alloc: Global,
+    source: &mut S,
+    sink: &mut K,
+) -> Result<(), PlayFault>
+    ensures quiet { IfErr result (KeepsQuiet (K.written sink.old) (K.written sink.new)) }
+    ensures most { TakesUpTo (most_script_bytes + 1) (S.left source.old) (S.left source.new) }
+    ensures reads { CountsReads result (S.failures source.old) (S.failures source.new) }
+    ensures writes { CountsWrites result (K.failures sink.old) (K.failures sink.new) }
+{
+    match script(alloc, source) {
+        Ok(script) => {
+            let played = play(alloc, &script, sink);
+            drop(script);
+            played
+        }
+        Err(fault) => Err(fault),
+    }
+}
+
+/// The input to its end, or its first bytes.
+fn input<S: Source>(alloc: Global, source: &mut S) -> Result<Vec<u8>, PlayFault>
+    ensures err { IfErr result IsInputFault }
+    ensures most { TakesUpTo (most_script_bytes + 1) (S.left source.old) (S.left source.new) }
+    ensures reads { CountsReads result (S.failures source.old) (S.failures source.new) }
+{
+    match read_up_to(alloc, source, MOST_SCRIPT_BYTES + 1) {
+        Ok(bytes) => Ok(bytes),
+        Err(error) if error.kind() == ErrorKind::OutOfMemory => {
+            Err(PlayFault::Script(ScriptFault::Memory(1)))
+        }
+        Err(_) => Err(PlayFault::Read),
+    }
+}
+
+/// The script that the input is.
+fn script<S: Source>(alloc: Global, source: &mut S) -> Result<Script, PlayFault>
+    ensures err { IfErr result IsReadingFault }
+    ensures most { TakesUpTo (most_script_bytes + 1) (S.left source.old) (S.left source.new) }
+    ensures reads { CountsReads result (S.failures source.old) (S.failures source.new) }
+{
+    let bytes = input(alloc, source)?;
+    let script = Script::read(alloc, &bytes);
+    drop(bytes);
+    match script {
+        Ok(script) => Ok(script),
+        Err(fault) => Err(PlayFault::Script(fault)),
+    }
+}
+
+/// Plays a script on a new farm.
+fn play<K: Sink>(alloc: Global, script: &Script, sink: &mut K) -> Result<(), PlayFault>
+    ensures err { IfErr result IsPlayingFault }
+    ensures writes { CountsWrites result (K.failures sink.old) (K.failures sink.new) }
+{
+    match Session::new(alloc, script) {
+        Ok(mut session) => {
+            let played = perform_all(alloc, &mut session, script.len(), sink);
+            drop(session);
+            played
+        }
+        Err(fault) => Err(PlayFault::Script(fault)),
+    }
+}
+
+/// Performs so many orders from the first on, and writes what each of them writes.
+fn perform_all<K: Sink>(
+    alloc: Global,
+    session: &mut Session<'_>,
+    count: usize,
+    sink: &mut K,
+) -> Result<(), PlayFault>
+    ensures err { IfErr result IsPlayingFault }
+    ensures writes { CountsWrites result (K.failures sink.old) (K.failures sink.new) }
+{
+    let mut out = String::new(alloc);
+    for number in 0..count {
+        if let Err(fault) = session.perform(alloc, number, &mut out) {
+            return Err(PlayFault::Script(fault));
+        }
+        if write_all(sink, out.as_bytes()).is_err() {
+            return Err(PlayFault::Write);
+        }
+        out.clear();
+    }
+    Ok(())
+}

@@ -1,0 +1,114 @@
+//! Requests that a node serves: over a real connection, on one thread (the client has written before the server accepts), and where
+//! it finds no memory. What found no memory is asked once more: the node is as it was.
+use std::alloc::Global;
+use std::io;
+use std::io::{Read, Write};
+use std::net::{Ipv4Addr, SocketAddr, TcpListener, TcpStream};
+use std::process::Abort;
+use wf_ballot::NodeId;
+use wf_edge::memory::Bytes;
+use wf_edge::outcome::Outcome;
+use wf_edge::serve::serve_one;
+use wf_edge::stream::Stream;
+use wf_node::Node;
+use wf_tape::MemoryTape;
+
+const REQUEST: &[u8] = b"GET /status HTTP/1.1\r\nHost: localhost\r\n\r\n";
+
+/// 117 bytes.
+const RESPONSE: &[u8] =
+    b"HTTP/1.1 200 OK\r\nContent-Type: text/plain\r\nContent-Length: 33\r\nConnection: close\r\n\r\nnode 0 published 0 proposal none\n";
+
+/// Node 0 of 3, on an empty tape.
+fn new_node(rt: &impl Abort, alloc: Global) -> Node<MemoryTape> {
+    let id = NodeId::new(0).expect(rt, "a node");
+    match Node::open(alloc, MemoryTape::new(Vec::new(alloc)), id, 3) {
+        Ok(node) => node,
+        Err((tape, _)) => match Node::open(alloc, tape, id, 3) {
+            Ok(node) => node,
+            Err(refused) => {
+                drop(refused);
+                panic!(rt; "no node opens")
+            }
+        },
+    }
+}
+
+/// What becomes of one request that comes in on a stream.
+fn serve(rt: &impl Abort, alloc: Global, stream: &TcpStream) -> Outcome {
+    let mut node = new_node(rt, alloc);
+    let served = serve_one(
+        alloc,
+        &mut Stream::new(stream),
+        &mut Stream::new(stream),
+        &mut node,
+    );
+    drop(node);
+    let outcome = served.outcome;
+    drop(served);
+    outcome
+}
+
+/// A client that has written its request, and the stream that the server accepts.
+fn connected(rt: &HostRuntime) -> io::Result<(TcpStream, TcpStream)> {
+    let listener = TcpListener::bind(rt, SocketAddr::from((Ipv4Addr::LOCALHOST, 0)))?;
+    let mut client = TcpStream::connect(rt, listener.local_addr()?)?;
+    client.write_all(REQUEST)?;
+    let (server, _) = listener.accept()?;
+    Ok((client, server))
+}
+
+/// What the client reads to the end.
+fn answer(alloc: Global, mut client: TcpStream) -> io::Result<Vec<u8>> {
+    let mut answer = Vec::new(alloc);
+    client.read_to_end(&mut answer)?;
+    Ok(answer)
+}
+
+#[test]
+fn a_request_over_a_connection_is_answered(rt: HostRuntime) {
+    let (client, server) = connected(&rt).expect(&rt, "a connection to itself");
+    let outcome = serve(&rt, rt.alloc(), &server);
+    drop(server);
+    let answer = answer(rt.alloc(), client).expect(&rt, "an answer");
+    assert!(rt; outcome == Outcome::Sent(200, 117));
+    assert!(rt; answer.as_slice() == RESPONSE);
+    drop(answer);
+}
+
+const PUBLISH: &[u8] =
+    b"POST /publish HTTP/1.1\r\nContent-Length: 63\r\n\r\nMAP NAME \"a\" EXTENT 0 0 4 4 PROJECTION \"init=epsg:4326\" END END";
+
+/// What becomes of a request, and how many messages are handed out. The response is taken whole, without memory.
+fn asked(alloc: Global, node: &mut Node<MemoryTape>, request: &[u8]) -> (Outcome, usize) {
+    let mut reader = Bytes::new(request, 4_096, None);
+    let served = serve_one(alloc, &mut reader, &mut Stream::new(io::sink()), node);
+    let told = (served.outcome, served.messages.len());
+    drop(served);
+    told
+}
+
+/// The same; where it finds no memory, which sends nothing, it is asked once more.
+fn asked_again(
+    rt: &impl Abort,
+    alloc: Global,
+    node: &mut Node<MemoryTape>,
+    request: &[u8],
+) -> (Outcome, usize) {
+    let told = asked(alloc, node, request);
+    if told.0 != Outcome::Sent(503, 104) {
+        return told;
+    }
+    assert!(rt; told.1 == 0);
+    asked(alloc, node, request)
+}
+
+#[test]
+fn a_request_that_finds_no_memory_leaves_the_node_as_it_was(rt: HostRuntime) {
+    let alloc = rt.alloc();
+    let mut node = new_node(&rt, alloc);
+    assert!(&rt; asked_again(&rt, alloc, &mut node, REQUEST) == (Outcome::Sent(200, 117), 0));
+    assert!(&rt; asked_again(&rt, alloc, &mut node, PUBLISH) == (Outcome::Sent(202, 105), 1));
+    assert!(&rt; asked_again(&rt, alloc, &mut node, PUBLISH) == (Outcome::Sent(409, 92), 0));
+    drop(node);
+}

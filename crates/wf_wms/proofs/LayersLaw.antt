@@ -1,0 +1,68 @@
+-- Where a layer of a name stands among a map's.
+use Rattle.std.proofs.Common.{◌≡◌, ◌∙◌, ap, ℕ, ◌+◌, ◌<◌, Bool, true, false, List, [], ◌∷◌, length, get_or, refl, arith, below_more, bytes_eq}
+use Rattle.std.specs.Prelude.{Option, Some, None, IfSome, option_map}
+use Rattle.std.specs.List.{All, cons_option, filter_map, position, position_or_len, slice_get}
+use Rattle.std.proofs.lemmas.Bool.Decides.{nat_tests}
+use Rattle.std.proofs.lemmas.List.{length-map}
+use Rattle.std.proofs.lemmas.List.Elements.{All-cons, All-nil}
+use Rattle.std.proofs.lemmas.List.Sums.{position_or_len_is}
+use Rattle.std.proofs.lemmas.Option.{IfSome_then, slice_get-map, slice_get_within, get_or_from_slice_get}
+use Rattle.wf_def.specs.Definition.{Definition, LayerDefinition}
+use Rattle.wf_def.specs.Limits.{layer_names}
+use Rattle.wf_wms.specs.MapRequest.{layer_of}
+use Rattle.wf_wms.proofs.EntriesLaw.{found_within}
+
+-- the first that passes, and none that does
+found_at : (p : List ℕ → Bool) (names : List (List ℕ)) (i : ℕ) → i < length names → ((k : ℕ) → k < i → p (get_or names k []) ≡ false) →
+    p (get_or names i []) ≡ true → position p names ≡ Some i
+found_at p names i within before here =
+    let at : position_or_len p names ≡ i = position_or_len_is p names i [] (omega arith) before (λ _. here) in
+    rw at (grind (arith, nat_tests))
+
+found_nowhere : (p : List ℕ → Bool) (names : List (List ℕ)) → ((k : ℕ) → k < length names → p (get_or names k []) ≡ false) →
+    position p names ≡ None
+found_nowhere p names before =
+    let at : position_or_len p names ≡ length names = position_or_len_is p names (length names) [] (omega arith) before (λ past. absurd (omega arith)) in
+    rw at (grind (arith, nat_tests))
+
+-- the name that stands beside a layer
+name_at : (layers : List (List ℕ × LayerDefinition)) (i : ℕ) (name : List ℕ) (layer : LayerDefinition) → slice_get layers i ≡ Some (name, layer) →
+    get_or (layer_names layers) i [] ≡ name
+name_at layers i name layer here =
+    get_or_from_slice_get (layer_names layers) i name [] (slice_get-map (λ entry. entry.0) layers i ∙ ap (option_map (λ (entry : List ℕ × LayerDefinition). entry.0)) here)
+
+pub layer_found : (d : Definition) (name given : List ℕ) (layer : LayerDefinition) (i : ℕ) → slice_get d.layers i ≡ Some (given, layer) →
+    ((k : ℕ) → k < i → bytes_eq name (get_or (layer_names d.layers) k []) ≡ false) → bytes_eq name given ≡ true → layer_of d name ≡ Some i
+unfolding layer_of
+layer_found d name given layer i here before same =
+    found_at (bytes_eq name) (layer_names d.layers) i (slice_get_within _ i given (slice_get-map (λ entry. entry.0) d.layers i ∙ ap (option_map (λ (entry : List ℕ × LayerDefinition). entry.0)) here)) before
+    (ap (bytes_eq name) (name_at d.layers i given layer here) ∙ same)
+
+pub layer_not_found : (d : Definition) (name : List ℕ) → ((k : ℕ) → k < length d.layers → bytes_eq name (get_or (layer_names d.layers) k []) ≡ false) →
+    layer_of d name ≡ None
+unfolding layer_of
+layer_not_found d name before =
+    found_nowhere (bytes_eq name) (layer_names d.layers) (λ k within. before k (rw (length-map d.layers (λ entry. entry.0)) at within))
+
+-- the next name isn't it either
+pub passed_over : (d : Definition) (name given : List ℕ) (layer : LayerDefinition) (i : ℕ) → slice_get d.layers i ≡ Some (given, layer) →
+    ((k : ℕ) → k < i → bytes_eq name (get_or (layer_names d.layers) k []) ≡ false) → bytes_eq name given ≡ false →
+    (k : ℕ) → k < i + 1 → bytes_eq name (get_or (layer_names d.layers) k []) ≡ false
+passed_over d name given layer i here before other = below_more _ _ before (ap (bytes_eq name) (name_at d.layers i given layer here) ∙ other)
+
+-- the places are those of layers
+layer_within : (d : Definition) (name : List ℕ) → IfSome (layer_of d name) (λ place. place < length d.layers)
+unfolding layer_of
+layer_within d name =
+    IfSome_then (layer_of d name) (found_within (bytes_eq name) (layer_names d.layers) (layer_of d name) refl)
+    (λ place within. rw (length-map d.layers (λ entry. entry.0)) at within)
+
+one_more_within : (most : ℕ) (found : Option ℕ) (places : List ℕ) → IfSome found (λ place. place < most) → All (λ place. place < most) places →
+    All (λ place. place < most) (cons_option found places)
+one_more_within most None places here others = others
+one_more_within most (Some place) places here others = All-cons (λ p. p < most) place places here others
+
+pub layers_within : (d : Definition) (names : List (List ℕ)) → All (λ place. place < length d.layers) (filter_map (layer_of d) names)
+layers_within d [] = All-nil (λ place. place < length d.layers)
+layers_within d (name ∷ names) =
+    one_more_within (length d.layers) (layer_of d name) (filter_map (layer_of d) names) (layer_within d name) (layers_within d names)

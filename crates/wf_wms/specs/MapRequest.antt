@@ -1,0 +1,198 @@
+-- The request of a map: OGC 06-042, 7.3.2 and 7.3.3. MAPSEQ is this profile's own, and so is that STYLES may be absent.
+--
+-- Each parameter is judged by a function of its value, which gives its part of the request, or the exception; `MapRequest` puts them
+-- in order, and the first that refuses answers.
+use Rattle.std.specs.Prelude.{ℕ, ◌≤◌, ◌≤ℤ◌, ◌+◌, ◌==◌, ◌&&◌, Bool, true, false, not, nat_le, nat_lt, List, [], ◌∷◌, length, bytes_eq, codes, filter_map, position, is_none, Option, Some, None, ok_or, Result, Ok, Err, ℤ, pos, ◌+ℤ◌, int_le, ⊤, if◌then◌else◌}
+use Rattle.std.specs.Char.{is_ascii_digit}
+use Rattle.std.specs.List.{list_all, slice_split}
+use Rattle.wf_def.specs.declared.choice.Projection.{Projection}
+use Rattle.wf_def.specs.declared.choice.Projection.TheVariants.{Epsg4326, Epsg3857}
+use Rattle.wf_def.specs.declared.fault.NumberFault.{NumberFault}
+use Rattle.wf_def.specs.Definition.{Definition}
+use Rattle.wf_def.specs.Extent.{ExtentValue}
+use Rattle.wf_def.specs.Limits.{layer_names}
+use Rattle.wf_def.specs.Number.{number}
+use Rattle.wf_wms.specs.Background.{background_in}
+use Rattle.wf_wms.specs.Digits.{number_of_digits}
+use Rattle.wf_wms.specs.Query.{parameter}
+use Rattle.wf_wms.specs.declared.axes.Axes.{Axes}
+use Rattle.wf_wms.specs.declared.axes.Axes.TheVariants.{EastFirst, NorthFirst}
+use Rattle.wf_wms.specs.declared.canvas.Canvas.{Canvas}
+use Rattle.wf_wms.specs.declared.exception.Exception.{Exception}
+use Rattle.wf_wms.specs.declared.exception.Exception.TheVariants as exception
+use Rattle.wf_wms.specs.declared.exception.Parameter.{Parameter}
+use Rattle.wf_wms.specs.declared.exception.Parameter.TheVariants as parameters
+
+-- what comes next is judged where this part is there
+infixl 10 ◌>>=◌
+abbrev pub ◌>>=◌ : {A B : Type 0} → Result A Exception → (A → Result B Exception) → Result B Exception
+(Ok x) >>= next = next x
+(Err e) >>= next = Err e
+
+-- a test that passes, or the exception
+abbrev pub passed_or : Exception → Bool → Result ⊤ Exception
+passed_or e true = Ok tt
+passed_or e false = Err e
+
+-- nothing that was found, or the exception of the place where it was, counted from 1
+abbrev pub none_or : (ℕ → Exception) → Option ℕ → Result ⊤ Exception
+none_or at None = Ok tt
+none_or at (Some i) = Err (at (i + 1))
+
+-- the entries of a list, between commas (6.8.2)
+unfoldable pub entries : List ℕ → List (List ℕ)
+entries text = slice_split (λ b. b == 44) text
+
+-- VERSION is that of the standard (7.3.3.1)
+abbrev pub check_version : Option (List ℕ) → Result ⊤ Exception
+check_version None = Err (exception.MissingParameter parameters.Version)
+check_version (Some version) = passed_or (exception.BadValue parameters.Version) (bytes_eq version (codes "1.3.0"))
+
+-- MAPSEQ, at a server of the sequence s: digits of any length are a number, which isn't above s; s where it is absent
+abbrev pub sequence_in : ℕ → Option (List ℕ) → Result ℕ Exception
+sequence_in s None = Ok s
+sequence_in s (Some text) = if list_all is_ascii_digit text
+    then (if nat_lt s (number_of_digits text) then Err exception.MapNotPublished else Ok (number_of_digits text))
+    else Err (exception.BadValue parameters.MapSequence)
+
+-- FORMAT is the one format of pictures (7.3.3.7)
+abbrev pub check_format : Option (List ℕ) → Result ⊤ Exception
+check_format None = Err (exception.MissingParameter parameters.Format)
+check_format (Some format) = passed_or exception.InvalidFormat (bytes_eq format (codes "image/x-portable-pixmap"))
+
+-- the most layers of a request, as the service metadata says (LayerLimit)
+abbrev pub most_entries : ℕ
+most_entries = 64
+
+-- the place of the layer of this name among the map's
+unfoldable pub layer_of : Definition → List ℕ → Option ℕ
+layer_of d name = position (bytes_eq name) (layer_names d.layers)
+
+-- LAYERS names at most 64 layers, each a layer of the map; a name may stand twice (7.3.3.3)
+unfoldable pub check_layers : Definition → List (List ℕ) → Result ⊤ Exception
+check_layers d names = do
+  _ ← passed_or (exception.BadValue parameters.Layers) (nat_le (length names) most_entries)
+  none_or exception.LayerNotDefined (position (λ name. is_none (layer_of d name)) names)
+
+-- STYLES has an entry for each layer, empty or `default`; where it is absent, each layer has its default style (7.3.3.4)
+abbrev pub is_style : List ℕ → Bool
+is_style [] = true
+is_style (byte ∷ bytes) = bytes_eq (byte ∷ bytes) (codes "default")
+
+unfoldable pub check_style_list : ℕ → List (List ℕ) → Result ⊤ Exception
+check_style_list count names = do
+  _ ← passed_or (exception.BadValue parameters.Styles) (length names == count)
+  none_or exception.StyleNotDefined (position (λ name. not (is_style name)) names)
+
+abbrev pub check_styles : ℕ → Option (List ℕ) → Result ⊤ Exception
+check_styles count None = Ok tt
+check_styles count (Some text) = check_style_list count (entries text)
+
+-- CRS is one that the map is offered in, with its order of axes (7.3.3.5, 6.7.3 and annex B): the first axis of EPSG:4326 is the latitude
+abbrev pub axes_in : Projection → Option (List ℕ) → Result Axes Exception
+axes_in projection None = Err (exception.MissingParameter parameters.Crs)
+axes_in Epsg4326 (Some crs) = if bytes_eq crs (codes "EPSG:4326") then Ok NorthFirst
+    else (if bytes_eq crs (codes "CRS:84") then Ok EastFirst else Err exception.InvalidCrs)
+axes_in Epsg3857 (Some crs) = if bytes_eq crs (codes "EPSG:3857") then Ok EastFirst else Err exception.InvalidCrs
+
+-- the entries, where there are four
+unfoldable pub four_of : List (List ℕ) → Option (List ℕ × List ℕ × List ℕ × List ℕ)
+four_of (a ∷ b ∷ c ∷ d ∷ []) = Some (a, b, c, d)
+four_of _ = None
+
+abbrev pub coordinate_of : Result ℤ NumberFault → Result ℤ Exception
+coordinate_of (Ok z) = Ok z
+coordinate_of (Err fault) = Err (exception.BadValue parameters.Bbox)
+
+-- the lower corner and the upper one along a pair of axes, in the axes of the map's EXTENT
+abbrev pub box_along : Axes → ℤ → ℤ → ℤ → ℤ → ExtentValue
+box_along EastFirst a b c d = record { minx = a; miny = b; maxx = c; maxy = d }
+box_along NorthFirst a b c d = record { minx = b; miny = a; maxx = d; maxy = c }
+
+-- the shortest side of a box, in millionths
+abbrev pub least_side : ℕ
+least_side = 1_000
+
+-- the side is long enough, so that the minimum is below the maximum
+abbrev pub is_side : ℤ → ℤ → Bool
+is_side low high = int_le (low +ℤ pos least_side) high
+
+abbrev pub large_enough : ExtentValue → Result ExtentValue Exception
+large_enough box = if is_side box.minx box.maxx && is_side box.miny box.maxy then Ok box else Err (exception.BadValue parameters.Bbox)
+
+unfoldable pub box_of : Axes → Option (List ℕ × List ℕ × List ℕ × List ℕ) → Result ExtentValue Exception
+box_of axes None = Err (exception.BadValue parameters.Bbox)
+box_of axes (Some four) = do
+  a ← coordinate_of (number four.0)
+  b ← coordinate_of (number four.1)
+  c ← coordinate_of (number four.2)
+  d ← coordinate_of (number four.3)
+  large_enough (box_along axes a b c d)
+
+-- BBOX is four numbers, the lower corner and the upper one along the axes of CRS (7.3.3.6)
+abbrev pub box_in : Axes → Option (List ℕ) → Result ExtentValue Exception
+box_in axes None = Err (exception.MissingParameter parameters.Bbox)
+box_in axes (Some text) = box_of axes (four_of (entries text))
+
+-- a box of which both sides are long enough
+pub record IsLargeEnough (box : ExtentValue) : Type 0 where
+  pub wide : (box.minx +ℤ pos least_side) ≤ℤ box.maxx
+  pub tall : (box.miny +ℤ pos least_side) ≤ℤ box.maxy
+
+-- the most pixels of a picture's width and of its height, as the service metadata says (MaxWidth, MaxHeight)
+abbrev pub most_pixels : ℕ
+most_pixels = 1_024
+
+-- the text is decimal digits, of a number from 1 to 1,024
+abbrev pub is_size : List ℕ → Bool
+is_size text = list_all is_ascii_digit text && (nat_le 1 (number_of_digits text) && nat_le (number_of_digits text) most_pixels)
+
+-- WIDTH or HEIGHT, in pixels (7.3.3.8)
+abbrev pub size_in : Parameter → Option (List ℕ) → Result ℕ Exception
+size_in name None = Err (exception.MissingParameter name)
+size_in name (Some text) = if is_size text then Ok (number_of_digits text) else Err (exception.BadValue name)
+
+-- what a picture shows and how large it is
+unfoldable pub canvas_in : Projection → List (List ℕ × List ℕ) → Result Canvas Exception
+canvas_in projection pairs = do
+  axes ← axes_in projection (parameter (codes "CRS") pairs)
+  box ← box_in axes (parameter (codes "BBOX") pairs)
+  width ← size_in parameters.Width (parameter (codes "WIDTH") pairs)
+  height ← size_in parameters.Height (parameter (codes "HEIGHT") pairs)
+  background ← background_in (parameter (codes "BGCOLOR") pairs)
+  Ok (record { bbox = box; width = width; height = height; background = background })
+
+-- what each canvas keeps: both sizes within their limit, in pixels, and both sides of the box long enough
+pub record IsCanvas (c : Canvas) : Type 0 where
+  pub width_least : 1 ≤ c.width
+  pub width_most : c.width ≤ most_pixels
+  pub height_least : 1 ≤ c.height
+  pub height_most : c.height ≤ most_pixels
+  pub box : IsLargeEnough c.bbox
+
+-- a picture that is asked for: the layers by their places among the map's, the lowest in the picture first
+pub record Picture : Type 0 where
+  pub layers : List ℕ
+  pub canvas : Canvas
+
+-- the picture that a query asks for of a map
+unfoldable pub picture_in : Definition → List (List ℕ × List ℕ) → Result Picture Exception
+picture_in d pairs = do
+  _ ← check_format (parameter (codes "FORMAT") pairs)
+  layers ← ok_or (parameter (codes "LAYERS") pairs) (exception.MissingParameter parameters.Layers)
+  _ ← check_layers d (entries layers)
+  _ ← check_styles (length (entries layers)) (parameter (codes "STYLES") pairs)
+  canvas ← canvas_in d.projection pairs
+  Ok (record { layers = filter_map (layer_of d) (entries layers); canvas = canvas })
+
+-- the sequence whose map a query asks for, at a server of the sequence s
+unfoldable pub map_sequence : ℕ → List (List ℕ × List ℕ) → Result ℕ Exception
+map_sequence s pairs = do
+  _ ← check_version (parameter (codes "VERSION") pairs)
+  sequence_in s (parameter (codes "MAPSEQ") pairs)
+
+-- the whole request, where d is the map of that sequence: the first check that fails answers
+unfoldable pub map_request : ℕ → Definition → List (List ℕ × List ℕ) → Result Picture Exception
+map_request s d pairs = do
+  _ ← map_sequence s pairs
+  picture_in d pairs

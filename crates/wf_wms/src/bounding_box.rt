@@ -1,0 +1,69 @@
+//! The parameter BBOX (OGC 06-042, 7.3.3.6).
+ghost use Rattle.std.specs.Prelude.{◌≡◌, IfOk, option_map};
+ghost use Rattle.wf_def.specs.Number.{number};
+ghost use Rattle.wf_wms.specs.MapRequest.{box_along, box_in, box_of, coordinate_of, four_of, is_side, large_enough, IsLargeEnough};
+
+use crate::axes::Axes;
+use crate::entries::four_entries;
+use crate::exception::{Exception, Parameter};
+use wf_def::extent::Extent;
+use wf_def::micro::Micro;
+
+/// The shortest side of a box, in millionths of a unit.
+const LEAST_SIDE: i64 = 1000;
+
+/// The box that BBOX gives along these axes, in the axes of the map's EXTENT.
+pub(crate) fn bounding_box(axes: Axes, value: Option<&str>) -> Result<Extent, Exception>
+    ensures value { result ≡ box_in axes (option_map (λ text. text.now) value.entry) }
+    ensures within { IfOk result IsLargeEnough }
+{
+    match value {
+        None => Err(Exception::MissingParameter(Parameter::Bbox)),
+        Some(text) => box_of(axes, four_entries(text)),
+    }
+}
+
+/// The box of four numbers.
+#[tactic(auto, unfolding(crate::specs::MapRequest::box_of))]
+fn box_of(axes: Axes, four: Option<(&str, &str, &str, &str)>) -> Result<Extent, Exception>
+    ensures value { result ≡ box_of axes (option_map (λ four. (four.0.now, four.1.now, four.2.now, four.3.now)) four.entry) }
+    ensures within { IfOk result IsLargeEnough }
+{
+    let Some((a, b, c, d)) = four else {
+        return Err(Exception::BadValue(Parameter::Bbox));
+    };
+    let (a, b) = (coordinate(a)?, coordinate(b)?);
+    let (c, d) = (coordinate(c)?, coordinate(d)?);
+    match axes {
+        Axes::EastFirst => large_enough(a, b, c, d),
+        Axes::NorthFirst => large_enough(b, a, d, c),
+    }
+}
+
+fn coordinate(text: &str) -> Result<Micro, Exception>
+    ensures { result ≡ coordinate_of (number text.now) }
+{
+    match Micro::read(text.as_bytes()) {
+        Ok(coordinate) => Ok(coordinate),
+        Err(_) => Err(Exception::BadValue(Parameter::Bbox)),
+    }
+}
+
+/// The box with these sides, where they are long enough.
+fn large_enough(minx: Micro, miny: Micro, maxx: Micro, maxy: Micro) -> Result<Extent, Exception>
+    ensures value { result ≡ large_enough (record { minx = minx; miny = miny; maxx = maxx; maxy = maxy }) }
+    ensures within { IfOk result IsLargeEnough }
+{
+    if is_side(minx, maxx) && is_side(miny, maxy) {
+        Extent::new(minx, miny, maxx, maxy).ok_or(Exception::BadValue(Parameter::Bbox))
+    } else {
+        Err(Exception::BadValue(Parameter::Bbox))
+    }
+}
+
+/// Whether the side is long enough, so that the minimum is below the maximum.
+fn is_side(low: Micro, high: Micro) -> bool
+    ensures { result ≡ is_side low high }
+{
+    low.millionths() + LEAST_SIDE <= high.millionths()
+}

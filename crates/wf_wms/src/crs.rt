@@ -1,0 +1,22 @@
+//! The parameter CRS (OGC 06-042, 7.3.3.5).
+ghost use Rattle.std.specs.Prelude.{◌≡◌, option_map};
+ghost use Rattle.wf_wms.specs.MapRequest.{axes_in};
+
+use crate::axes::Axes;
+use crate::exception::{Exception, Parameter};
+use wf_def::choice::Projection;
+
+/// The axes of the coordinate reference system, where a map of the projection is offered in it.
+pub(crate) fn axes(projection: Projection, crs: Option<&str>) -> Result<Axes, Exception>
+    ensures { result ≡ axes_in projection (option_map (λ text. text.now) crs.entry) }
+{
+    let Some(crs) = crs else {
+        return Err(Exception::MissingParameter(Parameter::Crs));
+    };
+    match (projection, crs) {
+        (Projection::Epsg4326, "EPSG:4326") => Ok(Axes::NorthFirst),
+        (Projection::Epsg4326, "CRS:84") => Ok(Axes::EastFirst),
+        (Projection::Epsg3857, "EPSG:3857") => Ok(Axes::EastFirst),
+        _ => Err(Exception::InvalidCrs),
+    }
+}

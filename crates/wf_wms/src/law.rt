@@ -1,0 +1,10 @@
+//! The laws of answers.
+ghost use Rattle.wf_wms.specs.Answer.{EachQueryHasOneAnswer};
+
+/// A query has one answer, and no other, wherever the map that it asks for is the same: the answer is a function of the update
+/// sequence, the query and that map, and of nothing else in the history. A law: the call does nothing.
+pub fn each_query_has_one_answer()
+    ensures { EachQueryHasOneAnswer }
+{
+    wf_picture::law::there_is_one_image();
+}

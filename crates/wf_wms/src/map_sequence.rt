@@ -1,0 +1,38 @@
+//! The MAPSEQ parameter: the update sequence whose map is asked for.
+ghost use Rattle.std.specs.Prelude.{◌≡◌, ◌≤◌, IfOk, option_map};
+ghost use Rattle.wf_wms.specs.MapRequest.{map_sequence, sequence_in};
+
+use crate::digits::{is_all_digits, number_of};
+use crate::exception::{Exception, Parameter};
+use crate::format::check_version;
+use crate::query::Query;
+
+/// The sequence whose map a query asks for, at a server of the update sequence `seq`; VERSION is judged before it.
+#[tactic(auto, unfolding(crate::specs::MapRequest::map_sequence))]
+pub(crate) fn map_sequence(query: &Query, seq: u16) -> Result<u16, Exception>
+    ensures value { result ≡ map_sequence seq query.now }
+    ensures within { IfOk result (λ number. number ≤ seq) }
+{
+    check_version(query.parameter("VERSION"))?;
+    sequence_in(query.parameter("MAPSEQ"), seq)
+}
+
+/// The sequence that MAPSEQ names at a server of the update sequence `seq`; where it is absent, `seq` itself. Digits of any length are
+/// read as their whole number.
+fn sequence_in(value: Option<&str>, seq: u16) -> Result<u16, Exception>
+    ensures value { result ≡ sequence_in seq (option_map (λ text. text.now) value.entry) }
+    ensures within { IfOk result (λ number. number ≤ seq) }
+{
+    let Some(text) = value else {
+        return Ok(seq);
+    };
+    if !is_all_digits(text) {
+        return Err(Exception::BadValue(Parameter::MapSequence));
+    }
+    let number = number_of(text);
+    if number > u64::from(seq) {
+        Err(Exception::MapNotPublished)
+    } else {
+        Ok(number as u16)
+    }
+}

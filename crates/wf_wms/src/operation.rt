@@ -1,0 +1,8 @@
+/// The operations of this server (OGC 06-042, 7.1).
+#[derive(Clone, Copy)]
+pub(crate) enum Operation {
+    /// GetCapabilities: the service metadata.
+    Capabilities,
+    /// GetMap: a picture of the map.
+    Map,
+}
