@@ -1,65 +1,47 @@
--- The newest values of a list of pairs, of one with a pair more, and of one without a slot's pairs.
-use Rattle.std.proofs.Common.{◌≡◌, ℕ, Bool, true, false, not, List, [], ◌∷◌, ◌++◌, reverse, filter, cond, Some, None, ◌==◌, option_map, refl, sym, ◌∙◌, ap, arith}
-use Rattle.std.specs.Prelude as prelude
+-- A hash map's values by slot: what is found at a slot, and what stands there once a value is put in or taken out.
+use Rattle.std.proofs.Common.{◌≡◌, ℕ, List, [], ◌∷◌, cond, Option, Some, None, Result, Ok, Err, IsOk, OnOk, nat_eq, true≢false, refl, sym, ◌∙◌, ap}
 use Rattle.std.specs.Ordering.{nat_cmp}
-use Rattle.std.specs.Cmp.{nat_cmp_total, unsigned_tied}
+use Rattle.std.specs.Cmp.{nat_cmp_total, nat_eq_equiv, unsigned_tied}
 use Rattle.std.specs.FinMap as map
-use Rattle.std.proofs.lemmas.List.{reverse-append, append-nil}
-use Rattle.std.proofs.lemmas.List.Elements.{filter-append}
-use Rattle.std.proofs.lemmas.Grind.{common_steps}
+use Rattle.std.specs.HashMap.{HashMap, get, Updates}
+use Rattle.std.specs.Map.{lookup}
 use Rattle.wf_acceptor.specs.Slots.{by_slot}
 
--- the first pair of a slot has the value that the map finds
-find_pair : {A : Type 0} (pairs : List (ℕ × A)) (s : ℕ) → option_map (λ pair. pair.1) (prelude.find (λ pair. s == pair.0) pairs) ≡ map.find nat_cmp s pairs
-find_pair [] s = refl
-find_pair (pair ∷ rest) s =
-    rw (unsigned_tied s pair.0)
-    (elim (s == pair.0) as (λ v. option_map (λ e. e.1) (cond v (Some pair) (prelude.find (λ e. s == e.0) rest)) ≡ cond v (Some pair.1) (map.find nat_cmp s rest))
-    [ true ↦ refl | false ↦ find_pair rest s ])
+-- both take the value of the first entry of the slot
+find-lookup : {A : Type 0} (entries : List (ℕ × A)) (s : ℕ) → map.find nat_cmp s entries ≡ lookup (nat_eq s) entries
+find-lookup [] s = refl
+find-lookup (entry ∷ rest) s = rw (unsigned_tied s entry.0) (ap (cond (nat_eq s entry.0) (Some entry.1)) (find-lookup rest s))
 
--- what is found from the list's end is the newest
-pub get-by_slot : {A : Type 0} (pairs : List (ℕ × A)) (s : ℕ) → map.get (by_slot pairs) s ≡ option_map (λ pair. pair.1) (prelude.find (λ pair. s == pair.0) (reverse pairs))
+pub get-by_slot : {A S : Type 0} (values : HashMap ℕ A S) (s : ℕ) → map.get (by_slot values) s ≡ get nat_eq values s
 unfolding by_slot
-get-by_slot pairs s = map.get-from_entries nat_cmp_total (reverse pairs) s ∙ sym (find_pair (reverse pairs) s)
+get-by_slot values s = map.get-from_entries nat_cmp_total values.entries s ∙ find-lookup values.entries s
 
--- One more pair is the newest of its slot, and changes nothing at others.
-pub by_slot-append : {A : Type 0} (pairs : List (ℕ × A)) (s : ℕ) (x : A) → by_slot (pairs ++ (s, x) ∷ []) ≡ map.insert (by_slot pairs) s x
-unfolding by_slot
-by_slot-append pairs s x = ap map.from_entries (reverse-append pairs ((s, x) ∷ []))
+-- Hash maps that find the same at each slot have the same values, in whatever order.
+pub by_slot-same : {A S : Type 0} (m n : HashMap ℕ A S) → ((t : ℕ) → get nat_eq n t ≡ get nat_eq m t) → by_slot n ≡ by_slot m
+by_slot-same m n same =
+    map.same_map nat_cmp_total map.nat_cmp-IsAntisymmetric _ _ (λ t. get-by_slot n t ∙ (same t ∙ sym (get-by_slot m t)))
 
--- the pairs that are left, read from the list's end
-reverse-filter : {A : Type 0} (p : A → Bool) (xs : List A) → reverse (filter p xs) ≡ filter p (reverse xs)
-reverse-filter p [] = refl
-reverse-filter p (x ∷ xs) =
-    let end = ap (filter p) (reverse-append (x ∷ []) xs) ∙ filter-append p (reverse xs) (x ∷ []) in
-    sym (end ∙ elim (p x) as (λ v. filter p (reverse xs) ++ cond v (x ∷ []) [] ≡ reverse (cond v (x ∷ filter p xs) (filter p xs))) [
-      | true ↦ sym (reverse-append (x ∷ []) (filter p xs) ∙ ap (λ ys. ys ++ x ∷ []) (reverse-filter p xs))
-      | false ↦ append-nil _ ∙ sym (reverse-filter p xs)
-    ])
+-- what a map finds after an update, with the slots in the other order
+updated : {A S : Type 0} (m n : HashMap ℕ A S) (s : ℕ) (x : Option A) → Updates nat_eq m n s x →
+    (t : ℕ) → map.get (by_slot n) t ≡ cond (nat_eq t s) x (map.get (by_slot m) t)
+updated m n s x updates t =
+    get-by_slot n t ∙ (updates.0 t ∙ rw (nat_eq_equiv.symm s t) (ap (cond (nat_eq t s) x) (sym (get-by_slot m t))))
 
-cond-same : {B : Type 0} (test : Bool) (x : B) → x ≡ cond test x x
-cond-same true x = refl
-cond-same false x = refl
-
--- a pair that another slot has is found as before
-find_other : {A : Type 0} (pairs : List (ℕ × A)) (s t : ℕ) →
-    map.find nat_cmp t (filter (λ pair. not (s == pair.0)) pairs) ≡ cond (t == s) None (map.find nat_cmp t pairs)
-find_other [] s t = cond-same (t == s) None
-find_other (pair ∷ rest) s t = rw (unsigned_tied t pair.0) (grind (arith, common_steps, find_other rest s t, unsigned_tied))
-
--- Without a slot's pairs nothing is found there, and the same as before at others.
-pub by_slot-filter : {A : Type 0} (pairs : List (ℕ × A)) (s : ℕ) → by_slot (filter (λ pair. not (s == pair.0)) pairs) ≡ map.remove (by_slot pairs) s
-unfolding by_slot
-by_slot-filter pairs s =
+-- A value is put in, in the place of the slot's one before: that is so of an insertion that is done.
+pub by_slot-put : {A S T E : Type 0} (m n : HashMap ℕ A S) (s : ℕ) (x : A) (r : Result T E) → OnOk r (Updates nat_eq m n s (Some x)) → IsOk r →
+    by_slot n ≡ map.insert (by_slot m) s x
+by_slot-put m n s x (Ok old) updates done =
     map.same_map nat_cmp_total map.nat_cmp-IsAntisymmetric _ _ (λ t.
-    map.get-from_entries nat_cmp_total _ t
-    ∙ (ap (map.find nat_cmp t) (reverse-filter (λ pair. not (s == pair.0)) pairs)
-    ∙ (find_other (reverse pairs) s t
-    ∙ sym (map.get-remove nat_cmp_total _ s t
-    ∙ (ap (λ v. cond v None (map.get (by_slot pairs) t)) (unsigned_tied t s)
-    ∙ ap (cond (t == s) None) (map.get-from_entries nat_cmp_total (reverse pairs) t))))))
+    updated m n s (Some x) updates t ∙ sym (map.get-insert nat_cmp_total _ s x t ∙ ap (λ v. cond v (Some x) (map.get (by_slot m) t)) (unsigned_tied t s)))
+by_slot-put m n s x (Err e) updates done = absurd (true≢false (sym done))
 
--- Without a pair no slot has a value.
-pub by_slot-none : {A : Type 0} (pairs : List (ℕ × A)) → pairs ≡ [] → by_slot pairs ≡ map.empty
+-- A slot's value is taken out.
+pub by_slot-forget : {A S : Type 0} (m n : HashMap ℕ A S) (s : ℕ) → Updates nat_eq m n s None → by_slot n ≡ map.remove (by_slot m) s
+by_slot-forget m n s updates =
+    map.same_map nat_cmp_total map.nat_cmp-IsAntisymmetric _ _ (λ t.
+    updated m n s None updates t ∙ sym (map.get-remove nat_cmp_total _ s t ∙ ap (λ v. cond v None (map.get (by_slot m) t)) (unsigned_tied t s)))
+
+-- Without entries no slot has a value.
+pub by_slot-none : {A S : Type 0} (values : HashMap ℕ A S) → values.entries ≡ [] → by_slot values ≡ map.empty
 unfolding by_slot
-by_slot-none {A = A} pairs none = ap (λ (pairs : List (ℕ × A)). map.from_entries (reverse pairs)) none
+by_slot-none {A = A} values none = ap (λ (entries : List (ℕ × A)). map.from_entries entries) none

@@ -5,8 +5,9 @@ ghost use Rattle.wf_acceptor.specs.Prepared.{Takes, definition_of};
 
 use crate::answer::Answer;
 use crate::same::is_same_record;
-use crate::slots::{add, forget, make_room, newest};
+use crate::slots::{forget, make_room, put, value_at};
 use std::alloc::{AllocError, Global};
+use std::collections::HashMap;
 use std::marker::Model;
 use wf_ballot::{Ballot, NodeId, Slot};
 use wf_canon::Canon;
@@ -19,9 +20,8 @@ pub struct Acceptor {
     id: NodeId,
     // The last slot that is published.
     published: Option<Slot>,
-    // The newest value of a slot counts.
-    promises: Vec<(Slot, Ballot)>,
-    votes: Vec<(Slot, (Ballot, Canon))>,
+    promises: HashMap<Slot, Ballot>,
+    votes: HashMap<Slot, (Ballot, Canon)>,
     // A record that is set aside: there is room for its promise and its vote.
     prepared: Option<Record>,
 }
@@ -58,8 +58,8 @@ impl Model for Acceptor {
       part = record {
         id = a.id;
         published = unwrap_or a.published 0;
-        promises = by_slot a.promises.items;
-        votes = by_slot a.votes.items;
+        promises = by_slot a.promises;
+        votes = by_slot a.votes;
       };
       prepared = a.prepared;
     } };
@@ -86,8 +86,8 @@ impl Acceptor {
         Acceptor {
             id,
             published: None,
-            promises: Vec::new(alloc),
-            votes: Vec::new(alloc),
+            promises: HashMap::new(alloc),
+            votes: HashMap::new(alloc),
             prepared: None,
         }
     }
@@ -167,7 +167,7 @@ impl Acceptor {
     fn promise_at(&self, slot: Slot) -> Option<Ballot>
         ensures { result ≡ promises_of self.now.part slot }
     {
-        newest(&self.promises, slot).copied()
+        value_at(&self.promises, slot).copied()
     }
 
     // Is the ballot above the promise at the slot? It is where there is none.
@@ -194,7 +194,7 @@ impl Acceptor {
     fn voted_at(&self, slot: Slot, ballot: Ballot) -> bool
         ensures { result ≡ votes_at (votes_of self.now.part slot) ballot }
     {
-        match newest(&self.votes, slot) {
+        match value_at(&self.votes, slot) {
             Some((voted, _)) => *voted == ballot,
             None => false,
         }
@@ -337,18 +337,18 @@ impl Acceptor {
         Ok(())
     }
 
-    // The promise and the vote of the record that is set aside become the newest ones.
+    // The promise and the vote of the record that is set aside become those of its slot.
     fn take_in_prepared(&mut self)
         ensures { IfSome self.old.prepared (λ r. self.new ≡ record { part = with_open self.old.part r; prepared = None }) }
     {
         match &self.prepared {
-            Some(Record::Promised(slot, ballot)) => add(&mut self.promises, *slot, *ballot),
+            Some(Record::Promised(slot, ballot)) => put(&mut self.promises, *slot, *ballot),
             Some(Record::Accepted(slot, ballot, _)) => {
                 let slot = *slot;
                 let ballot = *ballot;
-                add(&mut self.promises, slot, ballot);
+                put(&mut self.promises, slot, ballot);
                 if let Some(canon) = take_definition(&mut self.prepared) {
-                    add(&mut self.votes, slot, (ballot, canon));
+                    put(&mut self.votes, slot, (ballot, canon));
                 }
             }
             _ => {}
@@ -387,12 +387,12 @@ fn take_definition(prepared: &mut Option<Record>) -> Option<Canon>
 
 // The slot's vote, to be reported.
 fn vote_at(
-    votes: &[(Slot, (Ballot, Canon))],
+    votes: &HashMap<Slot, (Ballot, Canon)>,
     slot: Slot,
 ) -> Result<Option<(Ballot, Canon)>, AllocError>
     ensures { IfOk result (λ vote. vote ≡ map.get (by_slot votes.now) slot) }
 {
-    match newest(votes, slot) {
+    match value_at(votes, slot) {
         Some((ballot, canon)) => Ok(Some((*ballot, canon.copy()?))),
         None => Ok(None),
     }
@@ -400,13 +400,13 @@ fn vote_at(
 
 // Makes room for the record's promise and vote.
 fn room_for(
-    promises: &mut Vec<(Slot, Ballot)>,
-    votes: &mut Vec<(Slot, (Ballot, Canon))>,
+    promises: &mut HashMap<Slot, Ballot>,
+    votes: &mut HashMap<Slot, (Ballot, Canon)>,
     entry: &Record,
 ) -> Result<(), AllocError>
     ensures room { OnOk result (Takes (HasRoom promises.new) (HasRoom votes.new) (Some entry.now)) }
-    ensures promises { promises.new.items ≡ promises.old.items }
-    ensures votes { votes.new.items ≡ votes.old.items }
+    ensures promises { by_slot promises.new ≡ by_slot promises.old }
+    ensures votes { by_slot votes.new ≡ by_slot votes.old }
     ensures more_promises { HasRoom promises.old → HasRoom promises.new }
     ensures more_votes { HasRoom votes.old → HasRoom votes.new }
 {

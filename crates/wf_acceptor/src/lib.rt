@@ -11,7 +11,9 @@
 //! and that applying a record is what the fold does with it, after which nothing is set aside.
 //!
 //! It doesn't keep records: the node that it is part of puts the answered record on its tape, and then
-//! has it applied. Nor does it answer for a slot that is published.
+//! has it applied. Nor does it answer for a slot that is published. That no call takes longer where many slots
+//! have a promise or a vote, since each is found by its slot's hash, is measured (`bench/node_open.py`) and no
+//! contract.
 #![tactic(auto)]
 
 mod acceptor;

@@ -14,7 +14,7 @@ use Rattle.wf_def.specs.declared.choice.LabelSize.{LabelSize}
 use Rattle.wf_def.specs.declared.choice.LabelSize.TheVariants.{Tiny, Small, Medium, Large, Giant}
 use Rattle.wf_def.specs.declared.choice.LabelPosition.{LabelPosition}
 use Rattle.wf_def.specs.declared.choice.LabelPosition.TheVariants.{UpperLeft, UpperCenter, UpperRight, CenterLeft, CenterCenter, CenterRight, LowerLeft, LowerCenter, LowerRight}
-use Rattle.wf_mapfile.specs.Token.{Token, Word, Quoted}
+use Rattle.wf_token.specs.Token.{Token, Word, Quoted}
 use Rattle.wf_mapfile.specs.Grammar.{is_end, at_most_one}
 use Rattle.wf_mapfile.specs.declared.keyword.style.StyleKeyword.TheVariants as style_keywords
 use Rattle.wf_mapfile.specs.declared.keyword.label.LabelKeyword.TheVariants as label_keywords

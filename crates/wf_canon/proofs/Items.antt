@@ -8,11 +8,11 @@ use Rattle.std.specs.List.{flat_map, AllByRecursion}
 use Rattle.std.proofs.lemmas.Bool.Decides.{nat_tests}
 use Rattle.std.proofs.lemmas.List.{length-append, append-nil}
 use Rattle.std.proofs.lemmas.List.Concat.{flat_map-append}
-use Rattle.wf_mapfile.specs.Token.{Token, Word}
+use Rattle.wf_token.specs.Token.{Token, Word}
 use Rattle.wf_mapfile.specs.Grammar.{is_end, word, block_items, block, at_most_one}
 use Rattle.wf_mapfile.specs.Lists.{no_more_than}
 use Rattle.wf_canon.specs.Canon.{alone, end_line, when_there}
-use Rattle.wf_canon.proofs.Lexing.{tokens_of}
+use Rattle.wf_token.specs.Spelling.{tokens_of}
 
 -- ---- the tokens of lines
 

@@ -13,7 +13,7 @@ use Rattle.wf_def.specs.Limit.{most_classes, most_items_bytes}
 use Rattle.wf_def.specs.declared.point.Point.{Point}
 use Rattle.wf_def.specs.declared.choice.LayerKind.{LayerKind}
 use Rattle.wf_def.specs.declared.choice.LayerKind.TheVariants.{Points, Lines, Polygons}
-use Rattle.wf_mapfile.specs.Token.{Token, Word, Quoted}
+use Rattle.wf_token.specs.Token.{Token, Word, Quoted}
 use Rattle.wf_mapfile.specs.Grammar.{is_end, word, argument, text, end, at_most_one, exactly_one}
 use Rattle.wf_mapfile.specs.Metadata.{pairs, all_differ, value_at, kept as kept_pairs, metadata}
 use Rattle.wf_mapfile.specs.declared.slots.Metadata.{Metadata}
@@ -22,7 +22,7 @@ use Rattle.wf_mapfile.specs.declared.keyword.layer.LayerKeyword.TheVariants as l
 use Rattle.wf_mapfile.specs.Feature as features
 use Rattle.wf_mapfile.specs.Layer as layers
 use Rattle.wf_canon.specs.Canon.{number_word, kind_word, alone, with_text, with_word, with_key, end_line, point_line, part_lines, feature_lines, class_lines}
-use Rattle.wf_canon.proofs.Lexing.{tokens_of}
+use Rattle.wf_token.specs.Spelling.{tokens_of}
 use Rattle.wf_canon.proofs.NumberWord.{number_word_is}
 use Rattle.wf_canon.proofs.TokenLaw.{text_again, number_again, chosen_again}
 use Rattle.wf_canon.proofs.Items.{Reads, AreItems, tokens_of-append, line_item, block_item, both, each, block_again, all_fit, kept, dropped}

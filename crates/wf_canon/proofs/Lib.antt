@@ -1,15 +1,11 @@
 pub mod ClassLaw
-pub mod Fraction
 pub mod Items
 pub mod KnownText
 pub mod LayerLaw
 pub mod MeaningLaw
 pub mod MapLaw
 pub mod MapText
-pub mod Lexing
-pub mod NumberLaw
 pub mod NumberWord
 pub mod TokenLaw
-pub mod Utf8Law
 pub mod Writing
 pub mod WrittenLaw

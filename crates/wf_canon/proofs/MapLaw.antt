@@ -10,7 +10,7 @@ use Rattle.wf_def.specs.Limit.{most_layers, most_features, most_points}
 use Rattle.wf_def.specs.Extent.{ExtentValue, IsExtent}
 use Rattle.wf_def.specs.declared.choice.Projection.{Projection}
 use Rattle.wf_def.specs.declared.choice.Projection.TheVariants.{Epsg4326, Epsg3857}
-use Rattle.wf_mapfile.specs.Token.{Token, Word, Quoted}
+use Rattle.wf_token.specs.Token.{Token, Word, Quoted}
 use Rattle.wf_mapfile.specs.Grammar.{is_end, word, argument, text, end, at_most_one, exactly_one}
 use Rattle.wf_mapfile.specs.Metadata.{pairs, all_differ, value_at, kept as kept_pairs, metadata}
 use Rattle.wf_mapfile.specs.declared.keyword.WebKeyword.TheVariants as keywords
@@ -19,7 +19,7 @@ use Rattle.wf_mapfile.specs.declared.slots.Metadata as slots
 use Rattle.wf_mapfile.specs.Web as webs
 use Rattle.wf_mapfile.specs.Map as mapfile
 use Rattle.wf_mapfile.specs.Map.{map_keyword, map_item, map_of, extent, projection, projection_named, definition, layers_of, are_layers, name_of, extent_of, projection_of, web_of, said_layer, size_of, image_color_of, units_of, status_of, image_type_of, shape_path_of, MapItem, Name, Extent, Projected, Web, Layer}
-use Rattle.wf_canon.specs.Number.{number_text}
+use Rattle.wf_text.specs.NumberText.{number_text}
 use Rattle.wf_canon.specs.Canon.{projection_text, alone, with_text, with_key, with_extent, end_line, layer_lines, projection_lines, web_lines}
 use Rattle.wf_canon.proofs.KnownText.{title_key, abstract_key, address_key, projection_is_text}
 use Rattle.wf_canon.proofs.TokenLaw.{text_again, number_again, end_again}

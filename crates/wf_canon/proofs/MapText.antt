@@ -8,7 +8,8 @@ use Rattle.std.specs.Fmt.{decimal}
 use Rattle.wf_def.specs.Definition.{Definition, LayerDefinition, ClassDefinition, StyleDefinition, FeatureDefinition}
 use Rattle.wf_def.specs.declared.point.Point.{Point}
 use Rattle.wf_canon.specs.declared.draft.Draft.{Draft}
-use Rattle.wf_canon.specs.Canon.{line, alone, with_text, with_word, with_color, when_there, end_line, kind_word, point_line, part_lines, metadata_lines, style_lines, optional_label_lines, class_lines, feature_lines, layer_lines, heading_lines, projection_lines, web_lines, text_of, canon}
+use Rattle.wf_token.specs.Spelling.{line, text_of}
+use Rattle.wf_canon.specs.Canon.{alone, with_text, with_word, with_color, when_there, end_line, kind_word, point_line, part_lines, metadata_lines, style_lines, optional_label_lines, class_lines, feature_lines, layer_lines, heading_lines, projection_lines, web_lines, canon}
 use Rattle.wf_canon.specs.Draft.{Writes}
 use Rattle.wf_canon.proofs.Writing.{both, last_line, lines}
 

@@ -7,20 +7,22 @@ use Rattle.std.proofs.lemmas.Bool.Decides.{nat_tests}
 use Rattle.std.proofs.lemmas.List.{append-nil}
 use Rattle.wf_def.specs.Definition.{Definition}
 use Rattle.wf_def.specs.Limits.{IsWithinLimits}
-use Rattle.wf_mapfile.specs.Token.{Token, Word, Between, without_mark, tokens, tokens_from}
+use Rattle.wf_token.specs.Token.{Token, Word, Between, without_mark, tokens, tokens_from}
 use Rattle.wf_mapfile.specs.Grammar.{◌>>=◌, word}
 use Rattle.wf_mapfile.specs.Meaning.{file, longest_mapfile, meaning, Means, MeansNothing}
 use Rattle.wf_mapfile.specs.Reading.{IsNotUtf8, is_memory}
 use Rattle.wf_mapfile.specs.declared.fault.MapFault.{MapFault}
 use Rattle.wf_mapfile.specs.declared.fault.MapFault.TheVariants as reading
-use Rattle.wf_canon.specs.Canon.{line, end_line, map_lines, canon}
+use Rattle.wf_token.specs.Spelling.{line}
+use Rattle.wf_canon.specs.Canon.{end_line, map_lines, canon}
 use Rattle.wf_canon.specs.declared.fault.CanonFault.{CanonFault}
 use Rattle.wf_canon.specs.declared.fault.CanonFault.TheVariants.{TooBig, NotCanonical, Memory}
 use Rattle.wf_canon.specs.Saying.{Says}
 use Rattle.wf_canon.specs.Refusal.{HasNoCanon, IsCauseOf, IsWhyRefused, refused_again}
-use Rattle.wf_canon.proofs.Lexing.{tokens_of, lex_text}
+use Rattle.wf_token.specs.Spelling.{tokens_of}
+use Rattle.wf_token.specs.SpellingLaws.{lex_text}
 use Rattle.wf_canon.proofs.WrittenLaw.{map_is_written}
-use Rattle.wf_canon.proofs.Utf8Law.{text_of-is_utf8}
+use Rattle.wf_token.specs.Utf8Laws.{text_of-is_utf8}
 use Rattle.wf_canon.proofs.MapLaw.{map_body, map_again}
 
 -- ---- the text is read

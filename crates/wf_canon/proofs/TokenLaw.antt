@@ -9,12 +9,12 @@ use Rattle.wf_def.specs.Micro.{IsMicro}
 use Rattle.wf_def.specs.Text.{is_text}
 use Rattle.wf_def.specs.Whole.{whole_between}
 use Rattle.wf_def.specs.declared.color.Color.{Color}
-use Rattle.wf_mapfile.specs.Token.{Token, Word, Quoted}
+use Rattle.wf_token.specs.Token.{Token, Word, Quoted}
 use Rattle.wf_mapfile.specs.Grammar.{is_end, word, argument, text, chosen, choice, number, whole, end}
 use Rattle.wf_mapfile.specs.Color.{color, rgb_color, hash_digits}
-use Rattle.wf_canon.specs.Number.{fraction_text, magnitude_text, number_text}
+use Rattle.wf_text.specs.NumberText.{fraction_text, magnitude_text, number_text}
 use Rattle.wf_canon.specs.Canon.{whole_word}
-use Rattle.wf_canon.proofs.NumberLaw as numbers
+use Rattle.wf_text.specs.NumberTextLaws as numbers
 use Rattle.wf_canon.proofs.NumberWord.{number_word_is}
 
 pub text_again : (t : List ℕ) (rest : List Token) → is_text t ≡ true → text (Quoted t ∷ rest) ≡ Some (t, rest)

@@ -6,9 +6,10 @@ use Rattle.std.proofs.lemmas.Bool.Decides.{nat_tests}
 use Rattle.std.proofs.lemmas.List.{append-nil}
 use Rattle.std.proofs.lemmas.List.Concat.{flat_map-append}
 use Rattle.std.specs.List.{flat_map}
-use Rattle.wf_mapfile.specs.Token.{Token}
+use Rattle.wf_token.specs.Token.{Token}
 use Rattle.wf_canon.specs.declared.draft.Draft.{Draft}
-use Rattle.wf_canon.specs.Canon.{line, text_of, most_canon_bytes}
+use Rattle.wf_token.specs.Spelling.{line, text_of}
+use Rattle.wf_canon.specs.Canon.{most_canon_bytes}
 use Rattle.wf_canon.specs.Draft.{IsDraftOf, Writes}
 
 pub nothing : (d : Draft) → Writes d [] d

@@ -1,13 +1,11 @@
 -- Each line of a map within the limits is written so that its tokens are read as they were written.
-use Rattle.std.proofs.Common.{◌≡◌, ℕ, ◌^◌, ◌<◌, ◌≤◌, Bool, true, false, ◌&&◌, ◌||◌, cond, eqb, leb, List, [], ◌∷◌, ◌++◌, length, All, Option, Some, None, refl, arith}
+use Rattle.std.proofs.Common.{◌≡◌, ℕ, ◌≤◌, Bool, true, false, ◌&&◌, ◌||◌, cond, eqb, leb, List, [], ◌∷◌, ◌++◌, length, All, Option, Some, None, refl, arith}
 use Rattle.std.specs.Prelude.{codes, map, IfSome}
 use Rattle.std.specs.List.{flat_map, list_all, list_any, AllByRecursion}
 use Rattle.std.specs.Str.{IsUtf8, is_utf8, chars}
 use Rattle.std.specs.Char.{encode_utf8}
 use Rattle.std.specs.Fmt.{decimal}
 use Rattle.std.proofs.lemmas.Bool.Decides.{nat_tests}
-use Rattle.std.proofs.lemmas.Fmt.{decimal_nonempty}
-use Rattle.std.proofs.lemmas.List.{append-nil}
 use Rattle.std.proofs.lemmas.List.Elements.{recursion_from_All}
 use Rattle.std.proofs.lemmas.List.Folds.{list_all-append}
 use Rattle.std.proofs.lemmas.Str.{IsUtf8-append, IsUtf8-from_is_utf8, is_utf8-from_IsUtf8, chars-append}
@@ -24,12 +22,13 @@ use Rattle.wf_def.specs.declared.choice.LabelSize.{LabelSize}
 use Rattle.wf_def.specs.declared.choice.LabelSize.TheVariants.{Tiny, Small, Medium, Large, Giant}
 use Rattle.wf_def.specs.declared.choice.LabelPosition.{LabelPosition}
 use Rattle.wf_def.specs.declared.choice.LabelPosition.TheVariants.{UpperLeft, UpperCenter, UpperRight, CenterLeft, CenterCenter, CenterRight, LowerLeft, LowerCenter, LowerRight}
-use Rattle.wf_mapfile.specs.Token.{Token, Quoted, is_plain, is_slash, is_quote, is_hash}
+use Rattle.wf_token.specs.Token.{Token, Quoted, is_plain, is_slash, is_quote, is_hash}
 use Rattle.wf_canon.specs.Canon.{kind_word, size_word, position_word, force_word, projection_text, alone, with_text, with_word, with_key, with_extent, with_color, when_there, end_line, point_line, part_lines, feature_lines, label_lines, style_lines, optional_label_lines, class_lines, layer_lines, heading_lines, projection_lines, web_lines, map_lines}
-use Rattle.wf_canon.proofs.Lexing.{and_left, and_right, not_true, is_word, lacks, is_written, are_written}
-use Rattle.wf_canon.proofs.NumberLaw.{are_digits_decimal}
-use Rattle.wf_canon.proofs.NumberWord.{number_word_is, digits_word}
-use Rattle.wf_canon.proofs.Utf8Law.{text_is_utf8}
+use Rattle.wf_text.specs.Booleans.{and_left, and_right, not_true}
+use Rattle.wf_token.specs.Spelling.{is_word, lacks, is_written, are_written}
+use Rattle.wf_canon.proofs.NumberWord.{number_word_is}
+use Rattle.wf_token.specs.WordLaws.{decimal_is_word}
+use Rattle.wf_token.specs.Utf8Laws.{text_is_utf8}
 use Rattle.wf_canon.proofs.KnownText.{title_key, abstract_key, address_key, projection_is_text}
 
 -- ---- each token is read as it was written
@@ -86,10 +85,6 @@ unfolding is_plain is_slash is_quote is_hash
 end_is_written = refl
 
 -- ---- words and texts
-
-decimal_is_word : (n : ℕ) → n < 2 ^ 64 → is_word (decimal n) ≡ true
-decimal_is_word n fits =
-    rw (← append-nil (decimal n)) (digits_word (decimal n) [] (are_digits_decimal n fits) (decimal_nonempty n fits) refl).0
 
 kind_is_word : (k : LayerKind) → is_word (kind_word k) ≡ true
 unfolding is_plain is_slash is_quote is_hash

@@ -1,7 +1,7 @@
 -- The canonical text of a map definition: one item a line, each line ended by LF, single spaces, keywords and choices in capitals,
 -- every default filled in. A line stands for a value that may be absent only where the value is there.
-use Rattle.std.specs.Prelude.{◌≡◌, ℕ, ℤ, ◌≤◌, length, ◌==◌, Bool, true, false, if◌then◌else◌, List, [], ◌∷◌, ◌++◌, map, Option, Some, None, codes}
-use Rattle.std.specs.List.{flat_map, list_any}
+use Rattle.std.specs.Prelude.{◌≡◌, ℕ, ℤ, ◌≤◌, length, Bool, true, false, List, [], ◌∷◌, ◌++◌, map, Option, Some, None, codes}
+use Rattle.std.specs.List.{flat_map}
 use Rattle.std.specs.Fmt.{decimal}
 use Rattle.wf_def.specs.Definition.{Definition, LayerDefinition, ClassDefinition, StyleDefinition, LabelDefinition, FeatureDefinition}
 use Rattle.wf_def.specs.Limits.{IsWithinLimits}
@@ -16,28 +16,10 @@ use Rattle.wf_def.specs.declared.choice.LabelSize.{LabelSize}
 use Rattle.wf_def.specs.declared.choice.LabelSize.TheVariants.{Tiny, Small, Medium, Large, Giant}
 use Rattle.wf_def.specs.declared.choice.LabelPosition.{LabelPosition}
 use Rattle.wf_def.specs.declared.choice.LabelPosition.TheVariants.{UpperLeft, UpperCenter, UpperRight, CenterLeft, CenterCenter, CenterRight, LowerLeft, LowerCenter, LowerRight}
-use Rattle.wf_mapfile.specs.Token.{Token, Word, Quoted}
-use Rattle.wf_canon.specs.Number.{number_text}
-
--- ---- tokens and lines
-
--- the quote around a text: `"`, or `'` where the text holds `"`
-abbrev pub quote_for : List ℕ → ℕ
-quote_for text = if list_any (λ b. b == 34) text then 39 else 34
-
-abbrev pub quoted : List ℕ → List ℕ
-quoted text = quote_for text ∷ text ++ quote_for text ∷ []
-
--- a word as it is, a text in its quotes
-abbrev pub spelled : Token → List ℕ
-spelled (Word word) = word
-spelled (Quoted text) = quoted text
-
--- tokens with single spaces between them, and LF
-unfoldable pub line : List Token → List ℕ
-line [] = 10 ∷ []
-line (token ∷ []) = spelled token ++ 10 ∷ []
-line (token ∷ next ∷ tokens) = spelled token ++ 32 ∷ line (next ∷ tokens)
+use Rattle.wf_token.specs.Token.{Token, Word, Quoted}
+use Rattle.wf_text.specs.NumberText.{number_text}
+unfoldable pub use Rattle.wf_token.specs.Spelling.{line}
+pub use Rattle.wf_token.specs.Spelling.{quote_for, quoted, spelled, text_of}
 
 -- ---- words
 
@@ -209,10 +191,6 @@ map_lines d =
     ++ end_line ∷ []
 
 -- ---- the text
-
--- lines, one after the other
-abbrev pub text_of : List (List Token) → List ℕ
-text_of lines = flat_map line lines
 
 unfoldable pub canon : Definition → List ℕ
 canon d = text_of (map_lines d)

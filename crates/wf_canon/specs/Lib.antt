@@ -1,4 +1,4 @@
-pub mod Number
+pub use Rattle.wf_text.specs.NumberText as Number
 pub mod Canon
 pub mod Draft
 pub mod Saying

@@ -2,7 +2,7 @@
 use Rattle.std.specs.Prelude.{◌≡◌, ℕ, true, List, Some}
 use Rattle.std.specs.Str.{is_utf8}
 use Rattle.wf_def.specs.Definition.{Definition}
-use Rattle.wf_mapfile.specs.Token.{tokens}
+use Rattle.wf_token.specs.Token.{tokens}
 use Rattle.wf_mapfile.specs.Grammar.{◌>>=◌}
 use Rattle.wf_mapfile.specs.Meaning.{file}
 

@@ -2,7 +2,8 @@
 
 ghost use Rattle.std.specs.Prelude.{◌≡◌, ◌++◌};
 ghost use Rattle.std.specs.List.{flat_map};
-ghost use Rattle.wf_canon.specs.Canon.{size_word, position_word, force_word, style_lines, label_lines, optional_label_lines, class_lines, text_of};
+ghost use Rattle.wf_canon.specs.Canon.{size_word, position_word, force_word, style_lines, label_lines, optional_label_lines, class_lines};
+ghost use Rattle.wf_token.specs.Spelling.{text_of};
 ghost use Rattle.wf_canon.specs.Draft.{Writes};
 
 use crate::draft::Draft;

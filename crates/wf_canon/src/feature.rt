@@ -2,7 +2,8 @@
 
 ghost use Rattle.std.specs.Prelude.{map};
 ghost use Rattle.std.specs.List.{flat_map};
-ghost use Rattle.wf_canon.specs.Canon.{point_line, part_lines, feature_lines, text_of};
+ghost use Rattle.wf_canon.specs.Canon.{point_line, part_lines, feature_lines};
+ghost use Rattle.wf_token.specs.Spelling.{text_of};
 ghost use Rattle.wf_canon.specs.Draft.{Writes};
 
 use crate::draft::Draft;

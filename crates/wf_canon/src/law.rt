@@ -1,22 +1,13 @@
 //! Laws of the canonical text, over its definition alone.
 
-ghost use Rattle.std.specs.Prelude.{◌≡◌, ℤ, Ok, ◌≤◌, length};
+ghost use Rattle.std.specs.Prelude.{◌≡◌, ◌≤◌, length};
 ghost use Rattle.wf_def.specs.Definition.{Definition};
 ghost use Rattle.wf_def.specs.Limits.{IsWithinLimits};
-ghost use Rattle.wf_def.specs.Micro.{IsMicro};
-ghost use Rattle.wf_def.specs.Number.{number};
 ghost use Rattle.wf_mapfile.specs.Meaning.{Means};
-ghost use Rattle.wf_canon.specs.Number.{number_text};
 ghost use Rattle.wf_canon.specs.Canon.{canon, most_canon_bytes};
 ghost use Rattle.wf_canon.specs.Saying.{Says};
 
 use crate::canon::MOST_CANON_BYTES;
-
-/// What is written of a number is read as that number.
-#[tactic(auto, using(crate::proofs::NumberLaw::number_again))]
-pub fn number_is_read_again()
-    ensures { (millionths : ℤ) → IsMicro millionths → number (number_text millionths) ≡ Ok millionths }
-{}
 
 /// The canonical text of a map means that map.
 #[tactic(auto, using(crate::proofs::MeaningLaw::canon_means))]

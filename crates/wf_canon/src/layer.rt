@@ -2,7 +2,8 @@
 
 ghost use Rattle.std.specs.Prelude.{◌≡◌, ◌++◌, codes};
 ghost use Rattle.std.specs.List.{flat_map};
-ghost use Rattle.wf_canon.specs.Canon.{kind_word, with_text, line, metadata_lines, feature_lines, class_lines, layer_lines, text_of};
+ghost use Rattle.wf_canon.specs.Canon.{kind_word, with_text, metadata_lines, feature_lines, class_lines, layer_lines};
+ghost use Rattle.wf_token.specs.Spelling.{line, text_of};
 ghost use Rattle.wf_canon.specs.Draft.{Writes};
 
 use crate::class::push_class;
@@ -27,7 +28,7 @@ fn kind_word(kind: LayerKind) -> &'static str
 }
 
 /// Writes the line of the names of a layer's attributes.
-#[tactic(auto, unfolding(crate::specs::Canon::line))]
+#[tactic(auto, unfolding(wf_token::specs::Spelling::line))]
 fn push_attribute_names(out: &mut Draft, names: &[u8])
     ensures { Writes out.old (line (with_text (codes "PROCESSING") (codes "ITEMS=" ++ names.now))) out.new }
 {

@@ -9,7 +9,7 @@
 //! definition. It says nothing of which of two mapfiles a user would prefer.
 //!
 //! The way through it: `draft` is a text while it is written, `line` writes the lines of one item, `class`, `feature`, `layer` and
-//! `writer` the blocks of these lines.
+//! `writer` the blocks of these lines. How tokens stand in a line is wf_token's, and how a number is written wf_text's.
 #![tactic(auto)]
 
 mod canon;
@@ -28,6 +28,7 @@ pub use canon::{Canon, MOST_CANON_BYTES};
 pub use fault::CanonFault;
 pub use law::{
     canonical_text_means_its_map, every_canonical_text_says_its_map, limit_of_canonical_texts,
-    number_is_read_again, one_text_one_map,
+    one_text_one_map,
 };
-pub use number::write_number;
+pub use wf_text::number_law::number_is_read_again;
+pub use wf_text::number_text::write_number;

@@ -2,8 +2,9 @@
 
 ghost use Rattle.std.specs.Prelude.{◌≡◌, ◌∷◌};
 ghost use Rattle.std.specs.Fmt.{decimal};
-ghost use Rattle.wf_canon.specs.Number.{number_text};
-ghost use Rattle.wf_canon.specs.Canon.{quote_for, quoted, line, alone, with_text, with_word, with_key, with_extent, with_color, when_there, point_line, text_of};
+ghost use Rattle.wf_text.specs.NumberText.{number_text};
+ghost use Rattle.wf_token.specs.Spelling.{quote_for, quoted, line, text_of};
+ghost use Rattle.wf_canon.specs.Canon.{alone, with_text, with_word, with_key, with_extent, with_color, when_there, point_line};
 ghost use Rattle.wf_canon.specs.Draft.{Writes};
 
 use crate::draft::Draft;
@@ -32,7 +33,7 @@ pub fn push_quoted(out: &mut Draft, text: &[u8])
 }
 
 /// Writes a line of one keyword.
-#[tactic(auto, unfolding(crate::specs::Canon::line))]
+#[tactic(auto, unfolding(wf_token::specs::Spelling::line))]
 pub fn push_alone(out: &mut Draft, keyword: &str)
     ensures { Writes out.old (line (alone keyword.now)) out.new }
 {
@@ -41,7 +42,7 @@ pub fn push_alone(out: &mut Draft, keyword: &str)
 }
 
 /// Writes a line of a keyword and a text.
-#[tactic(auto, unfolding(crate::specs::Canon::line))]
+#[tactic(auto, unfolding(wf_token::specs::Spelling::line))]
 pub fn push_with_text(out: &mut Draft, keyword: &str, text: &[u8])
     ensures { Writes out.old (line (with_text keyword.now text.now)) out.new }
 {
@@ -61,7 +62,7 @@ pub fn push_optional_text(out: &mut Draft, keyword: &str, text: &Option<Text>)
 }
 
 /// Writes a line of a keyword and a word.
-#[tactic(auto, unfolding(crate::specs::Canon::line))]
+#[tactic(auto, unfolding(wf_token::specs::Spelling::line))]
 pub fn push_with_word(out: &mut Draft, keyword: &str, word: &str)
     ensures { Writes out.old (line (with_word keyword.now word.now)) out.new }
 {
@@ -72,7 +73,7 @@ pub fn push_with_word(out: &mut Draft, keyword: &str, word: &str)
 }
 
 /// Writes a line of a keyword and a whole number.
-#[tactic(auto, unfolding(crate::specs::Canon::line))]
+#[tactic(auto, unfolding(wf_token::specs::Spelling::line))]
 pub fn push_with_whole(out: &mut Draft, keyword: &str, whole: u8)
     ensures { Writes out.old (line (with_word keyword.now (decimal whole))) out.new }
 {
@@ -82,7 +83,7 @@ pub fn push_with_whole(out: &mut Draft, keyword: &str, whole: u8)
 }
 
 /// Writes a line of a metadata key and its text.
-#[tactic(auto, unfolding(crate::specs::Canon::line))]
+#[tactic(auto, unfolding(wf_token::specs::Spelling::line))]
 pub fn push_with_key(out: &mut Draft, key: &str, text: &[u8])
     ensures { Writes out.old (line (with_key key.now text.now)) out.new }
 {
@@ -109,7 +110,7 @@ fn push_next_whole(out: &mut Draft, whole: u8)
 }
 
 /// Writes a line of a keyword and a box.
-#[tactic(auto, unfolding(crate::specs::Canon::line))]
+#[tactic(auto, unfolding(wf_token::specs::Spelling::line))]
 pub fn push_with_extent(out: &mut Draft, keyword: &str, extent: Extent)
     ensures { Writes out.old (line (with_extent keyword.now extent)) out.new }
 {
@@ -122,7 +123,7 @@ pub fn push_with_extent(out: &mut Draft, keyword: &str, extent: Extent)
 }
 
 /// Writes a line of a keyword and a colour.
-#[tactic(auto, unfolding(crate::specs::Canon::line))]
+#[tactic(auto, unfolding(wf_token::specs::Spelling::line))]
 pub fn push_with_color(out: &mut Draft, keyword: &str, color: Color)
     ensures { Writes out.old (line (with_color keyword.now color)) out.new }
 {
@@ -143,7 +144,7 @@ pub fn push_optional_color(out: &mut Draft, keyword: &str, color: Option<Color>)
 }
 
 /// Writes a line of a point.
-#[tactic(auto, unfolding(crate::specs::Canon::line))]
+#[tactic(auto, unfolding(wf_token::specs::Spelling::line))]
 pub fn push_point(out: &mut Draft, point: Point)
     ensures { Writes out.old (line (point_line point)) out.new }
 {

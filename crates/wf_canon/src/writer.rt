@@ -3,7 +3,8 @@
 ghost use Rattle.std.specs.Prelude.{◌≡◌, ◌++◌};
 ghost use Rattle.std.specs.List.{flat_map};
 ghost use Rattle.wf_def.specs.Limits.{IsWithinLimits};
-ghost use Rattle.wf_canon.specs.Canon.{projection_text, heading_lines, projection_lines, web_lines, layer_lines, text_of, canon};
+ghost use Rattle.wf_canon.specs.Canon.{projection_text, heading_lines, projection_lines, web_lines, layer_lines, canon};
+ghost use Rattle.wf_token.specs.Spelling.{text_of};
 ghost use Rattle.wf_canon.specs.Draft.{Writes};
 
 use crate::draft::Draft;
@@ -23,7 +24,7 @@ fn projection_text(projection: Projection) -> &'static str
 }
 
 /// Writes the block of the coordinate system.
-#[tactic(auto, unfolding(crate::specs::Canon::line))]
+#[tactic(auto, unfolding(wf_token::specs::Spelling::line))]
 fn push_projection(out: &mut Draft, projection: Projection)
     ensures { Writes out.old (text_of (projection_lines projection)) out.new }
 {

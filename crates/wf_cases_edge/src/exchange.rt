@@ -1,10 +1,10 @@
 //! How a request is read and its response written; and a request that is heard, or answered at once.
 use std::alloc::Global;
 use wf_edge::hearing::hear;
-use wf_edge::memory::{Bytes, Output};
 use wf_edge::outcome::Outcome;
 use wf_edge::request::Request;
 use wf_edge::resource::Asked;
+use wf_stream::{Bytes, Output};
 use wf_table::Unanswered;
 use wf_table::write::{write_line, write_text, write_whole};
 

@@ -1,4 +1,4 @@
-//! Cases about numbers, texts, definitions, tokens, mapfiles, canonical texts, capabilities and command lines.
+//! Cases about numbers, texts, definitions, tokens, mapfiles, canonical texts and requests.
 //!
 //! Standard input is a table of cases (`wf_table` has its language); standard output is the report, whose last line has the counts. Each
 //! question is one function, by subject: `numbers`, `texts`, `definitions`, `tokens`, `mapfiles`, `canonical`, `requests`, `maps`,
@@ -10,7 +10,6 @@
 
 mod asked;
 mod canonical;
-mod commands;
 mod definitions;
 mod mapfiles;
 mod maps;

@@ -1,8 +1,7 @@
 //! The questions by their names.
 use crate::asked::{Answered, Asked};
 use crate::{
-    canonical, commands, definitions, mapfiles, maps, numbers, reports, requests, tables, texts,
-    tokens,
+    canonical, definitions, mapfiles, maps, numbers, reports, requests, tables, texts, tokens,
 };
 use std::alloc::Global;
 use wf_table::{Questions, Unanswered};
@@ -77,8 +76,6 @@ fn about_canonical_texts(question: &str, asked: Asked<'_>, answer: &mut Vec<u8>)
         "canonical_number" => canonical::number(asked, answer),
         "title" => canonical::title(asked, answer),
         "canonical" => canonical::from_bytes(asked, answer),
-        "canon" => commands::canon(asked, answer),
-        "canon_twice" => commands::canon_twice(asked, answer),
         _ => about_requests(question, asked, answer),
     }
 }
@@ -88,10 +85,7 @@ fn about_requests(question: &str, asked: Asked<'_>, answer: &mut Vec<u8>) -> Ans
         "request" => requests::request(asked, answer),
         "get" => maps::get(asked, answer),
         "drawn" => maps::drawn(asked, answer),
-        "caps" => commands::caps(asked, answer),
         "report" => reports::report_of(asked, answer),
-        "line" => commands::command_line(asked, answer),
-        "run" => commands::run(asked, answer),
         "table" => tables::table(asked, answer),
         _ => Err(Unanswered::UnknownQuestion),
     }

@@ -47,3 +47,4 @@ fault_known known bytes (faults.Canon fault) is why = absurd why
 fault_known known bytes (faults.Script fault) is why = absurd why
 fault_known known bytes faults.Read is why = absurd why
 fault_known known bytes faults.Write is why = absurd why
+fault_known known bytes faults.Serve is why = absurd why

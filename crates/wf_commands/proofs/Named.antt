@@ -2,6 +2,8 @@
 use Rattle.std.proofs.Common.{◌≡◌, ◌∙◌, List, true, sym, ap, refl, codes}
 use Rattle.std.specs.Prelude.{Box, Option, Some, None, option_map, IfNone}
 use Rattle.std.specs.Box.{box_value}
+use Rattle.std.specs.Str.{bytes_eq}
+use Rattle.std.proofs.lemmas.Bool.{false≢true}
 use Rattle.clap.proofs.WalkLemmas.{first_value-rows}
 use Rattle.clap.specs.Matches.{first_value}
 use Rattle.clap.specs.Simple.{App, subcommand_rows}
@@ -13,8 +15,11 @@ use Rattle.clap.specs.declared.error.kind.ErrorKind.TheVariants.{OutOfMemory}
 use Rattle.clap.specs.declared.parser.matches.ArgMatches.TheViews.{out-SubCommand}
 use Rattle.clap.specs.declared.parser.matches.Found.{Found}
 use Rattle.clap.specs.declared.parser.matches.SubCommand.{SubCommand}
-use Rattle.wf_commands.specs.CommandLine.{Asks, IsCapsOf, program}
+use Rattle.wf_commands.specs.CommandLine.{Asks, IsCapsOf, IsServeOf, IsServiceOf, program}
+use Rattle.wf_commands.specs.Line.{IsInRange}
 use Rattle.wf_commands.specs.declared.line.Line.{Line}
+use Rattle.wf_serve.specs.Service.{IsService}
+use Rattle.wf_serve.specs.declared.service.Service.{Service}
 use Rattle.wf_commands.specs.declared.line.Line.TheVariants as lines
 
 -- the word that was found stands in its row
@@ -31,6 +36,31 @@ asks_of : (p : Text × List Row) (rows : List Row) → p.1 ≡ rows → p.0 ≡ 
 asks_of p rows has named none (lines.Caps seq query) asks = none (lines.Caps seq query) (rw has at asks.1)
 asks_of p rows has named none lines.Canon asks = let clash : codes "caps" ≡ codes "canon" = sym named ∙ asks in cc
 asks_of p rows has named none lines.Run asks = let clash : codes "caps" ≡ codes "run" = sym named ∙ asks in cc
+asks_of p rows has named none (lines.Serve service) asks = false≢true (sym (ap (bytes_eq (codes "caps")) (sym named ∙ asks.0)))
+
+-- where `serve` was named and no `serve` line has its words, they ask for nothing
+serve_asks_of : (p : Text × List Row) (rows : List Row) → p.1 ≡ rows → p.0 ≡ codes "serve" → ((l : Line) → ¬ (IsServeOf rows l)) → (l : Line) → ¬ (Asks (Some p) l)
+serve_asks_of p rows has named none (lines.Caps seq query) asks = false≢true (sym (ap (bytes_eq (codes "serve")) (sym named ∙ asks.0)))
+serve_asks_of p rows has named none lines.Canon asks = false≢true (sym (ap (bytes_eq (codes "serve")) (sym named ∙ asks)))
+serve_asks_of p rows has named none lines.Run asks = false≢true (sym (ap (bytes_eq (codes "serve")) (sym named ∙ asks)))
+serve_asks_of p rows has named none (lines.Serve service) asks = none (lines.Serve service) (rw has at asks.1)
+
+pub none_served : (line : Option Line) (met : Option (Text × List Row)) (rows : List Row) → option_map (λ p. p.1) met ≡ Some rows
+    → option_map (λ p. p.0) met ≡ Some (codes "serve") → IfNone line ((l : Line) → ¬ (IsServeOf rows l)) → IfNone line ((l : Line) → ¬ (Asks met l))
+none_served (Some line) met rows has named none = tt
+none_served None None rows has named none = λ l asks. asks
+none_served None (Some p) rows has named none = serve_asks_of p rows (let is : p.1 ≡ rows = cc in is) (let is : p.0 ≡ codes "serve" = cc in is) none
+
+-- the numbers of what is asked for are within their ranges
+service_in_range : (rows : List Row) (service : Service) → IsServiceOf rows service → IsService service
+service_in_range rows service is = record { some = is.nodes.2.low; nodes = is.nodes.2.high; port = is.port.2.high; requests = is.requests.2.high }
+
+pub asked_in_range : (met : Option (Text × List Row)) (line : Line) → Asks met line → IsInRange line
+asked_in_range None line asks = absurd asks
+asked_in_range (Some named) (lines.Caps seq query) (is, (word, text, first, second, (sequence, same))) = sequence.most
+asked_in_range (Some named) lines.Canon asks = tt
+asked_in_range (Some named) lines.Run asks = tt
+asked_in_range (Some named) (lines.Serve service) asks = service_in_range named.1 service asks.1
 
 pub none_asked : (line : Option Line) (met : Option (Text × List Row)) (rows : List Row) → option_map (λ p. p.1) met ≡ Some rows
     → option_map (λ p. p.0) met ≡ Some (codes "caps") → IfNone line ((l : Line) → ¬ (IsCapsOf rows l)) → IfNone line ((l : Line) → ¬ (Asks met l))

@@ -8,7 +8,7 @@ use Rattle.wf_canon.specs.declared.fault.CanonFault.{CanonFault}
 use Rattle.wf_commands.specs.Run.{IsReadingFault, IsWriting, IsOutcome, CountsReads, CountsWrites}
 use Rattle.wf_commands.specs.declared.fault.RunFault.{RunFault}
 use Rattle.wf_commands.specs.declared.fault.RunFault.TheVariants as faults
-use Rattle.wf_edge.proofs.Known.{keeps_same}
+use Rattle.wf_stream.proofs.Known.{keeps_same}
 
 module _ (output : Definition → List ℕ) (refuses : CanonFault → Definition → Type 0) (input old new : Option (List ℕ)) where
   pub written_outcome : (result : Result (Unit {0}) RunFault) (d : Definition) → IfSome input (λ bytes. Means bytes d) → IsWithinLimits d
@@ -20,6 +20,7 @@ module _ (output : Definition → List ℕ) (refuses : CanonFault → Definition
       (λ other. let clash : true ≡ false = sym writes.0 ∙ other in cc, writes.1)
   written_outcome (Err faults.Read) d means within writes = absurd writes
   written_outcome (Err (faults.Script fault)) d means within writes = absurd writes
+  written_outcome (Err faults.Serve) d means within writes = absurd writes
 
   pub fault_outcome : (fault : RunFault) → IsReadingFault input fault → IsOutcome output refuses input old old (Err fault)
   fault_outcome (faults.Map fault) why = (why, keeps_same old)
@@ -27,6 +28,7 @@ module _ (output : Definition → List ℕ) (refuses : CanonFault → Definition
   fault_outcome (faults.Script fault) why = absurd why
   fault_outcome faults.Read why = keeps_same old
   fault_outcome faults.Write why = absurd why
+  fault_outcome faults.Serve why = absurd why
 
 -- after the input was read no read fails
 pub no_more_reads : (bytes : List ℕ) (refuses : CanonFault → Type 0) (old new : Option (List ℕ)) (result : Result (Unit {0}) RunFault)
@@ -37,6 +39,7 @@ no_more_reads bytes refuses old new (Err (faults.Canon fault)) before after writ
 no_more_reads bytes refuses old new (Err (faults.Map fault)) before after writes same = λ other. same
 no_more_reads bytes refuses old new (Err faults.Read) before after writes same = absurd writes
 no_more_reads bytes refuses old new (Err (faults.Script fault)) before after writes same = absurd writes
+no_more_reads bytes refuses old new (Err faults.Serve) before after writes same = absurd writes
 
 -- before the input was read no write fails
 pub no_writes_yet : (input : Option (List ℕ)) (fault : RunFault) (count : ℕ) → IsReadingFault input fault
@@ -46,3 +49,4 @@ no_writes_yet input (faults.Canon fault) count why = refl
 no_writes_yet input (faults.Script fault) count why = refl
 no_writes_yet input faults.Read count why = refl
 no_writes_yet input faults.Write count why = absurd why
+no_writes_yet input faults.Serve count why = absurd why

@@ -134,6 +134,7 @@ caps_asked word query (lines.Caps seq asked) plain_word plain_query is =
     (caps_taken word query plain_word plain_query (sequence_accepted word seq plain_word is.0), rw found.1 (refl, (word, query, found.2, found.3, is)))
 caps_asked word query lines.Canon plain_word plain_query is = absurd is
 caps_asked word query lines.Run plain_word plain_query is = absurd is
+caps_asked word query (lines.Serve service) plain_word plain_query is = absurd is
 
 pub canon_asked : PlainCanonIsAsked
 unfolding clap_on_literals

@@ -1,5 +1,5 @@
 -- What the words of a command line ask for, by the rules of the kit's parser of command lines.
-use Rattle.std.specs.Prelude.{◌≡◌, ◌==◌, not, Bool, List, [], ◌∷◌, Option, Some, None, false, true, codes, pos}
+use Rattle.std.specs.Prelude.{◌≡◌, ℕ, option_map, ◌==◌, not, Bool, List, [], ◌∷◌, Option, Some, None, false, true, codes, pos}
 use Rattle.clap.specs.Walk.{Row, Rule, Text, first_of}
 use Rattle.clap.specs.Simple.{App, Shape, new_rule, new_shape, subcommand_of}
 use Rattle.clap.specs.Takes.{takes}
@@ -7,8 +7,10 @@ use Rattle.clap.specs.declared.error.kind.ErrorKind.{ErrorKind}
 use Rattle.clap.specs.declared.error.kind.ErrorKind.TheVariants.{OutOfMemory}
 use Rattle.clap.specs.declared.builder.value_parser.ValueParser.TheVariants.{Signed}
 use Rattle.wf_ballot.specs.Sequence.{last_sequence}
-use Rattle.wf_commands.specs.Line.{IsSequence}
+use Rattle.wf_commands.specs.Line.{IsNumber, IsSequence}
 use Rattle.wf_commands.specs.declared.line.Line.{Line}
+use Rattle.wf_serve.specs.Service.{last_port, most_nodes, most_requests}
+use Rattle.wf_serve.specs.declared.service.Service.{Service}
 use Rattle.wf_commands.specs.declared.line.Line.TheVariants as lines
 
 -- ---- what the program can be given
@@ -37,7 +39,40 @@ canon_shape = new_shape (codes "canon")
 abbrev pub run_shape : Shape
 run_shape = new_shape (codes "run")
 
--- The program is given one of the three commands, or asked for its version or for help. What its parser reads of it:
+-- `--nodes N`, `--port P`, `--requests K`: required numbers within their ranges
+abbrev pub nodes_rule : Rule
+nodes_rule = record (new_rule (codes "nodes")) {
+  long = Some (codes "nodes");
+  value_names = 1;
+  parser = Some (Signed (pos 1) (pos most_nodes));
+  required = true;
+}
+
+abbrev pub port_rule : Rule
+port_rule = record (new_rule (codes "port")) {
+  long = Some (codes "port");
+  value_names = 1;
+  parser = Some (Signed (pos 0) (pos last_port));
+  required = true;
+}
+
+abbrev pub requests_rule : Rule
+requests_rule = record (new_rule (codes "requests")) {
+  long = Some (codes "requests");
+  value_names = 1;
+  parser = Some (Signed (pos 0) (pos most_requests));
+  required = true;
+}
+
+-- `--state DIR`: a text
+abbrev pub state_rule : Rule
+state_rule = record (new_rule (codes "state")) { long = Some (codes "state"); value_names = 1 }
+
+-- `serve`
+abbrev pub serve_shape : Shape
+serve_shape = record (new_shape (codes "serve")) { rules = nodes_rule ∷ port_rule ∷ requests_rule ∷ state_rule ∷ [] }
+
+-- The program is given one of the four commands, or asked for its version or for help. What its parser reads of it:
 abbrev pub program : App
 program = record {
   top = record (new_shape (codes "wfarm")) {
@@ -46,7 +81,7 @@ program = record {
     has_version = true;
     subcommand_required = true;
   };
-  subs = caps_shape ∷ canon_shape ∷ run_shape ∷ [];
+  subs = caps_shape ∷ canon_shape ∷ run_shape ∷ serve_shape ∷ [];
 }
 
 -- ---- what a line is asked for by
@@ -56,11 +91,30 @@ abbrev pub IsCapsLine : Text → Text → Line → Type 0
 IsCapsLine word query (lines.Caps seq asked) = IsSequence word seq × (asked.now ≡ query)
 IsCapsLine word query lines.Canon = ⊥
 IsCapsLine word query lines.Run = ⊥
+IsCapsLine word query (lines.Serve service) = ⊥
 
 -- The line is `caps` with the words that were found for SEQ and QUERY.
 abbrev pub IsCapsOf : List Row → Line → Type 0
 IsCapsOf rows line = (word query : Text) × (first_of (codes "SEQ") rows ≡ Some word) × (first_of (codes "QUERY") rows ≡ Some query)
     × IsCapsLine word query line
+
+-- the word that was found for a number stands for it
+abbrev pub IsNumberOf : List Row → Text → ℕ → ℕ → ℕ → Type 0
+IsNumberOf rows id least most number = (word : Text) × (first_of id rows ≡ Some word) × IsNumber word least most number
+
+-- What is served is what the words say that were found.
+pub record IsServiceOf (rows : List Row) (service : Service) : Type 0 where
+  pub nodes : IsNumberOf rows (codes "nodes") 1 most_nodes service.nodes
+  pub port : IsNumberOf rows (codes "port") 0 last_port service.port
+  pub requests : IsNumberOf rows (codes "requests") 0 most_requests service.requests
+  pub state : option_map (λ s. s.now) service.state ≡ first_of (codes "state") rows
+
+-- The line is `serve`, and what is served is what the words say.
+abbrev pub IsServeOf : List Row → Line → Type 0
+IsServeOf rows (lines.Caps seq query) = ⊥
+IsServeOf rows lines.Canon = ⊥
+IsServeOf rows lines.Run = ⊥
+IsServeOf rows (lines.Serve service) = IsServiceOf rows service
 
 -- the command that was named, with its words, asks for the line
 abbrev pub Asks : Option (Text × List Row) → Line → Type 0
@@ -68,6 +122,7 @@ Asks None line = ⊥
 Asks (Some named) (lines.Caps seq query) = (named.0 ≡ codes "caps") × IsCapsOf named.1 (lines.Caps seq query)
 Asks (Some named) lines.Canon = named.0 ≡ codes "canon"
 Asks (Some named) lines.Run = named.0 ≡ codes "run"
+Asks (Some named) (lines.Serve service) = (named.0 ≡ codes "serve") × IsServeOf named.1 (lines.Serve service)
 
 -- why words are refused: where the parser takes them and they ask for a line, memory ran out
 abbrev pub IsWhyRefused : List Text → ErrorKind → Type 0

@@ -3,6 +3,7 @@ use Rattle.std.specs.Prelude.{◌≡◌, ◌≤◌, ℕ, List, ⊤}
 use Rattle.std.specs.Str.Parse.{IsNumeral, digits_value, without_leading_plus}
 use Rattle.wf_ballot.specs.Sequence.{last_sequence}
 use Rattle.wf_commands.specs.declared.line.Line.{Line}
+use Rattle.wf_serve.specs.Service.{IsService}
 use Rattle.wf_commands.specs.declared.line.Line.TheVariants as lines
 
 -- the numbers of a command line are within their ranges
@@ -10,9 +11,30 @@ abbrev pub IsInRange : Line → Type 0
 IsInRange (lines.Caps seq query) = seq ≤ last_sequence
 IsInRange lines.Canon = ⊤
 IsInRange lines.Run = ⊤
+IsInRange (lines.Serve service) = IsService service
+
+-- the line asks for nodes to be served, or for something about an input
+abbrev pub IsServe : Line → Type 0
+IsServe (lines.Caps seq query) = ⊥
+IsServe lines.Canon = ⊥
+IsServe lines.Run = ⊥
+IsServe (lines.Serve service) = ⊤
+
+abbrev pub IsOfInput : Line → Type 0
+IsOfInput (lines.Caps seq query) = ⊤
+IsOfInput lines.Canon = ⊤
+IsOfInput lines.Run = ⊤
+IsOfInput (lines.Serve service) = ⊥
 
 -- A word stands for an update sequence: decimal digits, a plus before them at most, of a number in the range.
 pub record IsSequence (word : List ℕ) (seq : ℕ) : Type 0 where
   pub digits : IsNumeral 10 (without_leading_plus word)
   pub number : seq ≡ digits_value 10 (without_leading_plus word)
   pub most : seq ≤ last_sequence
+
+-- A word stands for a number from the least to the most: decimal digits, a plus before them at most.
+pub record IsNumber (word : List ℕ) (least most number : ℕ) : Type 0 where
+  pub digits : IsNumeral 10 (without_leading_plus word)
+  pub is : number ≡ digits_value 10 (without_leading_plus word)
+  pub low : least ≤ number
+  pub high : number ≤ most

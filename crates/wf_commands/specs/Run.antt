@@ -9,9 +9,10 @@ use Rattle.wf_canon.specs.Canon.{canon}
 use Rattle.wf_canon.specs.Refusal.{IsCauseOf}
 use Rattle.wf_canon.specs.declared.fault.CanonFault.{CanonFault}
 use Rattle.wf_wms.specs.Answer.{description}
-use Rattle.wf_edge.specs.Reading.{Rises}
+use Rattle.wf_stream.specs.Reading.{Rises}
 use Rattle.wf_script.specs.Fault as script
 use Rattle.wf_script.specs.Lines.{most_script_bytes}
+use Rattle.wf_script.specs.Script.{IsScriptText}
 use Rattle.wf_commands.specs.declared.line.Line.{Line}
 use Rattle.wf_commands.specs.declared.line.Line.TheVariants as lines
 use Rattle.wf_commands.specs.declared.fault.RunFault.{RunFault}
@@ -21,11 +22,12 @@ use Rattle.wf_commands.specs.declared.fault.RunFault.TheVariants as faults
 abbrev pub most_input_bytes : ℕ
 most_input_bytes = 65537
 
--- how much of the input each command reads: of a script one byte more than the longest has
+-- how much of the input each command reads: of a script one byte more than the longest has; nothing where nodes are served
 abbrev pub most_read : Line → ℕ
 most_read (lines.Caps seq query) = most_input_bytes
 most_read lines.Canon = most_input_bytes
 most_read lines.Run = most_script_bytes + 1
+most_read (lines.Serve service) = 0
 
 -- what is judged in place of an input: its beginning
 abbrev pub judged : List ℕ → List ℕ
@@ -44,6 +46,7 @@ IsInputFault faults.Read = Unit {0}
 IsInputFault (faults.Canon fault) = ⊥
 IsInputFault (faults.Script fault) = ⊥
 IsInputFault faults.Write = ⊥
+IsInputFault faults.Serve = ⊥
 
 -- why bytes give no definition: other than for want of memory, they mean none
 abbrev pub IsMapFault : List ℕ → RunFault → Type 0
@@ -52,6 +55,7 @@ IsMapFault bytes faults.Read = ⊥
 IsMapFault bytes (faults.Canon fault) = ⊥
 IsMapFault bytes (faults.Script fault) = ⊥
 IsMapFault bytes faults.Write = ⊥
+IsMapFault bytes faults.Serve = ⊥
 
 -- why an input gives no definition: other than for want of memory, a map fault comes only where it means none
 abbrev pub IsReadingFault : Option (List ℕ) → RunFault → Type 0
@@ -60,6 +64,7 @@ IsReadingFault input faults.Read = Unit {0}
 IsReadingFault input (faults.Canon fault) = ⊥
 IsReadingFault input (faults.Script fault) = ⊥
 IsReadingFault input faults.Write = ⊥
+IsReadingFault input faults.Serve = ⊥
 
 -- a beginning of the bytes was put behind what was written
 abbrev pub AppendsPart : Option (List ℕ) → Option (List ℕ) → List ℕ → Type 0
@@ -73,6 +78,7 @@ IsWriting bytes refuses old new (Err (faults.Canon fault)) = refuses fault × Ke
 IsWriting bytes refuses old new (Err (faults.Map fault)) = (is_memory fault ≡ true) × Keeps old new
 IsWriting bytes refuses old new (Err faults.Read) = ⊥
 IsWriting bytes refuses old new (Err (faults.Script fault)) = ⊥
+IsWriting bytes refuses old new (Err faults.Serve) = ⊥
 
 -- What a run writes about the definition that the input means: the whole output, or a part where the writer failed.
 -- With any other fault nothing is written.
@@ -84,21 +90,25 @@ IsOutcome output refuses input old new (Err (faults.Canon fault)) = MeansOne (re
 IsOutcome output refuses input old new (Err (faults.Map fault)) = (is_memory fault ≡ false → IfSome input MeansNothing) × Keeps old new
 IsOutcome output refuses input old new (Err faults.Read) = Keeps old new
 IsOutcome output refuses input old new (Err (faults.Script fault)) = ⊥
+IsOutcome output refuses input old new (Err faults.Serve) = ⊥
 
--- What is written of a script: nothing where it can't be read or isn't one. What its orders write is shown by cases.
-abbrev pub IsPlayed : Option (List ℕ) → Option (List ℕ) → Result (Unit {0}) RunFault → Type 0
-IsPlayed old new (Ok done) = Unit {0}
-IsPlayed old new (Err faults.Write) = Unit {0}
-IsPlayed old new (Err (faults.Script fault)) = script.is_memory fault ≡ false → Keeps old new
-IsPlayed old new (Err faults.Read) = Keeps old new
-IsPlayed old new (Err (faults.Map fault)) = ⊥
-IsPlayed old new (Err (faults.Canon fault)) = ⊥
+-- What is written of a script: nothing where it can't be read or isn't one. Where it is played to its end, or to a failed write, the whole
+-- input was read: where that is known, it is a text within the limits of scripts. What its orders write is shown by cases.
+abbrev pub IsPlayed : Option (List ℕ) → Option (List ℕ) → Option (List ℕ) → Result (Unit {0}) RunFault → Type 0
+IsPlayed input old new (Ok done) = IfSome input IsScriptText
+IsPlayed input old new (Err faults.Write) = IfSome input IsScriptText
+IsPlayed input old new (Err (faults.Script fault)) = script.is_memory fault ≡ false → Keeps old new
+IsPlayed input old new (Err faults.Read) = Keeps old new
+IsPlayed input old new (Err (faults.Map fault)) = ⊥
+IsPlayed input old new (Err (faults.Canon fault)) = ⊥
+IsPlayed input old new (Err faults.Serve) = ⊥
 
--- the outcome of what is asked for
+-- the outcome of what is asked for, over a reader and a writer: nodes aren't served so
 abbrev pub IsOutcomeOf : Line → Option (List ℕ) → Option (List ℕ) → Option (List ℕ) → Result (Unit {0}) RunFault → Type 0
 IsOutcomeOf (lines.Caps seq query) input old new result = IsOutcome (λ d. (description seq d query.now).bytes) (λ _ _. ⊥) input old new result
 IsOutcomeOf lines.Canon input old new result = IsOutcome canon IsCauseOf input old new result
-IsOutcomeOf lines.Run input old new result = IsPlayed old new result
+IsOutcomeOf lines.Run input old new result = IsPlayed input old new result
+IsOutcomeOf (lines.Serve service) input old new result = ⊥
 
 -- ---- the counts of failures
 
@@ -110,8 +120,20 @@ CountsReads (Err (faults.Map fault)) old new = is_memory fault ≡ false → new
 CountsReads (Err (faults.Canon fault)) old new = new ≡ old
 CountsReads (Err (faults.Script fault)) old new = script.is_memory fault ≡ false → new ≡ old
 CountsReads (Err faults.Write) old new = new ≡ old
+CountsReads (Err faults.Serve) old new = new ≡ old
 
 -- A write fault comes exactly where a write has failed.
 abbrev pub CountsWrites : {T : Type 0} → Result T RunFault → ℕ → ℕ → Type 0
 CountsWrites (Err faults.Write) old new = Rises old new
 CountsWrites _ old new = new ≡ old
+
+-- ---- nodes that are served
+
+-- Why nodes aren't served: the line that names the port couldn't be written; else a tape didn't open, the port can't be had, or memory ran out.
+abbrev pub IsServeFault : RunFault → Type 0
+IsServeFault faults.Serve = Unit {0}
+IsServeFault faults.Write = Unit {0}
+IsServeFault (faults.Map fault) = ⊥
+IsServeFault (faults.Canon fault) = ⊥
+IsServeFault (faults.Script fault) = ⊥
+IsServeFault faults.Read = ⊥

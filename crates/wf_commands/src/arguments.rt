@@ -5,9 +5,10 @@ ghost use Rattle.clap.specs.Simple.{app_of, shape_of, subcommand_of, subcommand_
 ghost use Rattle.clap.specs.Values.{kind_of};
 ghost use Rattle.clap.specs.Walk.{rows_of, rule_of};
 ghost use Rattle.clap.specs.declared.builder.command.Command.TheViews.{out-Command};
-ghost use Rattle.wf_commands.specs.CommandLine.{Asks, IsCapsOf, IsWhyRefused, PlainCanonIsAsked, PlainCapsIsAsked, PlainRunIsAsked, program, caps_shape, canon_shape, run_shape, sequence_rule, query_rule};
-ghost use Rattle.wf_commands.specs.Line.{IsInRange, IsSequence};
+ghost use Rattle.wf_commands.specs.CommandLine.{Asks, IsCapsOf, IsNumberOf, IsServeOf, IsServiceOf, IsWhyRefused, PlainCanonIsAsked, PlainCapsIsAsked, PlainRunIsAsked, program, caps_shape, canon_shape, run_shape, serve_shape, sequence_rule, query_rule, nodes_rule, port_rule, requests_rule, state_rule};
+ghost use Rattle.wf_commands.specs.Line.{IsInRange, IsNumber, IsSequence};
 ghost use Rattle.wf_commands.specs.declared.line.Line.{Line};
+ghost use Rattle.wf_serve.specs.declared.service.Service.{Service};
 
 use crate::line::Line;
 use clap::error::ErrorKind;
@@ -15,6 +16,7 @@ use clap::{Arg, ArgMatches, Command, Error};
 use std::alloc::{AllocError, Global};
 use std::convert::AsStr;
 use wf_ballot::SEQUENCES;
+use wf_serve::Service;
 
 const VERSION: &str = "0.1.0";
 
@@ -27,9 +29,16 @@ Faults: map fault M1 to M12, canon fault K1 and K3, read fault";
 const RUN_HELP: &str =
     "Lines: nodes N first; then map NAME, its lines, endmap; propose I NAME, retry I, catchup I,
 deliver I K .., stop I, restart I, torn I before E, torn I after E, pump, pump I .., skip;
-published, sent, proposal I, definition I S, same
+published, sent, proposal I, definition I S, same, get I QUERY, equal I J QUERY
 Limits: the script has at most 1,048,576 bytes, 10,000 lines and 64 maps
 Faults: script fault S1 to S4 with the line, read fault";
+
+const SERVE_HELP: &str =
+    "Paths: GET /wms?QUERY, POST /publish with a mapfile as its body, GET /status
+Connection c, counted from 0, is served by node c mod N; P is 0 for any free port
+With DIR, which must be there, the nodes' tapes are its files node-0.tape and so on; else they are lost
+Limits: N from 1 to 64, K at most 1,000,000
+Faults: serve fault";
 
 static NO_WORDS: [&str; 0] = [];
 
@@ -85,6 +94,75 @@ fn run_command<'a>(alloc: Global) -> Command<'a>
         .after_help(RUN_HELP)
 }
 
+// `--nodes N`.
+fn nodes_argument<'a>(alloc: Global) -> Arg<'a>
+    ensures rule { rule_of result ≡ nodes_rule }
+    ensures local { result.global ≡ false }
+{
+    Arg::new(alloc, "nodes")
+        .long("nodes")
+        .value_name("N from 1 to 64")
+        .required(true)
+        .value_parser(clap::value_parser!(u8).range(1..=64))
+        .help("How many nodes there are")
+}
+
+// `--port P`.
+fn port_argument<'a>(alloc: Global) -> Arg<'a>
+    ensures rule { rule_of result ≡ port_rule }
+    ensures local { result.global ≡ false }
+{
+    Arg::new(alloc, "port")
+        .long("port")
+        .value_name("P from 0 to 65535")
+        .required(true)
+        .value_parser(clap::value_parser!(u16))
+        .help("The port on this machine's own address 127.0.0.1")
+}
+
+// `--requests K`.
+fn requests_argument<'a>(alloc: Global) -> Arg<'a>
+    ensures rule { rule_of result ≡ requests_rule }
+    ensures local { result.global ≡ false }
+{
+    Arg::new(alloc, "requests")
+        .long("requests")
+        .value_name("K from 0 to 1000000")
+        .required(true)
+        .value_parser(clap::value_parser!(u32).range(..=1_000_000))
+        .help("How many connections are served before it ends")
+}
+
+// `--state DIR`.
+fn state_argument<'a>(alloc: Global) -> Arg<'a>
+    ensures rule { rule_of result ≡ state_rule }
+    ensures local { result.global ≡ false }
+{
+    Arg::new(alloc, "state")
+        .long("state")
+        .value_name("DIR")
+        .help("The folder with the nodes' tapes")
+}
+
+// `serve`, without its folder.
+fn farm_command<'a>(alloc: Global) -> Result<Command<'a>, AllocError>
+    ensures { IfOk result (λ command. (shape_of command ≡ record serve_shape { rules = nodes_rule ∷ port_rule ∷ requests_rule ∷ [] }) × ((out-Command command).has_globals ≡ false)) }
+{
+    Command::new(alloc, "serve")
+        .about("Serves nodes over HTTP, one connection after the other")
+        .after_help(SERVE_HELP)
+        .arg(nodes_argument(alloc))?
+        .arg(port_argument(alloc))?
+        .arg(requests_argument(alloc))
+}
+
+// `serve --nodes N --port P --requests K --state DIR`.
+fn serve_command<'a>(alloc: Global) -> Result<Command<'a>, AllocError>
+    ensures { IfOk result (λ command. (shape_of command ≡ serve_shape) × ((out-Command command).has_globals ≡ false)) }
+{
+    farm_command(alloc)?.arg(state_argument(alloc))
+}
+
 // The commands about a mapfile.
 fn mapfile_commands<'a>(alloc: Global) -> Result<Command<'a>, AllocError>
     ensures { IfOk result (λ command. app_of command ≡ record program { subs = caps_shape ∷ canon_shape ∷ [] }) }
@@ -99,13 +177,19 @@ fn mapfile_commands<'a>(alloc: Global) -> Result<Command<'a>, AllocError>
         .subcommand(canon_command(alloc))
 }
 
+// The commands about an input.
+fn input_commands<'a>(alloc: Global) -> Result<Command<'a>, AllocError>
+    ensures { IfOk result (λ command. app_of command ≡ record program { subs = caps_shape ∷ canon_shape ∷ run_shape ∷ [] }) }
+{
+    mapfile_commands(alloc)?.subcommand(run_command(alloc))
+}
+
 // All that the program takes.
 fn command<'a>(alloc: Global) -> Result<Command<'a>, AllocError>
     ensures { IfOk result (λ command. app_of command ≡ program) }
 {
-    mapfile_commands(alloc)?
-        .subcommand(run_command(alloc))?
-        .bin_name("wfarm")
+    let serve = serve_command(alloc)?;
+    input_commands(alloc)?.subcommand(serve)?.bin_name("wfarm")
 }
 
 // The usage, and that a command is missing.
@@ -145,6 +229,53 @@ fn caps<'a>(found: &ArgMatches<'a>) -> Option<Line<'a>>
     Some(Line::Caps { seq, query })
 }
 
+// The number from the least to the most that a word stands for.
+fn number(word: &str, least: u32, most: u32) -> Option<u32>
+    ensures some { IfSome result (IsNumber word.now least most) }
+    ensures none { IfNone result ((number : ℕ) → ¬ (IsNumber word.now least most number)) }
+{
+    match word.parse::<u32>() {
+        Ok(number) if least <= number && number <= most => Some(number),
+        _ => None,
+    }
+}
+
+// The number that was found for an option.
+#[tactic(auto, using(crate::proofs::Named::word_in_row))]
+fn number_of<'a>(found: &ArgMatches<'a>, id: &str, least: u32, most: u32) -> Option<u32>
+    ensures some { IfSome result (IsNumberOf (rows_of (found_of found.now)) id.now least most) }
+    ensures none { IfNone result ((number : ℕ) → ¬ (IsNumberOf (rows_of (found_of found.now)) id.now least most number)) }
+{
+    let word = found.get_str(id)?;
+    number(word, least, most)
+}
+
+// What is served by the words that were found.
+#[tactic(auto, using(crate::proofs::Named::word_in_row))]
+fn service<'a>(found: &ArgMatches<'a>) -> Option<Service<'a>>
+    ensures some { IfSome result (IsServiceOf (rows_of (found_of found.now))) }
+    ensures none { IfNone result ((service : Service) → ¬ (IsServiceOf (rows_of (found_of found.now)) service)) }
+{
+    let nodes = number_of(found, "nodes", 1, 64)?;
+    let port = number_of(found, "port", 0, 65_535)?;
+    let requests = number_of(found, "requests", 0, 1_000_000)?;
+    Some(Service {
+        nodes: nodes as u8,
+        port: port as u16,
+        requests,
+        state: found.get_str("state"),
+    })
+}
+
+// The `serve` line of the words that were found.
+fn serve<'a>(found: &ArgMatches<'a>) -> Option<Line<'a>>
+    ensures some { IfSome result (IsServeOf (rows_of (found_of found.now))) }
+    ensures none { IfNone result ((line : Line) → ¬ (IsServeOf (rows_of (found_of found.now)) line)) }
+{
+    let service = service(found)?;
+    Some(Line::Serve(service))
+}
+
 // The line that the words which were found ask for.
 fn asked<'a>(matches: &ArgMatches<'a>) -> Option<Line<'a>>
     ensures some { IfSome result (Asks (subcommand_rows_of matches.now)) }
@@ -154,6 +285,7 @@ fn asked<'a>(matches: &ArgMatches<'a>) -> Option<Line<'a>>
         Some(("caps", found)) => caps(found),
         Some(("canon", _)) => Some(Line::Canon),
         Some(("run", _)) => Some(Line::Run),
+        Some(("serve", found)) => serve(found),
         _ => None,
     }
 }
@@ -162,6 +294,7 @@ fn asked<'a>(matches: &ArgMatches<'a>) -> Option<Line<'a>>
 ///
 /// Which line is asked for is said by the rules of `clap` for the program's own command: what
 /// [`plain_words_are_taken`] says of words without a hyphen first follows from them.
+#[tactic(auto, using(crate::proofs::Named::asked_in_range))]
 pub fn line<'a, S: AsStr>(alloc: Global, words: &'a [S]) -> Result<Line<'a>, Error>
     ensures range { IfOk result IsInRange }
     ensures asked { IfOk result (Asks (subcommand_of program (map S.text words.entry.now))) }

@@ -22,4 +22,7 @@ pub enum RunFault {
     /// The writer failed; a part may be written.
     #[error("write fault")]
     Write,
+    /// No node is served: a tape doesn't open, the port can't be had, or memory ran out.
+    #[error("serve fault")]
+    Serve,
 }

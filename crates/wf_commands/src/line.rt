@@ -1,5 +1,7 @@
 //! What the program can be asked for.
 
+pub use wf_serve::Service;
+
 /// What a command line asks for.
 #[derive(Clone, Copy)]
 pub enum Line<'a> {
@@ -9,4 +11,6 @@ pub enum Line<'a> {
     Canon,
     /// Play the script on standard input.
     Run,
+    /// Serve nodes over HTTP.
+    Serve(Service<'a>),
 }

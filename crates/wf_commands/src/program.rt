@@ -3,19 +3,21 @@ ghost use Rattle.std.specs.Prelude.{◌≡◌, ◌≤◌, Bool};
 ghost use Rattle.std.specs.IoError.{error_kind};
 ghost use Rattle.clap.specs.Values.{kind_of};
 ghost use Rattle.std.specs.Process.{exit_status};
-ghost use Rattle.wf_commands.specs.Line.{IsInRange};
+ghost use Rattle.wf_commands.specs.Line.{IsInRange, IsOfInput};
 ghost use Rattle.wf_commands.specs.Ending.{run_status, told, refusal_status, unreadable_status};
 
 use crate::arguments::line;
 use crate::fault::RunFault;
 use crate::line::Line;
 use crate::run::run_line;
-use crate::stream::Stream;
+use crate::serve::run_serve;
 use clap::error::ErrorKind;
+use std::net::{Net, TcpListener, TcpStream};
 use std::process::ExitCode;
-use std::rt::Env;
+use std::rt::{Env, Files};
 use std::{env, io};
 use wf_mapfile::fault::MapFault;
+use wf_stream::Stream;
 
 /// The status of a fault, and of a failed write.
 const FAULT: u8 = 1;
@@ -23,13 +25,30 @@ const FAULT: u8 = 1;
 /// The status of a bad command line.
 const BAD_COMMAND_LINE: u8 = 2;
 
-// Does what the command line asks for, from standard input to standard output.
-fn run<R: Input + Print + AllocGlobal>(rt: &R, line: Line<'_>) -> Result<(), RunFault>
-    requires { IsInRange line }
+// Does what the command line asks for about an input, from standard input to standard output.
+fn run_input<R: Input + Print + AllocGlobal>(rt: &R, line: Line<'_>) -> Result<(), RunFault>
+    requires range { IsInRange line }
+    requires input { IsOfInput line }
 {
     let mut source = Stream::new(rt.reader());
     let mut sink = Stream::new(io::writer(rt));
     run_line(rt.alloc(), line, &mut source, &mut sink)
+}
+
+// Does what the command line asks for.
+fn run<R: Input + Print + Files + Net<Listener = TcpListener, Stream = TcpStream> + AllocGlobal>(
+    rt: &R,
+    line: Line<'_>,
+) -> Result<(), RunFault>
+    requires { IsInRange line }
+{
+    match line {
+        Line::Serve(_) => {
+            let mut sink = Stream::new(io::writer(rt));
+            run_serve(rt, &line, &mut sink)
+        }
+        Line::Caps { .. } | Line::Canon | Line::Run => run_input(rt, line),
+    }
 }
 
 // The fault whose line is written: a failed write has none.
@@ -95,7 +114,15 @@ fn words<R: Env + AllocGlobal>(rt: &R) -> io::Result<Vec<String>> {
 
 /// Reads the command line, does what it asks for and answers the exit status: 0; 1 for a fault, with
 /// one line on standard error, but none for a failed write; 2 for a bad command line.
-pub fn program<R: Env + Input + Print + Eprint + AllocGlobal>(rt: &R) -> ExitCode
+pub fn program<
+    R: Env
+        + Input
+        + Print
+        + Eprint
+        + Files
+        + Net<Listener = TcpListener, Stream = TcpStream>
+        + AllocGlobal,
+>(rt: &R) -> ExitCode
     ensures { exit_status result ≤ 2 }
 {
     let words = match words(rt) {

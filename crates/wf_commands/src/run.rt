@@ -1,19 +1,19 @@
 //! The commands, over any reader and writer.
-ghost use Rattle.std.specs.Prelude.{◌≡◌, ◌+◌, ◌≤◌, IfOk, IfErr, IfSome};
+ghost use Rattle.std.specs.Prelude.{◌≡◌, ◌+◌, ◌≤◌, IfOk, IfErr, IfSome, OnOk};
+ghost use Rattle.std.specs.Io.KnownBytes.{IsAtEnd};
 ghost use Rattle.wf_def.specs.Limits.{IsWithinLimits};
 ghost use Rattle.wf_mapfile.specs.Meaning.{Means, longest_mapfile};
 ghost use Rattle.wf_canon.specs.Canon.{canon};
 ghost use Rattle.wf_canon.specs.Refusal.{IsCauseOf};
 ghost use Rattle.wf_wms.specs.Answer.{description};
 ghost use Rattle.wf_ballot.specs.Sequence.{last_sequence};
-ghost use Rattle.wf_commands.specs.Line.{IsInRange};
-ghost use Rattle.wf_edge.specs.Reading.{TakesUpTo};
+ghost use Rattle.wf_commands.specs.Line.{IsInRange, IsOfInput};
+ghost use Rattle.wf_stream.specs.Reading.{TakesUpTo};
 ghost use Rattle.wf_script.specs.Lines.{most_script_bytes};
 ghost use Rattle.wf_commands.specs.Run.{most_input_bytes, most_read, judged, IsInputFault, IsMapFault, IsReadingFault, IsWriting, IsOutcome, IsOutcomeOf, IsPlayed, CountsReads, CountsWrites};
 
 use crate::fault::RunFault;
 use crate::line::Line;
-use crate::stream::{Sink, Source, read_up_to, write_all};
 use std::alloc::Global;
 use std::io::ErrorKind;
 use wf_ballot::SEQUENCES;
@@ -21,6 +21,7 @@ use wf_canon::Canon;
 use wf_def::map::MapDef;
 use wf_mapfile::fault::MapFault;
 use wf_script::PlayFault;
+use wf_stream::{Sink, Source, read_up_to, write_all};
 use wf_wms::describe;
 
 /// How much of the input is read, in bytes: one more than the longest mapfile has.
@@ -179,7 +180,9 @@ pub fn run_script<S: Source, K: Sink>(
     source: &mut S,
     sink: &mut K,
 ) -> Result<(), RunFault>
-    ensures outcome { IsPlayed (K.written sink.old) (K.written sink.new) result }
+    ensures outcome { IsPlayed (S.left source.old) (K.written sink.old) (K.written sink.new) result }
+    // Where it was played to its end, nothing of the input is left.
+    ensures end { OnOk result (IsAtEnd (S.left source.new)) }
     ensures most { TakesUpTo (most_script_bytes + 1) (S.left source.old) (S.left source.new) }
     ensures reads { CountsReads result (S.failures source.old) (S.failures source.new) }
     ensures writes { CountsWrites result (K.failures sink.old) (K.failures sink.new) }
@@ -192,14 +195,15 @@ pub fn run_script<S: Source, K: Sink>(
     }
 }
 
-/// Does what a command line asks for.
+/// Does what a command line asks for about an input. Nodes are served by [`crate::serve::run_serve`].
 pub fn run_line<S: Source, K: Sink>(
     alloc: Global,
     line: Line<'_>,
     source: &mut S,
     sink: &mut K,
 ) -> Result<(), RunFault>
-    requires { IsInRange line }
+    requires range { IsInRange line }
+    requires input { IsOfInput line }
     // About a mapfile exactly what is asked for is written, of the definition that the input means.
     ensures outcome { IsOutcomeOf line.entry (S.left source.old) (K.written sink.old) (K.written sink.new) result }
     ensures most { TakesUpTo (most_read line.entry) (S.left source.old) (S.left source.new) }
@@ -210,5 +214,6 @@ pub fn run_line<S: Source, K: Sink>(
         Line::Caps { seq, query } => run_caps(alloc, source, sink, seq, query.as_bytes()),
         Line::Canon => run_canon(alloc, source, sink),
         Line::Run => run_script(alloc, source, sink),
+        Line::Serve(_) => unreachable!(),
     }
 }

@@ -1,5 +1,2 @@
-pub mod NumberLemmas
-mod NumberJoined
-mod NumberCut
 mod LayerLemmas
 mod MapLemmas

@@ -1,23 +1,7 @@
--- The limits of a map definition, each once, with its unit. The constants of the code are proved equal to them.
+-- The limits of a map definition, each once, with its unit. The constants of the code are proved equal to them. Those of its texts
+-- and numbers are `wf_text`'s.
 use Rattle.std.specs.Prelude.{ℕ}
-
--- the longest text, in bytes
-abbrev pub most_text_bytes : ℕ
-most_text_bytes = 1_000
-
--- the greatest magnitude of a coordinate, in millionths of a unit
-abbrev pub most_millionths : ℕ
-most_millionths = 100_000_000_000_000
-
--- the most digits of a number as it is written: before its point, behind it, and of its power of ten
-abbrev pub most_whole_digits : ℕ
-most_whole_digits = 9
-
-abbrev pub most_fraction_digits : ℕ
-most_fraction_digits = 25
-
-abbrev pub most_power_digits : ℕ
-most_power_digits = 3
+pub use Rattle.wf_text.specs.Limit.{most_text_bytes, most_millionths, most_whole_digits, most_fraction_digits, most_power_digits}
 
 -- the most layers of a map, classes of a layer and styles of a class
 abbrev pub most_layers : ℕ

@@ -1,9 +1,9 @@
 -- Which definitions are within the limits: one predicate a level.
 use Rattle.std.specs.Prelude.{◌≡◌, ℕ, ◌<◌, ◌≤◌, ◌==◌, Bool, true, false, List, length, map, All, IfSome, sum_by, bytes_eq}
 use Rattle.std.specs.List.{list_any, IsDistinct}
-use Rattle.wf_def.specs.Micro.{IsMicro}
+use Rattle.wf_text.specs.Micro.{IsMicro}
 use Rattle.wf_def.specs.Extent.{IsExtent}
-use Rattle.wf_def.specs.Text.{IsText}
+use Rattle.wf_text.specs.Text.{IsText}
 use Rattle.wf_def.specs.Definition.{Definition, LayerDefinition, ClassDefinition, StyleDefinition, LabelDefinition, FeatureDefinition}
 use Rattle.wf_def.specs.declared.fault.LayerFault.{LayerFault}
 use Rattle.wf_def.specs.declared.fault.LayerFault.TheVariants.{OutOfMemory, Repeated}

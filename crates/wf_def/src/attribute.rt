@@ -5,7 +5,7 @@ ghost use Rattle.wf_def.specs.Attribute.{attribute, attribute_names, attribute_v
 use crate::class::Class;
 use crate::feature::Feature;
 use crate::layer::Layer;
-use crate::text::Text;
+use wf_text::text::Text;
 
 impl Layer {
     /// The feature's value under a name (MapServer mapfile reference, ITEMS): of the values between semicolons, that which stands

@@ -1,20 +1,27 @@
 //! Classes.
 ghost use Rattle.std.specs.Prelude.{◌≡◌, ◌<◌, ◌↔◌, [], ◌∷◌, ◌++◌, length, IsTrue, IfSome, OnOk, OnErr};
 ghost use Rattle.wf_def.specs.Limits.{IsClass, IsStyles, IsLabel};
-ghost use Rattle.wf_def.specs.Text.{IsText};
+ghost use Rattle.wf_text.specs.Text.{IsText};
 ghost use Rattle.wf_def.specs.Limit.{most_styles};
 
 use crate::label::Label;
 use crate::limits::MOST_STYLES;
 use crate::style::Style;
-use crate::text::Text;
 use std::alloc::{AllocError, Global};
 use std::marker::Model;
+use wf_text::text::Text;
 
 /// The styles of a class, in the order in which they are drawn: at most 8.
-#[derive(Drop)]
 pub struct Styles {
     styles: Vec<Style>,
+}
+
+// By hand: a crate above proves one call where it drops a class's styles, and not each part of it anew.
+impl Drop for Styles {
+    fn drop(self) {
+        let Styles { styles } = self;
+        drop(styles);
+    }
 }
 
 impl Model for Styles {
@@ -68,12 +75,26 @@ impl Styles {
 }
 
 /// Which features are drawn alike, and how (MapServer mapfile reference, CLASS).
-#[derive(Drop)]
 pub struct Class {
     name: Text,
     expression: Option<Text>,
     styles: Styles,
     label: Option<Label>,
+}
+
+// By hand: a crate above proves one call where it drops a class, and not each part of it anew.
+impl Drop for Class {
+    fn drop(self) {
+        let Class {
+            name,
+            expression,
+            styles,
+            label: _,
+        } = self;
+        drop(name);
+        drop(expression);
+        drop(styles);
+    }
 }
 
 impl Model for Class {

@@ -2,8 +2,8 @@
 ghost use Rattle.std.specs.Prelude.{◌≡◌, ◌↔◌, ◌<ℤ◌, IsSome, IfSome};
 ghost use Rattle.wf_def.specs.Extent.{IsExtent};
 
-use crate::micro::Micro;
 use std::marker::Model;
+use wf_text::micro::Micro;
 
 /// A box whose minima are below its maxima (MapServer mapfile reference, EXTENT).
 #[derive(Clone, Copy, PartialEq, Eq)]

@@ -4,14 +4,21 @@ ghost use Rattle.wf_def.specs.Layer.{feature_of};
 ghost use Rattle.wf_def.specs.Limits.{IsPart, IsParts, IsFeature};
 
 use crate::point::Point;
-use crate::text::Text;
 use std::alloc::{AllocError, Global};
 use std::marker::Model;
+use wf_text::text::Text;
 
 /// A part of a shape: points, in order.
-#[derive(Drop)]
 pub struct Part {
     points: Vec<Point>,
+}
+
+// By hand: a crate above proves one call where it drops a part, and not each part of it anew.
+impl Drop for Part {
+    fn drop(self) {
+        let Part { points } = self;
+        drop(points);
+    }
 }
 
 impl Model for Part {
@@ -72,9 +79,16 @@ impl Part {
 }
 
 /// The parts of a shape, in order.
-#[derive(Drop)]
 pub struct Parts {
     parts: Vec<Part>,
+}
+
+// By hand: a crate above proves one call where it drops a shape's parts, and not each part of it anew.
+impl Drop for Parts {
+    fn drop(self) {
+        let Parts { parts } = self;
+        drop(parts);
+    }
 }
 
 impl Model for Parts {
@@ -134,11 +148,20 @@ impl Parts {
 }
 
 /// A shape with its attributes and its label's text (MapServer mapfile reference, FEATURE).
-#[derive(Drop)]
 pub struct Feature {
     parts: Parts,
     items: Text,
     text: Text,
+}
+
+// By hand: a crate above proves one call where it drops a feature, and not each part of it anew.
+impl Drop for Feature {
+    fn drop(self) {
+        let Feature { parts, items, text } = self;
+        drop(parts);
+        drop(items);
+        drop(text);
+    }
 }
 
 impl Model for Feature {

@@ -5,9 +5,9 @@ ghost use Rattle.wf_def.specs.Limits.{IsLabel};
 use crate::choice::{LabelPosition, LabelSize};
 use crate::color::Color;
 use crate::limits::{MOST_BUFFER, MOST_PRIORITY};
-use crate::whole::Whole;
 use std::alloc::AllocError;
 use std::marker::Model;
+use wf_text::whole::Whole;
 
 /// How the features' texts are drawn (MapServer mapfile reference, LABEL).
 #[derive(Copy)]

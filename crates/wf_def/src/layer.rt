@@ -9,14 +9,22 @@ use crate::choice::LayerKind;
 use crate::class::Class;
 use crate::feature::Feature;
 use crate::limits::{MOST_CLASSES, MOST_ITEMS_BYTES};
-use crate::text::{Text, clone_both};
+use crate::text::clone_both;
 use std::alloc::{AllocError, Global};
 use std::marker::Model;
+use wf_text::text::Text;
 
 /// The classes of a layer, in the order in which they are tried: at most 16.
-#[derive(Drop)]
 pub struct Classes {
     classes: Vec<Class>,
+}
+
+// By hand: a crate above proves one call where it drops a layer's classes, and not each part of it anew.
+impl Drop for Classes {
+    fn drop(self) {
+        let Classes { classes } = self;
+        drop(classes);
+    }
 }
 
 impl Model for Classes {
@@ -70,9 +78,16 @@ impl Classes {
 }
 
 /// The features of a layer, in the order in which they are drawn.
-#[derive(Drop)]
 pub struct Features {
     features: Vec<Feature>,
+}
+
+// By hand: a crate above proves one call where it drops a layer's features, and not each part of it anew.
+impl Drop for Features {
+    fn drop(self) {
+        let Features { features } = self;
+        drop(features);
+    }
 }
 
 impl Model for Features {
@@ -117,7 +132,6 @@ impl Features {
 }
 
 /// Features of one kind with what they are drawn by; the layer's name stands in the map (MapServer mapfile reference, LAYER).
-#[derive(Drop)]
 pub struct Layer {
     kind: LayerKind,
     title: Text,
@@ -126,6 +140,27 @@ pub struct Layer {
     items: Text,
     classes: Classes,
     features: Features,
+}
+
+// By hand: a crate above proves one call where it drops a layer, and not each part of it anew.
+impl Drop for Layer {
+    fn drop(self) {
+        let Layer {
+            kind: _,
+            title,
+            class_item,
+            label_item,
+            items,
+            classes,
+            features,
+        } = self;
+        drop(title);
+        drop(class_item);
+        drop(label_item);
+        drop(items);
+        drop(classes);
+        drop(features);
+    }
 }
 
 impl Model for Layer {

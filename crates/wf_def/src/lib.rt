@@ -1,4 +1,4 @@
-//! Numbers, texts and map definitions.
+//! Map definitions.
 //!
 //! A map definition is what a mapfile says, without its comments, letter case and order: a plain value, equal to another exactly
 //! where all fields are equal. A [`map::MapDef`] has layers under unlike names; a [`layer::Layer`] has classes, which say what is
@@ -8,9 +8,8 @@
 //!
 //! It promises that every value is within the limits of `specs/Limits.antt`: each type's accessors ensure both the value and its
 //! limits. What a caller can know, as room for one more, is a condition of the call that needs it; what only the parts tell, as too
-//! few points for the layer's kind, answers none, and a repeated name is refused. After want of memory a value is as it was. A
-//! text's number is read exactly as `specs/Number.antt` defines, without floating point and without memory. It says nothing of
-//! mapfiles, of pictures or of the web.
+//! few points for the layer's kind, answers none, and a repeated name is refused. After want of memory a value is as it was. It passes
+//! on the texts and numbers of wf_text, which a map is made of. It says nothing of mapfiles, of pictures or of the web.
 #![tactic(auto)]
 
 pub mod attribute;
@@ -26,7 +25,6 @@ pub mod layer;
 pub mod limits;
 pub mod map;
 pub mod micro;
-mod number;
 pub mod number_form;
 pub mod point;
 pub mod style;

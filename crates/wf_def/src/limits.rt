@@ -1,21 +1,10 @@
-//! The limits of a map definition, each with its unit.
+//! The limits of a map definition, each with its unit. Those of its texts and numbers are `wf_text`'s.
 ghost use Rattle.std.specs.Prelude.{◌≡◌};
-ghost use Rattle.wf_def.specs.Limit.{most_buffer, most_classes, most_features, most_fraction_digits, most_items_bytes, most_layers, most_millionths, most_points, most_power_digits, most_priority, most_size, most_styles, most_text_bytes, most_whole_digits, most_width};
+ghost use Rattle.wf_def.specs.Limit.{most_buffer, most_classes, most_features, most_items_bytes, most_layers, most_points, most_priority, most_size, most_styles, most_width};
 
-/// The longest text, in bytes.
-pub const MOST_TEXT_BYTES: usize = 1_000;
-
-/// The greatest magnitude of a coordinate, in millionths of a unit: 100,000,000 units.
-pub const MOST_MILLIONTHS: u64 = 100_000_000_000_000;
-
-/// The most digits before a number's point.
-pub const MOST_WHOLE_DIGITS: usize = 9;
-
-/// The most digits after a number's point.
-pub const MOST_FRACTION_DIGITS: usize = 25;
-
-/// The most digits of a number's power of ten.
-pub const MOST_POWER_DIGITS: usize = 3;
+pub use wf_text::limits::{
+    MOST_FRACTION_DIGITS, MOST_MILLIONTHS, MOST_POWER_DIGITS, MOST_TEXT_BYTES, MOST_WHOLE_DIGITS,
+};
 
 /// The most layers of a map.
 pub const MOST_LAYERS: usize = 64;
@@ -49,11 +38,6 @@ pub const MOST_BUFFER: u8 = 64;
 
 /// Each constant is the number that the definitions name. A law: the call does nothing.
 pub fn constants_are_the_limits()
-    ensures text_bytes { MOST_TEXT_BYTES ≡ most_text_bytes }
-    ensures millionths { MOST_MILLIONTHS ≡ most_millionths }
-    ensures whole_digits { MOST_WHOLE_DIGITS ≡ most_whole_digits }
-    ensures fraction_digits { MOST_FRACTION_DIGITS ≡ most_fraction_digits }
-    ensures power_digits { MOST_POWER_DIGITS ≡ most_power_digits }
     ensures layers { MOST_LAYERS ≡ most_layers }
     ensures classes { MOST_CLASSES ≡ most_classes }
     ensures styles { MOST_STYLES ≡ most_styles }

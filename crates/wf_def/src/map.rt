@@ -10,14 +10,14 @@ use crate::choice::Projection;
 use crate::extent::Extent;
 use crate::fault::LayerFault;
 use crate::layer::Layer;
-use crate::micro::Micro;
-use crate::text::{Text, clone_both};
+use crate::text::clone_both;
 use indexmap::IndexMap;
 use std::alloc::{AllocError, Global};
 use std::marker::Model;
+use wf_text::micro::Micro;
+use wf_text::text::Text;
 
 /// What a mapfile says, within the limits (MapServer mapfile reference, MAP).
-#[derive(Drop)]
 pub struct MapDef {
     name: Text,
     title: Text,
@@ -26,6 +26,26 @@ pub struct MapDef {
     extent: Extent,
     projection: Projection,
     layers: IndexMap<Text, Layer>,
+}
+
+// By hand: a crate above proves one call where it drops a map, and not each part of it anew.
+impl Drop for MapDef {
+    fn drop(self) {
+        let MapDef {
+            name,
+            title,
+            abstract_text,
+            address,
+            extent: _,
+            projection: _,
+            layers,
+        } = self;
+        drop(name);
+        drop(title);
+        drop(abstract_text);
+        drop(address);
+        drop(layers);
+    }
 }
 
 impl Model for MapDef {

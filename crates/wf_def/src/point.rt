@@ -1,6 +1,6 @@
 //! Points.
 
-use crate::micro::Micro;
+use wf_text::micro::Micro;
 
 /// A point in the map's coordinates, in the order of the mapfile: east, then north.
 #[derive(Clone, Copy, PartialEq, Eq)]

@@ -4,9 +4,9 @@ ghost use Rattle.wf_def.specs.Limits.{IsStyle};
 
 use crate::color::Color;
 use crate::limits::{MOST_SIZE, MOST_WIDTH};
-use crate::whole::Whole;
 use std::alloc::AllocError;
 use std::marker::Model;
+use wf_text::whole::Whole;
 
 /// How a feature is drawn (MapServer mapfile reference, STYLE).
 #[derive(Copy)]

@@ -8,13 +8,13 @@ use Rattle.httparse.specs.Spans.{IsRequestOf, RequestOverflows, name_and_value, 
 use Rattle.httparse.specs.declared.spans.HeaderSpan.{HeaderSpan}
 use Rattle.httparse.specs.declared.spans.RequestSpans.{RequestSpans}
 use Rattle.wf_edge.specs.Head.{Head, Begins, HasNoSmallRequest}
-use Rattle.wf_edge.specs.Reading.{ReadsPiece}
+use Rattle.wf_stream.specs.Reading.{ReadsPiece}
 use Rattle.wf_edge.specs.Request.{front_of, IsHeadRefusal, IsHeadFault, IsUnfinished}
 use Rattle.wf_edge.specs.declared.refusal.Refusal.{Refusal}
 use Rattle.wf_edge.specs.declared.refusal.Refusal.TheVariants as refusal
 use Rattle.wf_edge.specs.declared.fault.RequestFault.{RequestFault}
 use Rattle.wf_edge.specs.declared.fault.RequestFault.TheVariants as fault
-use Rattle.wf_edge.proofs.Known.{consumes_more}
+use Rattle.wf_stream.proofs.Known.{consumes_more}
 
 -- ---- what the parser answers
 

@@ -3,7 +3,6 @@ mod CheckLaw
 mod FieldLaw
 mod HeadLaw
 mod HearingLaw
-pub mod Known
 mod NumberLaw
 mod PublishLaw
 mod RequestLaw

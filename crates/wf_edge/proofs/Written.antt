@@ -1,21 +1,12 @@
 -- How much of the bytes is written, piece by piece.
 use Rattle.std.proofs.Common.{◌≡◌, ◌∙◌, ◌+◌, ◌-◌, ◌≤◌, ◌^◌, ℕ, true, false, min, List, [], ◌++◌, length, take, refl, sym, ap, subst, arith}
 use Rattle.std.specs.Prelude.{Option, codes, decimal}
-use Rattle.std.specs.Io.KnownBytes.{Keeps, Appends}
-use Rattle.std.proofs.lemmas.List.{append_assoc, take_at, take-append-le, length-append}
+use Rattle.std.specs.Io.KnownBytes.{Appends}
+use Rattle.std.proofs.lemmas.List.{append_assoc, take-append-le, length-append}
 use Rattle.std.proofs.Math.Seq.{take-append-add}
 use Rattle.http.specs.StatusCode.{code_digits}
 use Rattle.wf_edge.specs.Response.{Response, line, reason, allow_line, head_bytes, IsProgress}
-use Rattle.wf_edge.proofs.Known.{appends_none, appends_more, appends_keeps}
-
--- so much was written before a call failed, where what is left is known
-pub told_before : (a b c : Option (List ℕ)) (bytes rest : List ℕ) → ((front : List ℕ) × (bytes ≡ front ++ rest) × Appends a b front) → Keeps b c
-    → (length bytes - length rest ≤ length bytes) × Appends a c (take (length bytes - length rest) bytes)
-told_before a b c bytes rest (front, split, appends) keeps =
-    let size : length bytes ≡ length front + length rest = rw split (length-append front rest) in
-    let count : length bytes - length rest ≡ length front = omega arith in
-    let part : take (length bytes - length rest) bytes ≡ front = rw (count, split) (take_at front rest (length front) refl) in
-    (omega arith, subst (λ xs. Appends a c xs) (sym part) (appends_keeps a b c front appends keeps))
+use Rattle.wf_stream.proofs.Known.{appends_none, appends_more}
 
 -- a piece was written
 pub piece_written : (start old new : Option (List ℕ)) (bytes piece : List ℕ) (before after : ℕ) → Appends old new piece

@@ -1,6 +1,6 @@
 -- What is heard of a request, or answered where there is none.
 use Rattle.std.specs.Prelude.{◌≡◌, ◌≢◌, ℕ, List, Option, IfSome}
-use Rattle.wf_edge.specs.Reading.{Rises}
+use Rattle.wf_stream.specs.Reading.{Rises}
 use Rattle.wf_edge.specs.Request.{IsRequestFault}
 use Rattle.wf_edge.specs.Saying.{IsFaultSaid}
 use Rattle.wf_edge.specs.declared.fault.RequestFault.{RequestFault}

@@ -2,14 +2,11 @@ pub mod Checks
 pub mod Fields
 pub mod Head
 pub mod Hearing
-pub mod Memory
 pub mod Notice
 pub mod Page
 pub mod Publish
-pub mod Reading
 pub mod Request
 pub mod Response
 pub mod Saying
 pub mod Serving
-pub mod Stream
 pub mod Target

@@ -5,7 +5,7 @@ use Rattle.httparse.specs.Grammar.{HasNoRequest}
 use Rattle.httparse.specs.Spans.{span_bytes, header_bytes}
 use Rattle.httparse.specs.declared.spans.HeaderSpan.{HeaderSpan}
 use Rattle.httparse.specs.declared.spans.RequestSpans.{RequestSpans}
-use Rattle.wf_edge.specs.Reading.{Rises}
+use Rattle.wf_stream.specs.Reading.{Rises}
 use Rattle.wf_edge.specs.Head.{Head, Begins, HasNoSmallRequest}
 use Rattle.wf_edge.specs.Checks.{judged}
 use Rattle.wf_edge.specs.declared.refusal.Refusal.{Refusal}

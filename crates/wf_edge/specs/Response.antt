@@ -2,7 +2,7 @@
 use Rattle.std.specs.Prelude.{◌≡◌, ◌≤◌, ◌-◌, ◌^◌, ℕ, Bool, true, false, min, List, [], ◌++◌, length, take, decimal, codes, unwrap_or, Option, Some, None}
 use Rattle.std.specs.Io.KnownBytes.{Appends}
 use Rattle.http.specs.StatusCode.{code_digits, reason_phrase}
-use Rattle.wf_edge.specs.Reading.{Rises}
+use Rattle.wf_stream.specs.Reading.{Rises}
 use Rattle.wf_edge.specs.Target.{method_name}
 use Rattle.wf_edge.specs.declared.refusal.Allowed.{Allowed}
 

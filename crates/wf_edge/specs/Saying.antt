@@ -1,7 +1,7 @@
 -- What is written of a response, and how that is told.
 use Rattle.std.specs.Prelude.{◌≡◌, ℕ, List, length, Option}
 use Rattle.std.specs.Io.KnownBytes.{Appends, Keeps}
-use Rattle.wf_edge.specs.Reading.{Rises}
+use Rattle.wf_stream.specs.Reading.{Rises}
 use Rattle.wf_edge.specs.Response.{Response, response_bytes, IsCount, WritesPart}
 use Rattle.wf_edge.specs.Notice.{notice_response}
 use Rattle.wf_edge.specs.declared.fault.RequestFault.{RequestFault}

@@ -4,9 +4,9 @@ ghost use Rattle.wf_edge.specs.Request.{IsBody, IsBodyFault, CountsReads};
 
 use crate::fault::RequestFault;
 use crate::refusal::Refusal;
-use crate::stream::{Source, read_up_to};
 use std::alloc::{AllocError, Global};
 use std::io::ErrorKind;
+use wf_stream::{Source, read_up_to};
 
 fn join(alloc: Global, front: &[u8], rest: &[u8]) -> Result<Vec<u8>, AllocError>
     ensures { IfOk result (λ whole. whole.items ≡ front.now ++ rest.now) }

@@ -13,12 +13,12 @@ use crate::fields::Fields;
 use crate::refusal::Refusal;
 use crate::resource::Asked;
 use crate::span::covered;
-use crate::stream::{Source, read_piece};
 use httparse::spans::{EMPTY_HEADER_SPAN, HeaderSpan, RequestSpans, parse_request};
 use httparse::{Error, Status};
 use std::alloc::Global;
 use std::io::ErrorKind;
 use std::marker::Model;
+use wf_stream::{Source, read_piece};
 
 /// How long a head may be, in bytes, with the empty lines before it.
 pub const MOST_HEAD_BYTES: usize = 8_192;
@@ -73,7 +73,7 @@ fn ended(bytes: &[u8]) -> RequestFault
 }
 
 // Reads a further piece, and looks for a head in what has come.
-#[tactic(auto, using(crate::proofs::HeadLaw::fault_at_end, crate::proofs::HeadLaw::nothing_more, crate::proofs::Known::piece_length))]
+#[tactic(auto, using(crate::proofs::HeadLaw::fault_at_end, crate::proofs::HeadLaw::nothing_more, wf_stream::proofs::Known::piece_length))]
 fn read_more<S: Source>(source: &mut S, bytes: &mut Vec<u8>) -> Result<Option<Parts>, RequestFault>
     requires room { length bytes.old.items < most_head_bytes }
     requires unfinished { IsUnfinished bytes.old.items }

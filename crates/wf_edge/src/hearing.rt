@@ -8,8 +8,8 @@ ghost use Rattle.wf_edge.specs.Hearing.{IsUnheard, CountsHearing};
 use crate::outcome::Outcome;
 use crate::request::Request;
 use crate::saying::say_fault;
-use crate::stream::{Sink, Source};
 use std::alloc::Global;
+use wf_stream::{Sink, Source};
 
 /// Reads the request at the front of the input. Where there is none to answer, its refusal is written, or 503 where memory ran out, and
 /// this is the outcome; nothing is written where the input is empty or a read failed.

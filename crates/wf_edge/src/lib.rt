@@ -1,12 +1,11 @@
 //! The edge of a node: HTTP over any reader and writer (RFC 9110, RFC 9112).
 //!
-//! Readers and writers are [`stream::Source`] and [`stream::Sink`], which count the calls that failed and tell their bytes where
-//! these are known: [`stream::Stream`] makes them of those of std, [`memory::Bytes`] and [`memory::Output`] are over memory.
-//! [`front::Front`] is the head of a request with what came behind it, [`check::judge`] the checks on a head, [`body::read_body`]
-//! reads a body, and [`request::Request`] is all of these. [`response::Response`] is what is written, and [`saying::say`] tells its
-//! [`outcome::Outcome`]. A [`notice::Notice`] is told in one line, and [`saying::say_fault`] answers where a request can't be read.
-//! [`hearing::hear`] is both: it reads a request, or answers why there is none. [`serve::serve_one`] is the whole: it hears a request,
-//! answers it by a node, and writes the answer.
+//! Readers and writers are [`wf_stream::Source`] and [`wf_stream::Sink`], which count the calls that failed and tell their bytes
+//! where these are known. [`front::Front`] is the head of a request with what came behind it, [`check::judge`] the checks on a head,
+//! [`body::read_body`] reads a body, and [`request::Request`] is all of these. [`response::Response`] is what is written, and
+//! [`saying::say`] tells its [`outcome::Outcome`]. A [`notice::Notice`] is told in one line, and [`saying::say_fault`] answers where
+//! a request can't be read. [`hearing::hear`] is both: it reads a request, or answers why there is none. [`serve::serve_one`] is the
+//! whole: it hears a request, answers it by a node, and writes the answer.
 //!
 //! Its model: a request is its head, what that asks for, and its body (`specs/Request.antt`); a response is its status, media type,
 //! the allowed method and its body (`specs/Response.antt`). What is answered to a request, and which step of the node that is, says
@@ -33,7 +32,6 @@ pub mod fields;
 pub mod front;
 pub mod hearing;
 mod line;
-pub mod memory;
 pub mod notice;
 pub mod outcome;
 mod page;
@@ -47,6 +45,5 @@ pub mod response;
 pub mod saying;
 pub mod serve;
 mod span;
-pub mod stream;
 pub mod target;
 pub mod telling;

@@ -8,10 +8,10 @@ use crate::body::read_body;
 use crate::fault::RequestFault;
 use crate::front::Front;
 use crate::resource::Asked;
-use crate::stream::Source;
 use crate::target::query_of;
 use std::alloc::Global;
 use std::marker::Model;
+use wf_stream::Source;
 
 /// A request whose head has passed its checks, with its body.
 #[derive(Drop)]

@@ -1,14 +1,14 @@
 //! What is answered, and how it is written.
 ghost use Rattle.std.specs.Prelude.{◌≡◌, ◌≤◌, ◌++◌, ℕ, List, [], Option, length, take, IfOk, IfErr, OnOk, OnErr};
 ghost use Rattle.std.specs.Io.KnownBytes.{Appends};
-ghost use Rattle.wf_edge.specs.Reading.{Rises};
+ghost use Rattle.wf_stream.specs.Reading.{Rises};
 ghost use Rattle.wf_edge.specs.Response.{reason, allow_line, head_bytes, response_bytes, IsCount, WritesPart, IsProgress, CountsProgress};
 
 use crate::refusal::Allowed;
-use crate::stream::{Sink, write_all};
 use http::StatusCode;
 use itoa::Buffer;
 use std::marker::Model;
+use wf_stream::{Sink, write_all};
 
 /// A writer failed. This many bytes were written before.
 #[derive(Clone, Copy)]

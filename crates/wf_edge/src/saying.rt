@@ -5,8 +5,8 @@ use crate::fault::RequestFault;
 use crate::notice::Notice;
 use crate::outcome::Outcome;
 use crate::response::Response;
-use crate::stream::Sink;
 use crate::telling::told;
+use wf_stream::Sink;
 
 /// Writes a response: all of it where `Sent`, else a beginning. Both tell the response's status, and how many bytes are written.
 pub fn say<K: Sink>(sink: &mut K, response: &Response<'_>) -> Outcome
@@ -21,7 +21,7 @@ pub fn say<K: Sink>(sink: &mut K, response: &Response<'_>) -> Outcome
 
 /// Where there is no request: writes the refusal, or 503 where memory ran out. Nothing is written where the input is empty or a read
 /// failed. It takes no memory.
-#[tactic(auto, using(crate::proofs::Known::keeps_same))]
+#[tactic(auto, using(wf_stream::proofs::Known::keeps_same))]
 pub fn say_fault<K: Sink>(sink: &mut K, fault: RequestFault) -> Outcome
     ensures said { IsFaultSaid fault (K.written sink.old) (K.written sink.new) result }
     ensures writes { CountsSaying result (K.failures sink.old) (K.failures sink.new) }

@@ -11,11 +11,11 @@ use crate::page::Page;
 use crate::reply::{Reply, reply_to};
 use crate::request::Request;
 use crate::saying::say;
-use crate::stream::{Sink, Source};
 use crate::telling::told;
 use std::alloc::Global;
 use wf_codec::Message;
 use wf_node::Node;
+use wf_stream::{Sink, Source};
 use wf_tape::Tape;
 
 /// What became of one request, and the messages that the node hands out.

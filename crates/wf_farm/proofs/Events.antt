@@ -53,12 +53,12 @@ set_nodes (p ∷ places) (x ∷ nodes) (suc i) place node are is = (are.0, set_n
 
 -- ---- members
 
-get_set_same : {A : Type 0} (xs : List A) (i : ℕ) (x y z : A) → slice_get xs i ≡ Some y → slice_get (slice_set xs i x) i ≡ Some z → x ≡ z
+pub get_set_same : {A : Type 0} (xs : List A) (i : ℕ) (x y z : A) → slice_get xs i ≡ Some y → slice_get (slice_set xs i x) i ≡ Some z → x ≡ z
 get_set_same [] i x y z e h = absurd (none-some y e)
 get_set_same (w ∷ xs) zero x y z e h = same_Some x z h
 get_set_same (w ∷ xs) (suc i) x y z e h = get_set_same xs i x y z e h
 
-get_set_other : {A : Type 0} (xs : List A) (i j : ℕ) (x : A) → (j ≡ i → ⊥) → slice_get (slice_set xs i x) j ≡ slice_get xs j
+pub get_set_other : {A : Type 0} (xs : List A) (i j : ℕ) (x : A) → (j ≡ i → ⊥) → slice_get (slice_set xs i x) j ≡ slice_get xs j
 get_set_other [] i j x differs = refl
 get_set_other (z ∷ xs) zero zero x differs = absurd (differs refl)
 get_set_other (z ∷ xs) zero (suc j) x differs = refl

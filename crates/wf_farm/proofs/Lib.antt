@@ -8,3 +8,4 @@ mod Listed
 mod Rounds
 mod Pumping
 mod Answered
+pub mod Deliveries

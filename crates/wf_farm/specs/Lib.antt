@@ -9,3 +9,4 @@ pub mod Agreement
 pub mod Pump
 pub mod Progress
 pub mod Answering
+pub mod Delivering

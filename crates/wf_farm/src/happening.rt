@@ -338,7 +338,7 @@ impl Cluster {
 }
 
 /// The messages are sent. There is room for them, so that nothing fails.
-fn send(sent: &mut Vec<Message>, mut said: Vec<Message>)
+pub(crate) fn send(sent: &mut Vec<Message>, mut said: Vec<Message>)
     requires { vec_len sent.old + vec_len said ≤ vec_capacity sent.old }
     ensures { sent.new.items ≡ sent.old.items ++ said.items }
 {

@@ -14,11 +14,15 @@
 //! ([`Farm::answer`]), and two that stand at one sequence, or that are asked for one map, answer the same query with the
 //! same bytes: [`Farm::answers_agree`]. The four laws are those of `wf_law`, at the program's definitions.
 //!
+//! Nodes that a caller holds itself, over tapes of any kind, hear one another by [`deliver_all`]: whatever world of the
+//! model they and their messages were, they are one that at most so many deliveries lead to (`specs/Delivering.antt`).
+//!
 //! It doesn't know time, nor whether anything is ever published, nor that a refusal for memory was needed.
 #![tactic(auto)]
 
 mod answering;
 mod cluster;
+mod delivering;
 mod event;
 mod farm;
 mod fault;
@@ -34,6 +38,7 @@ mod stepping;
 mod targets;
 mod tearing;
 
+pub use delivering::{Pumped, deliver_all};
 pub use event::{Action, Event, Kept};
 pub use farm::Farm;
 pub use fault::FarmFault;

@@ -1,7 +1,7 @@
 -- Blocks read in one pass, and what their items are.
 use Rattle.std.proofs.Common.{◌≡◌, ℕ, zero, suc, ◌+◌, ◌-◌, ◌<◌, ◌≤◌, Bool, true, false, List, [], ◌∷◌, length, arith, refl, sym, ap, ◌∙◌}
 use Rattle.std.specs.Prelude.{Option, Some, None, is_some, if◌then◌else◌}
-use Rattle.wf_mapfile.specs.Token.{Token}
+use Rattle.wf_token.specs.Token.{Token}
 use Rattle.wf_mapfile.specs.Grammar.{◌>>=◌, word, is_end, block_items, block, at_most_one, exactly_one}
 use Rattle.wf_mapfile.specs.Reading.{fill}
 use Rattle.wf_mapfile.proofs.Options.{bind_assoc, bind_same, bind_swap}

@@ -8,7 +8,7 @@ use Rattle.wf_def.specs.declared.point.Point.{Point}
 use Rattle.wf_mapfile.specs.declared.keyword.layer.FeatureKeyword.{FeatureKeyword}
 use Rattle.wf_mapfile.specs.declared.keyword.layer.FeatureKeyword.TheVariants as keyword
 use Rattle.wf_mapfile.specs.declared.slots.layer.FeatureSlots.{FeatureSlots}
-use Rattle.wf_mapfile.specs.Token.{Token}
+use Rattle.wf_token.specs.Token.{Token}
 use Rattle.wf_mapfile.specs.Grammar.{◌>>=◌, text}
 use Rattle.wf_mapfile.specs.Reading.{fill}
 use Rattle.wf_mapfile.specs.Room.{feature_within}

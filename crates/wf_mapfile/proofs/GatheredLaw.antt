@@ -10,7 +10,7 @@ use Rattle.wf_def.specs.Limit.{most_layers, most_features, most_points}
 use Rattle.wf_mapfile.specs.Gathered.{Gathered, IsGathered}
 use Rattle.wf_def.specs.Definition.{FeatureDefinition}
 use Rattle.wf_mapfile.specs.declared.fault.MapFault.{MapFault}
-use Rattle.wf_mapfile.specs.Token.{Token}
+use Rattle.wf_token.specs.Token.{Token}
 use Rattle.wf_mapfile.specs.Feature.{feature}
 use Rattle.wf_mapfile.specs.Layer.{layer}
 use Rattle.wf_mapfile.specs.Metadata.{all_differ}

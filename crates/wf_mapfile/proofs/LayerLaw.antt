@@ -11,7 +11,7 @@ use Rattle.wf_mapfile.specs.declared.keyword.layer.LayerKeyword.{LayerKeyword}
 use Rattle.wf_mapfile.specs.declared.keyword.layer.LayerKeyword.TheVariants as keyword
 use Rattle.wf_mapfile.specs.declared.slots.Metadata as kept
 use Rattle.wf_mapfile.specs.declared.slots.layer.LayerSlots.{LayerSlots}
-use Rattle.wf_mapfile.specs.Token.{Token}
+use Rattle.wf_token.specs.Token.{Token}
 use Rattle.wf_mapfile.specs.Grammar.{◌>>=◌, text, exactly_one}
 use Rattle.wf_mapfile.specs.Lists.{pushed}
 use Rattle.wf_mapfile.specs.Metadata.{metadata}

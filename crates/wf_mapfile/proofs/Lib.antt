@@ -1,11 +1,9 @@
-pub mod TokenLemmas
 pub mod Names
 pub mod Blocks
 pub mod Options
 pub mod WebLaw
 pub mod MapLaw
 pub mod Pairs
-pub mod Prefix
 pub mod Lists
 pub mod Rooms
 pub mod PointsLaw

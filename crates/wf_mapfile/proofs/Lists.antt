@@ -2,7 +2,7 @@
 use Rattle.std.proofs.Common.{◌≡◌, ℕ, ◌≤◌, Bool, true, false, List, [], ◌∷◌, ◌++◌, length, arith, refl, sym, append-nil, append_assoc, length-append, ap, ◌∙◌}
 use Rattle.std.proofs.lemmas.Bool.Decides.{nat_tests}
 use Rattle.std.specs.Prelude.{nat_lt, nat_le, Option, Some, None, if◌then◌else◌}
-use Rattle.wf_mapfile.specs.Token.{Token}
+use Rattle.wf_token.specs.Token.{Token}
 use Rattle.wf_mapfile.specs.Grammar.{◌>>=◌}
 use Rattle.wf_mapfile.specs.Lists.{no_more_than, pushed}
 use Rattle.wf_mapfile.proofs.Blocks.{given, put_read, put_all}

@@ -9,7 +9,7 @@ use Rattle.wf_mapfile.specs.declared.keyword.MapKeyword.{MapKeyword}
 use Rattle.wf_mapfile.specs.declared.keyword.MapKeyword.TheVariants as keyword
 use Rattle.wf_mapfile.specs.declared.slots.Metadata as kept
 use Rattle.wf_mapfile.specs.declared.slots.MapSlots.{MapSlots}
-use Rattle.wf_mapfile.specs.Token.{Token}
+use Rattle.wf_token.specs.Token.{Token}
 use Rattle.wf_mapfile.specs.Grammar.{◌>>=◌, text}
 use Rattle.wf_mapfile.specs.Color.{color}
 use Rattle.wf_mapfile.specs.Web.{web, no_metadata}

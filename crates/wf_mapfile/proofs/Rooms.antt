@@ -3,7 +3,7 @@ use Rattle.std.proofs.Common.{◌≡◌, ℕ, ◌+◌, ◌-◌, ◌<◌, ◌≤�
 use Rattle.std.proofs.lemmas.Bool.Decides.{nat_tests}
 use Rattle.std.proofs.lemmas.List.Sums.{sum_by-cons, sum_by_more, sum_by_more_le}
 use Rattle.std.specs.Prelude.{nat_le, nat_lt, Option, Some, None, is_some, if◌then◌else◌, sum_by}
-use Rattle.wf_mapfile.specs.Token.{Token}
+use Rattle.wf_token.specs.Token.{Token}
 use Rattle.wf_mapfile.specs.Grammar.{◌>>=◌, block, block_items}
 use Rattle.wf_mapfile.specs.Room.{where_so}
 use Rattle.wf_mapfile.proofs.Options.{bind_assoc, bind_same, bind_none}

@@ -5,7 +5,7 @@ use Rattle.wf_mapfile.specs.declared.keyword.WebKeyword.{WebKeyword}
 use Rattle.wf_mapfile.specs.declared.keyword.WebKeyword.TheVariants as keyword
 use Rattle.wf_mapfile.specs.declared.slots.Metadata as kept
 use Rattle.wf_mapfile.specs.declared.slots.WebSlots.{WebSlots}
-use Rattle.wf_mapfile.specs.Token.{Token}
+use Rattle.wf_token.specs.Token.{Token}
 use Rattle.wf_mapfile.specs.Grammar.{◌>>=◌, text}
 use Rattle.wf_mapfile.specs.Metadata.{metadata}
 use Rattle.wf_mapfile.specs.Reading.{fill}

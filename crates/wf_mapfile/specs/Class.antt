@@ -4,7 +4,7 @@ use Rattle.wf_def.specs.Limit.{most_styles}
 use Rattle.wf_def.specs.Definition.{StyleDefinition, LabelDefinition, ClassDefinition}
 use Rattle.wf_mapfile.specs.declared.keyword.class.ClassKeyword.{ClassKeyword}
 use Rattle.wf_mapfile.specs.declared.keyword.class.ClassKeyword.TheVariants as keyword
-use Rattle.wf_mapfile.specs.Token.{Token, Word, Quoted, is_slash}
+use Rattle.wf_token.specs.Token.{Token, Word, Quoted, is_slash}
 use Rattle.wf_mapfile.specs.Grammar.{◌>>=◌, choice, text, block, at_most_one}
 use Rattle.wf_mapfile.specs.Lists.{no_more_than}
 use Rattle.wf_mapfile.specs.Style.{style}

@@ -5,7 +5,7 @@ use Rattle.wf_def.specs.Definition.{ClassDefinition}
 use Rattle.wf_mapfile.specs.declared.keyword.class.ClassKeyword.{ClassKeyword}
 use Rattle.wf_mapfile.specs.declared.keyword.class.ClassKeyword.TheVariants as keyword
 use Rattle.wf_mapfile.specs.declared.slots.class.ClassSlots.{ClassSlots}
-use Rattle.wf_mapfile.specs.Token.{Token}
+use Rattle.wf_token.specs.Token.{Token}
 use Rattle.wf_mapfile.specs.Grammar.{◌>>=◌, text}
 use Rattle.wf_mapfile.specs.Lists.{again}
 use Rattle.wf_mapfile.specs.Style.{style}

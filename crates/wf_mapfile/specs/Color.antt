@@ -2,7 +2,7 @@
 use Rattle.std.specs.Prelude.{ℕ, ◌+◌, ◌-◌, ◌*◌, ◌==◌, ◌&&◌, nat_le, if◌then◌else◌, List, [], ◌∷◌, Option, Some, None}
 use Rattle.std.specs.Option.{option_map_or}
 use Rattle.wf_def.specs.declared.color.Color.{Color}
-use Rattle.wf_mapfile.specs.Token.{Token, Word, Quoted}
+use Rattle.wf_token.specs.Token.{Token, Word, Quoted}
 use Rattle.wf_mapfile.specs.Grammar.{◌>>=◌, whole}
 
 -- `0` to `9`, `a` to `f` and `A` to `F`

@@ -6,7 +6,7 @@ use Rattle.wf_def.specs.Layer as def
 use Rattle.wf_def.specs.declared.point.Point.{Point}
 use Rattle.wf_mapfile.specs.declared.keyword.layer.FeatureKeyword.{FeatureKeyword}
 use Rattle.wf_mapfile.specs.declared.keyword.layer.FeatureKeyword.TheVariants as keyword
-use Rattle.wf_mapfile.specs.Token.{Token}
+use Rattle.wf_token.specs.Token.{Token}
 use Rattle.wf_mapfile.specs.Grammar.{◌>>=◌, choice, text, number, end, block, at_most_one}
 
 -- an x and a y

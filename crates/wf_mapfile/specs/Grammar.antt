@@ -6,7 +6,7 @@ use Rattle.std.specs.Str.{str_eq_ignore_ascii_case}
 use Rattle.wf_def.specs.Number as micro
 use Rattle.wf_def.specs.Text.{is_text}
 use Rattle.wf_def.specs.Whole.{whole_between}
-use Rattle.wf_mapfile.specs.Token.{Token, Word, Quoted}
+use Rattle.wf_token.specs.Token.{Token, Word, Quoted}
 
 -- what comes next is read from the tokens that are left
 infixl 10 ◌>>=◌

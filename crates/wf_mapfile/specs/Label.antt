@@ -9,7 +9,7 @@ use Rattle.wf_def.specs.Limit.{most_priority, most_buffer}
 use Rattle.wf_def.specs.Definition.{LabelDefinition}
 use Rattle.wf_mapfile.specs.declared.keyword.label.LabelKeyword.{LabelKeyword}
 use Rattle.wf_mapfile.specs.declared.keyword.label.LabelKeyword.TheVariants as keyword
-use Rattle.wf_mapfile.specs.Token.{Token}
+use Rattle.wf_token.specs.Token.{Token}
 use Rattle.wf_mapfile.specs.Grammar.{◌>>=◌, choice, chosen, whole, block, at_most_one}
 use Rattle.wf_mapfile.specs.Color.{color}
 

@@ -5,7 +5,7 @@ use Rattle.wf_def.specs.Definition.{LabelDefinition}
 use Rattle.wf_mapfile.specs.declared.keyword.label.LabelKeyword.{LabelKeyword}
 use Rattle.wf_mapfile.specs.declared.keyword.label.LabelKeyword.TheVariants as keyword
 use Rattle.wf_mapfile.specs.declared.slots.label.LabelSlots.{LabelSlots}
-use Rattle.wf_mapfile.specs.Token.{Token}
+use Rattle.wf_token.specs.Token.{Token}
 use Rattle.wf_mapfile.specs.Grammar.{◌>>=◌, whole}
 use Rattle.wf_mapfile.specs.Color.{color}
 use Rattle.wf_mapfile.specs.Label.{label_keyword, label_size, label_position, truth, label_kind, label_definition}

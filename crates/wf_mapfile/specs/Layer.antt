@@ -12,7 +12,7 @@ use Rattle.wf_def.specs.Limit.{most_classes}
 use Rattle.wf_mapfile.specs.declared.keyword.layer.LayerKeyword.{LayerKeyword}
 use Rattle.wf_mapfile.specs.declared.keyword.layer.LayerKeyword.TheVariants as keyword
 use Rattle.wf_mapfile.specs.declared.slots.Metadata as kept
-use Rattle.wf_mapfile.specs.Token.{Token}
+use Rattle.wf_token.specs.Token.{Token}
 use Rattle.wf_mapfile.specs.Grammar.{◌>>=◌, choice, text, chosen, block, at_most_one, exactly_one}
 use Rattle.wf_mapfile.specs.Lists.{no_more_than}
 use Rattle.wf_mapfile.specs.Metadata.{metadata}

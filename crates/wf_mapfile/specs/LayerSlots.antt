@@ -11,7 +11,7 @@ use Rattle.wf_mapfile.specs.declared.keyword.layer.LayerKeyword.{LayerKeyword}
 use Rattle.wf_mapfile.specs.declared.keyword.layer.LayerKeyword.TheVariants as layers
 use Rattle.wf_mapfile.specs.declared.slots.layer.FeatureSlots.{FeatureSlots}
 use Rattle.wf_mapfile.specs.declared.slots.layer.LayerSlots.{LayerSlots}
-use Rattle.wf_mapfile.specs.Token.{Token}
+use Rattle.wf_token.specs.Token.{Token}
 use Rattle.wf_mapfile.specs.Grammar.{◌>>=◌, text, end}
 use Rattle.wf_mapfile.specs.Lists.{again}
 use Rattle.wf_mapfile.specs.Metadata.{metadata}

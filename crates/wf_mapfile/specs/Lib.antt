@@ -1,5 +1,5 @@
-pub mod Lexeme
-pub mod Token
+pub use Rattle.wf_token.specs.Lexeme
+pub use Rattle.wf_token.specs.Token
 pub mod Grammar
 pub mod Color
 pub mod Metadata

@@ -1,6 +1,6 @@
 -- Keywords that may come again: what they say is a list in the order of the mapfile, of at most so many.
 use Rattle.std.specs.Prelude.{ℕ, nat_lt, nat_le, if◌then◌else◌, List, [], ◌∷◌, ◌++◌, length, Option, Some, None}
-use Rattle.wf_mapfile.specs.Token.{Token}
+use Rattle.wf_token.specs.Token.{Token}
 use Rattle.wf_mapfile.specs.Grammar.{◌>>=◌}
 
 -- what a keyword said that comes at most so many times

@@ -8,7 +8,7 @@ use Rattle.wf_def.specs.declared.choice.Projection.{Projection}
 use Rattle.wf_def.specs.declared.choice.Projection.TheVariants.{Epsg4326, Epsg3857}
 use Rattle.wf_mapfile.specs.declared.keyword.MapKeyword.{MapKeyword}
 use Rattle.wf_mapfile.specs.declared.keyword.MapKeyword.TheVariants as keyword
-use Rattle.wf_mapfile.specs.Token.{Token}
+use Rattle.wf_token.specs.Token.{Token}
 use Rattle.wf_mapfile.specs.Grammar.{◌>>=◌, choice, text, number, end, block, at_most_one, exactly_one}
 use Rattle.wf_mapfile.specs.Color.{color}
 use Rattle.wf_mapfile.specs.declared.slots.Metadata as kept

@@ -2,7 +2,7 @@
 use Rattle.std.specs.Prelude.{◌≡◌, ℕ, zero, suc, Bool, true, false, if◌then◌else◌, List, Option, Some, None, Result, Ok, Err, ⊤}
 use Rattle.wf_mapfile.specs.declared.fault.MapFault.{MapFault}
 use Rattle.wf_mapfile.specs.declared.fault.MapFault.TheVariants as faults
-use Rattle.wf_mapfile.specs.Token.{Token}
+use Rattle.wf_token.specs.Token.{Token}
 use Rattle.wf_mapfile.specs.Grammar.{◌>>=◌, word, is_end}
 
 -- memory ran out, which says nothing of the tokens

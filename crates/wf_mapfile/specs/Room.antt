@@ -5,7 +5,7 @@ use Rattle.wf_def.specs.Limits.{has_layer, points_of_feature}
 use Rattle.wf_def.specs.declared.point.Point.{Point}
 use Rattle.wf_mapfile.specs.declared.room.Room.{Room}
 use Rattle.wf_mapfile.specs.Gathered.{Gathered}
-use Rattle.wf_mapfile.specs.Token.{Token}
+use Rattle.wf_token.specs.Token.{Token}
 use Rattle.wf_mapfile.specs.Grammar.{◌>>=◌}
 use Rattle.wf_mapfile.specs.Feature.{point, points, feature}
 use Rattle.wf_mapfile.specs.Layer.{layer_name, layer}

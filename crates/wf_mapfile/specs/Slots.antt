@@ -11,7 +11,7 @@ use Rattle.wf_mapfile.specs.declared.keyword.MapKeyword.TheVariants as maps
 use Rattle.wf_mapfile.specs.declared.slots.Metadata.{Metadata}
 use Rattle.wf_mapfile.specs.declared.slots.WebSlots.{WebSlots}
 use Rattle.wf_mapfile.specs.declared.slots.MapSlots.{MapSlots}
-use Rattle.wf_mapfile.specs.Token.{Token}
+use Rattle.wf_token.specs.Token.{Token}
 use Rattle.wf_mapfile.specs.Grammar.{◌>>=◌, text, end}
 use Rattle.wf_mapfile.specs.Color.{color}
 use Rattle.wf_mapfile.specs.Metadata.{metadata}

@@ -5,7 +5,7 @@ use Rattle.wf_def.specs.Limit.{most_width, most_size}
 use Rattle.wf_def.specs.Definition.{StyleDefinition}
 use Rattle.wf_mapfile.specs.declared.keyword.style.StyleKeyword.{StyleKeyword}
 use Rattle.wf_mapfile.specs.declared.keyword.style.StyleKeyword.TheVariants as keyword
-use Rattle.wf_mapfile.specs.Token.{Token}
+use Rattle.wf_token.specs.Token.{Token}
 use Rattle.wf_mapfile.specs.Grammar.{◌>>=◌, choice, whole, block, at_most_one}
 use Rattle.wf_mapfile.specs.Color.{color}
 

@@ -2,7 +2,7 @@
 use Rattle.std.specs.Prelude.{ℕ, List, [], ◌∷◌, codes, Option, Some, None, filter_map, unwrap_or}
 use Rattle.wf_mapfile.specs.declared.keyword.WebKeyword.{WebKeyword}
 use Rattle.wf_mapfile.specs.declared.keyword.WebKeyword.TheVariants as keyword
-use Rattle.wf_mapfile.specs.Token.{Token}
+use Rattle.wf_token.specs.Token.{Token}
 use Rattle.wf_mapfile.specs.Grammar.{◌>>=◌, choice, text, block, at_most_one}
 use Rattle.wf_mapfile.specs.declared.slots.Metadata as kept
 use Rattle.wf_mapfile.specs.Metadata.{metadata}

@@ -5,12 +5,12 @@ ghost use Rattle.wf_mapfile.specs.Reading.{Gives, fill};
 use crate::fault::MapFault;
 use crate::keyword::is_end;
 use crate::parser::Parser;
-use crate::token::Token;
+use wf_token::token::Token;
 
 /// What a block's keywords fill.
 pub trait Slots {
     ghost use Rattle.std.specs.Prelude.{ℕ, List, Option};
-    ghost use Rattle.wf_mapfile.specs.Token.{Token};
+    ghost use Rattle.wf_token.specs.Token.{Token};
     ghost use Rattle.wf_mapfile.specs.Reading.{Gives};
 
     ghost put: { Self → List ℕ → List Token → Option (Self × List Token) };

@@ -8,14 +8,14 @@ ghost use Rattle.wf_def.specs.Limit.{most_styles};
 use crate::block::{Slots, fill_block, vacant};
 use crate::fault::MapFault;
 use crate::keyword::class::{ClassKeyword, class_keyword};
-use crate::lexer::is_slash;
 use crate::map::text_or_empty;
 use crate::parser::Parser;
 use crate::slots::class::ClassSlots;
-use crate::token::{Token, TokenKind};
 use std::alloc::{AllocError, Global};
 use wf_def::class::{Class, Styles};
 use wf_def::text::Text;
+use wf_token::lexer::is_slash;
+use wf_token::token::{Token, TokenKind};
 
 impl Slots for ClassSlots {
     ghost use Rattle.wf_mapfile.specs.ClassSlots.{class_put};

@@ -2,12 +2,12 @@
 ghost use Rattle.std.specs.Prelude.{◌≡◌, ◌<◌, ◌==◌, IfSome, option_copied};
 ghost use Rattle.wf_mapfile.specs.Color.{color, hash_digits, hex_byte, hex_color, hex_digit, rgb_color};
 ghost use Rattle.wf_mapfile.specs.Reading.{Gives};
-ghost use Rattle.wf_mapfile.specs.Token.{token_value};
+ghost use Rattle.wf_token.specs.Token.{token_value};
 
 use crate::fault::MapFault;
 use crate::parser::Parser;
-use crate::token::{Token, TokenKind};
 use wf_def::color::Color;
+use wf_token::token::{Token, TokenKind};
 
 impl Parser<'_> {
     /// Reads a colour (MapServer mapfile reference, COLOR).

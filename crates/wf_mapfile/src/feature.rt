@@ -11,10 +11,10 @@ use crate::keyword::layer::{FeatureKeyword, feature_keyword};
 use crate::map::text_or_empty;
 use crate::parser::Parser;
 use crate::slots::layer::FeatureSlots;
-use crate::token::Token;
 use std::alloc::Global;
 use wf_def::feature::{Feature, Part, Parts};
 use wf_def::point::Point;
+use wf_token::token::Token;
 
 impl Slots for FeatureSlots {
     ghost use Rattle.wf_mapfile.specs.LayerSlots.{feature_put};

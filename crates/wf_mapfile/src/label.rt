@@ -10,11 +10,11 @@ use crate::fault::MapFault;
 use crate::keyword::label::{LabelKeyword, label_keyword};
 use crate::parser::Parser;
 use crate::slots::label::LabelSlots;
-use crate::token::Token;
 use wf_def::choice::{LabelPosition, LabelSize};
 use wf_def::color::Color;
 use wf_def::label::Label;
 use wf_def::limits::{MOST_BUFFER, MOST_PRIORITY};
+use wf_token::token::Token;
 
 /// The colour of letters without COLOR.
 const BLACK: Color = Color { r: 0, g: 0, b: 0 };

@@ -20,11 +20,11 @@ use crate::map::text_or_empty;
 use crate::parser::Parser;
 use crate::slots::Metadata;
 use crate::slots::layer::LayerSlots;
-use crate::token::Token;
 use std::alloc::{AllocError, Global};
 use wf_def::choice::LayerKind;
 use wf_def::layer::{Classes, Features, Layer};
 use wf_def::text::Text;
+use wf_token::token::Token;
 
 impl Slots for LayerSlots<'_> {
     ghost use Rattle.wf_mapfile.specs.LayerSlots.{layer_put};

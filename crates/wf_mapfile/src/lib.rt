@@ -8,7 +8,7 @@
 //! where they mean no map. Each byte is looked at a bounded number of times. Which fault is answered, and its place, is tested and
 //! not proved. It says nothing of files or of how a definition is written (wf_canon).
 //!
-//! The way through it: `lexer` (bytes to tokens), `parser` (readers of tokens), `block` (keywords up to END, for any block), then
+//! The way through it: wf_token's lexer (bytes to tokens), `parser` (readers of tokens), `block` (keywords up to END, for any block), then
 //! one module a block (`map`, `web`, `metadata`, `layer`, `class`, `style`, `label`, `feature`), each keyword filling its slot of
 //! `slots`. `layers` puts the layers into the map in their order, and `room` counts what the map may still hold.
 #![tactic(auto)]
@@ -24,7 +24,6 @@ mod keyword;
 mod label;
 mod layer;
 mod layers;
-mod lexeme;
 pub mod lexer;
 mod map;
 mod metadata;

@@ -14,12 +14,12 @@ use crate::keyword::{MapKeyword, map_keyword, projection_named};
 use crate::layers::Layers;
 use crate::parser::Parser;
 use crate::slots::{MapSlots, Metadata};
-use crate::token::Token;
 use std::alloc::{AllocError, Global};
 use wf_def::choice::Projection;
 use wf_def::extent::Extent;
 use wf_def::map::MapDef;
 use wf_def::text::Text;
+use wf_token::token::Token;
 
 /// What a map is called that has no NAME.
 const DEFAULT_NAME: &str = "map";

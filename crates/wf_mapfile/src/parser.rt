@@ -1,19 +1,19 @@
 //! The parser: readers of the tokens that are left.
 ghost use Rattle.std.specs.Prelude.{◌≡◌, ◌∷◌, [], drop, false, is_some, length, MatchOption, MatchResult, Some, None, if◌then◌else◌};
 ghost use Rattle.wf_def.specs.Text.{is_text};
-ghost use Rattle.wf_mapfile.specs.Token.{token_value, token_values};
+ghost use Rattle.wf_token.specs.Token.{token_value, token_values};
 ghost use Rattle.wf_mapfile.specs.Reading.{Gives, is_memory};
 ghost use Rattle.wf_mapfile.specs.Grammar.{argument, end, number, text, whole, word};
 
 use crate::fault::MapFault;
 use crate::keyword::is_end;
-use crate::token::{Token, TokenKind};
 use std::alloc::Global;
 use std::marker::Model;
 use wf_def::fault::{NumberFault, TextFault};
 use wf_def::micro::Micro;
 use wf_def::text::Text;
 use wf_def::whole::Whole;
+use wf_token::token::{Token, TokenKind};
 
 /// What is left of a file's tokens, seen as their values.
 #[derive(Drop)]
@@ -26,7 +26,7 @@ pub struct Parser<'a> {
 
 impl<'a> Model for Parser<'a> {
     ghost use Rattle.std.specs.Prelude.{◌≤◌, List, drop, length};
-    ghost use Rattle.wf_mapfile.specs.Token.{Token, token_values};
+    ghost use Rattle.wf_token.specs.Token.{Token, token_values};
 
     ghost Value = { List Token };
 

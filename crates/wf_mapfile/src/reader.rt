@@ -6,11 +6,11 @@ ghost use Rattle.wf_mapfile.specs.Reading.{Gives, IsNotUtf8, is_memory};
 
 use crate::fault::MapFault;
 use crate::keyword::is_name;
-use crate::lexer::tokenize;
 use crate::parser::Parser;
-use crate::token::{LexFault, LexFaultKind};
 use std::alloc::Global;
 use wf_def::map::MapDef;
+use wf_token::lexer::tokenize;
+use wf_token::token::{LexFault, LexFaultKind};
 
 /// The longest mapfile, in bytes.
 pub const MOST_MAPFILE_BYTES: usize = 65_536;

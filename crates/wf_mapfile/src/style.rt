@@ -10,9 +10,9 @@ use crate::fault::MapFault;
 use crate::keyword::style::{StyleKeyword, style_keyword};
 use crate::parser::Parser;
 use crate::slots::style::StyleSlots;
-use crate::token::Token;
 use wf_def::limits::{MOST_SIZE, MOST_WIDTH};
 use wf_def::style::Style;
+use wf_token::token::Token;
 
 impl Slots for StyleSlots {
     ghost use Rattle.wf_mapfile.specs.StyleSlots.{style_put};

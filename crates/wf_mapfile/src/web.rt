@@ -9,7 +9,7 @@ use crate::fault::MapFault;
 use crate::keyword::{WebKeyword, web_keyword};
 use crate::parser::Parser;
 use crate::slots::{Metadata, WebSlots};
-use crate::token::Token;
+use wf_token::token::Token;
 
 impl Slots for WebSlots {
     ghost use Rattle.wf_mapfile.specs.Slots.{web_put};

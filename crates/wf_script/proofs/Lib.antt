@@ -1,2 +1,5 @@
+mod Comparing
 mod Faults
 mod Playing
+mod WholeInput
+mod Worlds

@@ -2,3 +2,5 @@ pub mod Lines
 pub mod Script
 pub mod Fault
 pub mod Session
+pub mod Comparison
+pub mod Law

@@ -211,7 +211,7 @@ impl<'s> Session<'s> {
     }
 }
 
-fn tell_no_node(out: &mut String) -> Result<(), AllocError> {
+pub(crate) fn tell_no_node(out: &mut String) -> Result<(), AllocError> {
     out.push_str("no node\n")
 }
 

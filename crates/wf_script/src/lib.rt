@@ -13,6 +13,8 @@
 //! pump, pump I ..                        messages that aren't pumped yet go to each node, or to those named
 //! skip                                   all messages so far count as pumped
 //! published, sent, proposal I, definition I S, same
+//! get I QUERY                            what the map service of node I answers to a client: its kind and size
+//! equal I J QUERY                        whether nodes I and J answer the same; QUERY is one word
 //! ```
 //!
 //! A [`Session`] is the farm on which a script is played, an order after the other; [`run_script`] does both over any reader
@@ -21,17 +23,21 @@
 //! Its model: of a script, how many nodes, maps and orders it has; of a session, its farm.
 //!
 //! It promises of each order, whatever it is, that the farm has gone on by some events of the model, that no node's list
-//! lost a map, and that the farm's nodes agree ([`Session::perform`]); so two running nodes never publish different maps
-//! ([`Session::differ`]). Of a script it promises its limits, and of a run that a fault of the reader or the writer comes
-//! for that cause, and that nothing is written where the input is no script. Which words are which order, and what is
-//! written, no contract says: cases show it.
+//! lost a map, and that the farm's nodes agree, with the laws beneath that: ballots belong to their nodes, promises are
+//! kept, and each Accept has a majority of promises behind it ([`Session::perform`]); so two running nodes never publish
+//! different maps ([`Session::differ`]), and two that stand at one sequence, or that are asked for one map, answer a client
+//! equally ([`Session::equal`]). Of a script it promises its limits, and of a run that a fault of the reader or the writer
+//! comes for that cause, that nothing is written where the input is no script, and that where the run succeeds, the whole
+//! input is within the limits of scripts. Which words are which order, and what is written, no contract says: cases show it.
 #![tactic(auto)]
 
 mod answer;
 mod fault;
+mod law;
 mod lines;
 mod maps;
 mod order;
+mod request;
 mod run;
 mod script;
 mod session;

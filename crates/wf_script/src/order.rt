@@ -25,6 +25,10 @@ pub(crate) enum Order {
     Skip,
     /// Something is asked of the farm, which it doesn't change.
     Ask(Question),
+    /// What does the node answer to this query of a client? That changes nothing either.
+    Get(usize, Vec<u8>),
+    /// Do the two nodes answer this query equally?
+    Equal(usize, usize, Vec<u8>),
 }
 
 /// A step of a node that can be torn.
@@ -68,6 +72,15 @@ fn first_order(alloc: Global, maps: &Maps, words: &mut Words<'_>) -> Result<Orde
     match words.text()? {
         "deliver" => deliveries(alloc, words),
         "pump" => Ok(Order::Pump(numbers(alloc, words)?)),
+        "get" => get(alloc, words),
+        "equal" => equal(alloc, words),
+        word => plain_order(word, maps, words),
+    }
+}
+
+/// An order that holds no list.
+fn plain_order(word: &str, maps: &Maps, words: &mut Words<'_>) -> Result<Order, Wrong> {
+    match word {
         "skip" => Ok(Order::Skip),
         "stop" => Ok(Order::Stop(words.number()?)),
         "restart" => Ok(Order::Restart(words.number()?)),
@@ -85,7 +98,7 @@ fn step_or_question(word: &str, maps: &Maps, words: &mut Words<'_>) -> Result<Or
     }
 }
 
-// Further questions, as those that ask a node for a map, join the others here.
+/// A question about nodes and their numbers alone.
 fn asked(word: &str, words: &mut Words<'_>) -> Result<Question, Wrong> {
     match word {
         "published" => Ok(Question::Published),
@@ -114,6 +127,24 @@ fn deliveries(alloc: Global, words: &mut Words<'_>) -> Result<Order, Wrong> {
         return Err(Wrong::BadLine);
     }
     Ok(Order::Deliver(node, messages))
+}
+
+/// `get I QUERY`.
+fn get(alloc: Global, words: &mut Words<'_>) -> Result<Order, Wrong> {
+    let node = words.number()?;
+    Ok(Order::Get(node, query(alloc, words)?))
+}
+
+/// `equal I J QUERY`.
+fn equal(alloc: Global, words: &mut Words<'_>) -> Result<Order, Wrong> {
+    let node = words.number()?;
+    let other = words.number()?;
+    Ok(Order::Equal(node, other, query(alloc, words)?))
+}
+
+/// The query that the next word is, byte for byte.
+fn query(alloc: Global, words: &mut Words<'_>) -> Result<Vec<u8>, Wrong> {
+    Ok(Vec::from_slice(alloc, words.word()?)?)
 }
 
 /// `torn I before E` or `torn I after E`.

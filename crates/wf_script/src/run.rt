@@ -1,26 +1,29 @@
 //! A script is read and played, over any reader and writer.
 
-ghost use Rattle.std.specs.Prelude.{◌≡◌, ◌+◌, IfErr, IfOk, OnOk};
-ghost use Rattle.wf_edge.specs.Reading.{TakesUpTo};
-ghost use Rattle.wf_script.specs.Lines.{most_script_bytes};
-ghost use Rattle.wf_script.specs.Fault.{CountsReads, CountsWrites, IsMemory, IsInputFault, IsReadingFault, IsPlayingFault, KeepsQuiet};
+ghost use Rattle.std.specs.Prelude.{◌≡◌, ◌+◌, ◌<◌, IfErr, IfOk, IfSome, OnOk, length};
+ghost use Rattle.std.specs.Io.KnownBytes.{IsAtEnd};
+ghost use Rattle.wf_stream.specs.Reading.{TakesUpTo};
+ghost use Rattle.wf_script.specs.Lines.{judged, most_script_bytes};
+ghost use Rattle.wf_script.specs.Script.{IsScriptText};
+ghost use Rattle.wf_script.specs.Fault.{CountsReads, CountsWrites, IsMemory, IsInputFault, IsReadingFault, IsPlayingFault, KeepsQuiet, ReadsWhole};
 
 use crate::fault::{PlayFault, ScriptFault};
 use crate::script::{MOST_SCRIPT_BYTES, Script};
 use crate::session::Session;
 use std::alloc::Global;
 use std::io::ErrorKind;
-use wf_edge::stream::{Sink, Source, read_up_to, write_all};
+use wf_stream::{Sink, Source, read_up_to, write_all};
 
 /// Reads a script to its end, or to the byte that makes it too long, and plays it: what each order writes is written once
 /// it is performed. A fault of the script, before its first order is performed, comes with nothing written; S1 at an order
 /// comes with what the orders before it wrote.
-#[tactic(auto, using(crate::proofs::Faults::no_writes_yet))]
+#[tactic(auto, using(crate::proofs::Faults::no_writes_yet, crate::proofs::WholeInput::ends_whole, crate::proofs::WholeInput::no_script_ends))]
 pub fn run_script<S: Source, K: Sink>(
     alloc: Global,
     source: &mut S,
     sink: &mut K,
 ) -> Result<(), PlayFault>
+    ensures whole { ReadsWhole (S.left source.old) (S.left source.new) result }
     ensures quiet { IfErr result (KeepsQuiet (K.written sink.old) (K.written sink.new)) }
     ensures most { TakesUpTo (most_script_bytes + 1) (S.left source.old) (S.left source.new) }
     ensures reads { CountsReads result (S.failures source.old) (S.failures source.new) }
@@ -38,6 +41,8 @@ pub fn run_script<S: Source, K: Sink>(
 
 /// The input to its end, or its first bytes.
 fn input<S: Source>(alloc: Global, source: &mut S) -> Result<Vec<u8>, PlayFault>
+    ensures first { IfOk result (λ bytes. IfSome (S.left source.old) (λ known. bytes.items ≡ judged known)) }
+    ensures end { IfOk result (λ bytes. length bytes.items < most_script_bytes + 1 → IsAtEnd (S.left source.new)) }
     ensures err { IfErr result IsInputFault }
     ensures most { TakesUpTo (most_script_bytes + 1) (S.left source.old) (S.left source.new) }
     ensures reads { CountsReads result (S.failures source.old) (S.failures source.new) }
@@ -53,6 +58,8 @@ fn input<S: Source>(alloc: Global, source: &mut S) -> Result<Vec<u8>, PlayFault>
 
 /// The script that the input is.
 fn script<S: Source>(alloc: Global, source: &mut S) -> Result<Script, PlayFault>
+    ensures whole { OnOk result (IfSome (S.left source.old) IsScriptText) }
+    ensures end { OnOk result (IsAtEnd (S.left source.new)) }
     ensures err { IfErr result IsReadingFault }
     ensures most { TakesUpTo (most_script_bytes + 1) (S.left source.old) (S.left source.new) }
     ensures reads { CountsReads result (S.failures source.old) (S.failures source.new) }

@@ -1,6 +1,7 @@
 //! A script is played on a farm, an order after the other.
 
 use crate::fault::ScriptFault;
+use crate::law::farm_obeys_laws;
 use crate::order::{Order, Step};
 use crate::script::Script;
 use std::alloc::{AllocError, Global};
@@ -34,6 +35,7 @@ impl<'s> Session<'s> {
     ghost use Rattle.wf_farm.specs.Farm.{Shows, size};
     ghost use Rattle.wf_model.specs.World.{start};
     ghost use Rattle.wf_script.specs.Fault.{IsMemory};
+    ghost use Rattle.wf_script.specs.Law.{HasKeptPromises, HasOwnBallots, HasPromisedMajorities};
     ghost use Rattle.wf_script.specs.Session.{Plays};
 
     /// The farm before the script's first order: the model's start. S1 at line 1 where a growth was refused.
@@ -56,8 +58,8 @@ impl<'s> Session<'s> {
     }
 
     /// Performs the order of that number, counted from 0, and appends what it writes; nothing where there is no such
-    /// order. Whatever it is, the farm has gone on by some events. S1 at its line where a growth was refused: then a part of
-    /// it may have happened, or be written.
+    /// order. Whatever it is, the farm has gone on by some events, and the laws hold of it as it is then. S1 at its line
+    /// where a growth was refused: then a part of it may have happened, or be written.
     #[tactic(auto, using(crate::proofs::Playing::nothing_played))]
     pub fn perform(
         &mut self,
@@ -68,6 +70,9 @@ impl<'s> Session<'s> {
         ensures plays { Plays self.old self.new }
         ensures agree { HasOneHistory self.new }
         ensures world { IsOneWorld self.new }
+        ensures ballots { HasOwnBallots self.new }
+        ensures promises { HasKeptPromises self.new }
+        ensures majorities { HasPromisedMajorities self.new }
         ensures memory { IfErr result IsMemory }
     {
         let script = self.script;
@@ -78,7 +83,7 @@ impl<'s> Session<'s> {
             },
             None => Ok(()),
         };
-        self.farm.agree();
+        farm_obeys_laws(&self.farm);
         performed
     }
 
@@ -98,6 +103,8 @@ impl<'s> Session<'s> {
                 Ok(())
             }
             Order::Ask(question) => self.answer(alloc, *question, out),
+            Order::Get(node, query) => self.tell_answer(alloc, *node, query, out),
+            Order::Equal(node, other, query) => self.tell_equal(alloc, *node, *other, query, out),
         }
     }
 

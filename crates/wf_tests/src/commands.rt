@@ -6,8 +6,8 @@ use std::io::{ErrorKind, Read, Write};
 use wf_canon::CanonFault;
 use wf_commands::fault::RunFault;
 use wf_commands::run::run_canon;
-use wf_commands::stream::Stream;
 use wf_mapfile::fault::MapFault;
+use wf_stream::Stream;
 
 /// A mapfile of the map `a`: 63 bytes.
 const MAPFILE: &[u8] = b"MAP NAME \"a\" EXTENT 0 0 4 4 PROJECTION \"init=epsg:4326\" END END";

@@ -6,11 +6,10 @@ use std::io::{Read, Write};
 use std::net::{Ipv4Addr, SocketAddr, TcpListener, TcpStream};
 use std::process::Abort;
 use wf_ballot::NodeId;
-use wf_edge::memory::Bytes;
 use wf_edge::outcome::Outcome;
 use wf_edge::serve::serve_one;
-use wf_edge::stream::Stream;
 use wf_node::Node;
+use wf_stream::{Bytes, Stream};
 use wf_tape::MemoryTape;
 
 const REQUEST: &[u8] = b"GET /status HTTP/1.1\r\nHost: localhost\r\n\r\n";

@@ -16,6 +16,8 @@ mod node;
 #[cfg(test)]
 mod record;
 #[cfg(test)]
+mod serve;
+#[cfg(test)]
 mod tape;
 #[cfg(test)]
 mod value;

@@ -1,11 +1,6 @@
--- What is retained are the pairs of the other slots.
-use Rattle.std.proofs.Common.{◌∙◌, ap, rules}
-use Rattle.std.proofs.lemmas.Fn.{filter_same}
-use Rattle.wf_acceptor.specs.Slots.{by_slot}
-use Rattle.wf_acceptor.proofs.BySlot.{by_slot-filter}
+-- The slot's value is taken out.
+use Rattle.wf_acceptor.proofs.BySlot.{by_slot-forget}
 use Rattle.wf_acceptor.proofs.slots.forget.Goals as goal
 
 pub returns : goal.returns
-returns g c = record {
-  values = ap by_slot (filter_same _ _ _ (λ x b f' k. search rules) _ _ c.retain.ensures.filtered) ∙ by_slot-filter c.args.pairs.now.items c.args.slot;
-}
+returns g c = by_slot-forget c.args.values.now c.remove.new.self c.args.slot c.remove.ensures.updates

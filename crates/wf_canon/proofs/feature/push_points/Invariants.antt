@@ -1,5 +1,6 @@
 use Rattle.std.proofs.Common.{take, map}
-use Rattle.wf_canon.specs.Canon.{point_line, text_of}
+use Rattle.wf_canon.specs.Canon.{point_line}
+use Rattle.wf_token.specs.Spelling.{text_of}
 use Rattle.wf_canon.specs.Draft.{Writes}
 use Rattle.wf_canon.proofs.feature.push_points.Given as goal
 

@@ -1,5 +1,5 @@
 use Rattle.wf_canon.proofs.Writing.{both}
-use Rattle.wf_canon.specs.Canon.{line}
+use Rattle.wf_token.specs.Spelling.{line}
 use Rattle.wf_canon.proofs.line.push_with_text.Goals as goal
 
 pub returns : goal.returns

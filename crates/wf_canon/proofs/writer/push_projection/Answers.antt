@@ -1,5 +1,6 @@
 use Rattle.wf_canon.proofs.Writing.{both, last_line}
-use Rattle.wf_canon.specs.Canon.{line, end_line}
+use Rattle.wf_token.specs.Spelling.{line}
+use Rattle.wf_canon.specs.Canon.{end_line}
 use Rattle.wf_canon.proofs.writer.push_projection.Goals as goal
 
 pub returns : goal.returns

@@ -1,4 +1,4 @@
--- The record's promise and vote become the newest ones.
+-- The record's promise and vote become those of its slot.
 use Rattle.std.proofs.Common.{◌≡◌, ℕ, Some, None, refl, sym, ◌∙◌, ap, rules}
 use Rattle.std.proofs.lemmas.Option.{same_Some}
 use Rattle.std.specs.Ordering.{nat_cmp}
@@ -34,11 +34,11 @@ returns c =
           let add_vote = ap (λ (a : Acceptor). insert a.part.votes w.in-Some-Accepted.slot (w.in-Some-Accepted.ballot, w.in-Some.canon)) c.self.view_is in
           let vote =
           voted c.args.self.now.part w.in-Some-Accepted.slot w.in-Some-Accepted.ballot w.in-Some-Accepted.field-0-2 w.in-Some-Accepted.field-0 w.in-Some.canon
-          (by_slot w.add-in-Some-Accepted.new.pairs.items) (by_slot w.add-in-Some.new.pairs.items) vote_is definition
-          (w.add-in-Some-Accepted.ensures.value ∙ add_promise) (w.add-in-Some.ensures.value ∙ add_vote) in
+          (by_slot w.put-in-Some-Accepted.new.values) (by_slot w.put-in-Some.new.values) vote_is definition
+          (w.put-in-Some-Accepted.ensures ∙ add_promise) (w.put-in-Some.ensures ∙ add_vote) in
           rw (prepared, w.self-inside-is)
           (ap (λ (a : Acceptor). record {
-            part = record a.part { promises = by_slot w.add-in-Some-Accepted.new.pairs.items; votes = by_slot w.add-in-Some.new.pairs.items };
+            part = record a.part { promises = by_slot w.put-in-Some-Accepted.new.values; votes = by_slot w.put-in-Some.new.values };
             prepared = None;
           }) c.self.view_is ∙ ap (λ (part : Part). record { part = part; prepared = None }) vote)
       | in-Some-Accepted+in_default-take_definition w ↦ search rules

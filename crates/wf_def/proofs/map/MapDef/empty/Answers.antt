@@ -2,7 +2,7 @@
 use Rattle.std.proofs.Common.{refl}
 use Rattle.std.specs.Char.{encode_utf8}
 use Rattle.std.specs.Str.{is_utf8, chars}
-use Rattle.wf_def.specs.Text.{is_text}
+use Rattle.wf_text.specs.Text.{is_text}
 use Rattle.wf_def.proofs.map.MapDef.empty.Goals as goal
 
 pub from_str-requires : goal.from_str-requires

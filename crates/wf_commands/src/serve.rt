@@ -1,0 +1,48 @@
+//! The command `serve`.
+ghost use Rattle.std.specs.Prelude.{IfErr};
+ghost use Rattle.wf_commands.specs.Line.{IsInRange, IsServe};
+ghost use Rattle.wf_commands.specs.Run.{CountsWrites, IsServeFault};
+ghost use Rattle.wf_serve.specs.Service.{IsService};
+
+use crate::fault::RunFault;
+use crate::line::Line;
+use std::net::{Net, TcpListener, TcpStream};
+use std::rt::Files;
+use wf_serve::{ServeFault, Service, serve};
+use wf_stream::Sink;
+
+/// Serves the nodes that a `serve` line asks for, as [`wf_serve::serve`] says, and writes the line `listening P` with the port.
+///
+/// `Serve` where a tape doesn't open, the port can't be had or memory ran out, and `Write` where the line can't be written.
+pub fn run_serve<R: Files + Net<Listener = TcpListener, Stream = TcpStream> + AllocGlobal, K: Sink>(
+    rt: &R,
+    line: &Line<'_>,
+    sink: &mut K,
+) -> Result<(), RunFault>
+    requires serve { IsServe line.now }
+    requires range { IsInRange line.now }
+    ensures fault { IfErr result IsServeFault }
+    ensures writes { CountsWrites result (K.failures sink.old) (K.failures sink.new) }
+{
+    match line {
+        Line::Serve(service) => serve_by(rt, *service, sink),
+        Line::Caps { .. } | Line::Canon | Line::Run => unreachable!(),
+    }
+}
+
+// The same of what is to be served.
+fn serve_by<R: Files + Net<Listener = TcpListener, Stream = TcpStream> + AllocGlobal, K: Sink>(
+    rt: &R,
+    service: Service<'_>,
+    sink: &mut K,
+) -> Result<(), RunFault>
+    requires { IsService service }
+    ensures fault { IfErr result IsServeFault }
+    ensures writes { CountsWrites result (K.failures sink.old) (K.failures sink.new) }
+{
+    match serve(rt, service, sink) {
+        Ok(()) => Ok(()),
+        Err(ServeFault::Start) => Err(RunFault::Serve),
+        Err(ServeFault::Write) => Err(RunFault::Write),
+    }
+}

@@ -1,9 +1,0 @@
-use Rattle.std.proofs.Common.{◌≡◌, ◌≤◌, ◌+◌, ◌*◌, ◌^◌, take}
-use Rattle.wf_def.specs.Number.{spelled_onto}
-use Rattle.wf_def.proofs.number.spelled_onto.Given as goal
-
-abbrev pub invariant-loop-byte : goal.invariant-loop-byte
-invariant-loop-byte l = record {
-  value : l.spelled ≡ spelled_onto l.value (take l.byte-index l.digits);
-  bound : l.spelled + 23 ≤ (l.value + 23) * 10 ^ l.byte-index;
-}

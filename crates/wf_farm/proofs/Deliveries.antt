@@ -1,0 +1,469 @@
+-- A delivery to one of the nodes that a caller holds is an event of the world that they are, and so are many.
+use Rattle.std.proofs.Common.{◌≡◌, ◌≢◌, ◌⊎◌, ℕ, zero, suc, ◌+◌, ◌<◌, ◌≤◌, nat_lt, Bool, true, false, List, [], ◌∷◌, ◌++◌, map, length, slice_get, slice_set, Option, Some, None, Result, Ok, Err, IfOk, IfErr, refl, sym, ap, subst, ◌∙◌, inl, inr, arith, length-append, length-set, if◌then◌else◌, ◌==◌, Vec}
+use Rattle.std.proofs.lemmas.Bool.{both_ways, cases_eq, false≢true}
+use Rattle.std.proofs.lemmas.List.{append-nil, length-map, map-append}
+use Rattle.std.proofs.lemmas.Option.{none-some, same_Some}
+use Rattle.wf_ballot.specs.Ballot.{Ballot}
+use Rattle.wf_codec.specs.Message as message
+use Rattle.wf_codec.specs.declared.message.Message.{Message}
+use Rattle.wf_def.specs.Definition.{Definition}
+use Rattle.wf_def.specs.Equality.{definition_eq}
+use Rattle.wf_law.specs.Laws.{IsBeginning}
+use Rattle.wf_model.specs.Fits.{RowsAreShort}
+use Rattle.wf_model.specs.Stored as part
+use Rattle.wf_model.specs.Stored.{Stored, Record, published, with_record}
+use Rattle.wf_model.specs.Working.{Working}
+use Rattle.wf_model.specs.Table as table
+use Rattle.wf_model.specs.Table.{Input, Refusal, most_told, store}
+use Rattle.wf_model.specs.World as world
+use Rattle.wf_model.specs.World.{World, Event, Turn, Deliver, Torn, Before, After, Kept, input_of, turn_of, turn, stored_after, kept_part, after_turn, after_torn, happens, steps}
+use Rattle.wf_node.specs.Fault as fault
+use Rattle.wf_node.specs.Images.{EachStandsFor}
+use Rattle.wf_node.specs.Node.{Node, stored_of, working_of}
+use Rattle.wf_node.specs.Step.{row_of, refusal_at, IsRow, IsSameNode}
+use Rattle.wf_node.specs.declared.fault.NodeFault.{NodeFault}
+use Rattle.wf_node.specs.declared.fault.NodeFault.TheVariants as fault_case
+use Rattle.wf_farm.specs.declared.progress.Progress.{Progress}
+use Rattle.wf_farm.specs.Delivering as delivering
+use Rattle.wf_farm.specs.Delivering.{AnyPart, StandFor, IsNodeBy, IsNode, AreNodes, Shows, StandAmong, StandInTurn, MayLeave, IsDelivery, AreDeliveries, IsLed, Lead, AreDelivered, Takes, TakeOne, KeepHalted, KeepTurn, IsOne, HaveCome, IsDelivered}
+use Rattle.wf_farm.specs.Progress.{next}
+use Rattle.wf_farm.specs.Pump.{most_deliveries}
+use Rattle.wf_farm.specs.Turn.{node_after, messages_of, node_torn}
+use Rattle.wf_farm.proofs.Events.{get_set_same, get_set_other, sent_message}
+use Rattle.wf_farm.proofs.Runs.{steps_more}
+use Rattle.wf_farm.proofs.Turns.{turn_goes, turn_is, turn_sets, torn_sets}
+
+-- ---- what a node does that is handed an input
+
+-- which of two faults it is
+abbrev is_want : NodeFault → Bool
+is_want fault_case.Memory = true
+is_want fault_case.Busy = false
+is_want fault_case.SequenceFull = false
+is_want fault_case.RoundsFull = false
+is_want fault_case.Halted = false
+is_want fault_case.TapeFailed = false
+is_want fault_case.Nothing = false
+
+abbrev is_failure : NodeFault → Bool
+is_failure fault_case.Memory = false
+is_failure fault_case.Busy = false
+is_failure fault_case.SequenceFull = false
+is_failure fault_case.RoundsFull = false
+is_failure fault_case.Halted = false
+is_failure fault_case.TapeFailed = true
+is_failure fault_case.Nothing = false
+
+abbrev is_halted : NodeFault → Bool
+is_halted fault_case.Memory = false
+is_halted fault_case.Busy = false
+is_halted fault_case.SequenceFull = false
+is_halted fault_case.RoundsFull = false
+is_halted fault_case.Halted = true
+is_halted fault_case.TapeFailed = false
+is_halted fault_case.Nothing = false
+
+abbrev says_halted : {A : Type 0} → Result A NodeFault → Bool
+says_halted (Ok x) = false
+says_halted (Err f) = is_halted f
+
+not_true : (b : Bool) → (b ≡ true → ⊥) → b ≡ false
+not_true true never = absurd (never refl)
+not_true false never = refl
+
+-- A node of which another answer than "halted" comes isn't halted.
+runs_by : {A : Type 0} (result : Result A NodeFault) (halted : Bool) → says_halted result ≡ false → (halted ≡ true → result ≡ Err fault_case.Halted) → halted ≡ false
+runs_by result halted other answers = not_true halted (λ is. false≢true (sym other ∙ ap says_halted (answers is)))
+
+-- a fault that is neither want of memory nor a failure of the tape
+neither : (f : NodeFault) → is_want f ≡ false → is_failure f ≡ false → (f ≢ fault_case.Memory) × (f ≢ fault_case.TapeFailed)
+neither f want failure = (λ is. false≢true (sym want ∙ ap is_want is), λ is. false≢true (sym failure ∙ ap is_failure is))
+
+module _ {T A : Type 0} (honest : Type 0) (images : T → List ℕ → Type 0) (node after : Node T) (input : Input Definition) where
+  pub any_taken : (result : Result (Vec Message A) NodeFault) → (node.halted ≡ true → result ≡ Err fault_case.Halted) → (node.halted ≡ false → fault.refused_by result ≡ refusal_at node input) →
+      IfOk result (λ said. IsRow node (row_of node input) said.items after) → IfOk result (λ said. Takes honest images input node after said.items)
+  any_taken (Ok said) halted refused is =
+      let runs = runs_by {A = Vec Message A} (Ok said) node.halted refl halted in
+      delivering.Steps runs (sym (refused runs)) is
+  any_taken (Err f) halted refused is = tt
+
+  pub any_lost : (result : Result (Vec Message A) NodeFault) → (node.halted ≡ true → result ≡ Err fault_case.Halted) → (node.halted ≡ false → fault.refused_by result ≡ refusal_at node input) →
+      IfErr result (λ f. f ≢ fault_case.Memory → f ≢ fault_case.TapeFailed → after ≡ node) → IfErr result (λ f. IsSameNode node after) → (result ≡ Err fault_case.Memory → after.halted ≡ false) →
+      (result ≡ Err fault_case.TapeFailed → after.halted ≡ true) →
+      (honest → result ≡ Err fault_case.TapeFailed → EachStandsFor (stored_of node) (store (stored_of node) (row_of node input).entry) (images after.tape)) → IfErr result (λ f. Takes honest images input node after [])
+  any_lost (Ok said) halted refused unchanged same spares halts torn = tt
+  any_lost (Err fault_case.Memory) halted refused unchanged same spares halts torn =
+      delivering.Spares (runs_by {A = Vec Message A} (Err fault_case.Memory) node.halted refl halted) (spares refl) same refl
+  any_lost (Err fault_case.TapeFailed) halted refused unchanged same spares halts torn =
+      let runs = runs_by {A = Vec Message A} (Err fault_case.TapeFailed) node.halted refl halted in
+      delivering.Fails runs (sym (refused runs)) (halts refl) same (λ h. torn h refl) refl
+  any_lost (Err fault_case.Busy) halted refused unchanged same spares halts torn = let other = neither fault_case.Busy refl refl in delivering.Keeps (unchanged other.0 other.1) refl
+  any_lost (Err fault_case.SequenceFull) halted refused unchanged same spares halts torn = let other = neither fault_case.SequenceFull refl refl in delivering.Keeps (unchanged other.0 other.1) refl
+  any_lost (Err fault_case.RoundsFull) halted refused unchanged same spares halts torn = let other = neither fault_case.RoundsFull refl refl in delivering.Keeps (unchanged other.0 other.1) refl
+  any_lost (Err fault_case.Halted) halted refused unchanged same spares halts torn = let other = neither fault_case.Halted refl refl in delivering.Keeps (unchanged other.0 other.1) refl
+  any_lost (Err fault_case.Nothing) halted refused unchanged same spares halts torn = let other = neither fault_case.Nothing refl refl in delivering.Keeps (unchanged other.0 other.1) refl
+
+-- No step says more than eight messages.
+module _ {T A : Type 0} (node after : Node T) (input : Input Definition) where
+  pub any_short : RowsAreShort Definition → (result : Result (Vec Message A) NodeFault) → IfOk result (λ said. IsRow node (row_of node input) said.items after) → IfOk result (λ said. length said.items ≤ most_told)
+  any_short short (Ok said) is =
+      omega (arith, length-map said.items message.view, ap length is.messages, short definition_eq node.n node.id (stored_of node) (working_of node) input)
+  any_short short (Err f) is = tt
+
+-- What is lost changes nothing, and nothing is said.
+pub lost_by : {T : Type 0} (honest : Type 0) (images : T → List ℕ → Type 0) (input : Input Definition) (node : Node T) (said : List Message) → said ≡ [] → Takes honest images input node node said
+lost_by honest images input node said quiet = delivering.Keeps refl quiet
+
+-- ---- lists with one entry set
+
+-- what is set where an entry stands is there
+set_there : {A : Type 0} (xs : List A) (i : ℕ) (x y : A) → slice_get xs i ≡ Some y → slice_get (slice_set xs i x) i ≡ Some x
+set_there [] i x y e = absurd (none-some y e)
+set_there (z ∷ xs) zero x y e = refl
+set_there (z ∷ xs) (suc i) x y e = set_there xs i x y e
+
+-- ---- beginnings of published lists
+
+begins_itself : {A : Type 0} (xs : List A) → IsBeginning xs xs
+begins_itself xs = ([], append-nil xs)
+
+module _ (stored : Stored Definition) where
+  promised_begins : (s : ℕ) (b : Ballot) (is_open : Bool) → nat_lt (published stored) s ≡ is_open → IsBeginning stored.history (with_record stored (part.Promised s b)).history
+  unfolding with_record
+  promised_begins s b true e = rw e (begins_itself stored.history)
+  promised_begins s b false e = rw e (begins_itself stored.history)
+
+  accepted_begins : (s : ℕ) (b : Ballot) (d : Definition) (is_open : Bool) → nat_lt (published stored) s ≡ is_open → IsBeginning stored.history (with_record stored (part.Accepted s b d)).history
+  unfolding with_record
+  accepted_begins s b d true e = rw e (begins_itself stored.history)
+  accepted_begins s b d false e = rw e (begins_itself stored.history)
+
+  record_begins : (r : Record Definition) → IsBeginning stored.history (with_record stored r).history
+  unfolding with_record
+  record_begins (part.Tried r) = begins_itself stored.history
+  record_begins (part.Promised s b) = promised_begins s b (nat_lt (published stored) s) refl
+  record_begins (part.Accepted s b d) = accepted_begins s b d (nat_lt (published stored) s) refl
+  record_begins (part.Published s d) = (d ∷ [], refl)
+
+  store_begins : (entry : Option (Record Definition)) → IsBeginning stored.history (store stored entry).history
+  unfolding store
+  store_begins None = begins_itself stored.history
+  store_begins (Some r) = record_begins r
+
+-- ---- a node and the node of the model's
+
+abbrev node_of : Stored Definition → Option (Working Definition) → world.Node Definition
+node_of stored working = record { stored = stored; working = working }
+
+node_eq : (stored others : Stored Definition) (working held : Option (Working Definition)) → stored ≡ others → working ≡ held → node_of stored working ≡ node_of others held
+node_eq stored others working held e h = ap (λ s. node_of s working) e ∙ ap (λ x. node_of others x) h
+
+module _ {T : Type 0} where
+  abbrev shown_of : Node T → world.Node Definition
+  shown_of node = node_of (stored_of node) (Some (working_of node))
+
+  abbrev the_turn : Node T → Input Definition → Turn Definition
+  the_turn node input = record { stored = stored_of node; row = row_of node input }
+
+  -- the turn of a node that runs
+  goes_of : (node : Node T) (input : Input Definition) → refusal_at node input ≡ None → turn_of definition_eq node.n node.id (Some (shown_of node)) (Some input) ≡ Some (the_turn node input)
+  goes_of node input goes = turn_goes definition_eq node.n node.id (stored_of node) (working_of node) input goes
+
+  module _ (stands : Stored Definition → Type 0) where
+    is_running : (node : Node T) (x : world.Node Definition) → node.halted ≡ false → IsNode stands node x → x ≡ shown_of node
+    is_running node x runs is = subst (λ b. IsNodeBy b stands node x) runs is
+
+    running_is : (node : Node T) (x : world.Node Definition) → node.halted ≡ false → x ≡ shown_of node → IsNode stands node x
+    running_is node x runs is = subst (λ b. IsNodeBy b stands node x) (sym runs) is
+
+    -- A node that is as it was but for its tape, and runs.
+    spared_is : (node after : Node T) (x : world.Node Definition) → node.halted ≡ false → after.halted ≡ false → IsSameNode node after → IsNode stands node x → IsNode stands after x
+    spared_is node after x runs runs_after same is =
+        running_is after x runs_after (is_running node x runs is ∙ node_eq _ _ _ _ (sym (ap stored_of same)) (ap Some (sym (ap working_of same))))
+
+    -- a node after its turn
+    stepped_is : (node after : Node T) (input : Input Definition) (said : List Message) → IsRow node (row_of node input) said after → IsNode stands after (node_of (stored_after (the_turn node input)) (Some (row_of node input).working))
+    unfolding stored_after
+    stepped_is node after input said is = running_is after _ is.running (node_eq _ _ _ _ (sym is.stored) (ap Some (sym is.working)))
+
+    -- A node whose tape failed: what it tells as published begins what it stored before, and so what it may have stored.
+    failed_is : (node after : Node T) (stored : Stored Definition) → after.halted ≡ true → IsSameNode node after → IsBeginning (stored_of node).history stored.history → stands stored → IsNode stands after (node_of stored None)
+    failed_is node after stored halts same begins has =
+        subst (λ b. IsNodeBy b stands after (node_of stored None)) (sym halts)
+        (refl, subst (λ (ds : List Definition). IsBeginning ds stored.history) (sym (ap (λ (y : Node T). y.parts.history) same)) begins, has)
+
+-- ---- one delivery
+
+module _ {T : Type 0} (stands : ℕ → Stored Definition → Type 0) (nodes : List (Node T)) where
+  -- node i is another one of the model's now
+  set_nodes : (xs : List (world.Node Definition)) (i : ℕ) (node after : Node T) (x : world.Node Definition) → slice_get nodes i ≡ Some node → AreNodes stands nodes xs → IsNode (stands i) after x →
+      AreNodes stands (slice_set nodes i after) (slice_set xs i x)
+  set_nodes xs i node after x at are is = record {
+    as_many = length-set xs i x ∙ are.as_many ∙ sym (length-set nodes i after);
+    node_is = λ j n e. elim (cases_eq j i) [
+      | inl same ↦
+          let here = are.node_is i node at in
+          let it : after ≡ n = get_set_same nodes i after node n at (subst (λ k. slice_get (slice_set nodes i after) k ≡ Some n) same e) in (
+            x,
+            subst (λ k. slice_get (slice_set xs i x) k ≡ Some x) (sym same) (set_there xs i x here.0 here.1),
+            subst (λ k. IsNode (stands k) n x) (sym same) (subst (λ m. IsNode (stands i) m x) it is),
+          )
+      | inr differs ↦
+          let there = are.node_is j n (sym (get_set_other nodes i j after differs) ∙ e) in
+          (there.0, get_set_other xs i j x differs ∙ there.1, there.2)
+    ];
+  }
+
+  -- A node that is set where one stood, and is the same of the model's.
+  set_same_nodes : (xs : List (world.Node Definition)) (i : ℕ) (node after : Node T) → slice_get nodes i ≡ Some node → AreNodes stands nodes xs →
+      ((x : world.Node Definition) → IsNode (stands i) node x → IsNode (stands i) after x) → AreNodes stands (slice_set nodes i after) xs
+  set_same_nodes xs i node after at are keeps = record {
+    as_many = are.as_many ∙ sym (length-set nodes i after);
+    node_is = λ j n e. elim (cases_eq j i) [
+      | inl same ↦
+          let here = are.node_is i node at in
+          let it : after ≡ n = get_set_same nodes i after node n at (subst (λ k. slice_get (slice_set nodes i after) k ≡ Some n) same e) in (
+            here.0,
+            subst (λ k. slice_get xs k ≡ Some here.0) (sym same) here.1,
+            subst (λ k. IsNode (stands k) n here.0) (sym same) (subst (λ m. IsNode (stands i) m here.0) it (keeps here.0 here.2)),
+          )
+      | inr differs ↦ are.node_is j n (sym (get_set_other nodes i j after differs) ∙ e)
+    ];
+  }
+
+  module _ (sent : List Message) (i k : ℕ) (node after : Node T) (m : Message) (at : slice_get nodes i ≡ Some node) (there : slice_get sent k ≡ Some m) (turns : StandInTurn nodes) where
+    abbrev input : Input Definition
+    input = table.Deliver (message.view m)
+
+    -- The turn of the world's node is that of the node.
+    turn_here : (w : World Definition) → Shows stands nodes sent w → node.halted ≡ false → refusal_at node input ≡ None → turn definition_eq w i (table.Deliver k) ≡ Some (the_turn node input)
+    unfolding StandAmong
+    turn_here w shows runs goes =
+        let here = shows.nodes_are.node_is i node at in
+        turn_is definition_eq w (length nodes) i here.0 (table.Deliver k) input shows.nodes_are.as_many here.1 (ap (λ ms. input_of ms (table.Deliver k)) shows.messages ∙ sent_message sent k m there)
+        ∙ ap (λ x. turn_of definition_eq (length nodes) i (Some x) (Some input)) (is_running (stands i) node here.0 runs here.2)
+        ∙ ap (λ n. turn_of definition_eq n i (Some (shown_of node)) (Some input)) (sym (turns i node at).1)
+        ∙ ap (λ j. turn_of definition_eq node.n j (Some (shown_of node)) (Some input)) (sym (turns i node at).0)
+        ∙ goes_of node input goes
+
+    -- Nothing is said, and the node is the same of the model's.
+    keeps_shown : (w : World Definition) → ((x : world.Node Definition) → IsNode (stands i) node x → IsNode (stands i) after x) → Shows stands nodes sent w → Shows stands (slice_set nodes i after) sent w
+    keeps_shown w keeps shows = record { nodes_are = set_same_nodes w.nodes i node after at shows.nodes_are keeps; messages = shows.messages }
+
+    steps_shown : (w : World Definition) (said : List Message) → node.halted ≡ false → refusal_at node input ≡ None → IsRow node (row_of node input) said after → Shows stands nodes sent w →
+        Shows stands (slice_set nodes i after) (sent ++ said) (happens definition_eq w (Deliver i k))
+    unfolding happens node_after messages_of
+    steps_shown w said runs goes is shows =
+        let here = shows.nodes_are.node_is i node at in
+        let t = the_turn node input in
+        subst (Shows stands (slice_set nodes i after) (sent ++ said)) (sym (ap (after_turn w i) (turn_here w shows runs goes) ∙ turn_sets w i here.0 (Some t) here.1))
+        (record {
+          nodes_are = set_nodes w.nodes i node after (node_of (stored_after t) (Some t.row.working)) at shows.nodes_are (stepped_is (stands i) node after input said is);
+          messages = ap (λ ms. ms ++ t.row.messages) shows.messages ∙ ap (λ ms. map message.view sent ++ ms) (sym is.messages) ∙ sym (map-append message.view sent said);
+        })
+
+    -- A step within which the tape failed is torn: the one part or the other was kept.
+    torn_shown : (w : World Definition) (kept : Kept) → node.halted ≡ false → refusal_at node input ≡ None → after.halted ≡ true → IsSameNode node after →
+        IsBeginning (stored_of node).history (kept_part kept (the_turn node input)).history → stands i (kept_part kept (the_turn node input)) → Shows stands nodes sent w →
+        Shows stands (slice_set nodes i after) sent (happens definition_eq w (Torn i (table.Deliver k) kept))
+    unfolding happens node_torn
+    torn_shown w kept runs goes halts same begins has shows =
+        let here = shows.nodes_are.node_is i node at in
+        let t = the_turn node input in
+        subst (Shows stands (slice_set nodes i after) sent) (sym (ap (after_torn w i kept) (turn_here w shows runs goes) ∙ torn_sets w i kept here.0 (Some t) here.1))
+        (record {
+          nodes_are = set_nodes w.nodes i node after (node_of (kept_part kept t) None) at shows.nodes_are (failed_is (stands i) node after (kept_part kept t) halts same begins has);
+          messages = shows.messages;
+        })
+
+    fails_shown : (w : World Definition) → node.halted ≡ false → refusal_at node input ≡ None → after.halted ≡ true → IsSameNode node after →
+        stands i (stored_of node) ⊎ stands i (store (stored_of node) (row_of node input).entry) → Shows stands nodes sent w →
+        (event : Event Definition) × IsDelivery event × Shows stands (slice_set nodes i after) sent (happens definition_eq w event)
+    unfolding kept_part stored_after
+    fails_shown w runs goes halts same (inl before) shows =
+        (Torn i (table.Deliver k) Before, tt, torn_shown w Before runs goes halts same (begins_itself (stored_of node).history) before shows)
+    fails_shown w runs goes halts same (inr later) shows =
+        (Torn i (table.Deliver k) After, tt, torn_shown w After runs goes halts same (store_begins (stored_of node) (row_of node input).entry) later shows)
+
+    -- Whatever a node does that is handed a message, no event leads to it, or one delivery.
+    pub takes_one : (honest : Type 0) (images : T → List ℕ → Type 0) (said : List Message) → Takes honest images input node after said →
+        (after.halted ≡ true → (honest → EachStandsFor (stored_of node) (store (stored_of node) (row_of node input).entry) (images after.tape)) → stands i (stored_of node) ⊎ stands i (store (stored_of node) (row_of node input).entry)) →
+        TakeOne stands nodes sent (slice_set nodes i after) (sent ++ said)
+    unfolding TakeOne
+    takes_one honest images said (delivering.Keeps same quiet) torn = λ w shows.
+        inl (subst (λ ms. Shows stands (slice_set nodes i after) ms w) (sym (ap (λ ms. sent ++ ms) quiet ∙ append-nil sent)) (keeps_shown w (λ x is. subst (λ n. IsNode (stands i) n x) (sym same) is) shows))
+    takes_one honest images said (delivering.Spares runs runs_after same quiet) torn = λ w shows.
+        inl (subst (λ ms. Shows stands (slice_set nodes i after) ms w) (sym (ap (λ ms. sent ++ ms) quiet ∙ append-nil sent)) (keeps_shown w (λ x is. spared_is (stands i) node after x runs runs_after same is) shows))
+    takes_one honest images said (delivering.Steps runs goes is) torn = λ w shows.
+        inr (Deliver i k, tt, steps_shown w said runs goes is shows)
+    takes_one honest images said (delivering.Fails runs goes halts same each quiet) torn = λ w shows.
+        let led = fails_shown w runs goes halts same (torn halts each) shows in
+        inr (led.0, led.1, subst (λ ms. Shows stands (slice_set nodes i after) ms (happens definition_eq w led.0)) (sym (ap (λ ms. sent ++ ms) quiet ∙ append-nil sent)) led.2)
+
+-- ---- what stays
+
+module _ {T : Type 0} (honest : Type 0) (images : T → List ℕ → Type 0) (node after : Node T) (input : Input Definition) (said : List Message) where
+  stays_halted : Takes honest images input node after said → node.halted ≡ true → after ≡ node
+  stays_halted (delivering.Keeps same quiet) halted = same
+  stays_halted (delivering.Spares runs runs_after same quiet) halted = absurd (both_ways node.halted runs halted)
+  stays_halted (delivering.Steps runs goes is) halted = absurd (both_ways node.halted runs halted)
+  stays_halted (delivering.Fails runs goes halts same each quiet) halted = absurd (both_ways node.halted runs halted)
+
+  stays_itself : Takes honest images input node after said → (after.id ≡ node.id) × (after.n ≡ node.n)
+  stays_itself (delivering.Keeps same quiet) = (ap (λ (y : Node T). y.id) same, ap (λ (y : Node T). y.n) same)
+  stays_itself (delivering.Spares runs runs_after same quiet) = (ap (λ (y : Node T). y.id) same, ap (λ (y : Node T). y.n) same)
+  stays_itself (delivering.Steps runs goes is) = (is.id, is.n)
+  stays_itself (delivering.Fails runs goes halts same each quiet) = (ap (λ (y : Node T). y.id) same, ap (λ (y : Node T). y.n) same)
+
+module _ {T : Type 0} (nodes : List (Node T)) (i : ℕ) (node after : Node T) (at : slice_get nodes i ≡ Some node) where
+  keeps_halted : (node.halted ≡ true → after ≡ node) → KeepHalted nodes (slice_set nodes i after)
+  unfolding KeepHalted
+  keeps_halted stays = λ j n e halted. elim (cases_eq j i) [
+    | inl same ↦
+        let it : node ≡ n = same_Some node n (sym at ∙ subst (λ k. slice_get nodes k ≡ Some n) same e) in
+        let as_before : after ≡ n = stays (subst (λ (y : Node T). y.halted ≡ true) (sym it) halted) ∙ it in
+        subst (λ k. slice_get (slice_set nodes i after) k ≡ Some n) (sym same) (set_there nodes i after node at ∙ ap Some as_before)
+    | inr differs ↦ get_set_other nodes i j after differs ∙ e
+  ]
+
+  pub keeps_turn : (after.id ≡ node.id) × (after.n ≡ node.n) → KeepTurn nodes (slice_set nodes i after)
+  unfolding StandAmong
+  keeps_turn stays = record {
+    as_many = length-set nodes i after;
+    in_turn = λ turns j n e. elim (cases_eq j i) [
+      | inl same ↦
+          let it : after ≡ n = get_set_same nodes i after node n at (subst (λ k. slice_get (slice_set nodes i after) k ≡ Some n) same e) in
+          (ap (λ (y : Node T). y.id) (sym it) ∙ stays.0 ∙ (turns i node at).0 ∙ sym same, ap (λ (y : Node T). y.n) (sym it) ∙ stays.1 ∙ (turns i node at).1 ∙ sym (length-set nodes i after))
+      | inr differs ↦
+          let there = turns j n (sym (get_set_other nodes i j after differs) ∙ e) in
+          (there.0, there.1 ∙ sym (length-set nodes i after))
+    ];
+  }
+
+-- what may be left of a failed node's tape, where it stands
+left_here : {T : Type 0} (images : T → List ℕ → Type 0) (nodes : List (Node T)) (left : ℕ → List ℕ) (i : ℕ) (node after : Node T) → slice_get nodes i ≡ Some node → MayLeave images (slice_set nodes i after) left →
+    after.halted ≡ true → images after.tape (left i)
+unfolding MayLeave
+left_here images nodes left i node after at may halts = may i after (set_there nodes i after node at) halts
+
+-- One delivery to one of the nodes.
+pub one_delivery : {T : Type 0} (honest : Type 0) (images : T → List ℕ → Type 0) (nodes : List (Node T)) (sent : List Message) (i k : ℕ) (node after : Node T) (m : Message) (said : List Message) →
+    slice_get nodes i ≡ Some node → slice_get sent k ≡ Some m → StandInTurn nodes → Takes honest images (table.Deliver (message.view m)) node after said → IsOne honest images nodes sent (slice_set nodes i after) (sent ++ said)
+one_delivery honest images nodes sent i k node after m said at there turns takes = record {
+  any = takes_one AnyPart nodes sent i k node after m at there turns honest images said takes (λ halts each. inl tt);
+  on_tape = λ h left may. takes_one (StandFor left) nodes sent i k node after m at there turns honest images said takes (λ halts each. each h (left i) (left_here images nodes left i node after at may halts));
+  halted = keeps_halted nodes i node after at (stays_halted honest images node after (table.Deliver (message.view m)) said takes);
+  turn = keeps_turn nodes i node after at (stays_itself honest images node after (table.Deliver (message.view m)) said takes);
+}
+
+-- No delivery at all.
+pub no_delivery : {T : Type 0} (honest : Type 0) (images : T → List ℕ → Type 0) (nodes : List (Node T)) (sent : List Message) → IsOne honest images nodes sent nodes sent
+unfolding TakeOne KeepHalted
+no_delivery honest images nodes sent = record {
+  any = λ w shows. inl shows;
+  on_tape = λ h left may w shows. inl shows;
+  halted = λ i node at halted. at;
+  turn = record { as_many = refl; in_turn = λ turns. turns };
+}
+
+-- ---- many deliveries
+
+deliveries_more : (events : List (Event Definition)) (event : Event Definition) → AreDeliveries events → IsDelivery event → AreDeliveries (events ++ event ∷ [])
+unfolding AreDeliveries
+deliveries_more [] event are is = (is, tt)
+deliveries_more (first ∷ events) event are is = (are.0, deliveries_more events event are.1 is)
+
+no_events : AreDeliveries []
+unfolding AreDeliveries
+no_events = tt
+
+-- No delivery leads from a world to itself.
+pub leads_nowhere : {T : Type 0} (stands : ℕ → Stored Definition → Type 0) (nodes : List (Node T)) (sent : List Message) → Lead stands 0 nodes sent nodes sent
+unfolding Lead steps
+leads_nowhere stands nodes sent = λ w shows. record { events = []; deliveries = no_events; at_most = omega arith; shows = shows }
+
+module _ {T : Type 0} (stands : ℕ → Stored Definition → Type 0) (w : World Definition) (done : ℕ) (middle after : List (Node T)) (said more : List Message) where
+  led_on : (led : IsLed stands w done middle said) →
+      Shows stands after more (steps definition_eq w led.events) ⊎ ((event : Event Definition) × IsDelivery event × Shows stands after more (happens definition_eq (steps definition_eq w led.events) event)) →
+      IsLed stands w (done + 1) after more
+  led_on led (inl shows) = record { events = led.events; deliveries = led.deliveries; at_most = omega (arith, led.at_most); shows = shows }
+  led_on led (inr found) = record {
+    events = led.events ++ found.0 ∷ [];
+    deliveries = deliveries_more led.events found.0 led.deliveries found.1;
+    at_most = omega (arith, length-append led.events (found.0 ∷ []), led.at_most);
+    shows = subst (Shows stands after more) (sym (steps_more w led.events found.0)) found.2;
+  }
+
+module _ {T : Type 0} (stands : ℕ → Stored Definition → Type 0) (done : ℕ) (nodes middle after : List (Node T)) (sent said more : List Message) where
+  leads_on : Lead stands done nodes sent middle said → TakeOne stands middle said after more → Lead stands (done + 1) nodes sent after more
+  unfolding Lead TakeOne
+  leads_on leads takes = λ w shows.
+      let led = leads w shows in
+      led_on stands w done middle after said more led (takes (steps definition_eq w led.events) led.shows)
+
+-- Bytes that may be left of the tapes that failed may have been left before a delivery: such a tape stays as it is.
+left_before : {T : Type 0} (images : T → List ℕ → Type 0) (nodes after : List (Node T)) (left : ℕ → List ℕ) → KeepHalted nodes after → MayLeave images after left → MayLeave images nodes left
+unfolding MayLeave KeepHalted
+left_before images nodes after left keeps may = λ i node at halted. may i node (keeps i node at halted) halted
+
+turn_twice : {T : Type 0} (nodes middle after : List (Node T)) → KeepTurn nodes middle → KeepTurn middle after → KeepTurn nodes after
+turn_twice nodes middle after first second = record { as_many = second.as_many ∙ first.as_many; in_turn = λ turns. second.in_turn (first.in_turn turns) }
+
+-- how far the deliveries are after one more, where a round is whole by it or isn't
+abbrev next_by : Bool → Progress → Progress
+next_by whole p = if whole then record { whole = p.whole + 1; some = 0; done = p.done + 1 } else record { whole = p.whole; some = p.some + 1; done = p.done + 1 }
+
+part_by : (count : ℕ) (p : Progress) (whole : Bool) → (p.some + 1 == count) ≡ whole → p.some < count → (next_by whole p).some < count
+part_by count p true all part = omega (arith, part)
+part_by count p false some part = grind (arith, some, part)
+
+part_on : (count : ℕ) (p : Progress) → p.some < count → (next count p).some < count
+part_on count p part = part_by count p (p.some + 1 == count) refl part
+
+done_by : (p : Progress) (whole : Bool) → (next_by whole p).done ≡ p.done + 1
+done_by p true = refl
+done_by p false = refl
+
+done_on : (count : ℕ) (p : Progress) → (next count p).done ≡ p.done + 1
+done_on count p = done_by p (p.some + 1 == count)
+
+module _ {T : Type 0} (honest : Type 0) (images : T → List ℕ → Type 0) (nodes : List (Node T)) (messages : List Message) where
+  -- Nothing is delivered yet.
+  pub come_start : 0 < length nodes → HaveCome honest images nodes messages (record { whole = 0; some = 0; done = 0 }) nodes messages
+  come_start some = record {
+    any = leads_nowhere AnyPart nodes messages;
+    on_tape = λ h left may. leads_nowhere (StandFor left) nodes messages;
+    turn = record { as_many = refl; in_turn = λ turns. turns };
+    part = some;
+    most = omega arith;
+  }
+
+  module _ (p : Progress) (middle after : List (Node T)) (said more : List Message) where
+    -- One delivery more.
+    pub come_on : HaveCome honest images nodes messages p middle said → p.done < most_deliveries → IsOne honest images middle said after more → HaveCome honest images nodes messages (next (length nodes) p) after more
+    come_on come may one = record {
+      any = subst (λ d. Lead AnyPart d nodes messages after more) (sym (done_on (length nodes) p)) (leads_on AnyPart p.done nodes middle after messages said more come.any one.any);
+      on_tape = λ h left left_after.
+          subst (λ d. Lead (StandFor left) d nodes messages after more) (sym (done_on (length nodes) p))
+          (leads_on (StandFor left) p.done nodes middle after messages said more (come.on_tape h left (left_before images middle after left one.halted left_after)) (one.on_tape h left left_after));
+      turn = turn_twice nodes middle after come.turn one.turn;
+      part = part_on (length nodes) p come.part;
+      most = omega (arith, done_on (length nodes) p, may);
+    }
+
+  -- What has come is what was delivered.
+  pub come_done : (p : Progress) (after : List (Node T)) (more : List Message) → HaveCome honest images nodes messages p after more → IsDelivered honest images nodes messages p.done after
+  come_done p after more come = record {
+    any = record { sent = more; lead = come.any };
+    on_tape = λ h left may. record { sent = more; lead = come.on_tape h left may };
+    turn = come.turn;
+    most = come.most;
+  }
+
+  pub none_delivered : IsDelivered honest images nodes messages 0 nodes
+  none_delivered = record {
+    any = record { sent = messages; lead = leads_nowhere AnyPart nodes messages };
+    on_tape = λ h left may. record { sent = messages; lead = leads_nowhere (StandFor left) nodes messages };
+    turn = record { as_many = refl; in_turn = λ turns. turns };
+    most = omega arith;
+  }

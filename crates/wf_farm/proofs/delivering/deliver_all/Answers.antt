@@ -1,0 +1,26 @@
+-- To no node nothing is delivered.
+use Rattle.wf_farm.specs.Delivering.{AnyPart, StandFor}
+use Rattle.wf_farm.proofs.Deliveries.{leads_nowhere}
+use Rattle.wf_farm.proofs.delivering.deliver_all.Goals as goal
+
+pub returns-then-is_empty-clause-delivered : goal.returns-then-is_empty-clause-delivered
+returns-then-is_empty-clause-delivered g c = record { sent = c.args.messages.items; lead = leads_nowhere AnyPart c.args.nodes.now c.args.messages.items }
+
+pub returns-then-is_empty-clause-on_tape : goal.returns-then-is_empty-clause-on_tape
+returns-then-is_empty-clause-on_tape g c = λ h left may. record { sent = c.args.messages.items; lead = leads_nowhere (StandFor left) c.args.nodes.now c.args.messages.items }
+
+-- To some it is what the deliveries say.
+pub returns-clause-delivered : goal.returns-clause-delivered
+returns-clause-delivered g c = c.deliver_each.ensures.any
+
+pub returns-clause-on_tape : goal.returns-clause-on_tape
+returns-clause-on_tape g c = c.deliver_each.ensures.on_tape
+
+pub returns-clause-in_turn : goal.returns-clause-in_turn
+returns-clause-in_turn g c = c.deliver_each.ensures.turn.in_turn c.requires.in_turn
+
+pub returns-clause-size : goal.returns-clause-size
+returns-clause-size g c = c.deliver_each.ensures.turn.as_many
+
+pub returns-clause-most : goal.returns-clause-most
+returns-clause-most g c = c.deliver_each.ensures.most

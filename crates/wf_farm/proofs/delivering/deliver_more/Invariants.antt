@@ -1,0 +1,10 @@
+-- How far the deliveries have come.
+use Rattle.std.proofs.Common.{◌-◌}
+use Rattle.wf_farm.specs.Delivering.{HaveCome}
+use Rattle.wf_farm.proofs.delivering.deliver_more.Given as goal
+
+abbrev pub invariant-loop-progress : goal.invariant-loop-progress
+invariant-loop-progress g l = HaveCome g.T.Tape.honest g.T.Tape.images l.initial.nodes l.initial.sent.items l.progress l.nodes l.sent.items
+
+abbrev pub decreases-loop-progress : goal.decreases-loop-progress
+decreases-loop-progress g l = 100000 - l.progress.done

@@ -1,0 +1,23 @@
+-- The message is handed to the node at its place; without room nothing is.
+use Rattle.std.proofs.Common.{◌≡◌, ◌++◌, length, slice_get, slice_set, Some, refl, sym, ap, subst, ◌∙◌}
+use Rattle.std.proofs.lemmas.Option.{slice_get_read}
+use Rattle.wf_codec.specs.Message.{view}
+use Rattle.wf_model.specs.Table as table
+use Rattle.wf_farm.specs.Delivering.{IsOne, Takes}
+use Rattle.wf_farm.proofs.Deliveries.{no_delivery, one_delivery}
+use Rattle.wf_farm.proofs.delivering.deliver_one.Goals as goal
+
+pub returns-then-is_err-clause-one : goal.returns-then-is_err-clause-one
+returns-then-is_err-clause-one g c =
+    subst (λ ms. IsOne g.T.Tape.honest g.T.Tape.images c.args.nodes.now c.args.sent.now.items c.args.nodes.now ms) (sym c.reserve.ensures.items)
+    (no_delivery g.T.Tape.honest g.T.Tape.images c.args.nodes.now c.args.sent.now.items)
+
+pub returns-clause-one : goal.returns-clause-one
+returns-clause-one g c =
+    let node_at = slice_get_read c.args.nodes.now (length c.args.nodes.now) c.args.node c.index-nodes-node.result refl c.requires.node c.index-nodes-node.is in
+    let message_there = slice_get_read c.reserve.new.self.items (length c.args.sent.now.items) c.args.number c.index.result.now (sym (ap length c.reserve.ensures.items)) c.requires.number c.index.ensures in
+    let message_at = subst (λ ms. slice_get ms c.args.number ≡ Some c.index.result.now) c.reserve.ensures.items message_there in
+    let takes = subst (λ n. Takes g.T.Tape.honest g.T.Tape.images (table.Deliver (view c.index.result.now)) n c.hand-said.new.node c.hand-said.result.items) (sym c.index-nodes-node.is) c.hand-said.ensures.takes in
+    subst (λ ms. IsOne g.T.Tape.honest g.T.Tape.images c.args.nodes.now c.args.sent.now.items (slice_set c.args.nodes.now c.args.node c.hand-said.new.node) ms) (sym (c.send.ensures ∙ ap (λ ms. ms ++ c.hand-said.result.items) c.reserve.ensures.items))
+    (one_delivery g.T.Tape.honest g.T.Tape.images c.args.nodes.now c.args.sent.now.items c.args.node c.args.number c.index-nodes-node.result c.hand-said.new.node c.index.result.now c.hand-said.result.items
+    node_at message_at c.requires.in_turn takes)

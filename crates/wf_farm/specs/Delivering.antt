@@ -1,0 +1,145 @@
+-- Messages are delivered to nodes that a caller holds, over tapes of any kind: which world of the model the nodes are, and what the deliveries do to it.
+use Rattle.std.specs.Prelude.{◌≡◌, ◌⊎◌, ◌≤◌, ◌<◌, ℕ, Bool, true, false, ⊤, List, [], ◌∷◌, length, map, slice_get, Some, None}
+use Rattle.wf_codec.specs.Message as message
+use Rattle.wf_codec.specs.declared.message.Message.{Message}
+use Rattle.wf_def.specs.Definition.{Definition}
+use Rattle.wf_def.specs.Equality.{definition_eq}
+use Rattle.wf_law.specs.Laws.{IsBeginning}
+use Rattle.wf_model.specs.Stored.{Stored}
+use Rattle.wf_model.specs.Table as table
+use Rattle.wf_model.specs.Table.{Action, Input, store}
+use Rattle.wf_model.specs.World as world
+use Rattle.wf_model.specs.World.{World, Event, happens, steps}
+use Rattle.wf_node.specs.Images.{StandsFor, EachStandsFor}
+use Rattle.wf_node.specs.Node.{Node, stored_of, working_of}
+use Rattle.wf_node.specs.Step.{row_of, refusal_at, IsRow, IsSameNode}
+use Rattle.wf_farm.specs.declared.progress.Progress.{Progress}
+use Rattle.wf_farm.specs.Pump.{most_deliveries}
+
+-- ---- nodes and a world
+
+-- What is known of the stored part that the tape of a failed node is left with, by the node's number: nothing; or that the bytes which a crash
+-- leaves of the tape stand for it.
+abbrev pub AnyPart : ℕ → Stored Definition → Type 0
+AnyPart i stored = ⊤
+
+abbrev pub StandFor : (ℕ → List ℕ) → ℕ → Stored Definition → Type 0
+StandFor left i stored = StandsFor stored (left i)
+
+-- The node is this one of the model's. One that runs shows both its parts. One whose tape failed is stopped; what it tells as published begins
+-- what it has stored, which is what is known of its tape.
+abbrev pub IsNodeBy : {T : Type 0} → Bool → (Stored Definition → Type 0) → Node T → world.Node Definition → Type 0
+IsNodeBy false stands node shown = shown ≡ record { stored = stored_of node; working = Some (working_of node) }
+IsNodeBy true stands node shown = (shown.working ≡ None) × IsBeginning node.parts.history shown.stored.history × stands shown.stored
+
+abbrev pub IsNode : {T : Type 0} → (Stored Definition → Type 0) → Node T → world.Node Definition → Type 0
+IsNode stands node shown = IsNodeBy node.halted stands node shown
+
+-- node by node, these nodes of the model's
+pub record AreNodes {T : Type 0} (stands : ℕ → Stored Definition → Type 0) (nodes : List (Node T)) (shown : List (world.Node Definition)) : Type 0 where
+  pub as_many : length shown ≡ length nodes
+  pub node_is : (i : ℕ) (node : Node T) → slice_get nodes i ≡ Some node → (x : world.Node Definition) × (slice_get shown i ≡ Some x) × IsNode (stands i) node x
+
+-- The nodes and the messages are this world.
+pub record Shows {T : Type 0} (stands : ℕ → Stored Definition → Type 0) (nodes : List (Node T)) (sent : List Message) (w : World Definition) : Type 0 where
+  pub nodes_are : AreNodes stands nodes w.nodes
+  pub messages : w.sent ≡ map message.view sent
+
+-- At place i stands node i of n.
+unfoldable pub StandAmong : {T : Type 0} → ℕ → List (Node T) → Type 0
+StandAmong {T} n nodes = (i : ℕ) (node : Node T) → slice_get nodes i ≡ Some node → (node.id ≡ i) × (node.n ≡ n)
+
+-- At place i stands node i of as many as there are.
+abbrev pub StandInTurn : {T : Type 0} → List (Node T) → Type 0
+StandInTurn nodes = StandAmong (length nodes) nodes
+
+-- these bytes are what a crash may leave of the tape of each node whose tape failed
+unfoldable pub MayLeave : {T : Type 0} → (T → List ℕ → Type 0) → List (Node T) → (ℕ → List ℕ) → Type 0
+MayLeave {T} images nodes left = (i : ℕ) (node : Node T) → slice_get nodes i ≡ Some node → node.halted ≡ true → images node.tape (left i)
+
+-- ---- the deliveries
+
+-- a delivery, or one within which its node stops
+abbrev pub IsOfMessage : Action Definition ℕ → Type 0
+IsOfMessage (table.Deliver k) = ⊤
+IsOfMessage (table.Propose d) = ⊥
+IsOfMessage table.Retry = ⊥
+IsOfMessage table.CatchUp = ⊥
+
+abbrev pub IsDelivery : Event Definition → Type 0
+IsDelivery (world.Deliver i k) = ⊤
+IsDelivery (world.Torn i action kept) = IsOfMessage action
+IsDelivery (world.Propose i d) = ⊥
+IsDelivery (world.Retry i) = ⊥
+IsDelivery (world.CatchUp i) = ⊥
+IsDelivery (world.Stop i) = ⊥
+IsDelivery (world.Restart i) = ⊥
+
+unfoldable pub AreDeliveries : List (Event Definition) → Type 0
+AreDeliveries [] = ⊤
+AreDeliveries (event ∷ events) = IsDelivery event × AreDeliveries events
+
+-- At most so many deliveries lead from the world to what the nodes and the messages are now.
+pub record IsLed {T : Type 0} (stands : ℕ → Stored Definition → Type 0) (w : World Definition) (most : ℕ) (nodes : List (Node T)) (sent : List Message) : Type 0 where
+  pub events : List (Event Definition)
+  pub deliveries : AreDeliveries events
+  pub at_most : length events ≤ most
+  pub shows : Shows stands nodes sent (steps definition_eq w events)
+
+-- Whatever world the nodes and the messages were, at most so many deliveries lead from it to what they are afterwards.
+unfoldable pub Lead : {T : Type 0} → (ℕ → Stored Definition → Type 0) → ℕ → List (Node T) → List Message → List (Node T) → List Message → Type 0
+Lead stands most nodes sent nodes_after sent_after = (w : World Definition) → Shows stands nodes sent w → IsLed stands w most nodes_after sent_after
+
+-- The same of nodes that were handed messages, and of some list of messages that are sent by then.
+pub record AreDelivered {T : Type 0} (stands : ℕ → Stored Definition → Type 0) (most : ℕ) (nodes : List (Node T)) (messages : List Message) (nodes_after : List (Node T)) : Type 0 where
+  pub sent : List Message
+  pub lead : Lead stands most nodes messages nodes_after sent
+
+-- ---- for the crate's own contracts: one node, and one delivery
+
+module _ {T : Type 0} (honest : Type 0) (images : T → List ℕ → Type 0) where
+  -- What a node does that is handed an input. It is lost: the node is halted, and as it was. It is lost for want of memory: the node is as it was
+  -- but for its tape. It steps. Or its tape fails within the step, nothing is said, and each image stands for what was stored before or after.
+  pub data Takes (input : Input Definition) (before after : Node T) (said : List Message) : Type 0 where
+    Keeps : after ≡ before → said ≡ [] → Takes input before after said
+    Spares : before.halted ≡ false → after.halted ≡ false → IsSameNode before after → said ≡ [] → Takes input before after said
+    Steps : before.halted ≡ false → refusal_at before input ≡ None → IsRow before (row_of before input) said after → Takes input before after said
+    Fails : before.halted ≡ false → refusal_at before input ≡ None → after.halted ≡ true → IsSameNode before after
+        → (honest → EachStandsFor (stored_of before) (store (stored_of before) (row_of before input).entry) (images after.tape)) → said ≡ [] → Takes input before after said
+
+-- No event, or one delivery, leads from any world that is shown to what is shown afterwards.
+unfoldable pub TakeOne : {T : Type 0} → (ℕ → Stored Definition → Type 0) → List (Node T) → List Message → List (Node T) → List Message → Type 0
+TakeOne stands nodes sent nodes_after sent_after = (w : World Definition) → Shows stands nodes sent w →
+    Shows stands nodes_after sent_after w ⊎ ((event : Event Definition) × IsDelivery event × Shows stands nodes_after sent_after (happens definition_eq w event))
+
+-- a node whose tape failed stays as it is
+unfoldable pub KeepHalted : {T : Type 0} → List (Node T) → List (Node T) → Type 0
+KeepHalted {T} before after = (i : ℕ) (node : Node T) → slice_get before i ≡ Some node → node.halted ≡ true → slice_get after i ≡ Some node
+
+-- The nodes are as many as before, and stand in turn still.
+pub record KeepTurn {T : Type 0} (before after : List (Node T)) : Type 0 where
+  pub as_many : length after ≡ length before
+  pub in_turn : StandInTurn before → StandInTurn after
+
+module _ {T : Type 0} (honest : Type 0) (images : T → List ℕ → Type 0) where
+  -- one delivery to one of the nodes, or none
+  pub record IsOne (nodes : List (Node T)) (sent : List Message) (nodes_after : List (Node T)) (sent_after : List Message) : Type 0 where
+    pub any : TakeOne AnyPart nodes sent nodes_after sent_after
+    pub on_tape : honest → (left : ℕ → List ℕ) → MayLeave images nodes_after left → TakeOne (StandFor left) nodes sent nodes_after sent_after
+    pub halted : KeepHalted nodes nodes_after
+    pub turn : KeepTurn nodes nodes_after
+
+  -- so far the deliveries have come
+  pub record HaveCome (nodes : List (Node T)) (messages : List Message) (p : Progress) (nodes_after : List (Node T)) (sent : List Message) : Type 0 where
+    pub any : Lead AnyPart p.done nodes messages nodes_after sent
+    pub on_tape : honest → (left : ℕ → List ℕ) → MayLeave images nodes_after left → Lead (StandFor left) p.done nodes messages nodes_after sent
+    pub turn : KeepTurn nodes nodes_after
+    pub part : p.some < length nodes
+    pub most : p.done ≤ most_deliveries
+
+  -- what became of the deliveries: so many were made
+  pub record IsDelivered (nodes : List (Node T)) (messages : List Message) (done : ℕ) (nodes_after : List (Node T)) : Type 0 where
+    pub any : AreDelivered AnyPart done nodes messages nodes_after
+    pub on_tape : honest → (left : ℕ → List ℕ) → MayLeave images nodes_after left → AreDelivered (StandFor left) done nodes messages nodes_after
+    pub turn : KeepTurn nodes nodes_after
+    pub most : done ≤ most_deliveries

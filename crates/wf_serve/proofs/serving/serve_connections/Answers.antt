@@ -1,0 +1,12 @@
+-- One connection more, by a node that is there.
+use Rattle.wf_serve.proofs.Opened.{keeps_itself, keeps_twice}
+use Rattle.wf_serve.proofs.serving.serve_connections.Goals as goal
+
+pub loop-connection-init : goal.loop-connection-init
+loop-connection-init g c = keeps_itself c.args.nodes.now
+
+pub accept-requires-clause-in_turn : goal.accept-requires-clause-in_turn
+accept-requires-clause-in_turn g c = c.loop-connection.invariant.in_turn c.requires.in_turn
+
+pub loop-connection-preserved : goal.loop-connection-preserved
+loop-connection-preserved g c = keeps_twice c.args.nodes.now c.loop-connection.nodes c.accept.new.nodes c.loop-connection.invariant c.accept.ensures

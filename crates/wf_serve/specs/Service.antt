@@ -1,0 +1,20 @@
+-- What is to be served.
+use Rattle.std.specs.Prelude.{◌≤◌, ℕ}
+use Rattle.wf_serve.specs.declared.service.Service.{Service}
+
+-- how many nodes are served, at which port and to how many connections, at most
+abbrev pub most_nodes : ℕ
+most_nodes = 64
+
+abbrev pub last_port : ℕ
+last_port = 65535
+
+abbrev pub most_requests : ℕ
+most_requests = 1000000
+
+-- the numbers of what is served are within their ranges
+pub record IsService (service : Service) : Type 0 where
+  pub some : 1 ≤ service.nodes
+  pub nodes : service.nodes ≤ most_nodes
+  pub port : service.port ≤ last_port
+  pub requests : service.requests ≤ most_requests

@@ -1,0 +1,133 @@
+//! The nodes open, catch up and tell their port, and the connections come.
+ghost use Rattle.std.specs.Prelude.{◌<◌, length};
+ghost use Rattle.wf_farm.specs.Delivering.{StandInTurn};
+ghost use Rattle.wf_serve.specs.Fault.{CountsWrites};
+ghost use Rattle.wf_serve.specs.Service.{IsService};
+
+use crate::fault::ServeFault;
+use crate::opening::{in_files, in_memory};
+use crate::service::Service;
+use crate::serving::{catch_up, serve_connections};
+use std::alloc::Global;
+use std::net::{Ipv4Addr, Net, SocketAddr, TcpListener, TcpStream};
+use std::rt::Files;
+use wf_node::Node;
+use wf_stream::{Sink, write_all};
+use wf_tape::Tape;
+
+/// Serves nodes at a port of 127.0.0.1, to as many connections as the service says, one after the other: connection c, counted
+/// from 0, by node c mod N. The line `listening P` with the port is written before the first; before that the nodes open, with
+/// what their tapes stand for, each asks for what it missed, and they hear one another. After each connection the nodes hear
+/// what its node has said; where its proposal still runs, it begins that anew, once.
+///
+/// `Start` where a tape doesn't open, the port can't be had or memory ran out, and `Write` where the line can't be written. A
+/// connection that can't be accepted counts as one without a request.
+pub fn serve<R: Files + Net<Listener = TcpListener, Stream = TcpStream> + AllocGlobal, K: Sink>(
+    rt: &R,
+    service: Service<'_>,
+    sink: &mut K,
+) -> Result<(), ServeFault>
+    requires { IsService service }
+    ensures { CountsWrites result (K.failures sink.old) (K.failures sink.new) }
+{
+    match service.state {
+        Some(folder) => serve_files(rt, service, folder, sink),
+        None => serve_memory(rt, service, sink),
+    }
+}
+
+/// Serves nodes on tapes in memory.
+fn serve_memory<R: Net<Listener = TcpListener, Stream = TcpStream> + AllocGlobal, K: Sink>(
+    rt: &R,
+    service: Service<'_>,
+    sink: &mut K,
+) -> Result<(), ServeFault>
+    requires { IsService service }
+    ensures { CountsWrites result (K.failures sink.old) (K.failures sink.new) }
+{
+    match in_memory(rt.alloc(), service.nodes) {
+        Ok(nodes) => serve_opened(rt, service, nodes, sink),
+        Err(_) => Err(ServeFault::Start),
+    }
+}
+
+/// Serves nodes on tapes in the files of a folder.
+fn serve_files<R: Files + Net<Listener = TcpListener, Stream = TcpStream> + AllocGlobal, K: Sink>(
+    rt: &R,
+    service: Service<'_>,
+    folder: &str,
+    sink: &mut K,
+) -> Result<(), ServeFault>
+    requires { IsService service }
+    ensures { CountsWrites result (K.failures sink.old) (K.failures sink.new) }
+{
+    match in_files(rt, service.nodes, folder) {
+        Ok(nodes) => serve_opened(rt, service, nodes, sink),
+        Err(_) => Err(ServeFault::Start),
+    }
+}
+
+/// Serves nodes that are open, and closes them.
+fn serve_opened<
+    R: Net<Listener = TcpListener, Stream = TcpStream> + AllocGlobal,
+    K: Sink,
+    T: Tape + Drop,
+>(rt: &R, service: Service<'_>, mut nodes: Vec<Node<T>>, sink: &mut K) -> Result<(), ServeFault>
+    requires some { 0 < length nodes.items }
+    requires in_turn { StandInTurn nodes.items }
+    ensures { CountsWrites result (K.failures sink.old) (K.failures sink.new) }
+{
+    let outcome = serve_nodes(rt, service, nodes.as_mut_slice(), sink);
+    drop(nodes);
+    outcome
+}
+
+/// Serves nodes that a caller holds: they catch up, the port is told, and the connections come.
+fn serve_nodes<R: Net<Listener = TcpListener, Stream = TcpStream> + AllocGlobal, K: Sink, T: Tape>(
+    rt: &R,
+    service: Service<'_>,
+    nodes: &mut [Node<T>],
+    sink: &mut K,
+) -> Result<(), ServeFault>
+    requires some { 0 < length nodes.old }
+    requires in_turn { StandInTurn nodes.old }
+    ensures { CountsWrites result (K.failures sink.old) (K.failures sink.new) }
+{
+    catch_up(rt.alloc(), nodes);
+    let address = SocketAddr::from((Ipv4Addr::LOCALHOST, service.port));
+    let Ok(listener) = TcpListener::bind(rt, address) else {
+        return Err(ServeFault::Start);
+    };
+    let outcome = tell_port(rt.alloc(), &listener, sink);
+    if outcome.is_ok() {
+        serve_connections(rt.alloc(), &listener, nodes, service.requests);
+    }
+    drop(listener);
+    outcome
+}
+
+/// Writes the line that names the port.
+fn tell_port<K: Sink>(alloc: Global, listener: &TcpListener, sink: &mut K) -> Result<(), ServeFault>
+    ensures { CountsWrites result (K.failures sink.old) (K.failures sink.new) }
+{
+    let Ok(address) = listener.local_addr() else {
+        return Err(ServeFault::Start);
+    };
+    let port = address.port();
+    let Ok(line) = format!(in alloc; "listening {port}\n") else {
+        return Err(ServeFault::Start);
+    };
+    let outcome = put(sink, line.as_bytes());
+    drop(line);
+    outcome
+}
+
+/// Writes all the bytes.
+fn put<K: Sink>(sink: &mut K, bytes: &[u8]) -> Result<(), ServeFault>
+    ensures { CountsWrites result (K.failures sink.old) (K.failures sink.new) }
+{
+    match write_all(sink, bytes) {
+        Ok(()) => Ok(()),
+        Err(_) => Err(ServeFault::Write),
+    }
+}

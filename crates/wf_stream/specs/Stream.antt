@@ -1,0 +1,11 @@
+-- What a stream holds.
+use Rattle.std.specs.Prelude.{ℕ}
+use Rattle.wf_stream.specs.declared.stream.Stream.{Stream}
+
+-- the reader or writer of std
+abbrev pub inner_of : {S : Type 0} → Stream S → S
+inner_of stream = stream.inner
+
+-- how many calls have failed
+abbrev pub failures_of : {S : Type 0} → Stream S → ℕ
+failures_of stream = stream.failures

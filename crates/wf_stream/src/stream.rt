@@ -1,0 +1,191 @@
+//! Readers and writers that count their failures.
+ghost use Rattle.std.specs.Prelude.{◌≡◌, ◌<◌, ◌≤◌, ℕ, List, None, Option, IfErr, IfOk, IfSome, OnErr, OnOk, length, take};
+ghost use Rattle.std.specs.Io.{ReadsAtMost, WritesAtMost};
+ghost use Rattle.std.specs.Io.KnownBytes.{Appends, Consumes, IsAtEnd, ReadConsumes, WriteAppends};
+ghost use Rattle.wf_stream.specs.Reading.{Counts, IsReadError, ReadsPiece, Rises, TakesUpTo};
+
+use std::alloc::Global;
+use std::io;
+use std::io::{ErrorKind, Read, Write};
+
+/// What bytes are read from.
+pub trait Source {
+    /// The bytes that reads will give from here on, where they are known.
+    ghost left: { Self → Option (List ℕ) } = { λ _. None };
+
+    /// How many calls have failed.
+    ghost failures: { Self → ℕ };
+
+    /// Reads some bytes to the front of a buffer and answers how many: none only at the end, or with no room.
+    fn read(&mut self, buf: &mut [u8]) -> io::Result<usize>
+        ensures bound { ReadsAtMost result buf.new }
+        ensures bytes { ReadConsumes (left self.old) (left self.new) result buf.new }
+        ensures cause { Counts result (failures self.old) (failures self.new) };
+}
+
+/// What bytes are written to. It has no flush, since no contract could tell one from none: a writer that keeps
+/// bytes back is flushed by who made it.
+pub trait Sink {
+    /// The bytes that were written, where they are known.
+    ghost written: { Self → Option (List ℕ) } = { λ _. None };
+
+    /// How many calls have failed.
+    ghost failures: { Self → ℕ };
+
+    /// Writes some bytes from the front of a buffer and answers how many: at least one, where there is one.
+    fn write(&mut self, buf: &[u8]) -> io::Result<usize>
+        ensures bound { WritesAtMost result buf.now }
+        ensures some { IfOk result (λ count. 0 < length buf.now → 0 < count) }
+        ensures bytes { WriteAppends (written self.old) (written self.new) result buf.now }
+        ensures cause { Counts result (failures self.old) (failures self.new) };
+}
+
+/// Any reader or writer of std, with a count of the calls that failed.
+#[derive(Drop)]
+pub struct Stream<S> {
+    inner: S,
+    failures: u64,
+}
+
+impl<S> Stream<S> {
+    ghost use Rattle.wf_stream.specs.Stream.{inner_of, failures_of};
+
+    /// A stream of which no call has failed.
+    pub fn new(inner: S) -> Self
+        ensures inner { inner_of result ≡ inner }
+        ensures failures { failures_of result ≡ 0 }
+    {
+        Stream { inner, failures: 0 }
+    }
+
+    /// What is read or written.
+    pub fn inner(&self) -> &S
+        ensures { result.now ≡ inner_of self.now }
+    {
+        &self.inner
+    }
+}
+
+/// One read, again where a signal interrupted it.
+#[tactic(auto, using(crate::proofs::Known::keeps_same, crate::proofs::Known::keeps_twice, crate::proofs::Known::reads_after))]
+fn read_again<R: Read>(reader: &mut R, buf: &mut [u8]) -> io::Result<usize>
+    ensures bound { ReadsAtMost result buf.new }
+    ensures bytes { ReadConsumes (R.remaining reader.old) (R.remaining reader.new) result buf.new }
+{
+    for _ in 0..u64::MAX {
+        match reader.read(buf) {
+            Err(error) if error.kind() == ErrorKind::Interrupted => {}
+            outcome => return outcome,
+        }
+    }
+    Err(io::Error::from(ErrorKind::TimedOut))
+}
+
+impl<R: Read> Source for Stream<R> {
+    ghost left = { λ stream. R.remaining stream.inner };
+
+    ghost failures = { λ stream. stream.failures };
+
+    fn read(&mut self, buf: &mut [u8]) -> io::Result<usize> {
+        match read_again(&mut self.inner, buf) {
+            Ok(count) => Ok(count),
+            Err(error) => {
+                self.failures = self.failures.saturating_add(1);
+                Err(error)
+            }
+        }
+    }
+}
+
+/// One write, again where a signal interrupted it. A writer that takes nothing has failed.
+#[tactic(auto, using(crate::proofs::Known::keeps_same, crate::proofs::Known::keeps_twice, crate::proofs::Known::writes_after))]
+fn write_again<W: Write>(writer: &mut W, buf: &[u8]) -> io::Result<usize>
+    ensures bound { WritesAtMost result buf.now }
+    ensures some { IfOk result (λ count. 0 < length buf.now → 0 < count) }
+    ensures bytes { WriteAppends (W.contents writer.old) (W.contents writer.new) result buf.now }
+{
+    for _ in 0..u64::MAX {
+        match writer.write(buf) {
+            Ok(0) if !buf.is_empty() => return Err(io::Error::from(ErrorKind::WriteZero)),
+            Err(error) if error.kind() == ErrorKind::Interrupted => {}
+            outcome => return outcome,
+        }
+    }
+    Err(io::Error::from(ErrorKind::TimedOut))
+}
+
+impl<W: Write> Sink for Stream<W> {
+    ghost written = { λ stream. W.contents stream.inner };
+
+    ghost failures = { λ stream. stream.failures };
+
+    fn write(&mut self, buf: &[u8]) -> io::Result<usize> {
+        match write_again(&mut self.inner, buf) {
+            Ok(count) => Ok(count),
+            Err(error) => {
+                self.failures = self.failures.saturating_add(1);
+                Err(error)
+            }
+        }
+    }
+}
+
+/// How many bytes are read at once.
+const PIECE_BYTES: usize = 8_192;
+
+/// One read of at most so many bytes, put behind those that are there. None is read only at the end.
+pub fn read_piece<S: Source>(source: &mut S, bytes: &mut Vec<u8>, room: usize) -> io::Result<usize>
+    requires { 0 < room }
+    ensures read { IfOk result (λ count. ReadsPiece count (S.left source.old) (S.left source.new) bytes.old.items bytes.new.items) }
+    ensures most { TakesUpTo room (S.left source.old) (S.left source.new) }
+    ensures within { IfOk result (λ count. count ≤ room) }
+    ensures end { IfOk result (λ count. count ≡ 0 → IsAtEnd (S.left source.new)) }
+    ensures calm { OnOk result (S.failures source.new ≡ S.failures source.old) }
+    ensures cause { IfErr result (IsReadError (S.failures source.old) (S.failures source.new)) }
+{
+    let mut buf = [0u8; PIECE_BYTES];
+    let room = room.min(PIECE_BYTES);
+    let count = source.read(&mut buf[..room])?;
+    bytes.extend_from_slice(&buf[..count])?;
+    Ok(count)
+}
+
+/// Reads to the end, or so many bytes. An error is a failed read's, or `OutOfMemory`.
+pub fn read_up_to<S: Source>(alloc: Global, source: &mut S, limit: usize) -> io::Result<Vec<u8>>
+    // Where the bytes are known, what is read is their beginning.
+    ensures first { IfOk result (λ bytes. IfSome (S.left source.old) (λ known. bytes.items ≡ take limit known)) }
+    // It was taken from the front, and all of it where it is less than the limit.
+    ensures taken { IfOk result (λ bytes. Consumes (S.left source.old) (S.left source.new) bytes.items) }
+    ensures end { IfOk result (λ bytes. length bytes.items < limit → IsAtEnd (S.left source.new)) }
+    ensures most { TakesUpTo limit (S.left source.old) (S.left source.new) }
+    ensures calm { OnOk result (S.failures source.new ≡ S.failures source.old) }
+    ensures cause { IfErr result (IsReadError (S.failures source.old) (S.failures source.new)) }
+{
+    let mut bytes = Vec::new(alloc);
+    while bytes.len() < limit {
+        let room = limit - bytes.len();
+        match read_piece(source, &mut bytes, room) {
+            Ok(0) => return Ok(bytes),
+            Ok(_) => {}
+            Err(error) => return Err(error),
+        }
+    }
+    Ok(bytes)
+}
+
+/// Writes all the bytes, or fails after so many of them.
+pub fn write_all<S: Sink>(sink: &mut S, bytes: &[u8]) -> Result<(), usize>
+    ensures whole { OnOk result (Appends (S.written sink.old) (S.written sink.new) bytes.now) }
+    ensures part { IfErr result (λ count. (count ≤ length bytes.now) × Appends (S.written sink.old) (S.written sink.new) (take count bytes.now)) }
+    ensures calm { OnOk result (S.failures sink.new ≡ S.failures sink.old) }
+    ensures cause { OnErr result (Rises (S.failures sink.old) (S.failures sink.new)) }
+{
+    let mut rest = bytes;
+    while !rest.is_empty() {
+        match sink.write(rest) {
+            Ok(count) => rest = rest.split_at(count).1,
+            Err(_) => return Err(bytes.len() - rest.len()),
+        }
+    }
+    Ok(())
+}

@@ -1,0 +1,5 @@
+pub mod NumberLemmas
+mod NumberJoined
+mod NumberCut
+mod Fraction
+mod NumberWriting

@@ -1,0 +1,10 @@
+pub mod Booleans
+pub mod Limit
+pub mod Micro
+pub mod Number
+pub mod NumberForm
+pub mod NumberText
+pub mod NumberTextLaws
+pub mod NumberDraft
+pub mod Text
+pub mod Whole

@@ -1,0 +1,2 @@
+pub mod TokenLemmas
+mod Prefix

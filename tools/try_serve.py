@@ -1,0 +1,94 @@
+#!/usr/bin/env python3
+"""Tries the built program's `serve`: three nodes, two publishes, equal answers, old maps by MAPSEQ, and a second start on the same folder.
+
+Usage: tools/try_serve.py [PROGRAM]    (default crates/wfarm/out/wfarm)
+"""
+
+import re
+import subprocess
+import sys
+import tempfile
+import urllib.error
+import urllib.request
+
+MAP = """MAP NAME "sq" EXTENT 0 0 4 4 PROJECTION "init=epsg:3857" END
+LAYER NAME sq TYPE POLYGON CLASS STYLE COLOR %s END END
+FEATURE POINTS 1 1 3 1 3 3 1 3 END END END END"""
+QUERY = ("VERSION=1.3.0&REQUEST=GetMap&LAYERS=sq&STYLES=&CRS=EPSG:3857&BBOX=0,0,4,4&WIDTH=4&HEIGHT=4"
+         "&FORMAT=image/x-portable-pixmap")
+CAPABILITIES = "SERVICE=WMS&REQUEST=GetCapabilities"
+
+
+class Farm:
+    """A farm that serves so many connections, and then ends."""
+
+    def __init__(self, program, requests, folder, nodes=3):
+        words = [program, "serve", "--nodes", str(nodes), "--port", "0", "--requests", str(requests)]
+        if folder is not None:
+            words += ["--state", folder]
+        self.process = subprocess.Popen(words, stdout=subprocess.PIPE, text=True)
+        told = self.process.stdout.readline()
+        port = re.fullmatch(r"listening ([0-9]+)\n", told)
+        assert port, told
+        self.address = "http://127.0.0.1:%s" % port.group(1)
+
+    def ask(self, path, body=None):
+        """The status and the body of an answer."""
+        try:
+            with urllib.request.urlopen(self.address + path, data=body, timeout=20) as answer:
+                return answer.status, answer.read()
+        except urllib.error.HTTPError as refused:
+            return refused.code, refused.read()
+
+    def end(self):
+        assert self.process.wait(timeout=20) == 0
+
+
+def square(size, inside):
+    """The picture of the map, its square of that colour."""
+    white = b"\xff\xff\xff"
+    rows = [[inside if 1 <= x <= 2 and 1 <= y <= 2 else white for x in range(size)] for y in range(size)]
+    return b"P6\n%d %d\n255\n" % (size, size) + b"".join(b"".join(row) for row in rows)
+
+
+def same(name, got, wanted):
+    print("%s: %s" % (name, "as wanted" if got == wanted else "got %r, wanted %r" % (got, wanted)))
+    return got == wanted
+
+
+def three_nodes(program, folder):
+    farm = Farm(program, 17, folder)
+    red, blue = (MAP % "255 0 0").encode(), (MAP % "0 0 255").encode()
+    yield same("a publish", farm.ask("/publish", red), (202, b"accepted for 1\n"))
+    for node, proposal in ((1, "none"), (2, "none"), (0, "published 1")):
+        wanted = "node %d published 1 proposal %s\n" % (node, proposal)
+        yield same("node %d" % node, farm.ask("/status"), (200, wanted.encode()))
+    documents = [farm.ask("/wms?" + CAPABILITIES) for _ in range(3)]
+    yield same("equal capabilities", documents.count(documents[0]), 3)
+    yield same("the sequence in them", b'updateSequence="1"' in documents[0][1], True)
+    pictures = [farm.ask("/wms?" + QUERY) for _ in range(3)]
+    yield same("equal pictures", pictures, [(200, square(4, b"\xff\x00\x00"))] * 3)
+    yield same("a second publish", farm.ask("/publish", blue), (202, b"accepted for 2\n"))
+    yield same("the old map", farm.ask("/wms?%s&MAPSEQ=1" % QUERY), (200, square(4, b"\xff\x00\x00")))
+    yield same("the new map", farm.ask("/wms?" + QUERY), (200, square(4, b"\x00\x00\xff")))
+    yield same("no map", farm.ask("/publish", b'MAP INCLUDE "x" END'), (400, b"M5 4\n"))
+    yield same("no such path", farm.ask("/x")[0], 404)
+    yield same("a publish by GET", farm.ask("/publish")[0], 405)
+    yield same("a map over the limit", farm.ask("/publish", b" " * 65_537)[0], 413)
+    farm.end()
+    again = Farm(program, 3, folder)
+    for node in range(3):
+        yield same("node %d again" % node, again.ask("/status"), (200, b"node %d published 2 proposal none\n" % node))
+    again.end()
+
+
+def main():
+    program = sys.argv[1] if len(sys.argv) > 1 else "crates/wfarm/out/wfarm"
+    with tempfile.TemporaryDirectory() as folder:
+        done = list(three_nodes(program, folder))
+    print("%d of %d as wanted" % (sum(done), len(done)))
+    return 0 if all(done) else 1
+
+
+if __name__ == "__main__":
+    sys.exit(main())
