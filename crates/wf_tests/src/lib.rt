@@ -16,8 +16,6 @@ mod node;
 #[cfg(test)]
 mod record;
 #[cfg(test)]
-mod serve;
-#[cfg(test)]
 mod tape;
 #[cfg(test)]
 mod value;
