@@ -14,6 +14,8 @@ gives one.
 What is written is the map's canonical text: `wfarm canon` gives the same bytes, and MapServer draws it too. A map that
 is over a limit of wfarm isn't written: a line says which limit, how far over, and what to do. The status is then 1.
 
+--query FILE also writes the query of a picture of the whole map, to be sent behind the address and a question mark.
+
 A shapefile, or any other format, becomes GeoJSON by `ogr2ogr -f GeoJSON -t_srs EPSG:4326 roads.geojson roads.shp`.
 """
 
@@ -23,6 +25,7 @@ import math
 import pathlib
 import re
 import sys
+import urllib.parse
 from decimal import Decimal
 
 # The limits of wfarm (docs/DEFINITIONS.md, "Limits").
@@ -46,6 +49,7 @@ LEAST_POINTS = {"point": 1, "line": 2, "polygon": 3}
 SIZES = ["TINY", "SMALL", "MEDIUM", "LARGE", "GIANT"]
 POSITIONS = ["UL", "UC", "UR", "CL", "CC", "CR", "LL", "LC", "LR"]
 EARTH_RADIUS = 6_378_137.0  # metres, of the sphere of EPSG:3857
+MOST_PIXELS = 1_024  # of a side of a picture
 MOST_LATITUDE = 85.06  # degrees; the Mercator projection ends there
 
 
@@ -130,6 +134,8 @@ def arguments():
     parser.add_argument("--extent", nargs=4, type=Decimal, metavar=("MINX", "MINY", "MAXX", "MAXY"), help="in the map's units (that of the data)")
     parser.add_argument("--digits", type=whole(0, 6), default=6, help="digits behind the point of a coordinate (6)")
     parser.add_argument("--simplify", type=float, default=0.0, metavar="DISTANCE", help="leave out points nearer than this to the line without them, in the map's units")
+    parser.add_argument("--query", type=pathlib.Path, metavar="FILE", help="where to write the query of a picture of the whole map")
+    parser.add_argument("--side", type=whole(1, MOST_PIXELS), default=400, metavar="PIXELS", help="the longer side of that picture (400)")
     parser.add_argument("--layer", action=BeginLayer, dest="layers", metavar="FILE", required=True, help="a GeoJSON file; its layer has the file's name")
     layer = parser.add_argument_group("options of a layer")
     layer.add_argument("--layer-title", action=OfLayer, help="its title (its name)")
@@ -379,7 +385,7 @@ def extent_of(layers, common):
         minx, miny, maxx, maxy = min(xs), min(ys), max(xs), max(ys)
     if minx >= maxx or miny >= maxy:
         raise Refusal(f"the extent {minx} {miny} {maxx} {maxy} is empty: give one by --extent")
-    return " ".join(number(value, 6) for value in (minx, miny, maxx, maxy))
+    return [number(value, 6) for value in (minx, miny, maxx, maxy)]
 
 
 def judge_counts(layers):
@@ -394,7 +400,8 @@ def judge_counts(layers):
     return features, points
 
 
-def the_map(common, warnings):
+def layers_of(common, warnings):
+    """The layers, each with its name, kind, features and options."""
     layers = []
     for options in common.layers:
         found = read_features(options, common, warnings)
@@ -405,10 +412,29 @@ def the_map(common, warnings):
     for name in names:
         if names.count(name) > 1:
             raise Refusal(f"two layers have the name {name}: rename a file")
+    return layers
+
+
+def picture_query(common, layers):
+    """The query of a picture of the whole map, in the proportions of its extent."""
+    extent = extent_of(layers, common)
+    minx, miny, maxx, maxy = map(Decimal, extent)
+    scale = common.side / max(maxx - minx, maxy - miny)
+    names = [urllib.parse.quote(name, safe="") for name, _, _, _ in layers]
+    return "&".join([
+        "SERVICE=WMS&VERSION=1.3.0&REQUEST=GetMap",
+        f"LAYERS={','.join(names)}&STYLES={',' * (len(names) - 1)}",
+        f"CRS={'CRS:84' if common.crs == '4326' else 'EPSG:3857'}&BBOX={','.join(extent)}",
+        f"WIDTH={max(1, round((maxx - minx) * scale))}&HEIGHT={max(1, round((maxy - miny) * scale))}",
+        "FORMAT=image/x-portable-pixmap",
+    ])
+
+
+def the_map(common, layers, warnings):
     features, points = judge_counts(layers)
     layers_lines = [line for layer in layers for line in layer_lines(*layer, warnings)]
     title = plain(common.title if common.title is not None else common.name, warnings)
-    lines = ["MAP", f"NAME {quoted(plain(common.name, warnings), 'the name of the map')}", f"EXTENT {extent_of(layers, common)}"]
+    lines = ["MAP", f"NAME {quoted(plain(common.name, warnings), 'the name of the map')}", f"EXTENT {' '.join(extent_of(layers, common))}"]
     lines += ["PROJECTION", f'"init=epsg:{common.crs}"', "END", "WEB", "METADATA", f'"wms_title" {quoted(title, "the title")}']
     lines += [f'"wms_abstract" {quoted(plain(common.abstract, warnings), "the abstract")}']
     lines += [f'"wms_onlineresource" {quoted(plain(common.address, warnings), "the address")}', "END", "END"]
@@ -426,11 +452,14 @@ def main():
     common = arguments()
     warnings = Warnings()
     try:
-        text = the_map(common, warnings)
+        layers = layers_of(common, warnings)
+        text = the_map(common, layers, warnings)
     except Refusal as refusal:
         print(f"error: {refusal}", file=sys.stderr)
         return 1
     warnings.tell()
+    if common.query is not None:
+        common.query.write_text(picture_query(common, layers) + "\n", encoding="ascii")
     sys.stdout.buffer.write(text.encode())
     return 0
 

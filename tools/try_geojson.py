@@ -3,8 +3,9 @@
 
     python3 tools/try_geojson.py [PROGRAM]
 
-Compares each map with the one that is kept beside the data, and each refusal with its line. PROGRAM, the built wfarm
-(crates/wfarm/out/wfarm), is asked for the canonical text of each map besides: that has to be the map itself.
+Compares each map with the one that is kept beside the data, the query of its picture, and each refusal with its line.
+PROGRAM, the built wfarm (crates/wfarm/out/wfarm), is asked for the canonical text of each map besides: that has to be
+the map itself.
 """
 
 import json
@@ -21,6 +22,13 @@ MAPS = {
     + ["--class-by", "kind", "--class", "ferry=0,0,200", "--width", "2"],
     "wards.map": ["--name", "wards", "--layer", "wards.geojson", "--items", "ward,party", "--class-by", "party", "--class", "red=#c02020"]
     + ["--class", "blue=#2020c0", "--outline", "0,0,0", "--label", "ward"],
+}
+
+QUERIES = {
+    "harbour.map": "SERVICE=WMS&VERSION=1.3.0&REQUEST=GetMap&LAYERS=harbour_line,harbour_point&STYLES=,&CRS=CRS:84"
+    "&BBOX=4.1,52.1,4.25,52.3&WIDTH=300&HEIGHT=400&FORMAT=image/x-portable-pixmap\n",
+    "wards.map": "SERVICE=WMS&VERSION=1.3.0&REQUEST=GetMap&LAYERS=wards&STYLES=&CRS=CRS:84"
+    "&BBOX=0,0,6,4&WIDTH=400&HEIGHT=267&FORMAT=image/x-portable-pixmap\n",
 }
 
 
@@ -50,9 +58,14 @@ def run(words, folder):
 
 
 def differs(name, words, program):
-    made = run(words, DATA)
+    with tempfile.TemporaryDirectory() as folder:
+        query = pathlib.Path(folder) / "query"
+        made = run(["--query", str(query), *words], DATA)
+        asked = query.read_text() if query.exists() else "no query"
     if made.stdout != (DATA / name).read_bytes():
         return f"{name}: another map, or none: {made.stderr.decode().strip()}"
+    if asked != QUERIES[name]:
+        return f"{name}: the query is {asked.strip()}"
     if program and subprocess.run([program, "canon"], input=made.stdout, capture_output=True).stdout != made.stdout:
         return f"{name}: {program} has another canonical text"
     return None

@@ -1,13 +1,16 @@
 #!/usr/bin/env python3
-"""Tries the built program's `serve`: three nodes, two publishes, equal answers, old maps by MAPSEQ, and a second start on the same folder.
+"""Tries the built program's `serve`: three nodes, two publishes, equal answers, old maps by MAPSEQ, refusals of which the client hears though
+it is still sending, and a second start on the same folder.
 
 Usage: tools/try_serve.py [PROGRAM]    (default crates/wfarm/out/wfarm)
 """
 
 import re
+import socket
 import subprocess
 import sys
 import tempfile
+import time
 import urllib.error
 import urllib.request
 
@@ -30,7 +33,8 @@ class Farm:
         told = self.process.stdout.readline()
         port = re.fullmatch(r"listening ([0-9]+)\n", told)
         assert port, told
-        self.address = "http://127.0.0.1:%s" % port.group(1)
+        self.port = int(port.group(1))
+        self.address = "http://127.0.0.1:%d" % self.port
 
     def ask(self, path, body=None):
         """The status and the body of an answer."""
@@ -39,6 +43,14 @@ class Farm:
                 return answer.status, answer.read()
         except urllib.error.HTTPError as refused:
             return refused.code, refused.read()
+        except OSError as broken:
+            return None, repr(broken)
+
+    def keep_open(self, request):
+        """A client that sends a request, reads nothing and doesn't close."""
+        client = socket.create_connection(("127.0.0.1", self.port), timeout=20)
+        client.sendall(request)
+        return client
 
     def end(self):
         assert self.process.wait(timeout=20) == 0
@@ -57,7 +69,7 @@ def same(name, got, wanted):
 
 
 def three_nodes(program, folder):
-    farm = Farm(program, 17, folder)
+    farm = Farm(program, 22, folder)
     red, blue = (MAP % "255 0 0").encode(), (MAP % "0 0 255").encode()
     yield same("a publish", farm.ask("/publish", red), (202, b"accepted for 1\n"))
     for node, proposal in ((1, "none"), (2, "none"), (0, "published 1")):
@@ -75,6 +87,16 @@ def three_nodes(program, folder):
     yield same("no such path", farm.ask("/x")[0], 404)
     yield same("a publish by GET", farm.ask("/publish")[0], 405)
     yield same("a map over the limit", farm.ask("/publish", b" " * 65_537)[0], 413)
+    yield same("one far over it", farm.ask("/publish", b" " * 100_000)[0], 413)
+    for name, request, most in (
+        ("a client that was answered and stays", b"GET /status HTTP/1.1\r\n\r\n", 0.5),
+        ("one that was refused and stays", b"POST /publish HTTP/1.1\r\nContent-Length: 100000\r\n\r\n", 2),
+    ):
+        client = farm.keep_open(request)
+        before = time.monotonic()
+        answered = farm.ask("/status")[0]
+        yield same(name, (answered, time.monotonic() - before < most), (200, True))
+        client.close()
     farm.end()
     again = Farm(program, 3, folder)
     for node in range(3):

@@ -1,31 +1,34 @@
 -- What is written for a map, with its layers, is read as that map, whatever follows.
-use Rattle.std.proofs.Common.{◌≡◌, ℕ, leb, Bool, true, false, List, [], ◌∷◌, ◌++◌, length, Some, refl, arith}
-use Rattle.std.specs.Prelude.{T, int_lt, codes, map}
-use Rattle.std.specs.List.{flat_map, list_any, AllByRecursion, IsDistinct}
+use Rattle.std.proofs.Common.{◌≡◌, ℕ, Bool, true, false, List, [], ◌∷◌, ◌++◌, length, Some, refl, ap, ◌∙◌}
+use Rattle.std.specs.Prelude.{T, int_lt, codes, sum_by}
+use Rattle.std.specs.List.{flat_map, list_any, IsDistinct}
 use Rattle.std.specs.Str.{bytes_eq}
-use Rattle.std.proofs.lemmas.Bool.Decides.{nat_tests}
+use Rattle.std.proofs.lemmas.Cmp.{nat_list_eq_equiv}
+use Rattle.std.proofs.lemmas.List.{map-append}
+use Rattle.std.proofs.lemmas.List.Elements.{All-from_recursion}
 use Rattle.wf_def.specs.Definition.{Definition, LayerDefinition}
-use Rattle.wf_def.specs.Limits.{IsWithinLimits, layer_names, feature_count, point_count}
+use Rattle.wf_def.specs.Limits.{IsWithinLimits, IsLayer, IsLayerName, layer_names, points_of_feature}
 use Rattle.wf_def.specs.Limit.{most_layers, most_features, most_points}
 use Rattle.wf_def.specs.Extent.{ExtentValue, IsExtent}
 use Rattle.wf_def.specs.declared.choice.Projection.{Projection}
 use Rattle.wf_def.specs.declared.choice.Projection.TheVariants.{Epsg4326, Epsg3857}
 use Rattle.wf_token.specs.Token.{Token, Word, Quoted}
-use Rattle.wf_mapfile.specs.Grammar.{is_end, word, argument, text, end, at_most_one, exactly_one}
+use Rattle.wf_mapfile.specs.Grammar.{is_end, word, argument, text, end}
 use Rattle.wf_mapfile.specs.Metadata.{pairs, all_differ, value_at, kept as kept_pairs, metadata}
-use Rattle.wf_mapfile.specs.declared.keyword.WebKeyword.TheVariants as keywords
-use Rattle.wf_mapfile.specs.declared.keyword.MapKeyword.TheVariants as keyword
 use Rattle.wf_mapfile.specs.declared.slots.Metadata as slots
+use Rattle.wf_mapfile.specs.declared.slots.map.MapOnce.{MapOnce}
+use Rattle.wf_mapfile.specs.declared.slots.map.MapSlots.{MapSlots}
 use Rattle.wf_mapfile.specs.Web as webs
+use Rattle.wf_mapfile.specs.Layer as layers
 use Rattle.wf_mapfile.specs.Map as mapfile
-use Rattle.wf_mapfile.specs.Map.{map_keyword, map_item, map_of, extent, projection, projection_named, definition, layers_of, are_layers, name_of, extent_of, projection_of, web_of, said_layer, size_of, image_color_of, units_of, status_of, image_type_of, shape_path_of, MapItem, Name, Extent, Projected, Web, Layer}
+use Rattle.wf_mapfile.specs.Map.{extent, projection, projection_named, definition}
 use Rattle.wf_text.specs.NumberText.{number_text}
 use Rattle.wf_canon.specs.Canon.{projection_text, alone, with_text, with_key, with_extent, end_line, layer_lines, projection_lines, web_lines}
 use Rattle.wf_canon.proofs.KnownText.{title_key, abstract_key, address_key, projection_is_text}
 use Rattle.wf_canon.proofs.TokenLaw.{text_again, number_again, end_again}
-use Rattle.wf_canon.proofs.Items.{Reads, AreItems, line_item, block_item, both, each, block_again, kept, dropped}
-use Rattle.wf_canon.proofs.WrittenLaw.{IsEntry, entries_within}
-use Rattle.wf_canon.proofs.LayerLaw.{layer_body, layer_again}
+use Rattle.wf_canon.proofs.Steps.{Reads, Fills, keyword, inner, line, each, holds_at, room_at, left_at, block_again}
+use Rattle.wf_canon.proofs.WrittenLaw.{IsEntry}
+use Rattle.wf_canon.proofs.LayerLaw.{HasPlace, layer_again}
 
 -- ---- what the web is told
 
@@ -41,10 +44,11 @@ unfolding metadata pairs text argument end word is_end all_differ value_at kept_
 metadata_again d h rest = rw (title_key, h.title, abstract_key, h.abstract_text, address_key, h.address) refl
 
 web_again : (d : Definition) → IsWithinLimits d → Reads webs.web (alone (codes "METADATA") ∷ map_pairs d ++ end_line ∷ []) (kept_of d)
-unfolding webs.web webs.web_keyword webs.web_item webs.web_of is_end at_most_one
-web_again d h =
-    block_again webs.web_of (alone (codes "METADATA") ∷ map_pairs d) (webs.Metadata (kept_of d) ∷ []) (kept_of d)
-    (block_item webs.web_keyword webs.web_item (codes "METADATA") (map_pairs d) keywords.Metadata (webs.Metadata (kept_of d)) refl refl (λ rest. rw (metadata_again d h rest) refl)) refl
+unfolding webs.web webs.web_put is_end
+web_again d h rest =
+    let fills : Fills webs.web_put webs.nothing_said (alone (codes "METADATA") ∷ map_pairs d) (record webs.nothing_said { metadata = Some (kept_of d) }) =
+    keyword refl (λ rest. rw (metadata_again d h rest) refl) in
+    rw (block_again (alone (codes "METADATA") ∷ map_pairs d) fills rest) refl
 
 -- ---- the map
 
@@ -88,58 +92,53 @@ map_body d =
     ++ web_lines d
     ++ flat_map layer_lines d.layers
 
-abbrev map_said : Definition → List MapItem
-map_said d = Name d.name ∷ Extent d.extent ∷ Projected d.projection ∷ Web (kept_of d) ∷ map Layer d.layers
+-- ---- layers behind those before them
 
-layer_item : (entry : List ℕ × LayerDefinition) → IsEntry entry → AreItems map_keyword map_item (layer_lines entry) (Layer entry ∷ [])
-unfolding map_keyword map_item is_end
-layer_item entry h =
-    block_item map_keyword map_item (codes "LAYER") (layer_body entry ++ end_line ∷ []) keyword.Layer (Layer entry) refl refl (λ rest. rw (layer_again entry h.name h.layer rest) refl)
+-- a name differs from those before it
+new_name : (before after : List (List ℕ)) (name : List ℕ) → IsDistinct bytes_eq (before ++ name ∷ after) → list_any (bytes_eq name) before ≡ false
+unfolding IsDistinct
+new_name [] after name differ = refl
+new_name (first ∷ before) after name differ =
+    let unlike : bytes_eq first name ≡ false =
+    holds_at (λ other. bytes_eq first other ≡ false) (before ++ name ∷ after) before name after (All-from_recursion (λ other. bytes_eq first other ≡ false) (before ++ name ∷ after) differ.0) refl in
+    rw (nat_list_eq_equiv.symm name first, unlike) (new_name before after name differ.1)
 
-map_items : (d : Definition) → IsWithinLimits d → AreItems map_keyword map_item (map_body d) (map_said d)
-unfolding map_keyword map_item is_end
-map_items d h =
-    both (line_item map_keyword map_item (codes "NAME") (Quoted d.name ∷ []) keyword.Name (Name d.name) refl refl (λ rest. rw (text_again d.name rest h.name) refl))
-    (both (line_item map_keyword map_item (codes "EXTENT") (written_extent d.extent) keyword.Extent (Extent d.extent) refl refl (λ rest. rw (extent_again d.extent rest h.extent) refl))
-    (both (block_item map_keyword map_item (codes "PROJECTION") ((Quoted (projection_text d.projection) ∷ []) ∷ end_line ∷ []) keyword.Projection (Projected d.projection) refl refl (λ rest. rw (projection_again d.projection rest) refl))
-    (both (block_item map_keyword map_item (codes "WEB") (alone (codes "METADATA") ∷ map_pairs d ++ end_line ∷ []) keyword.Web (Web (kept_of d)) refl refl (λ rest. rw (web_again d h rest) refl))
-    (each IsEntry layer_lines Layer d.layers layer_item (entries_within d h)))))
+has_place : (d : Definition) (before : List (List ℕ × LayerDefinition)) (entry : List ℕ × LayerDefinition) (after : List (List ℕ × LayerDefinition)) → IsWithinLimits d → d.layers ≡ before ++ entry ∷ after → HasPlace before entry
+unfolding layers.features_left layers.points_left
+has_place d before entry after h e = record {
+  new = let names : layer_names d.layers ≡ layer_names before ++ entry.0 ∷ layer_names after = ap layer_names e ∙ map-append (λ entry. entry.0) before (entry ∷ after) in
+      new_name (layer_names before) (layer_names after) entry.0 (rw names at h.unlike_names);
+  features = left_at (λ entry. length entry.1.features) most_features d.layers before entry after h.features_most e;
+  points = left_at (λ entry. sum_by points_of_feature entry.1.features) most_points d.layers before entry after h.points_most e;
+}
 
-none_equal : (name : List ℕ) (names : List (List ℕ)) → AllByRecursion (λ other. bytes_eq name other ≡ false) names → list_any (bytes_eq name) names ≡ false
-none_equal name [] unlike = refl
-none_equal name (other ∷ names) unlike = rw unlike.0 (none_equal name names unlike.1)
+is_entry : (d : Definition) (before : List (List ℕ × LayerDefinition)) (entry : List ℕ × LayerDefinition) (after : List (List ℕ × LayerDefinition)) → IsWithinLimits d → d.layers ≡ before ++ entry ∷ after → IsEntry entry
+is_entry d before entry after h e = record {
+  name = holds_at (λ entry. IsLayerName entry.0) d.layers before entry after h.names e;
+  layer = holds_at (λ entry. IsLayer entry.1) d.layers before entry after h.layers e;
+}
 
-names_differ : (names : List (List ℕ)) → IsDistinct bytes_eq names → all_differ names ≡ true
-unfolding all_differ IsDistinct
-names_differ [] unlike = refl
-names_differ (name ∷ names) unlike = rw (none_equal name names unlike.0) (names_differ names unlike.1)
+-- ---- all of it
 
-layers_fit : (d : Definition) → IsWithinLimits d → layers_of d.layers ≡ Some d.layers
-unfolding layers_of are_layers
-layers_fit d h =
-    let few : leb (length d.layers) most_layers ≡ true = grind (arith, nat_tests, h.layers_most) in
-    let few_features : leb (feature_count d.layers) most_features ≡ true = grind (arith, nat_tests, h.features_most) in
-    let few_points : leb (point_count d.layers) most_points ≡ true = grind (arith, nat_tests, h.points_most) in
-    rw (few, names_differ (layer_names d.layers) h.unlike_names, few_features, few_points) refl
+abbrev map_said : Definition → MapOnce
+map_said d = record mapfile.no_map_once { name = Some d.name; extent = Some d.extent; projection = Some d.projection; web = Some (kept_of d) }
 
-map_is_said : (d : Definition) → IsWithinLimits d → map_of (map_said d) ≡ Some d
-unfolding map_of definition at_most_one exactly_one
-map_is_said d h =
-    rw (
-      dropped Layer name_of d.layers (λ l. refl),
-      dropped Layer extent_of d.layers (λ l. refl),
-      dropped Layer projection_of d.layers (λ l. refl),
-      dropped Layer web_of d.layers (λ l. refl),
-      kept Layer said_layer d.layers (λ l. refl),
-      dropped Layer size_of d.layers (λ l. refl),
-      dropped Layer image_color_of d.layers (λ l. refl),
-      dropped Layer units_of d.layers (λ l. refl),
-      dropped Layer status_of d.layers (λ l. refl),
-      dropped Layer image_type_of d.layers (λ l. refl),
-      dropped Layer shape_path_of d.layers (λ l. refl),
-      layers_fit d h,
-    ) refl
+map_fills : (d : Definition) → IsWithinLimits d → Fills mapfile.map_put mapfile.no_map (map_body d) (record { layers = d.layers; single = map_said d })
+unfolding mapfile.map_put mapfile.map_once is_end
+map_fills d h =
+    let said : MapOnce → MapSlots = λ x. record { layers = []; single = x } in
+    let named : MapOnce = record mapfile.no_map_once { name = Some d.name } in
+    let placed : MapOnce = record named { extent = Some d.extent } in
+    let projected : MapOnce = record placed { projection = Some d.projection } in
+    let layered : List (List ℕ × LayerDefinition) → MapSlots = λ ls. record { layers = ls; single = map_said d } in
+    line (said named) refl (λ rest. rw (text_again d.name rest h.name) refl)
+    (line (said placed) refl (λ rest. rw (extent_again d.extent rest h.extent) refl)
+    (inner ((Quoted (projection_text d.projection) ∷ []) ∷ end_line ∷ []) (said projected) refl (λ rest. rw (projection_again d.projection rest) refl)
+    (inner (alone (codes "METADATA") ∷ map_pairs d ++ end_line ∷ []) (layered []) refl (λ rest. rw (web_again d h rest) refl)
+    (each layer_lines layered [] d.layers (λ before entry after e.
+    let read = layer_again before entry (is_entry d before entry after h e) (has_place d before entry after h e) in
+    keyword refl (λ rest. rw (room_at most_layers d.layers before entry after h.layers_most e, read rest) refl))))))
 
 pub map_again : (d : Definition) → IsWithinLimits d → Reads mapfile.map (map_body d ++ end_line ∷ []) d
-unfolding mapfile.map
-map_again d h = block_again map_of (map_body d) (map_said d) d (map_items d h) (map_is_said d h)
+unfolding mapfile.map mapfile.map_of definition
+map_again d h rest = rw (block_again (map_body d) (map_fills d h) rest) refl

@@ -2,11 +2,17 @@
 use Rattle.std.specs.Prelude.{◌≡◌, ℕ, true, List, Some}
 use Rattle.std.specs.Str.{is_utf8}
 use Rattle.wf_def.specs.Definition.{Definition}
+use Rattle.wf_def.specs.Limits.{IsWithinLimits}
 use Rattle.wf_token.specs.Token.{tokens}
 use Rattle.wf_mapfile.specs.Grammar.{◌>>=◌}
 use Rattle.wf_mapfile.specs.Meaning.{file}
+use Rattle.wf_canon.specs.Canon.{canon}
 
 -- the bytes are UTF-8, and their tokens are a file of this map
 pub record Says (bytes : List ℕ) (d : Definition) : Type 0 where
   pub utf8 : is_utf8 bytes ≡ true
   pub said : (tokens bytes >>= file) ≡ Some d
+
+-- Two maps with one canonical text are one map.
+abbrev pub OneTextOneMap : Type 0
+OneTextOneMap = (d e : Definition) → IsWithinLimits d → IsWithinLimits e → canon d ≡ canon e → d ≡ e

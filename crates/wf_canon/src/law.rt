@@ -5,7 +5,7 @@ ghost use Rattle.wf_def.specs.Definition.{Definition};
 ghost use Rattle.wf_def.specs.Limits.{IsWithinLimits};
 ghost use Rattle.wf_mapfile.specs.Meaning.{Means};
 ghost use Rattle.wf_canon.specs.Canon.{canon, most_canon_bytes};
-ghost use Rattle.wf_canon.specs.Saying.{Says};
+ghost use Rattle.wf_canon.specs.Saying.{OneTextOneMap, Says};
 
 use crate::canon::MOST_CANON_BYTES;
 
@@ -23,7 +23,7 @@ pub fn every_canonical_text_says_its_map()
 /// Two maps with one canonical text are one map.
 #[tactic(auto, using(crate::proofs::MeaningLaw::one_definition))]
 pub fn one_text_one_map()
-    ensures { (d e : Definition) → IsWithinLimits d → IsWithinLimits e → canon d ≡ canon e → d ≡ e }
+    ensures { OneTextOneMap }
 {}
 
 /// The constant is the limit that the definitions name.

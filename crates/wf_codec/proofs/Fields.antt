@@ -8,8 +8,8 @@ use Rattle.wf_ballot.specs.Slot.{IsSlot}
 use Rattle.wf_ballot.specs.Sequence.{seq_bytes}
 use Rattle.wf_ballot.specs.Ballot.{Ballot, IsBallot, ballot_bytes}
 use Rattle.wf_ballot.specs.Front.{AreBytes, ReadsFront, front_slot, front_ballot}
-use Rattle.wf_ballot.proofs.Fronts.{reads_nodes, reads_slots, reads_ballots}
-use Rattle.wf_ballot.proofs.Spelling.{length-seq_bytes, length-ballot_bytes}
+use Rattle.wf_ballot.specs.FrontLaws.{reads_nodes, reads_slots, reads_ballots}
+use Rattle.wf_ballot.specs.FieldLaws.{length-seq_bytes, length-ballot_bytes}
 use Rattle.wf_model.specs.Message.{Message, Prepare, Promise, Accept, Accepted, Nack, Chosen, Ask, Vote}
 use Rattle.wf_codec.specs.declared.kind.Kind.{Kind}
 use Rattle.wf_codec.specs.declared.kind.Kind.TheVariants as kinds

@@ -7,6 +7,7 @@ use Rattle.std.specs.Prelude.{IfOk, IfErr, IsErrOf}
 use Rattle.wf_ballot.specs.Front.{AreBytes}
 use Rattle.wf_ballot.specs.Frame.{frame}
 use Rattle.wf_def.specs.Definition.{Definition}
+use Rattle.wf_canon.specs.Saying.{OneTextOneMap}
 use Rattle.wf_model.specs.Message.{Message}
 use Rattle.wf_codec.specs.declared.kind.Kind.{Kind}
 use Rattle.wf_codec.specs.declared.fault.DecodeFault.{DecodeFault}
@@ -52,15 +53,15 @@ pub none_is_empty : NoneIsEmpty
 none_is_empty m bytes spells = omega (arith, ap length spells.spelled, length-text_spelling (texts m))
 
 -- Bytes that begin with both are cut into one frame, and so into one message.
-pub none_begins_another : NoneBeginsAnother
-none_begins_another m n a b after_a after_b spells_a spells_b e =
+pub none_begins_another : OneTextOneMap → NoneBeginsAnother
+none_begins_another one_map m n a b after_a after_b spells_a spells_b e =
     let frame_m = frame_of m a after_a (a ++ after_a) spells_a refl in
     let frame_n = frame_of n b after_b (a ++ after_a) spells_b e in
     let same_frame = ok_same (kind_of (texts m), body (texts m)) (kind_of (texts n), body (texts n)) (sym frame_m ∙ frame_n) in
     let same_texts = some_same (texts m) (texts n)
     (sym (fields_of_body m spells_a.is_message) ∙ ap (λ (f : Kind × List ℕ). fields_of f.0 f.1) same_frame ∙ fields_of_body n spells_b.is_message) in
     let same_bytes : a ≡ b = spells_a.spelled ∙ ap text_spelling same_texts ∙ sym spells_b.spelled in (
-      texts_apart m n spells_a.is_message spells_b.is_message same_texts,
+      texts_apart one_map m n spells_a.is_message spells_b.is_message same_texts,
       same_bytes,
       sym (drop-append_seam a after_a) ∙ ap (drop (length a)) e ∙ ap (λ (t : List ℕ). drop (length t) (b ++ after_b)) same_bytes ∙ drop-append_seam b after_b,
     )
@@ -102,27 +103,27 @@ pub has_bytes : {X : Type 0} (view : X → Message Definition) (result : Result 
 has_bytes view (Ok x) bytes begins = counted bytes (view x.0) x.1 begins
 has_bytes view (Err e) bytes begins = tt
 
-read_by : {X : Type 0} (view : X → Message Definition) (result : Result (X × ℕ) DecodeFault) (m : Message Definition) (k : ℕ) → IsMessage m →
+read_by : {X : Type 0} → OneTextOneMap → (view : X → Message Definition) (result : Result (X × ℕ) DecodeFault) (m : Message Definition) (k : ℕ) → IsMessage m →
     ReadsAs (λ x. view x.0) result (Some (texts m)) → IfOk result (λ x. x.1 ≡ k) → IsReadAs view result m k
-read_by view (Ok x) m k is_message reads count = (texts_apart (view x.0) m reads.1 is_message (some_same (texts (view x.0)) (texts m) (sym reads.0)), count)
-read_by view (Err Short) m k is_message reads count = absurd reads
-read_by view (Err BadVersion) m k is_message reads count = absurd reads
-read_by view (Err BadKind) m k is_message reads count = absurd reads
-read_by view (Err BadField) m k is_message reads count = absurd cc
-read_by view (Err NotCanonical) m k is_message reads count = absurd (not_bad m is_message reads)
-read_by view (Err TooLong) m k is_message reads count = absurd reads
-read_by view (Err Memory) m k is_message reads count = (refl, text_is_definition m reads)
+read_by one_map view (Ok x) m k is_message reads count = (texts_apart one_map (view x.0) m reads.1 is_message (some_same (texts (view x.0)) (texts m) (sym reads.0)), count)
+read_by one_map view (Err Short) m k is_message reads count = absurd reads
+read_by one_map view (Err BadVersion) m k is_message reads count = absurd reads
+read_by one_map view (Err BadKind) m k is_message reads count = absurd reads
+read_by one_map view (Err BadField) m k is_message reads count = absurd cc
+read_by one_map view (Err NotCanonical) m k is_message reads count = absurd (not_bad m is_message reads)
+read_by one_map view (Err TooLong) m k is_message reads count = absurd reads
+read_by one_map view (Err Memory) m k is_message reads count = (refl, text_is_definition m reads)
 
 -- a message that stands at the front is read, unless memory runs out
-pub whole_is_read : {X : Type 0} (view : X → Message Definition) (result : Result (X × ℕ) DecodeFault) (bytes : List ℕ) → IsJudged view result (frame_front bytes) →
+pub whole_is_read : {X : Type 0} → OneTextOneMap → (view : X → Message Definition) (result : Result (X × ℕ) DecodeFault) (bytes : List ℕ) → IsJudged view result (frame_front bytes) →
     (m : Message Definition) (spelled after : List ℕ) → Spells m spelled → bytes ≡ spelled ++ after → IsReadAs view result m (length spelled)
-whole_is_read view result bytes judged m spelled after spells e =
+whole_is_read one_map view result bytes judged m spelled after spells e =
     let cut : IsJudged view result (Ok (kind_of (texts m), body (texts m))) =
     subst (λ (r : Result (Kind × List ℕ) DecodeFault). IsJudged view result r) (frame_of m spelled after bytes spells e) judged in
     let reads : ReadsAs (λ x. view x.0) result (Some (texts m)) =
     subst (λ (o : Option (Message (List ℕ))). ReadsAs (λ x. view x.0) result o) (fields_of_body m spells.is_message) cut.0 in
     let count : header_length + length (body (texts m)) ≡ length spelled = sym (length-text_spelling (texts m)) ∙ ap length (sym spells.spelled) in
-    subst (λ (k : ℕ). IsReadAs view result m k) count (read_by view result m (header_length + length (body (texts m))) spells.is_message reads cut.1)
+    subst (λ (k : ℕ). IsReadAs view result m k) count (read_by one_map view result m (header_length + length (body (texts m))) spells.is_message reads cut.1)
 
 refusal_not_short : (e : DecodeFault) → IsRefusal e → e ≡ Short → ⊥
 refusal_not_short e refusal short = subst IsRefusal short refusal
@@ -189,5 +190,5 @@ not_read_short {X} view result m k short is_read =
     let same : Short ≡ Memory = memory.0 in cc
 
 -- bytes that are Short don't begin with a message
-pub short_is_none : {X : Type 0} (view : X → Message Definition) (result : Result (X × ℕ) DecodeFault) (bytes : List ℕ) → IsJudged view result (frame_front bytes) → IsErrOf result Short → BeginsWithNone bytes
-short_is_none view result bytes judged short m spelled after spells e = not_read_short view result m (length spelled) short (whole_is_read view result bytes judged m spelled after spells e)
+pub short_is_none : {X : Type 0} → OneTextOneMap → (view : X → Message Definition) (result : Result (X × ℕ) DecodeFault) (bytes : List ℕ) → IsJudged view result (frame_front bytes) → IsErrOf result Short → BeginsWithNone bytes
+short_is_none one_map view result bytes judged short m spelled after spells e = not_read_short view result m (length spelled) short (whole_is_read one_map view result bytes judged m spelled after spells e)

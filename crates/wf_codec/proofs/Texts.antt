@@ -3,7 +3,7 @@ use Rattle.std.proofs.Common.{◌≡◌, ℕ, ◌≤◌, List, length, Option, S
 use Rattle.std.specs.Prelude.{option_map, IfSome, IsSome, IsSomeAnd}
 use Rattle.wf_def.specs.Definition.{Definition}
 use Rattle.wf_canon.specs.Canon.{canon, line, most_canon_bytes}
-use Rattle.wf_canon.proofs.MeaningLaw.{one_definition}
+use Rattle.wf_canon.specs.Saying.{OneTextOneMap}
 use Rattle.wf_ballot.specs.Ballot.{Ballot}
 use Rattle.wf_model.specs.Message.{Message, Prepare, Promise, Accept, Accepted, Nack, Chosen, Ask, Vote}
 use Rattle.wf_codec.specs.Message.{vote_with, texts, definition_of, HasDefinition, HasText, IsVoteOf, IsMessageOf, IsMessage}
@@ -46,30 +46,30 @@ same_vote v w same_ballot same_definition =
 abbrev with_text : Vote Definition → Vote (List ℕ)
 with_text v = record { ballot = v.ballot; definition = canon v.definition }
 
-vote_apart : (v w : Option (Vote Definition)) → IsVoteOf HasText v → IsVoteOf HasText w → vote_with canon v ≡ vote_with canon w → v ≡ w
-vote_apart None None p q e = refl
-vote_apart None (Some w) p q e = absurd cc
-vote_apart (Some v) None p q e = absurd cc
-vote_apart (Some v) (Some w) p q e =
+vote_apart : OneTextOneMap → (v w : Option (Vote Definition)) → IsVoteOf HasText v → IsVoteOf HasText w → vote_with canon v ≡ vote_with canon w → v ≡ w
+vote_apart one_map None None p q e = refl
+vote_apart one_map None (Some w) p q e = absurd cc
+vote_apart one_map (Some v) None p q e = absurd cc
+vote_apart one_map (Some v) (Some w) p q e =
     let same : with_text v ≡ with_text w = cc in
-    ap Some (same_vote v w (ap (λ vote. vote.ballot) same) (one_definition v.definition w.definition p.1.within q.1.within (ap (λ vote. vote.definition) same)))
+    ap Some (same_vote v w (ap (λ vote. vote.ballot) same) (one_map v.definition w.definition p.1.within q.1.within (ap (λ vote. vote.definition) same)))
 
--- messages with equal texts are equal
-pub texts_apart : (m n : Message Definition) → IsMessage m → IsMessage n → texts m ≡ texts n → m ≡ n
-texts_apart (Prepare s b) (Prepare t c) p q e = cc
-texts_apart (Prepare s b) n p q e = absurd cc
-texts_apart (Promise i s b v) (Promise j t c w) p q e = let votes : v ≡ w = vote_apart v w p.3 q.3 cc in cc
-texts_apart (Promise i s b v) n p q e = absurd cc
-texts_apart (Accept s b d) (Accept t c f) p q e = let same : d ≡ f = one_definition d f p.2.within q.2.within cc in cc
-texts_apart (Accept s b d) n p q e = absurd cc
-texts_apart (Accepted i s b) (Accepted j t c) p q e = cc
-texts_apart (Accepted i s b) n p q e = absurd cc
-texts_apart (Nack i s b x) (Nack j t c y) p q e = cc
-texts_apart (Nack i s b x) n p q e = absurd cc
-texts_apart (Chosen s d) (Chosen t f) p q e = let same : d ≡ f = one_definition d f p.1.within q.1.within cc in cc
-texts_apart (Chosen s d) n p q e = absurd cc
-texts_apart (Ask s) (Ask t) p q e = cc
-texts_apart (Ask s) n p q e = absurd cc
+-- messages with equal texts are equal, since one text is that of one map
+pub texts_apart : OneTextOneMap → (m n : Message Definition) → IsMessage m → IsMessage n → texts m ≡ texts n → m ≡ n
+texts_apart one_map (Prepare s b) (Prepare t c) p q e = cc
+texts_apart one_map (Prepare s b) n p q e = absurd cc
+texts_apart one_map (Promise i s b v) (Promise j t c w) p q e = let votes : v ≡ w = vote_apart one_map v w p.3 q.3 cc in cc
+texts_apart one_map (Promise i s b v) n p q e = absurd cc
+texts_apart one_map (Accept s b d) (Accept t c f) p q e = let same : d ≡ f = one_map d f p.2.within q.2.within cc in cc
+texts_apart one_map (Accept s b d) n p q e = absurd cc
+texts_apart one_map (Accepted i s b) (Accepted j t c) p q e = cc
+texts_apart one_map (Accepted i s b) n p q e = absurd cc
+texts_apart one_map (Nack i s b x) (Nack j t c y) p q e = cc
+texts_apart one_map (Nack i s b x) n p q e = absurd cc
+texts_apart one_map (Chosen s d) (Chosen t f) p q e = let same : d ≡ f = one_map d f p.1.within q.1.within cc in cc
+texts_apart one_map (Chosen s d) n p q e = absurd cc
+texts_apart one_map (Ask s) (Ask t) p q e = cc
+texts_apart one_map (Ask s) n p q e = absurd cc
 
 -- what a message carries, as its text
 texts_carry : (m : Message Definition) → definition_of (texts m) ≡ option_map canon (definition_of m)

@@ -12,7 +12,7 @@ use crate::kind::Kind;
 use crate::message::Message;
 use std::alloc::Global;
 use wf_ballot::{Ballot, split_ballot, split_node, split_slot};
-use wf_canon::{Canon, CanonFault};
+use wf_canon::{Canon, CanonFault, one_text_one_map};
 
 /// The message at the front of the bytes, and how many bytes it has. The bytes are judged from left to
 /// right, as early as they are there: the version, the kind, the body's length, whether the body is
@@ -44,6 +44,8 @@ pub fn decode(alloc: Global, bytes: &[u8]) -> Result<(Message, usize), DecodeFau
     // Memory runs out only over a text that the message carries.
     ensures memory { IsErrOf result DecodeFault.Memory → CarriesText bytes.now }
 {
+    // The law: equal texts are those of one map.
+    one_text_one_map();
     judge(alloc, bytes)
 }
 

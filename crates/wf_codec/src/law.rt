@@ -4,6 +4,7 @@ ghost use Rattle.wf_codec.specs.Spelling.{message_version, header_length};
 ghost use Rattle.wf_codec.specs.Law.{OneSpelling, NoneBeginsAnother, NoneIsEmpty, IsLongestBody};
 
 use crate::frame::{BODY_BYTES, HEADER_BYTES, VERSION};
+use wf_canon::one_text_one_map;
 
 /// A message has one spelling. A law about the definitions: the call does nothing.
 pub fn one_spelling()
@@ -14,7 +15,10 @@ pub fn one_spelling()
 /// definitions: the call does nothing.
 pub fn none_begins_another()
     ensures { NoneBeginsAnother }
-{}
+{
+    // Equal texts are those of one map.
+    one_text_one_map();
+}
 
 /// A message's spelling has at least one byte. A law about the definitions: the call does nothing.
 pub fn no_spelling_is_empty()

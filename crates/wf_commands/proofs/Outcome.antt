@@ -8,7 +8,7 @@ use Rattle.wf_canon.specs.declared.fault.CanonFault.{CanonFault}
 use Rattle.wf_commands.specs.Run.{IsReadingFault, IsWriting, IsOutcome, CountsReads, CountsWrites}
 use Rattle.wf_commands.specs.declared.fault.RunFault.{RunFault}
 use Rattle.wf_commands.specs.declared.fault.RunFault.TheVariants as faults
-use Rattle.wf_stream.proofs.Known.{keeps_same}
+use Rattle.wf_stream.specs.KnownLaws.{keeps_same}
 
 module _ (output : Definition → List ℕ) (refuses : CanonFault → Definition → Type 0) (input old new : Option (List ℕ)) where
   pub written_outcome : (result : Result (Unit {0}) RunFault) (d : Definition) → IfSome input (λ bytes. Means bytes d) → IsWithinLimits d

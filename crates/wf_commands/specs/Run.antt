@@ -13,6 +13,8 @@ use Rattle.wf_stream.specs.Reading.{Rises}
 use Rattle.wf_script.specs.Fault as script
 use Rattle.wf_script.specs.Lines.{most_script_bytes}
 use Rattle.wf_script.specs.Script.{IsScriptText}
+use Rattle.wf_serve.specs.Listening.{IsTold}
+use Rattle.wf_serve.specs.declared.fault.ServeFault.TheVariants as serving
 use Rattle.wf_commands.specs.declared.line.Line.{Line}
 use Rattle.wf_commands.specs.declared.line.Line.TheVariants as lines
 use Rattle.wf_commands.specs.declared.fault.RunFault.{RunFault}
@@ -129,11 +131,20 @@ CountsWrites _ old new = new ≡ old
 
 -- ---- nodes that are served
 
--- Why nodes aren't served: the line that names the port couldn't be written; else a tape didn't open, the port can't be had, or memory ran out.
-abbrev pub IsServeFault : RunFault → Type 0
-IsServeFault faults.Serve = Unit {0}
-IsServeFault faults.Write = Unit {0}
-IsServeFault (faults.Map fault) = ⊥
-IsServeFault (faults.Canon fault) = ⊥
-IsServeFault (faults.Script fault) = ⊥
-IsServeFault faults.Read = ⊥
+-- What is written where nodes are served at a port, and why they aren't: the line that names it, or a beginning of that where it couldn't be
+-- written; nothing where a tape didn't open, the port can't be had, or memory ran out.
+abbrev pub IsServing : ℕ → Option (List ℕ) → Option (List ℕ) → Result (Unit {0}) RunFault → Type 0
+IsServing asked old new (Ok done) = IsTold asked old new (Ok done)
+IsServing asked old new (Err faults.Write) = IsTold asked old new (Err serving.Write)
+IsServing asked old new (Err faults.Serve) = IsTold asked old new (Err serving.Start)
+IsServing asked old new (Err (faults.Map fault)) = ⊥
+IsServing asked old new (Err (faults.Canon fault)) = ⊥
+IsServing asked old new (Err (faults.Script fault)) = ⊥
+IsServing asked old new (Err faults.Read) = ⊥
+
+-- the same of a line: the port is the line's
+abbrev pub IsServed : Line → Option (List ℕ) → Option (List ℕ) → Result (Unit {0}) RunFault → Type 0
+IsServed (lines.Serve service) old new result = IsServing service.port old new result
+IsServed (lines.Caps seq query) old new result = ⊥
+IsServed lines.Canon old new result = ⊥
+IsServed lines.Run old new result = ⊥

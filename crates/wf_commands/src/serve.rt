@@ -1,7 +1,6 @@
 //! The command `serve`.
-ghost use Rattle.std.specs.Prelude.{IfErr};
 ghost use Rattle.wf_commands.specs.Line.{IsInRange, IsServe};
-ghost use Rattle.wf_commands.specs.Run.{CountsWrites, IsServeFault};
+ghost use Rattle.wf_commands.specs.Run.{CountsWrites, IsServed, IsServing};
 ghost use Rattle.wf_serve.specs.Service.{IsService};
 
 use crate::fault::RunFault;
@@ -11,9 +10,11 @@ use std::rt::Files;
 use wf_serve::{ServeFault, Service, serve};
 use wf_stream::Sink;
 
-/// Serves the nodes that a `serve` line asks for, as [`wf_serve::serve`] says, and writes the line `listening P` with the port.
+/// Serves the nodes that a `serve` line asks for, as [`wf_serve::serve`] says, and writes the line `listening P`: P is the
+/// line's port, or where that is 0 one that the system gives.
 ///
-/// `Serve` where a tape doesn't open, the port can't be had or memory ran out, and `Write` where the line can't be written.
+/// `Serve` where a tape doesn't open, the port can't be had or memory ran out: nothing is written then. `Write` where the line
+/// can't be written: a beginning of it may be.
 pub fn run_serve<R: Files + Net<Listener = TcpListener, Stream = TcpStream> + AllocGlobal, K: Sink>(
     rt: &R,
     line: &Line<'_>,
@@ -21,7 +22,7 @@ pub fn run_serve<R: Files + Net<Listener = TcpListener, Stream = TcpStream> + Al
 ) -> Result<(), RunFault>
     requires serve { IsServe line.now }
     requires range { IsInRange line.now }
-    ensures fault { IfErr result IsServeFault }
+    ensures told { IsServed line.now (K.written sink.old) (K.written sink.new) result }
     ensures writes { CountsWrites result (K.failures sink.old) (K.failures sink.new) }
 {
     match line {
@@ -37,7 +38,7 @@ fn serve_by<R: Files + Net<Listener = TcpListener, Stream = TcpStream> + AllocGl
     sink: &mut K,
 ) -> Result<(), RunFault>
     requires { IsService service }
-    ensures fault { IfErr result IsServeFault }
+    ensures told { IsServing service.entry.port (K.written sink.old) (K.written sink.new) result }
     ensures writes { CountsWrites result (K.failures sink.old) (K.failures sink.new) }
 {
     match serve(rt, service, sink) {

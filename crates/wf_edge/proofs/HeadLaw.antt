@@ -14,7 +14,7 @@ use Rattle.wf_edge.specs.declared.refusal.Refusal.{Refusal}
 use Rattle.wf_edge.specs.declared.refusal.Refusal.TheVariants as refusal
 use Rattle.wf_edge.specs.declared.fault.RequestFault.{RequestFault}
 use Rattle.wf_edge.specs.declared.fault.RequestFault.TheVariants as fault
-use Rattle.wf_stream.proofs.Known.{consumes_more}
+use Rattle.wf_stream.specs.KnownLaws.{consumes_more}
 
 -- ---- what the parser answers
 

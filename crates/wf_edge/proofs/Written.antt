@@ -6,7 +6,7 @@ use Rattle.std.proofs.lemmas.List.{append_assoc, take-append-le, length-append}
 use Rattle.std.proofs.Math.Seq.{take-append-add}
 use Rattle.http.specs.StatusCode.{code_digits}
 use Rattle.wf_edge.specs.Response.{Response, line, reason, allow_line, head_bytes, IsProgress}
-use Rattle.wf_stream.proofs.Known.{appends_none, appends_more}
+use Rattle.wf_stream.specs.KnownLaws.{appends_none, appends_more}
 
 -- a piece was written
 pub piece_written : (start old new : Option (List ℕ)) (bytes piece : List ℕ) (before after : ℕ) → Appends old new piece

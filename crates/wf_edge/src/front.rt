@@ -73,7 +73,7 @@ fn ended(bytes: &[u8]) -> RequestFault
 }
 
 // Reads a further piece, and looks for a head in what has come.
-#[tactic(auto, using(crate::proofs::HeadLaw::fault_at_end, crate::proofs::HeadLaw::nothing_more, wf_stream::proofs::Known::piece_length))]
+#[tactic(auto, using(crate::proofs::HeadLaw::fault_at_end, crate::proofs::HeadLaw::nothing_more, wf_stream::specs::KnownLaws::piece_length))]
 fn read_more<S: Source>(source: &mut S, bytes: &mut Vec<u8>) -> Result<Option<Parts>, RequestFault>
     requires room { length bytes.old.items < most_head_bytes }
     requires unfinished { IsUnfinished bytes.old.items }

@@ -21,7 +21,7 @@ pub fn say<K: Sink>(sink: &mut K, response: &Response<'_>) -> Outcome
 
 /// Where there is no request: writes the refusal, or 503 where memory ran out. Nothing is written where the input is empty or a read
 /// failed. It takes no memory.
-#[tactic(auto, using(wf_stream::proofs::Known::keeps_same))]
+#[tactic(auto, using(wf_stream::specs::KnownLaws::keeps_same))]
 pub fn say_fault<K: Sink>(sink: &mut K, fault: RequestFault) -> Outcome
     ensures said { IsFaultSaid fault (K.written sink.old) (K.written sink.new) result }
     ensures writes { CountsSaying result (K.failures sink.old) (K.failures sink.new) }

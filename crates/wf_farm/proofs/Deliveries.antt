@@ -29,7 +29,9 @@ use Rattle.wf_farm.specs.Delivering.{AnyPart, StandFor, IsNodeBy, IsNode, AreNod
 use Rattle.wf_farm.specs.Progress.{next}
 use Rattle.wf_farm.specs.Pump.{most_deliveries}
 use Rattle.wf_farm.specs.Turn.{node_after, messages_of, node_torn}
-use Rattle.wf_farm.proofs.Events.{get_set_same, get_set_other, sent_message}
+use Rattle.wf_farm.specs.DeliveringLaws.{keeps_turn}
+use Rattle.wf_farm.specs.PlaceLaws.{get_set_same, get_set_other, set_there}
+use Rattle.wf_farm.proofs.Events.{sent_message}
 use Rattle.wf_farm.proofs.Runs.{steps_more}
 use Rattle.wf_farm.proofs.Turns.{turn_goes, turn_is, turn_sets, torn_sets}
 
@@ -115,12 +117,6 @@ pub lost_by : {T : Type 0} (honest : Type 0) (images : T → List ℕ → Type 0
 lost_by honest images input node said quiet = delivering.Keeps refl quiet
 
 -- ---- lists with one entry set
-
--- what is set where an entry stands is there
-set_there : {A : Type 0} (xs : List A) (i : ℕ) (x y : A) → slice_get xs i ≡ Some y → slice_get (slice_set xs i x) i ≡ Some x
-set_there [] i x y e = absurd (none-some y e)
-set_there (z ∷ xs) zero x y e = refl
-set_there (z ∷ xs) (suc i) x y e = set_there xs i x y e
 
 -- ---- beginnings of published lists
 
@@ -325,20 +321,6 @@ module _ {T : Type 0} (nodes : List (Node T)) (i : ℕ) (node after : Node T) (a
         subst (λ k. slice_get (slice_set nodes i after) k ≡ Some n) (sym same) (set_there nodes i after node at ∙ ap Some as_before)
     | inr differs ↦ get_set_other nodes i j after differs ∙ e
   ]
-
-  pub keeps_turn : (after.id ≡ node.id) × (after.n ≡ node.n) → KeepTurn nodes (slice_set nodes i after)
-  unfolding StandAmong
-  keeps_turn stays = record {
-    as_many = length-set nodes i after;
-    in_turn = λ turns j n e. elim (cases_eq j i) [
-      | inl same ↦
-          let it : after ≡ n = get_set_same nodes i after node n at (subst (λ k. slice_get (slice_set nodes i after) k ≡ Some n) same e) in
-          (ap (λ (y : Node T). y.id) (sym it) ∙ stays.0 ∙ (turns i node at).0 ∙ sym same, ap (λ (y : Node T). y.n) (sym it) ∙ stays.1 ∙ (turns i node at).1 ∙ sym (length-set nodes i after))
-      | inr differs ↦
-          let there = turns j n (sym (get_set_other nodes i j after differs) ∙ e) in
-          (there.0, there.1 ∙ sym (length-set nodes i after))
-    ];
-  }
 
 -- what may be left of a failed node's tape, where it stands
 left_here : {T : Type 0} (images : T → List ℕ → Type 0) (nodes : List (Node T)) (left : ℕ → List ℕ) (i : ℕ) (node after : Node T) → slice_get nodes i ≡ Some node → MayLeave images (slice_set nodes i after) left →

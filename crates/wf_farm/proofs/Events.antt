@@ -18,6 +18,7 @@ use Rattle.wf_farm.specs.Fault.{told}
 use Rattle.wf_farm.specs.Place.{IsNode, IsMember, Stays, IsStepped, IsTornAt, KeepsMember, Stops, Restarts, Steps, DeniesStep, Tears, DeniesTear, number_in, turn_at}
 use Rattle.wf_farm.specs.Turn.{node_after, messages_of, node_torn, node_stopped, node_restarted}
 use Rattle.wf_farm.proofs.Turns.{set_same, turn_is, turn_absent, turn_unsent, refused_is, refused_absent, refused_unsent, turn_sets, torn_sets, stop_sets, restart_sets}
+use Rattle.wf_farm.specs.PlaceLaws.{get_set_same, get_set_other}
 
 -- ---- places and nodes
 
@@ -52,18 +53,6 @@ set_nodes (p ∷ places) (x ∷ nodes) zero place node are is = (is, are.1)
 set_nodes (p ∷ places) (x ∷ nodes) (suc i) place node are is = (are.0, set_nodes places nodes i place node are.1 is)
 
 -- ---- members
-
-pub get_set_same : {A : Type 0} (xs : List A) (i : ℕ) (x y z : A) → slice_get xs i ≡ Some y → slice_get (slice_set xs i x) i ≡ Some z → x ≡ z
-get_set_same [] i x y z e h = absurd (none-some y e)
-get_set_same (w ∷ xs) zero x y z e h = same_Some x z h
-get_set_same (w ∷ xs) (suc i) x y z e h = get_set_same xs i x y z e h
-
-pub get_set_other : {A : Type 0} (xs : List A) (i j : ℕ) (x : A) → (j ≡ i → ⊥) → slice_get (slice_set xs i x) j ≡ slice_get xs j
-get_set_other [] i j x differs = refl
-get_set_other (z ∷ xs) zero zero x differs = absurd (differs refl)
-get_set_other (z ∷ xs) zero (suc j) x differs = refl
-get_set_other (z ∷ xs) (suc i) zero x differs = refl
-get_set_other (z ∷ xs) (suc i) (suc j) x differs = get_set_other xs i j x (λ e. differs (ap suc e))
 
 -- nothing has changed
 pub same_members : (places : List Place) → KeepMembers places places

@@ -10,3 +10,5 @@ pub mod Pump
 pub mod Progress
 pub mod Answering
 pub mod Delivering
+pub mod PlaceLaws
+pub mod DeliveringLaws

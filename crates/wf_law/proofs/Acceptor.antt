@@ -2,14 +2,14 @@
 use Rattle.std.proofs.Common.{◌≡◌, ℕ, ◌<◌, Bool, true, false, List, [], ◌∷◌, Option, Some, None, refl, sym, subst, inl, inr, append-nil, leb-false, nat_le}
 use Rattle.std.proofs.lemmas.Bool.{false≢true}
 use Rattle.wf_ballot.specs.Ballot.{Ballot, below}
-use Rattle.wf_ballot.proofs.Order.{below-irreflexive, not_below-below}
+use Rattle.wf_ballot.specs.OrderLaws.{below-irreflexive, not_below-below}
 use Rattle.wf_model.specs.Message.{Vote, Message, Prepare, Promise, Accept, Accepted, Nack}
 use Rattle.wf_model.specs.Stored.{Stored, Record, Promised, published, promise_at, with_record, put}
 use Rattle.wf_model.specs.Stored as stored_part
 use Rattle.wf_model.specs.Working.{Working}
 use Rattle.wf_model.specs.Table.{store, quiet, says, stores, told, told_from, on_ask, is_above, is_refused, nack, promise_to, prepare_open, on_prepare, votes_at, vote_for, accept_open, on_accept, most_told}
 use Rattle.wf_model.specs.Chosen.{IsIn, Told}
-use Rattle.wf_model.proofs.Put.{put-same}
+use Rattle.wf_model.specs.PutLaws.{put-same}
 use Rattle.wf_law.specs.Laws.{vote_ballots, NotBelow, VoteNotBelow}
 use Rattle.wf_law.proofs.Facts.{Stands, StoredFacts, WorkingFacts, IsKnown, MaySend, NodeFacts, Sends, RowFacts}
 use Rattle.wf_law.proofs.Storing.{raised, with_promise, is_promised, store_promised, with_vote, is_accepted, store_accepted}

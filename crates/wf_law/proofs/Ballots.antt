@@ -2,7 +2,7 @@
 use Rattle.std.proofs.Common.{◌≡◌, ◌⊎◌, ℕ, ◌<◌, Bool, true, ◌==◌, nat_lt, ◌&&◌, not, refl, inl, inr, eqb-true, eq-eqb}
 use Rattle.std.proofs.lemmas.Bool.{and_parts, or_cases, cases_Bool, ltb-true}
 use Rattle.wf_ballot.specs.Ballot.{Ballot}
-use Rattle.wf_ballot.proofs.Order as order
+use Rattle.wf_ballot.specs.OrderLaws as order
 use Rattle.wf_model.specs.Working.{Phase, Preparing, Accepting, Proposal, and_node, same_ballot, same_phase, is_at}
 use Rattle.wf_model.specs.Table.{hears}
 

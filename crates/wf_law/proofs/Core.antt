@@ -4,8 +4,8 @@ use Rattle.std.proofs.Common.{◌≡◌, ◌⊎◌, ℕ, Bool, true, false, List
 use Rattle.std.proofs.lemmas.Bool.{both_ways}
 use Rattle.wf_ballot.specs.Ballot.{Ballot, below}
 use Rattle.wf_ballot.specs.Majority.{Majority}
-use Rattle.wf_ballot.proofs.Order.{below-total, below-induction, not_below-transitive}
-use Rattle.wf_ballot.proofs.Quorum.{majorities_meet}
+use Rattle.wf_ballot.specs.OrderLaws.{below-total, below-induction, not_below-transitive}
+use Rattle.wf_ballot.specs.QuorumLaws.{majorities_meet}
 use Rattle.wf_model.specs.Message.{Vote, Message, Accept}
 use Rattle.wf_model.specs.Chosen.{IsIn, Voted, IsChosen}
 use Rattle.wf_law.specs.Laws.{VoteNotBelow, IsWithin, HasPromised, IsTold, BestIsTold, IsCarried, IsBacked}

@@ -8,7 +8,7 @@ use Rattle.wf_model.specs.Table as table
 use Rattle.wf_model.specs.Table.{Row, store}
 use Rattle.wf_model.specs.World.{Node, World, Event, Propose, Retry, CatchUp, Deliver, Stop, Restart, Torn, Kept, Before, After, Turn, stored_after, kept_part, with_node, after_turn, after_torn, stop_running, after_stop, restart_stopped, after_restart, turn, happens, steps, start, after}
 use Rattle.wf_model.specs.Chosen.{history_of, history}
-use Rattle.wf_model.proofs.Steps.{steps_in_turn}
+use Rattle.wf_model.specs.StepsLaws.{steps_in_turn}
 use Rattle.wf_law.specs.Laws.{IsBeginning}
 use Rattle.wf_law.proofs.Worlds.{get-set_same, get-set_other, WorldFacts, SomeTurnFacts, turn_facts, happens_facts, after_facts}
 

@@ -4,7 +4,7 @@ use Rattle.std.specs.Prelude.{⊤}
 use Rattle.std.proofs.lemmas.Bool.{false≢true}
 use Rattle.wf_ballot.specs.Ballot.{Ballot, below}
 use Rattle.wf_ballot.specs.Majority.{count_nodes, is_majority_of}
-use Rattle.wf_ballot.proofs.Order.{below-irreflexive, below-asymmetric, not_below-below}
+use Rattle.wf_ballot.specs.OrderLaws.{below-irreflexive, below-asymmetric, not_below-below}
 use Rattle.wf_ballot.specs.Sequence.{last_sequence}
 use Rattle.wf_model.specs.Message.{Vote, Message, Prepare, Promise, Accept, Accepted, Nack, Chosen, Ask}
 use Rattle.wf_model.specs.Stored.{Stored, Tried, Published, published, next_sequence, with_record}

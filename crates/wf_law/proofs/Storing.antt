@@ -3,12 +3,12 @@ use Rattle.std.proofs.Common.{◌≡◌, ◌⊎◌, ℕ, zero, suc, ◌+◌, ◌
 use Rattle.std.proofs.lemmas.Bool.{cases_eq}
 use Rattle.std.proofs.lemmas.Option.{none-some, same_Some}
 use Rattle.wf_ballot.specs.Ballot.{Ballot, below}
-use Rattle.wf_ballot.proofs.Order.{below-irreflexive, below-asymmetric, not_below-transitive}
+use Rattle.wf_ballot.specs.OrderLaws.{below-irreflexive, below-asymmetric, not_below-transitive}
 use Rattle.wf_model.specs.Message.{Vote, Message, Accept}
 use Rattle.wf_model.specs.Stored.{Stored, Tried, Promised, Accepted, Published, published, definition_at, put, promise_at, with_record}
 use Rattle.wf_model.specs.Table.{is_above, is_refused}
 use Rattle.wf_model.specs.Chosen.{IsIn, IsChosen}
-use Rattle.wf_model.proofs.Put.{put-same, put-other, at_put}
+use Rattle.wf_model.specs.PutLaws.{put-same, put-other, at_put}
 use Rattle.wf_law.specs.Laws.{NotBelow, VoteNotBelow}
 use Rattle.wf_law.proofs.Facts.{Stands, IsAsked, StoredFacts}
 

@@ -14,14 +14,3 @@ bind_same (Some x) f g same = same x
 pub bind_none : {A B : Type 0} (o : Option A) (f : A → Option B) → ((x : A) → f x ≡ None) → (o >>= f) ≡ None
 bind_none None f none = refl
 bind_none (Some x) f none = none x
-
--- neither of two readers needs what the other gave
-pub bind_swap : {A B C : Type 0} (o : Option A) (p : Option B) (f : A → B → Option C) → (o >>= λ x. p >>= λ y. f x y) ≡ (p >>= λ y. o >>= λ x. f x y)
-bind_swap None None f = refl
-bind_swap None (Some y) f = refl
-bind_swap (Some x) None f = refl
-bind_swap (Some x) (Some y) f = refl
-
--- where what comes next is nothing, a reader gives nothing
-pub refused : {A B : Type 0} (o : Option A) → ◌>>=◌ {A = A} {B = B} o (λ x. None) ≡ None
-refused o = bind_none o _ (λ x. refl)

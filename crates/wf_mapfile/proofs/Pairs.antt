@@ -10,7 +10,7 @@ use Rattle.wf_mapfile.specs.declared.slots.Metadata.{Metadata}
 use Rattle.wf_token.specs.Token.{Token}
 use Rattle.wf_mapfile.specs.Grammar.{◌>>=◌, text, end}
 use Rattle.wf_mapfile.specs.Metadata.{pairs, all_differ, value_at, kept, metadata}
-use Rattle.wf_mapfile.specs.Slots.{keep, new_pair, collect}
+use Rattle.wf_mapfile.specs.Pairs.{keep, new_pair, collect}
 use Rattle.wf_mapfile.specs.Web.{no_metadata}
 use Rattle.wf_mapfile.proofs.Options.{bind_assoc, bind_same, bind_none}
 

@@ -1,6 +1,6 @@
 -- Readers of tokens: each gives what stands at the front of a list of tokens, with the tokens after it, or
 -- nothing where that isn't there. The blocks of a mapfile are made of them.
-use Rattle.std.specs.Prelude.{ℕ, zero, suc, Bool, if◌then◌else◌, ℤ, List, [], ◌∷◌, length, codes, Option, Some, None}
+use Rattle.std.specs.Prelude.{ℕ, Bool, if◌then◌else◌, ℤ, List, [], ◌∷◌, codes, Option, Some, None}
 use Rattle.std.specs.Result.{result_ok}
 use Rattle.std.specs.Str.{str_eq_ignore_ascii_case}
 use Rattle.wf_def.specs.Number as micro
@@ -67,33 +67,3 @@ unfoldable pub end : List Token → Option (List Token)
 end tokens = do
   x ← word tokens
   if is_end x.0 then Some x.1 else None
-
--- What a block holds, up to its END: at most so many items, each a keyword and what it asks for.
-unfoldable pub block_items : {K I : Type 0} → (List ℕ → Option K) → (K → List Token → Option (I × List Token)) → ℕ → List Token → Option (List I × List Token)
-block_items keyword item zero tokens = None
-block_items keyword item (suc most) tokens = do
-  x ← word tokens
-  if is_end x.0 then Some ([], x.1) else (do
-    k ← keyword x.0
-    first ← item k x.1
-    others ← block_items keyword item most first.1
-    Some (first.0 ∷ others.0, others.1))
-
--- a block: each of its items has a token at least
-abbrev pub block : {K I A : Type 0} → (List ℕ → Option K) → (K → List Token → Option (I × List Token)) → (List I → Option A) → List Token → Option (A × List Token)
-block keyword item value_of tokens = do
-  x ← block_items keyword item (length tokens) tokens
-  value ← value_of x.0
-  Some (value, x.1)
-
--- what a keyword said that comes at most once
-unfoldable pub at_most_one : {A : Type 0} → List A → Option (Option A)
-at_most_one [] = Some None
-at_most_one (x ∷ []) = Some (Some x)
-at_most_one (x ∷ y ∷ xs) = None
-
--- what a keyword said that comes exactly once
-unfoldable pub exactly_one : {A : Type 0} → List A → Option A
-exactly_one [] = None
-exactly_one (x ∷ []) = Some x
-exactly_one (x ∷ y ∷ xs) = None

@@ -1,5 +1,5 @@
 -- LABEL: how a feature's text is drawn.
-use Rattle.std.specs.Prelude.{ℕ, Bool, true, false, List, [], ◌∷◌, codes, Option, Some, None, filter_map, unwrap_or}
+use Rattle.std.specs.Prelude.{ℕ, Bool, true, false, List, [], ◌∷◌, codes, Option, Some, None, unwrap_or}
 use Rattle.wf_def.specs.declared.color.Color.{Color}
 use Rattle.wf_def.specs.declared.choice.LabelSize.{LabelSize}
 use Rattle.wf_def.specs.declared.choice.LabelSize.TheVariants.{Tiny, Small, Medium, Large, Giant}
@@ -7,31 +7,11 @@ use Rattle.wf_def.specs.declared.choice.LabelPosition.{LabelPosition}
 use Rattle.wf_def.specs.declared.choice.LabelPosition.TheVariants.{UpperLeft, UpperCenter, UpperRight, CenterLeft, CenterCenter, CenterRight, LowerLeft, LowerCenter, LowerRight}
 use Rattle.wf_def.specs.Limit.{most_priority, most_buffer}
 use Rattle.wf_def.specs.Definition.{LabelDefinition}
-use Rattle.wf_mapfile.specs.declared.keyword.label.LabelKeyword.{LabelKeyword}
-use Rattle.wf_mapfile.specs.declared.keyword.label.LabelKeyword.TheVariants as keyword
+use Rattle.wf_mapfile.specs.declared.slots.label.LabelSlots.{LabelSlots}
 use Rattle.wf_token.specs.Token.{Token}
-use Rattle.wf_mapfile.specs.Grammar.{◌>>=◌, choice, chosen, whole, block, at_most_one}
+use Rattle.wf_mapfile.specs.Grammar.{◌>>=◌, chosen, whole}
+use Rattle.wf_mapfile.specs.Steps.{once, step_by, block}
 use Rattle.wf_mapfile.specs.Color.{color}
-
--- what a keyword of LABEL says: free space in pixels; the last is dropped
-pub data LabelItem : Type 0 where
-  Colored : Color → LabelItem
-  Size : LabelSize → LabelItem
-  Position : LabelPosition → LabelItem
-  Priority : ℕ → LabelItem
-  Force : Bool → LabelItem
-  Buffer : ℕ → LabelItem
-  Kind : LabelItem
-
-unfoldable pub label_keyword : List ℕ → Option LabelKeyword
-label_keyword word = choice (
-    (codes "COLOR", keyword.Color) ∷
-    (codes "SIZE", keyword.Size) ∷
-    (codes "POSITION", keyword.Position) ∷
-    (codes "PRIORITY", keyword.Priority) ∷
-    (codes "FORCE", keyword.Force) ∷
-    (codes "BUFFER", keyword.Buffer) ∷
-    (codes "TYPE", keyword.Type) ∷ []) word
 
 abbrev pub label_sizes : List (List ℕ × LabelSize)
 label_sizes =
@@ -72,83 +52,36 @@ truth tokens = chosen truths tokens
 unfoldable pub label_kind : List Token → Option (Unit {0} × List Token)
 label_kind tokens = chosen label_kinds tokens
 
-unfoldable pub label_item : LabelKeyword → List Token → Option (LabelItem × List Token)
-label_item keyword.Color tokens = do
-  x ← color tokens
-  Some (Colored x.0, x.1)
-label_item keyword.Size tokens = do
-  x ← label_size tokens
-  Some (Size x.0, x.1)
-label_item keyword.Position tokens = do
-  x ← label_position tokens
-  Some (Position x.0, x.1)
-label_item keyword.Priority tokens = do
-  x ← whole 1 most_priority tokens
-  Some (Priority x.0, x.1)
-label_item keyword.Force tokens = do
-  x ← truth tokens
-  Some (Force x.0, x.1)
-label_item keyword.Buffer tokens = do
-  x ← whole 0 most_buffer tokens
-  Some (Buffer x.0, x.1)
-label_item keyword.Type tokens = do
-  x ← label_kind tokens
-  Some (Kind, x.1)
+-- what a keyword says beside what was said: each comes at most once, and the last is dropped
+unfoldable pub label_put : LabelSlots → List ℕ → List Token → Option (LabelSlots × List Token)
+label_put said = step_by (
+    (codes "COLOR", once said.color color (λ x. record said { color = Some x })) ∷
+    (codes "SIZE", once said.size label_size (λ x. record said { size = Some x })) ∷
+    (codes "POSITION", once said.position label_position (λ x. record said { position = Some x })) ∷
+    (codes "PRIORITY", once said.priority (whole 1 most_priority) (λ x. record said { priority = Some x })) ∷
+    (codes "FORCE", once said.force truth (λ x. record said { force = Some x })) ∷
+    (codes "BUFFER", once said.buffer (whole 0 most_buffer) (λ x. record said { buffer = Some x })) ∷
+    (codes "TYPE", once said.kind label_kind (λ x. record said { kind = Some x })) ∷ [])
 
-abbrev pub color_of : LabelItem → Option Color
-color_of (Colored x) = Some x
-color_of _ = None
-
-abbrev pub size_of : LabelItem → Option LabelSize
-size_of (Size x) = Some x
-size_of _ = None
-
-abbrev pub position_of : LabelItem → Option LabelPosition
-position_of (Position x) = Some x
-position_of _ = None
-
-abbrev pub priority_of : LabelItem → Option ℕ
-priority_of (Priority x) = Some x
-priority_of _ = None
-
-abbrev pub force_of : LabelItem → Option Bool
-force_of (Force x) = Some x
-force_of _ = None
-
-abbrev pub buffer_of : LabelItem → Option ℕ
-buffer_of (Buffer x) = Some x
-buffer_of _ = None
-
-abbrev pub kind_of : LabelItem → Option (Unit {0})
-kind_of Kind = Some tt
-kind_of _ = None
+abbrev pub no_label : LabelSlots
+no_label = record { color = None; size = None; position = None; priority = None; force = None; buffer = None; kind = None }
 
 abbrev pub black : Color
 black = record { r = 0; g = 0; b = 0 }
 
 -- a label from what was said, with defaults for what wasn't
-unfoldable pub label_definition : Option Color → Option LabelSize → Option LabelPosition → Option ℕ → Option Bool → Option ℕ → LabelDefinition
-label_definition color size position priority force buffer = record {
-  color = unwrap_or color black;
-  size = unwrap_or size Medium;
-  position = unwrap_or position CenterCenter;
-  priority = unwrap_or priority 1;
-  force = unwrap_or force false;
-  buffer = unwrap_or buffer 0;
+unfoldable pub label_of : LabelSlots → LabelDefinition
+label_of said = record {
+  color = unwrap_or said.color black;
+  size = unwrap_or said.size Medium;
+  position = unwrap_or said.position CenterCenter;
+  priority = unwrap_or said.priority 1;
+  force = unwrap_or said.force false;
+  buffer = unwrap_or said.buffer 0;
 }
-
--- each keyword comes at most once
-unfoldable pub label_of : List LabelItem → Option LabelDefinition
-label_of items = do
-  color ← at_most_one (filter_map color_of items)
-  size ← at_most_one (filter_map size_of items)
-  position ← at_most_one (filter_map position_of items)
-  priority ← at_most_one (filter_map priority_of items)
-  force ← at_most_one (filter_map force_of items)
-  buffer ← at_most_one (filter_map buffer_of items)
-  kind ← at_most_one (filter_map kind_of items)
-  Some (label_definition color size position priority force buffer)
 
 -- what follows the word LABEL, up to its END
 unfoldable pub label : List Token → Option (LabelDefinition × List Token)
-label tokens = block label_keyword label_item label_of tokens
+label tokens = do
+  x ← block label_put no_label tokens
+  Some (label_of x.0, x.1)

@@ -1,52 +1,24 @@
 -- LAYER: a layer with its name.
-use Rattle.std.specs.Prelude.{◌≡◌, ◌↔◌, ℕ, Bool, true, not, ◌&&◌, ◌==◌, nat_lt, if◌then◌else◌, List, [], ◌∷◌, length, take, drop, codes, Option, Some, None, filter_map, unwrap_or}
+use Rattle.std.specs.Prelude.{◌≡◌, ◌↔◌, ℕ, ◌-◌, Bool, true, not, ◌&&◌, ◌==◌, nat_lt, if◌then◌else◌, List, [], ◌∷◌, length, take, drop, codes, Option, Some, None, sum_by, unwrap_or}
 use Rattle.std.specs.List.{list_any}
 use Rattle.std.specs.Str.{str_eq_ignore_ascii_case}
-use Rattle.wf_def.specs.Definition.{ClassDefinition, FeatureDefinition, LayerDefinition}
+use Rattle.wf_def.specs.Definition.{LayerDefinition}
 use Rattle.wf_def.specs.Layer as def
 use Rattle.wf_def.specs.Text.{IsText}
-use Rattle.wf_def.specs.Limits.{IsLayerName}
+use Rattle.wf_def.specs.Limits.{IsLayerName, has_layer, points_of_feature, feature_count, point_count}
 use Rattle.wf_def.specs.declared.choice.LayerKind.{LayerKind}
 use Rattle.wf_def.specs.declared.choice.LayerKind.TheVariants as kind
-use Rattle.wf_def.specs.Limit.{most_classes}
-use Rattle.wf_mapfile.specs.declared.keyword.layer.LayerKeyword.{LayerKeyword}
-use Rattle.wf_mapfile.specs.declared.keyword.layer.LayerKeyword.TheVariants as keyword
-use Rattle.wf_mapfile.specs.declared.slots.Metadata as kept
+use Rattle.wf_def.specs.Limit.{most_classes, most_features, most_points}
+use Rattle.wf_mapfile.specs.declared.slots.layer.LayerDropped.{LayerDropped}
+use Rattle.wf_mapfile.specs.declared.slots.layer.LayerOnce.{LayerOnce}
+use Rattle.wf_mapfile.specs.declared.slots.layer.LayerSlots.{LayerSlots}
 use Rattle.wf_token.specs.Token.{Token}
-use Rattle.wf_mapfile.specs.Grammar.{◌>>=◌, choice, text, chosen, block, at_most_one, exactly_one}
-use Rattle.wf_mapfile.specs.Lists.{no_more_than}
+use Rattle.wf_mapfile.specs.Grammar.{◌>>=◌, text, chosen}
+use Rattle.wf_mapfile.specs.Steps.{once, again, step_by, step_or, put_into, block}
 use Rattle.wf_mapfile.specs.Metadata.{metadata}
 use Rattle.wf_mapfile.specs.Web.{no_metadata}
 use Rattle.wf_mapfile.specs.Class.{class}
 use Rattle.wf_mapfile.specs.Feature.{feature}
-
--- what a keyword of LAYER says; the last three are dropped
-pub data LayerItem : Type 0 where
-  Name : List ℕ → LayerItem
-  Kind : LayerKind → LayerItem
-  ClassItem : List ℕ → LayerItem
-  LabelItem : List ℕ → LayerItem
-  Items : List ℕ → LayerItem
-  Metadata : kept.Metadata → LayerItem
-  Class : ClassDefinition → LayerItem
-  Feature : FeatureDefinition → LayerItem
-  Status : LayerItem
-  Units : LayerItem
-  Template : LayerItem
-
-unfoldable pub layer_keyword : List ℕ → Option LayerKeyword
-layer_keyword word = choice (
-    (codes "NAME", keyword.Name) ∷
-    (codes "TYPE", keyword.Type) ∷
-    (codes "CLASSITEM", keyword.ClassItem) ∷
-    (codes "LABELITEM", keyword.LabelItem) ∷
-    (codes "PROCESSING", keyword.Processing) ∷
-    (codes "METADATA", keyword.Metadata) ∷
-    (codes "CLASS", keyword.Class) ∷
-    (codes "FEATURE", keyword.Feature) ∷
-    (codes "STATUS", keyword.Status) ∷
-    (codes "UNITS", keyword.Units) ∷
-    (codes "TEMPLATE", keyword.Template) ∷ []) word
 
 -- whether a text may stand in a list between commas (44): it isn't empty and has no comma
 unfoldable pub is_layer_name : List ℕ → Bool
@@ -77,107 +49,65 @@ processing tokens = do
   x ← text tokens
   if str_eq_ignore_ascii_case (take 6 x.0) (codes "ITEMS=") then Some (drop 6 x.0, x.1) else None
 
-unfoldable pub layer_item : LayerKeyword → List Token → Option (LayerItem × List Token)
-layer_item keyword.Name tokens = do
+-- a layer's name that none of the layers before it has
+unfoldable pub new_name : List (List ℕ × LayerDefinition) → List Token → Option (List ℕ × List Token)
+new_name others tokens = do
   x ← layer_name tokens
-  Some (Name x.0, x.1)
-layer_item keyword.Type tokens = do
-  x ← layer_kind tokens
-  Some (Kind x.0, x.1)
-layer_item keyword.ClassItem tokens = do
-  x ← text tokens
-  Some (ClassItem x.0, x.1)
-layer_item keyword.LabelItem tokens = do
-  x ← text tokens
-  Some (LabelItem x.0, x.1)
-layer_item keyword.Processing tokens = do
-  x ← processing tokens
-  Some (Items x.0, x.1)
-layer_item keyword.Metadata tokens = do
-  x ← metadata tokens
-  Some (Metadata x.0, x.1)
-layer_item keyword.Class tokens = do
-  x ← class tokens
-  Some (Class x.0, x.1)
-layer_item keyword.Feature tokens = do
-  x ← feature tokens
-  Some (Feature x.0, x.1)
-layer_item keyword.Status tokens = do
-  x ← text tokens
-  Some (Status, x.1)
-layer_item keyword.Units tokens = do
-  x ← text tokens
-  Some (Units, x.1)
-layer_item keyword.Template tokens = do
-  x ← text tokens
-  Some (Template, x.1)
+  if has_layer others x.0 then None else Some x
 
-abbrev pub name_of : LayerItem → Option (List ℕ)
-name_of (Name x) = Some x
-name_of _ = None
+-- how many features and points the map may have behind these layers
+unfoldable pub features_left : List (List ℕ × LayerDefinition) → ℕ
+features_left layers = most_features - feature_count layers
 
-abbrev pub kind_of : LayerItem → Option LayerKind
-kind_of (Kind x) = Some x
-kind_of _ = None
+unfoldable pub points_left : List (List ℕ × LayerDefinition) → ℕ
+points_left layers = most_points - point_count layers
 
-abbrev pub class_item_of : LayerItem → Option (List ℕ)
-class_item_of (ClassItem x) = Some x
-class_item_of _ = None
+-- what a keyword says whose text is dropped: each comes at most once
+unfoldable pub layer_dropped : LayerDropped → List ℕ → List Token → Option (LayerDropped × List Token)
+layer_dropped said = step_by (
+    (codes "STATUS", once said.status text (λ x. record said { status = Some tt })) ∷
+    (codes "UNITS", once said.units text (λ x. record said { units = Some tt })) ∷
+    (codes "TEMPLATE", once said.template text (λ x. record said { template = Some tt })) ∷ [])
 
-abbrev pub label_item_of : LayerItem → Option (List ℕ)
-label_item_of (LabelItem x) = Some x
-label_item_of _ = None
+-- what a keyword says that comes at most once, beside what was said, behind these layers: a name is none of theirs
+unfoldable pub layer_once : List (List ℕ × LayerDefinition) → LayerOnce → List ℕ → List Token → Option (LayerOnce × List Token)
+layer_once others said = step_or (
+    (codes "NAME", once said.name (new_name others) (λ x. record said { name = Some x })) ∷
+    (codes "TYPE", once said.kind layer_kind (λ x. record said { kind = Some x })) ∷
+    (codes "CLASSITEM", once said.class_item text (λ x. record said { class_item = Some x })) ∷
+    (codes "LABELITEM", once said.label_item text (λ x. record said { label_item = Some x })) ∷
+    (codes "PROCESSING", once said.items processing (λ x. record said { items = Some x })) ∷
+    (codes "METADATA", once said.metadata metadata (λ x. record said { metadata = Some x })) ∷ [])
+    (λ keyword tokens. put_into (λ x. record said { dropped = x }) (layer_dropped said.dropped keyword tokens))
 
-abbrev pub items_of : LayerItem → Option (List ℕ)
-items_of (Items x) = Some x
-items_of _ = None
+-- what a keyword says beside what was said, behind these layers: no more features and points than the map may still have
+unfoldable pub layer_put : List (List ℕ × LayerDefinition) → LayerSlots → List ℕ → List Token → Option (LayerSlots × List Token)
+layer_put others said = step_or (
+    (codes "CLASS", again most_classes said.classes class (λ more. record said { classes = more })) ∷
+    (codes "FEATURE", again (features_left others) said.features (feature (points_left others - sum_by points_of_feature said.features)) (λ more. record said { features = more })) ∷ [])
+    (λ keyword tokens. put_into (λ x. record said { single = x }) (layer_once others said.single keyword tokens))
 
-abbrev pub metadata_of : LayerItem → Option kept.Metadata
-metadata_of (Metadata x) = Some x
-metadata_of _ = None
+abbrev pub no_layer_dropped : LayerDropped
+no_layer_dropped = record { status = None; units = None; template = None }
 
-abbrev pub said_class : LayerItem → Option ClassDefinition
-said_class (Class x) = Some x
-said_class _ = None
+abbrev pub no_layer_once : LayerOnce
+no_layer_once = record { name = None; kind = None; class_item = None; label_item = None; items = None; metadata = None; dropped = no_layer_dropped }
 
-abbrev pub said_feature : LayerItem → Option FeatureDefinition
-said_feature (Feature x) = Some x
-said_feature _ = None
+abbrev pub no_layer : LayerSlots
+no_layer = record { classes = []; features = []; single = no_layer_once }
 
-abbrev pub status_of : LayerItem → Option (Unit {0})
-status_of Status = Some tt
-status_of _ = None
+-- a layer with its name from what was said: NAME and TYPE must be, the title is the name where none was, the other texts are empty
+unfoldable pub layer_of : LayerSlots → Option (List ℕ × LayerDefinition)
+layer_of said = do
+  name ← said.single.name
+  kind ← said.single.kind
+  let title = unwrap_or (unwrap_or said.single.metadata no_metadata).title name
+  l ← def.layer_of kind title (unwrap_or said.single.class_item []) (unwrap_or said.single.label_item []) (unwrap_or said.single.items []) said.classes said.features
+  Some (name, l)
 
-abbrev pub units_of : LayerItem → Option (Unit {0})
-units_of Units = Some tt
-units_of _ = None
-
-abbrev pub template_of : LayerItem → Option (Unit {0})
-template_of Template = Some tt
-template_of _ = None
-
--- a layer with its name from what was said, with defaults for what wasn't: the title is the name, the other texts
--- are empty
-unfoldable pub named_layer : List ℕ → LayerKind → Option (List ℕ) → Option (List ℕ) → Option (List ℕ) → kept.Metadata → List ClassDefinition → List FeatureDefinition → Option (List ℕ × LayerDefinition)
-named_layer name kind class_item label_item items metadata classes features =
-    def.layer_of kind (unwrap_or metadata.title name) (unwrap_or class_item []) (unwrap_or label_item []) (unwrap_or items []) classes features
-    >>= λ l. Some (name, l)
-
--- each keyword but CLASS and FEATURE comes at most once, NAME and TYPE must come
-unfoldable pub layer_of_items : List LayerItem → Option (List ℕ × LayerDefinition)
-layer_of_items all = do
-  name ← exactly_one (filter_map name_of all)
-  kind ← exactly_one (filter_map kind_of all)
-  class_item ← at_most_one (filter_map class_item_of all)
-  label_item ← at_most_one (filter_map label_item_of all)
-  items ← at_most_one (filter_map items_of all)
-  metadata ← at_most_one (filter_map metadata_of all)
-  classes ← no_more_than most_classes (filter_map said_class all)
-  status ← at_most_one (filter_map status_of all)
-  units ← at_most_one (filter_map units_of all)
-  template ← at_most_one (filter_map template_of all)
-  named_layer name kind class_item label_item items (unwrap_or metadata no_metadata) classes (filter_map said_feature all)
-
--- what follows the word LAYER, up to its END
-unfoldable pub layer : List Token → Option ((List ℕ × LayerDefinition) × List Token)
-layer tokens = block layer_keyword layer_item layer_of_items tokens
+-- what follows the word LAYER, up to its END, behind these layers
+unfoldable pub layer : List (List ℕ × LayerDefinition) → List Token → Option ((List ℕ × LayerDefinition) × List Token)
+layer others tokens = do
+  x ← block (layer_put others) no_layer tokens
+  l ← layer_of x.0
+  Some (l, x.1)

@@ -1,29 +1,50 @@
 //! Blocks: keywords, each with what it asks for, up to END.
-ghost use Rattle.std.specs.Prelude.{◌≡◌, false, is_some, length, true, MatchResult};
-ghost use Rattle.wf_mapfile.specs.Reading.{Gives, fill};
+ghost use Rattle.std.specs.Prelude.{◌≡◌, false, is_some, length, true, MatchResult, OnOk};
+ghost use Rattle.wf_mapfile.specs.Reading.{Gives};
+ghost use Rattle.wf_mapfile.specs.Steps.{fill};
 
 use crate::fault::MapFault;
 use crate::keyword::is_end;
 use crate::parser::Parser;
 use wf_token::token::Token;
 
-/// What a block's keywords fill.
+/// A block while it is read: what its keywords said so far, within what they may say.
 pub trait Slots {
-    ghost use Rattle.std.specs.Prelude.{ℕ, List, Option};
+    ghost use Rattle.std.specs.Prelude.{◌≡◌, ℕ, List, Option, OnOk};
     ghost use Rattle.wf_token.specs.Token.{Token};
     ghost use Rattle.wf_mapfile.specs.Reading.{Gives};
 
-    ghost put: { Self → List ℕ → List Token → Option (Self × List Token) };
+    // What was said, in the words of the block's definition.
+    ghost Said: { Type 0 };
+
+    ghost said: { Self → Said };
+
+    // What limits the block from outside, as the layers before a layer; nothing for most.
+    ghost Within: { Type 0 };
+
+    ghost within: { Self → Within };
+
+    // The definition of the block: what a keyword says beside what was said.
+    ghost put: { Within → Said → List ℕ → List Token → Option (Said × List Token) };
+
+    // What is known of the block beside what was said.
+    ghost Holds: { Self → Type 0 } = { λ _. Unit {0} };
 
     /// Reads what a keyword asks for, and keeps it.
     fn take(&mut self, keyword: Token<'_>, parser: &mut Parser<'_>) -> Result<(), MapFault>
-        ensures { Gives (λ _. (self.new, parser.new)) result (put self.old keyword.entry.text.now parser.old) };
+        requires holds { Holds self.old }
+        ensures read { Gives (λ _. (said self.new, parser.new)) result (put (within self.old) (said self.old) keyword.entry.text.now parser.old) }
+        ensures within { OnOk result (within self.new ≡ within self.old) }
+        ensures holds { OnOk result (Holds self.new) };
 }
 
-/// Fills the slots up to the block's END, and reads it.
+/// Reads keywords up to the block's END, and keeps what they ask for.
 #[tactic(auto, using(crate::proofs::Blocks::fill_step, crate::proofs::Blocks::fill_past))]
 pub fn fill_block<S: Slots>(parser: &mut Parser<'_>, slots: &mut S) -> Result<(), MapFault>
-    ensures { Gives (λ _. (slots.new, parser.new)) result (fill S.put (length parser.old) slots.old parser.old) }
+    requires holds { S.Holds slots.old }
+    ensures read { Gives (λ _. (S.said slots.new, parser.new)) result (fill (S.put (S.within slots.old)) (length parser.old) (S.said slots.old) parser.old) }
+    ensures within { OnOk result (S.within slots.new ≡ S.within slots.old) }
+    ensures holds { OnOk result (S.Holds slots.new) }
 {
     for _ in 0..parser.len() {
         let word = parser.word()?;
@@ -35,7 +56,7 @@ pub fn fill_block<S: Slots>(parser: &mut Parser<'_>, slots: &mut S) -> Result<()
     Err(parser.missing_end())
 }
 
-/// Refuses a keyword whose slot is filled already.
+/// Refuses a keyword that was said already.
 pub fn vacant<T>(slot: &Option<T>, place: usize) -> Result<(), MapFault>
     ensures { MatchResult result (λ _. is_some slot.now ≡ false) (λ _. is_some slot.now ≡ true) }
 {

@@ -1,16 +1,15 @@
 //! CLASS: which features are drawn alike, and how.
-ghost use Rattle.std.specs.Prelude.{◌≡◌, [], IfOk, MatchResult, None, false, length, nat_lt, true};
-ghost use Rattle.wf_mapfile.specs.Class.{begins_pattern, class, expression};
-ghost use Rattle.wf_mapfile.specs.ClassSlots.{class_filled};
+ghost use Rattle.std.specs.Prelude.{◌≡◌, IfOk, MatchResult, false, length, nat_lt, true};
+ghost use Rattle.wf_mapfile.specs.Class.{begins_pattern, class, class_of, class_once, expression, no_class};
 ghost use Rattle.wf_mapfile.specs.Reading.{Gives, is_memory};
 ghost use Rattle.wf_def.specs.Limit.{most_styles};
 
 use crate::block::{Slots, fill_block, vacant};
 use crate::fault::MapFault;
-use crate::keyword::class::{ClassKeyword, class_keyword};
+use crate::keyword::is_name;
 use crate::map::text_or_empty;
 use crate::parser::Parser;
-use crate::slots::class::ClassSlots;
+use crate::slots::class::{ClassOnce, ClassSlots};
 use std::alloc::{AllocError, Global};
 use wf_def::class::{Class, Styles};
 use wf_def::text::Text;
@@ -18,32 +17,51 @@ use wf_token::lexer::is_slash;
 use wf_token::token::{Token, TokenKind};
 
 impl Slots for ClassSlots {
-    ghost use Rattle.wf_mapfile.specs.ClassSlots.{class_put};
+    ghost use Rattle.wf_mapfile.specs.declared.slots.class.ClassSlots.{ClassSlots as Value};
+    ghost use Rattle.wf_mapfile.specs.Class.{class_put};
 
-    ghost put = { class_put };
+    ghost Said = { Value };
 
-    #[tactic(auto, unfolding(crate::specs::ClassSlots::class_put, crate::specs::ClassSlots::class_take))]
+    ghost said = { λ slots. slots };
+
+    ghost Within = { Unit {0} };
+
+    ghost within = { λ _. tt };
+
+    ghost put = { λ _. class_put };
+
+    #[tactic(auto, unfolding(crate::specs::Class::class_put))]
     fn take(&mut self, keyword: Token<'_>, parser: &mut Parser<'_>) -> Result<(), MapFault> {
+        if is_name(keyword.text, "STYLE") {
+            room(&self.styles)?;
+            let style = parser.style()?;
+            self.styles.push(style)?;
+        } else {
+            self.single.take(keyword, parser)?;
+        }
+        Ok(())
+    }
+}
+
+impl ClassOnce {
+    /// Reads what a keyword asks for that comes at most once, and keeps it.
+    #[tactic(auto, unfolding(crate::specs::Class::class_once))]
+    fn take(&mut self, keyword: Token<'_>, parser: &mut Parser<'_>) -> Result<(), MapFault>
+        ensures { Gives (λ _. (self.new, parser.new)) result (class_once self.old keyword.entry.text.now parser.old) }
+    {
+        let word = keyword.text;
         let place = keyword.place;
-        match class_keyword(keyword.text) {
-            Some(ClassKeyword::Name) => {
-                vacant(&self.name, place)?;
-                self.name = Some(parser.text()?);
-            }
-            Some(ClassKeyword::Expression) => {
-                vacant(&self.expression, place)?;
-                self.expression = Some(parser.expression()?);
-            }
-            Some(ClassKeyword::Style) => {
-                room(&self.styles)?;
-                let style = parser.style()?;
-                self.styles.push(style)?;
-            }
-            Some(ClassKeyword::Label) => {
-                vacant(&self.label, place)?;
-                self.label = Some(parser.label()?);
-            }
-            None => return Err(MapFault::UnexpectedWord(place)),
+        if is_name(word, "NAME") {
+            vacant(&self.name, place)?;
+            self.name = Some(parser.text()?);
+        } else if is_name(word, "EXPRESSION") {
+            vacant(&self.expression, place)?;
+            self.expression = Some(parser.expression()?);
+        } else if is_name(word, "LABEL") {
+            vacant(&self.label, place)?;
+            self.label = Some(parser.label()?);
+        } else {
+            return Err(MapFault::UnexpectedWord(place));
         }
         Ok(())
     }
@@ -61,27 +79,25 @@ fn room(styles: &Styles) -> Result<(), MapFault>
 
 impl ClassSlots {
     fn new(alloc: Global) -> Self
-        ensures { result ≡ record { name = None; expression = None; styles = []; label = None } }
+        ensures { result ≡ no_class }
     {
         ClassSlots {
-            name: None,
-            expression: None,
             styles: Styles::new(alloc),
-            label: None,
+            single: ClassOnce::default(),
         }
     }
 
     /// What the block says in the end, with an empty name where there is none.
-    #[tactic(auto, unfolding(crate::specs::ClassSlots::class_filled, crate::specs::Class::class_definition))]
+    #[tactic(auto, unfolding(crate::specs::Class::class_of))]
     fn filled(self, alloc: Global) -> Result<Class, AllocError>
-        ensures { IfOk result (λ c. c ≡ class_filled self) }
+        ensures { IfOk result (λ c. c ≡ class_of self) }
     {
-        let ClassSlots {
+        let ClassSlots { styles, single } = self;
+        let ClassOnce {
             name,
             expression,
-            styles,
             label,
-        } = self;
+        } = single;
         let name = text_or_empty(alloc, name)?;
         Ok(Class::new(name, expression, styles, label))
     }
@@ -89,7 +105,7 @@ impl ClassSlots {
 
 impl Parser<'_> {
     /// Reads a block up to its END (MapServer mapfile reference, CLASS).
-    #[tactic(auto, using(crate::proofs::ClassLaw::class_read))]
+    #[tactic(auto, unfolding(crate::specs::Class::class))]
     pub fn class(&mut self) -> Result<Class, MapFault>
         ensures { Gives (λ c. (c, self.new)) result (class self.old) }
     {

@@ -1,73 +1,99 @@
 //! FEATURE: a shape, with the values of its attributes and the text of its label.
-ghost use Rattle.std.specs.Prelude.{◌≡◌, ◌<◌, ◌≤◌, [], None, IfOk, OnOk, length};
+ghost use Rattle.std.specs.Prelude.{◌≡◌, ◌≤◌, IfOk, None, length, true, if◌then◌else◌};
 ghost use Rattle.wf_def.specs.Limits.{points_of_feature};
-ghost use Rattle.wf_mapfile.specs.LayerSlots.{feature_filled};
+ghost use Rattle.wf_mapfile.specs.Feature.{feature, feature_of, feature_once, no_feature, point, points};
 ghost use Rattle.wf_mapfile.specs.Reading.{Gives};
-ghost use Rattle.wf_mapfile.specs.Room.{feature_within, next_point, points_within};
 
 use crate::block::{Slots, fill_block, vacant};
 use crate::fault::MapFault;
-use crate::keyword::layer::{FeatureKeyword, feature_keyword};
+use crate::keyword::is_name;
 use crate::map::text_or_empty;
 use crate::parser::Parser;
-use crate::slots::layer::FeatureSlots;
+use crate::slots::feature::{FeatureOnce, FeatureSlots};
 use std::alloc::Global;
 use wf_def::feature::{Feature, Part, Parts};
 use wf_def::point::Point;
 use wf_token::token::Token;
 
-impl Slots for FeatureSlots {
-    ghost use Rattle.wf_mapfile.specs.LayerSlots.{feature_put};
+/// FEATURE while it is read.
+#[derive(Drop)]
+struct FeatureReading {
+    slots: FeatureSlots,
+    /// How many points may come in all.
+    most: usize,
+    /// How many points came.
+    points: usize,
+}
+
+impl Slots for FeatureReading {
+    ghost use Rattle.std.specs.Prelude.{◌≡◌, ◌≤◌, ℕ, length, sum_by};
+    ghost use Rattle.wf_mapfile.specs.declared.slots.feature.FeatureSlots.{FeatureSlots as Value};
+    ghost use Rattle.wf_mapfile.specs.Feature.{feature_put};
+
+    ghost Said = { Value };
+
+    ghost said = { λ f. f.slots };
+
+    ghost Within = { ℕ };
+
+    ghost within = { λ f. f.most };
 
     ghost put = { feature_put };
 
-    #[tactic(auto, unfolding(crate::specs::LayerSlots::feature_put, crate::specs::LayerSlots::feature_take))]
+    ghost Holds = { λ f. (f.points ≡ sum_by length f.slots.parts) × (f.points ≤ f.most) };
+
+    #[tactic(auto, unfolding(crate::specs::Feature::feature_put))]
     fn take(&mut self, keyword: Token<'_>, parser: &mut Parser<'_>) -> Result<(), MapFault> {
+        if is_name(keyword.text, "POINTS") {
+            let part = parser.points(self.most - self.points)?;
+            let count = part.len();
+            self.slots.parts.push(part)?;
+            self.points += count;
+        } else {
+            self.slots.single.take(keyword, parser)?;
+        }
+        Ok(())
+    }
+}
+
+impl FeatureOnce {
+    /// Reads what a keyword asks for that comes at most once, and keeps it.
+    #[tactic(auto, unfolding(crate::specs::Feature::feature_once))]
+    fn take(&mut self, keyword: Token<'_>, parser: &mut Parser<'_>) -> Result<(), MapFault>
+        ensures { Gives (λ _. (self.new, parser.new)) result (feature_once self.old keyword.entry.text.now parser.old) }
+    {
+        let word = keyword.text;
         let place = keyword.place;
-        match feature_keyword(keyword.text) {
-            Some(FeatureKeyword::Points) => {
-                let part = parser.points(self.room)?;
-                let count = part.len();
-                self.parts.push(part)?;
-                self.room -= count;
-            }
-            Some(FeatureKeyword::Items) => {
-                vacant(&self.items, place)?;
-                self.items = Some(parser.text()?);
-            }
-            Some(FeatureKeyword::Text) => {
-                vacant(&self.text, place)?;
-                self.text = Some(parser.text()?);
-            }
-            None => return Err(MapFault::UnexpectedWord(place)),
+        if is_name(word, "ITEMS") {
+            vacant(&self.items, place)?;
+            self.items = Some(parser.text()?);
+        } else if is_name(word, "TEXT") {
+            vacant(&self.text, place)?;
+            self.text = Some(parser.text()?);
+        } else {
+            return Err(MapFault::UnexpectedWord(place));
         }
         Ok(())
     }
 }
 
 impl FeatureSlots {
-    fn new(alloc: Global, room: usize) -> Self
-        ensures { result ≡ record { parts = []; room = room; items = None; text = None } }
+    fn new(alloc: Global) -> Self
+        ensures { result ≡ no_feature }
     {
         FeatureSlots {
             parts: Parts::new(alloc),
-            room,
-            items: None,
-            text: None,
+            single: FeatureOnce::default(),
         }
     }
 
     /// What the block says in the end, with empty texts for those that weren't said.
-    #[tactic(auto, unfolding(crate::specs::LayerSlots::feature_filled, crate::specs::Feature::feature_definition))]
+    #[tactic(auto, unfolding(crate::specs::Feature::feature_of))]
     fn filled(self, alloc: Global) -> Result<Feature, MapFault>
-        ensures { Gives (λ f. f) result (feature_filled self) }
+        ensures { Gives (λ f. f) result (feature_of self) }
     {
-        let FeatureSlots {
-            parts,
-            room: _,
-            items,
-            text,
-        } = self;
+        let FeatureSlots { parts, single } = self;
+        let FeatureOnce { items, text } = single;
         let items = text_or_empty(alloc, items)?;
         let text = text_or_empty(alloc, text)?;
         Feature::new(parts, items, text).ok_or(MapFault::Missing)
@@ -75,51 +101,54 @@ impl FeatureSlots {
 }
 
 impl Parser<'_> {
-    /// Reads a shape up to its END (MapServer mapfile reference, FEATURE), where the map has room for so many more points.
-    pub fn feature(&mut self, room: usize) -> Result<Feature, MapFault>
-        ensures read { Gives (λ f. (f, self.new)) result (feature_within room self.old) }
-        ensures fits { IfOk result (λ f. points_of_feature f ≤ room) }
+    /// Reads a shape up to its END (MapServer mapfile reference, FEATURE), of at most so many points, and answers with it how
+    /// many it has.
+    #[tactic(auto, unfolding(crate::specs::Feature::feature), using(crate::proofs::Counted::feature_counted))]
+    pub fn feature(&mut self, most: usize) -> Result<(Feature, usize), MapFault>
+        ensures read { Gives (λ f. (f.0, self.new)) result (feature most self.old) }
+        ensures counted { IfOk result (λ f. f.1 ≡ points_of_feature f.0) }
+        ensures fits { IfOk result (λ f. f.1 ≤ most) }
     {
-        self.feature_block(room)
+        let mut reading = FeatureReading {
+            slots: FeatureSlots::new(self.alloc()),
+            most,
+            points: 0,
+        };
+        fill_block(self, &mut reading)?;
+        let FeatureReading {
+            slots,
+            most: _,
+            points,
+        } = reading;
+        Ok((slots.filled(self.alloc())?, points))
     }
 
-    #[tactic(auto, using(crate::proofs::FeatureLaw::feature_read))]
-    fn feature_block(&mut self, room: usize) -> Result<Feature, MapFault>
-        ensures { Gives (λ f. (f, self.new)) result (feature_within room self.old) }
-    {
-        let mut slots = FeatureSlots::new(self.alloc(), room);
-        fill_block(self, &mut slots)?;
-        slots.filled(self.alloc())
-    }
-
-    /// Reads points up to END (MapServer mapfile reference, POINTS), where the map has room for so many more.
-    #[tactic(auto, using(crate::proofs::PointsLaw::points_read, crate::proofs::PointsLaw::gather_step, crate::proofs::PointsLaw::gather_past, crate::proofs::PointsLaw::gather_more))]
-    fn points(&mut self, room: usize) -> Result<Part, MapFault>
-        ensures read { Gives (λ part. (part, self.new)) result (points_within room self.old) }
-        ensures fits { IfOk result (λ part. length part ≤ room) }
+    /// Reads points up to END (MapServer mapfile reference, POINTS), at most so many.
+    #[tactic(auto, unfolding(crate::specs::Feature::points), using(crate::proofs::PointsLaw::points_step, crate::proofs::PointsLaw::points_past))]
+    fn points(&mut self, most: usize) -> Result<Part, MapFault>
+        ensures read { Gives (λ part. (part, self.new)) result (points most self.old) }
+        ensures fits { IfOk result (λ part. length part ≤ most) }
     {
         let mut part = Part::new(self.alloc());
-        let mut left = room;
         for _ in 0..self.len() {
             if self.is_at_end() {
                 self.end()?;
                 return Ok(part);
             }
-            let point = self.next_point(left)?;
+            let point = self.next_point(part.len() < most)?;
             part.push(point)?;
-            left -= 1;
         }
         Err(self.missing_end())
     }
 
-    /// Reads a point, where the map has room for so many more: too many is answered at the first number.
-    #[tactic(auto, unfolding(crate::specs::Room::next_point, crate::specs::Feature::point))]
-    fn next_point(&mut self, room: usize) -> Result<Point, MapFault>
-        ensures read { Gives (λ p. (p, self.new)) result (next_point room self.old) }
-        ensures one { OnOk result (0 < room) }
+    /// Reads a point, where there is room for one: too many is answered at the first number.
+    #[tactic(auto, unfolding(crate::specs::Feature::point))]
+    fn next_point(&mut self, room: bool) -> Result<Point, MapFault>
+        ensures read { Gives (λ p. (p, self.new)) result (if room then point self.old else None) }
+        ensures one { IfOk result (λ _. room ≡ true) }
     {
         let x = self.number()?;
-        if room == 0 {
+        if !room {
             return Err(MapFault::TooMany);
         }
         let y = self.number()?;

@@ -1,13 +1,12 @@
 //! LABEL: how a feature's text is drawn.
 ghost use Rattle.std.specs.Prelude.{◌≡◌, None};
-ghost use Rattle.wf_mapfile.specs.Label.{label, label_kind, label_position, label_size, truth};
-ghost use Rattle.wf_mapfile.specs.LabelSlots.{label_filled};
+ghost use Rattle.wf_mapfile.specs.Label.{label, label_kind, label_of, label_position, label_size, truth};
 ghost use Rattle.wf_mapfile.specs.Reading.{Gives};
 
 use crate::block::{Slots, fill_block, vacant};
 use crate::default::or_least;
 use crate::fault::MapFault;
-use crate::keyword::label::{LabelKeyword, label_keyword};
+use crate::keyword::is_name;
 use crate::parser::Parser;
 use crate::slots::label::LabelSlots;
 use wf_def::choice::{LabelPosition, LabelSize};
@@ -20,95 +19,75 @@ use wf_token::token::Token;
 const BLACK: Color = Color { r: 0, g: 0, b: 0 };
 
 impl Slots for LabelSlots {
-    ghost use Rattle.wf_mapfile.specs.LabelSlots.{label_put};
+    ghost use Rattle.wf_mapfile.specs.declared.slots.label.LabelSlots.{LabelSlots as Value};
+    ghost use Rattle.wf_mapfile.specs.Label.{label_put};
 
-    ghost put = { label_put };
+    ghost Said = { Value };
 
-    #[tactic(auto, unfolding(crate::specs::LabelSlots::label_put, crate::specs::LabelSlots::label_take))]
+    ghost said = { λ slots. slots };
+
+    ghost Within = { Unit {0} };
+
+    ghost within = { λ _. tt };
+
+    ghost put = { λ _. label_put };
+
+    #[tactic(auto, unfolding(crate::specs::Label::label_put))]
     fn take(&mut self, keyword: Token<'_>, parser: &mut Parser<'_>) -> Result<(), MapFault> {
+        let word = keyword.text;
         let place = keyword.place;
-        match label_keyword(keyword.text) {
-            Some(LabelKeyword::Color) => {
-                vacant(&self.color, place)?;
-                self.color = Some(parser.color()?);
-            }
-            Some(LabelKeyword::Size) => {
-                vacant(&self.size, place)?;
-                self.size = Some(parser.label_size()?);
-            }
-            Some(LabelKeyword::Position) => {
-                vacant(&self.position, place)?;
-                self.position = Some(parser.label_position()?);
-            }
-            Some(LabelKeyword::Priority) => {
-                vacant(&self.priority, place)?;
-                self.priority = Some(parser.whole::<1, MOST_PRIORITY>()?);
-            }
-            Some(LabelKeyword::Force) => {
-                vacant(&self.force, place)?;
-                self.force = Some(parser.truth()?);
-            }
-            Some(LabelKeyword::Buffer) => {
-                vacant(&self.buffer, place)?;
-                self.buffer = Some(parser.whole::<0, MOST_BUFFER>()?);
-            }
-            Some(LabelKeyword::Type) => {
-                vacant(&self.kind, place)?;
-                self.kind = Some(parser.label_kind()?);
-            }
-            None => return Err(MapFault::UnexpectedWord(place)),
+        if is_name(word, "COLOR") {
+            vacant(&self.color, place)?;
+            self.color = Some(parser.color()?);
+        } else if is_name(word, "SIZE") {
+            vacant(&self.size, place)?;
+            self.size = Some(parser.label_size()?);
+        } else if is_name(word, "POSITION") {
+            vacant(&self.position, place)?;
+            self.position = Some(parser.label_position()?);
+        } else if is_name(word, "PRIORITY") {
+            vacant(&self.priority, place)?;
+            self.priority = Some(parser.whole::<1, MOST_PRIORITY>()?);
+        } else if is_name(word, "FORCE") {
+            vacant(&self.force, place)?;
+            self.force = Some(parser.truth()?);
+        } else if is_name(word, "BUFFER") {
+            vacant(&self.buffer, place)?;
+            self.buffer = Some(parser.whole::<0, MOST_BUFFER>()?);
+        } else if is_name(word, "TYPE") {
+            vacant(&self.kind, place)?;
+            self.kind = Some(parser.label_kind()?);
+        } else {
+            return Err(MapFault::UnexpectedWord(place));
         }
         Ok(())
     }
 }
 
 impl LabelSlots {
-    fn new() -> Self
-        ensures { result ≡ record { color = None; size = None; position = None; priority = None; force = None; buffer = None; kind = None } }
-    {
-        LabelSlots {
-            color: None,
-            size: None,
-            position: None,
-            priority: None,
-            force: None,
-            buffer: None,
-            kind: None,
-        }
-    }
-
     /// What the block says in the end, with defaults for what wasn't said.
-    #[tactic(auto, unfolding(crate::specs::LabelSlots::label_filled, crate::specs::Label::label_definition))]
+    #[tactic(auto, unfolding(crate::specs::Label::label_of))]
     fn filled(self) -> Label
-        ensures { result ≡ label_filled self }
+        ensures { result ≡ label_of self }
     {
-        let LabelSlots {
-            color,
-            size,
-            position,
-            priority,
-            force,
-            buffer,
-            kind: _,
-        } = self;
         Label::new(
-            color.unwrap_or(BLACK),
-            size.unwrap_or(LabelSize::Medium),
-            position.unwrap_or(LabelPosition::CenterCenter),
-            or_least(priority),
-            force.unwrap_or(false),
-            or_least(buffer),
+            self.color.unwrap_or(BLACK),
+            self.size.unwrap_or(LabelSize::Medium),
+            self.position.unwrap_or(LabelPosition::CenterCenter),
+            or_least(self.priority),
+            self.force.unwrap_or(false),
+            or_least(self.buffer),
         )
     }
 }
 
 impl Parser<'_> {
     /// Reads a block up to its END (MapServer mapfile reference, LABEL).
-    #[tactic(auto, using(crate::proofs::LabelLaw::label_read))]
+    #[tactic(auto, unfolding(crate::specs::Label::label))]
     pub fn label(&mut self) -> Result<Label, MapFault>
         ensures { Gives (λ l. (l, self.new)) result (label self.old) }
     {
-        let mut slots = LabelSlots::new();
+        let mut slots = LabelSlots::default();
         fill_block(self, &mut slots)?;
         Ok(slots.filled())
     }

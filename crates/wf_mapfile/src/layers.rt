@@ -1,11 +1,9 @@
 //! The layers of a map while it is read.
-ghost use Rattle.std.specs.Prelude.{◌≡◌, ◌<◌, ◌≤◌, ◌↔◌, [], IfOk, IsTrue, OnErr, OnOk, Some, None, if◌then◌else◌, false, length, sum_by};
+ghost use Rattle.std.specs.Prelude.{◌≡◌, ◌<◌, ◌≤◌, ◌↔◌, [], ◌∷◌, ◌++◌, IfOk, IsTrue, OnErr, OnOk, Some, None, if◌then◌else◌, false, length, sum_by};
 ghost use Rattle.wf_def.specs.Limits.{has_layer, points_of_feature, IsLayerName};
-ghost use Rattle.wf_mapfile.specs.Layer.{LayerNamesAreTested, is_layer_name};
-ghost use Rattle.wf_mapfile.specs.Room.{behind};
-ghost use Rattle.wf_def.specs.Limit.{most_features, most_layers, most_points};
+ghost use Rattle.wf_mapfile.specs.Layer.{LayerNamesAreTested, features_left, is_layer_name, points_left};
+ghost use Rattle.wf_def.specs.Limit.{most_layers};
 
-use crate::room::Room;
 use std::alloc::{AllocError, Global};
 use std::marker::Model;
 use wf_def::fault::LayerFault;
@@ -68,54 +66,77 @@ impl LayerName {
     }
 }
 
-/// The layers so far, in order, and how many more features and points may come.
+/// A layer as it was read.
+#[derive(Drop)]
+pub struct LayerRead {
+    /// What it is called.
+    pub name: LayerName,
+    /// The layer.
+    pub layer: Layer,
+    /// How many points it has.
+    pub points: usize,
+}
+
+/// The layers so far, in order.
 #[derive(Drop)]
 pub struct Layers {
     entries: Vec<(LayerName, Layer)>,
-    room: Room,
+    /// How many more features may come.
+    features: usize,
+    /// How many more points may come.
+    points: usize,
 }
 
 impl Model for Layers {
-    ghost use Rattle.wf_mapfile.specs.Gathered.{Gathered, IsGathered};
+    ghost use Rattle.std.specs.Prelude.{ℕ, List};
+    ghost use Rattle.wf_def.specs.Definition.{LayerDefinition};
+    ghost use Rattle.wf_mapfile.specs.Gathered.{AreGathered};
 
-    ghost Value = { Gathered };
+    ghost Value = { List (List ℕ × LayerDefinition) };
 
-    ghost view = { λ l. record { layers = l.entries.items; room = l.room } };
+    ghost view = { λ l. l.entries.items };
 
-    ghost invariant = { λ l. IsGathered (record { layers = l.entries.items; room = l.room }) };
+    ghost invariant = { λ l. AreGathered l.entries.items l.features l.points };
 }
 
 impl Layers {
-    /// No layers, and room for as much as a map may have.
+    /// No layers.
     pub fn new(alloc: Global) -> Self
-        ensures { result ≡ record { layers = []; room = record { features = most_features; points = most_points } } }
+        ensures { result ≡ [] }
     {
         Layers {
             entries: Vec::new(alloc),
-            room: Room {
-                features: MOST_FEATURES,
-                points: MOST_POINTS,
-            },
+            features: MOST_FEATURES,
+            points: MOST_POINTS,
         }
     }
 
     /// Whether there is no room for another layer.
     pub fn is_full(&self) -> bool
-        ensures { IsTrue result ↔ (most_layers ≤ length self.now.layers) }
+        ensures { IsTrue result ↔ (most_layers ≤ length self.now) }
     {
         self.entries.len() >= MOST_LAYERS
     }
 
-    /// How many more features and points may come.
-    pub fn room(&self) -> Room
-        ensures { result ≡ self.now.room }
+    /// How many more features may come.
+    #[tactic(auto, unfolding(crate::specs::Layer::features_left))]
+    pub fn features_left(&self) -> usize
+        ensures { result ≡ features_left self.now }
     {
-        self.room
+        self.features
+    }
+
+    /// How many more points may come.
+    #[tactic(auto, unfolding(crate::specs::Layer::points_left))]
+    pub fn points_left(&self) -> usize
+        ensures { result ≡ points_left self.now }
+    {
+        self.points
     }
 
     /// Whether a layer has the name.
     pub fn has_layer(&self, name: &LayerName) -> bool
-        ensures { result ≡ has_layer self.now.layers name.now }
+        ensures { result ≡ has_layer self.now name.now }
     {
         let entries = self.entries.as_slice();
         for (other, _) in entries {
@@ -127,27 +148,39 @@ impl Layers {
     }
 
     /// Puts a layer behind the others, where it may stand there. After want of memory they are as they were.
-    pub fn push(&mut self, name: LayerName, layer: Layer) -> Result<(), AllocError>
-        requires room { length self.old.layers < most_layers }
-        requires new { has_layer self.old.layers name ≡ false }
-        requires features { length layer.features ≤ self.old.room.features }
-        requires points { sum_by points_of_feature layer.features ≤ self.old.room.points }
-        ensures pushed { OnOk result (self.new ≡ behind self.old (name, layer)) }
+    #[tactic(auto, unfolding(crate::specs::Layer::features_left, crate::specs::Layer::points_left))]
+    pub fn push(&mut self, read: LayerRead) -> Result<(), AllocError>
+        requires room { length self.old < most_layers }
+        requires new { has_layer self.old read.name ≡ false }
+        requires features { length read.layer.features ≤ features_left self.old }
+        requires counted { read.points ≡ sum_by points_of_feature read.layer.features }
+        requires points { read.points ≤ points_left self.old }
+        ensures pushed { OnOk result (self.new ≡ self.old ++ (read.name, read.layer) ∷ []) }
         ensures unchanged { OnErr result (self.new ≡ self.old) }
     {
+        let LayerRead {
+            name,
+            layer,
+            points,
+        } = read;
         let _ = name.text();
-        let room = self.room.behind_layer(&layer);
+        let features = layer.features().len();
         self.entries.push((name, layer))?;
-        self.room = room;
+        self.features -= features;
+        self.points -= points;
         Ok(())
     }
 
     /// A map without layers, with these.
     pub fn into_map(self, map: MapDef) -> Result<MapDef, AllocError>
         requires { map.layers ≡ [] }
-        ensures { IfOk result (λ whole. whole ≡ record map { layers = self.layers }) }
+        ensures { IfOk result (λ whole. whole ≡ record map { layers = self }) }
     {
-        let Layers { entries, room: _ } = self;
+        let Layers {
+            entries,
+            features: _,
+            points: _,
+        } = self;
         let mut all = map;
         for entry in entries {
             let (name, layer) = entry;

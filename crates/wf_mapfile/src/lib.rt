@@ -10,7 +10,7 @@
 //!
 //! The way through it: wf_token's lexer (bytes to tokens), `parser` (readers of tokens), `block` (keywords up to END, for any block), then
 //! one module a block (`map`, `web`, `metadata`, `layer`, `class`, `style`, `label`, `feature`), each keyword filling its slot of
-//! `slots`. `layers` puts the layers into the map in their order, and `room` counts what the map may still hold.
+//! `slots` as the table of the block's definition says. `layers` has the layers so far, and what the map may still hold behind them.
 #![tactic(auto)]
 
 mod block;
@@ -29,7 +29,6 @@ mod map;
 mod metadata;
 mod parser;
 mod reader;
-mod room;
 mod slots;
 mod style;
 pub mod token;

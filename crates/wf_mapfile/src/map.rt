@@ -1,19 +1,19 @@
 //! MAP: a map's definition.
 ghost use Rattle.std.specs.Prelude.{◌≡◌, [], None, IfOk, MatchResult, true, false, codes, length, nat_lt, unwrap_or};
 ghost use Rattle.wf_def.specs.Text.{IsText};
-ghost use Rattle.wf_mapfile.specs.Map.{definition, extent, map, projection, two_numbers};
+ghost use Rattle.wf_mapfile.specs.Map.{definition, extent, map, map_dropped, map_of, map_once, no_map, projection, projection_named, two_numbers};
 ghost use Rattle.wf_mapfile.specs.Reading.{Gives, is_memory};
-ghost use Rattle.wf_mapfile.specs.Slots.{map_filled, map_take};
 ghost use Rattle.wf_mapfile.specs.Web.{no_metadata};
-ghost use Rattle.wf_mapfile.specs.declared.keyword.MapKeyword.TheVariants as maps;
-ghost use Rattle.wf_def.specs.Limit.{most_features, most_layers, most_points};
+ghost use Rattle.wf_def.specs.Limit.{most_layers};
 
 use crate::block::{Slots, fill_block, vacant};
+use crate::choice::choose;
 use crate::fault::MapFault;
-use crate::keyword::{MapKeyword, map_keyword, projection_named};
+use crate::keyword::is_name;
 use crate::layers::Layers;
 use crate::parser::Parser;
-use crate::slots::{MapSlots, Metadata};
+use crate::slots::Metadata;
+use crate::slots::map::{MapDropped, MapOnce, MapSlots};
 use std::alloc::{AllocError, Global};
 use wf_def::choice::Projection;
 use wf_def::extent::Extent;
@@ -28,118 +28,101 @@ const DEFAULT_NAME: &str = "map";
 const DEFAULT_ADDRESS: &str = "http://localhost/wms?";
 
 impl Slots for MapSlots {
-    ghost use Rattle.wf_mapfile.specs.Slots.{map_put};
+    ghost use Rattle.wf_mapfile.specs.declared.slots.map.MapSlots.{MapSlots as Value};
+    ghost use Rattle.wf_mapfile.specs.Map.{map_put};
 
-    ghost put = { map_put };
+    ghost Said = { Value };
 
-    #[tactic(auto, unfolding(crate::specs::Slots::map_put, crate::specs::Slots::map_take))]
+    ghost said = { λ slots. slots };
+
+    ghost Within = { Unit {0} };
+
+    ghost within = { λ _. tt };
+
+    ghost put = { λ _. map_put };
+
+    #[tactic(auto, unfolding(crate::specs::Map::map_put))]
     fn take(&mut self, keyword: Token<'_>, parser: &mut Parser<'_>) -> Result<(), MapFault> {
-        let place = keyword.place;
-        match map_keyword(keyword.text) {
-            Some(MapKeyword::Name) => {
-                vacant(&self.name, place)?;
-                self.name = Some(parser.text()?);
-            }
-            Some(MapKeyword::Extent) => return self.take_extent(place, parser),
-            Some(MapKeyword::Projection) => return self.take_projection(place, parser),
-            Some(MapKeyword::Web) => return self.take_web(place, parser),
-            Some(MapKeyword::Layer) => return self.take_layer(parser),
-            Some(MapKeyword::Size) => return self.take_size(place, parser),
-            Some(MapKeyword::ImageColor) => return self.take_image_color(place, parser),
-            Some(MapKeyword::Units) => {
-                vacant(&self.units, place)?;
-                let _ = parser.text()?;
-                self.units = Some(());
-            }
-            Some(MapKeyword::Status) => {
-                vacant(&self.status, place)?;
-                let _ = parser.text()?;
-                self.status = Some(());
-            }
-            Some(MapKeyword::ImageType) => {
-                vacant(&self.image_type, place)?;
-                let _ = parser.text()?;
-                self.image_type = Some(());
-            }
-            Some(MapKeyword::ShapePath) => {
-                vacant(&self.shape_path, place)?;
-                let _ = parser.text()?;
-                self.shape_path = Some(());
-            }
-            None => return Err(MapFault::UnexpectedWord(place)),
+        if is_name(keyword.text, "LAYER") {
+            layer_room(&self.layers)?;
+            let read = parser.layer(&self.layers)?;
+            self.layers.push(read)?;
+        } else {
+            self.single.take(keyword, parser)?;
         }
         Ok(())
     }
 }
 
-impl MapSlots {
-    /// Reads what EXTENT asks for, and keeps it.
-    #[tactic(auto, unfolding(crate::specs::Slots::map_take))]
-    fn take_extent(&mut self, place: usize, parser: &mut Parser<'_>) -> Result<(), MapFault>
-        ensures { Gives (λ _. (self.new, parser.new)) result (map_take maps.Extent self.old parser.old) }
+impl MapOnce {
+    /// Reads what a keyword asks for that comes at most once, and keeps it.
+    #[tactic(auto, unfolding(crate::specs::Map::map_once))]
+    fn take(&mut self, keyword: Token<'_>, parser: &mut Parser<'_>) -> Result<(), MapFault>
+        ensures { Gives (λ _. (self.new, parser.new)) result (map_once self.old keyword.entry.text.now parser.old) }
     {
-        vacant(&self.extent, place)?;
-        self.extent = Some(parser.extent(place)?);
+        let word = keyword.text;
+        let place = keyword.place;
+        if is_name(word, "NAME") {
+            vacant(&self.name, place)?;
+            self.name = Some(parser.text()?);
+        } else if is_name(word, "EXTENT") {
+            vacant(&self.extent, place)?;
+            self.extent = Some(parser.extent(place)?);
+        } else if is_name(word, "PROJECTION") {
+            vacant(&self.projection, place)?;
+            self.projection = Some(parser.projection()?);
+        } else if is_name(word, "WEB") {
+            vacant(&self.web, place)?;
+            self.web = Some(parser.web()?);
+        } else {
+            self.dropped.take(keyword, parser)?;
+        }
         Ok(())
     }
+}
 
-    /// Reads what PROJECTION asks for, and keeps it.
-    #[tactic(auto, unfolding(crate::specs::Slots::map_take))]
-    fn take_projection(&mut self, place: usize, parser: &mut Parser<'_>) -> Result<(), MapFault>
-        ensures { Gives (λ _. (self.new, parser.new)) result (map_take maps.Projection self.old parser.old) }
+impl MapDropped {
+    /// Reads what a keyword asks for that is dropped, and keeps that it came.
+    #[tactic(auto, unfolding(crate::specs::Map::map_dropped))]
+    fn take(&mut self, keyword: Token<'_>, parser: &mut Parser<'_>) -> Result<(), MapFault>
+        ensures { Gives (λ _. (self.new, parser.new)) result (map_dropped self.old keyword.entry.text.now parser.old) }
     {
-        vacant(&self.projection, place)?;
-        self.projection = Some(parser.projection()?);
-        Ok(())
-    }
-
-    /// Reads what WEB asks for, and keeps it.
-    #[tactic(auto, unfolding(crate::specs::Slots::map_take))]
-    fn take_web(&mut self, place: usize, parser: &mut Parser<'_>) -> Result<(), MapFault>
-        ensures { Gives (λ _. (self.new, parser.new)) result (map_take maps.Web self.old parser.old) }
-    {
-        vacant(&self.web, place)?;
-        self.web = Some(parser.web()?);
-        Ok(())
-    }
-
-    /// Reads what LAYER asks for, and keeps it.
-    #[tactic(auto, unfolding(crate::specs::Slots::map_take))]
-    fn take_layer(&mut self, parser: &mut Parser<'_>) -> Result<(), MapFault>
-        ensures { Gives (λ _. (self.new, parser.new)) result (map_take maps.Layer self.old parser.old) }
-    {
-        layer_room(&self.layers)?;
-        let (name, layer) = parser.layer(&self.layers)?;
-        self.layers.push(name, layer)?;
-        Ok(())
-    }
-
-    /// Reads what SIZE asks for, which is dropped.
-    #[tactic(auto, unfolding(crate::specs::Slots::map_take))]
-    fn take_size(&mut self, place: usize, parser: &mut Parser<'_>) -> Result<(), MapFault>
-        ensures { Gives (λ _. (self.new, parser.new)) result (map_take maps.Size self.old parser.old) }
-    {
-        vacant(&self.size, place)?;
-        parser.two_numbers()?;
-        self.size = Some(());
-        Ok(())
-    }
-
-    /// Reads what IMAGECOLOR asks for, which is dropped.
-    #[tactic(auto, unfolding(crate::specs::Slots::map_take))]
-    fn take_image_color(&mut self, place: usize, parser: &mut Parser<'_>) -> Result<(), MapFault>
-        ensures { Gives (λ _. (self.new, parser.new)) result (map_take maps.ImageColor self.old parser.old) }
-    {
-        vacant(&self.image_color, place)?;
-        let _ = parser.color()?;
-        self.image_color = Some(());
+        let word = keyword.text;
+        let place = keyword.place;
+        if is_name(word, "SIZE") {
+            vacant(&self.size, place)?;
+            parser.two_numbers()?;
+            self.size = Some(());
+        } else if is_name(word, "IMAGECOLOR") {
+            vacant(&self.image_color, place)?;
+            let _ = parser.color()?;
+            self.image_color = Some(());
+        } else if is_name(word, "UNITS") {
+            vacant(&self.units, place)?;
+            let _ = parser.text()?;
+            self.units = Some(());
+        } else if is_name(word, "STATUS") {
+            vacant(&self.status, place)?;
+            let _ = parser.text()?;
+            self.status = Some(());
+        } else if is_name(word, "IMAGETYPE") {
+            vacant(&self.image_type, place)?;
+            let _ = parser.text()?;
+            self.image_type = Some(());
+        } else if is_name(word, "SHAPEPATH") {
+            vacant(&self.shape_path, place)?;
+            let _ = parser.text()?;
+            self.shape_path = Some(());
+        } else {
+            return Err(MapFault::UnexpectedWord(place));
+        }
         Ok(())
     }
 }
 
 /// Refuses another layer where there is no room for it.
 fn layer_room(layers: &Layers) -> Result<(), MapFault>
-    ensures { MatchResult result (λ _. nat_lt (length layers.now.layers) most_layers ≡ true) (λ e. (nat_lt (length layers.now.layers) most_layers ≡ false) × (is_memory e ≡ false)) }
+    ensures { MatchResult result (λ _. nat_lt (length layers.now) most_layers ≡ true) (λ e. (nat_lt (length layers.now) most_layers ≡ false) × (is_memory e ≡ false)) }
 {
     if layers.is_full() {
         return Err(MapFault::TooMany);
@@ -149,43 +132,29 @@ fn layer_room(layers: &Layers) -> Result<(), MapFault>
 
 impl MapSlots {
     fn new(alloc: Global) -> Self
-        ensures { result ≡ record { name = None; extent = None; projection = None; web = None; layers = record { layers = []; room = record { features = most_features; points = most_points } }; size = None; image_color = None; units = None; status = None; image_type = None; shape_path = None } }
+        ensures { result ≡ no_map }
     {
         MapSlots {
-            name: None,
-            extent: None,
-            projection: None,
-            web: None,
             layers: Layers::new(alloc),
-            size: None,
-            image_color: None,
-            units: None,
-            status: None,
-            image_type: None,
-            shape_path: None,
+            single: MapOnce::default(),
         }
     }
 
     /// What the block says in the end, with defaults for what wasn't said.
-    #[tactic(auto, unfolding(crate::specs::Slots::map_filled, crate::specs::Map::definition))]
+    #[tactic(auto, unfolding(crate::specs::Map::map_of, crate::specs::Map::definition))]
     fn filled(self, alloc: Global) -> Result<MapDef, MapFault>
-        ensures { Gives (λ d. d) result (map_filled self) }
+        ensures { Gives (λ d. d) result (map_of self) }
     {
-        let extent = self.extent.ok_or(MapFault::Missing)?;
-        let projection = self.projection.ok_or(MapFault::Missing)?;
-        let MapSlots {
+        let MapSlots { layers, single } = self;
+        let MapOnce {
             name,
-            extent: _,
-            projection: _,
+            extent,
+            projection,
             web,
-            layers,
-            size: _,
-            image_color: _,
-            units: _,
-            status: _,
-            image_type: _,
-            shape_path: _,
-        } = self;
+            dropped: _,
+        } = single;
+        let extent = extent.ok_or(MapFault::Missing)?;
+        let projection = projection.ok_or(MapFault::Missing)?;
         let map = without_layers(alloc, name, extent, projection, web)?;
         Ok(layers.into_map(map)?)
     }
@@ -274,7 +243,7 @@ fn text_or(alloc: Global, text: Option<Text>, default: &str) -> Result<Text, All
 
 impl Parser<'_> {
     /// Reads a map up to MAP's END (MapServer mapfile reference, MAP).
-    #[tactic(auto, using(crate::proofs::MapLaw::map_read))]
+    #[tactic(auto, unfolding(crate::specs::Map::map))]
     pub fn map(&mut self) -> Result<MapDef, MapFault>
         ensures { Gives (λ d. (d, self.new)) result (map self.old) }
     {
@@ -316,4 +285,18 @@ impl Parser<'_> {
         self.end()?;
         Ok(projection)
     }
+}
+
+/// The coordinate system that PROJECTION's text names.
+#[tactic(auto, unfolding(crate::specs::Map::projection_named))]
+fn projection_named(text: &[u8]) -> Option<Projection>
+    ensures { result ≡ projection_named text.now }
+{
+    choose(
+        &[
+            ("init=epsg:4326", Projection::Epsg4326),
+            ("init=epsg:3857", Projection::Epsg3857),
+        ],
+        text,
+    )
 }

@@ -3,7 +3,7 @@ ghost use Rattle.std.specs.Prelude.{◌≡◌, None, string_bytes};
 ghost use Rattle.std.specs.HashSet.{contains_text};
 ghost use Rattle.wf_mapfile.specs.Metadata.{metadata};
 ghost use Rattle.wf_mapfile.specs.Reading.{Gives};
-ghost use Rattle.wf_mapfile.specs.Slots.{keep, new_pair};
+ghost use Rattle.wf_mapfile.specs.Pairs.{keep, new_pair};
 ghost use Rattle.wf_mapfile.specs.Web.{no_metadata};
 
 use crate::fault::MapFault;
@@ -25,7 +25,7 @@ impl Metadata {
     }
 
     /// Keeps the value of a pair whose key has a slot. The key is in small letters.
-    #[tactic(auto, unfolding(crate::specs::Slots::keep))]
+    #[tactic(auto, unfolding(crate::specs::Pairs::keep))]
     fn keep(&mut self, key: &str, value: Text)
         ensures { self.new ≡ keep self.old key.now value }
     {
@@ -61,7 +61,7 @@ impl Parser<'_> {
     }
 
     /// Reads a pair whose key, in small letters, is none of these.
-    #[tactic(auto, unfolding(crate::specs::Slots::new_pair))]
+    #[tactic(auto, unfolding(crate::specs::Pairs::new_pair))]
     fn new_pair(&mut self, keys: &HashSet<String>) -> Result<(String, Text), MapFault>
         ensures { Gives (λ pair. ((string_bytes pair.0, pair.1), self.new)) result (new_pair (λ key. contains_text keys.now key) self.old) }
     {

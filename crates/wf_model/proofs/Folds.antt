@@ -6,7 +6,7 @@ use Rattle.wf_ballot.specs.Ballot.{Ballot}
 use Rattle.wf_model.specs.Message.{Vote}
 use Rattle.wf_model.specs.Stored.{Stored, Record, Tried, Promised, Accepted, Published, nothing_stored, published, next_sequence, promise_at, with_record, fits, fold_from, fold}
 use Rattle.wf_model.specs.Fits.{IsOpenAlone, FoldsAreOpen, VotesArePromised}
-use Rattle.wf_model.proofs.Put.{put-same, put-other, at_put}
+use Rattle.wf_model.specs.PutLaws.{put-same, put-other, at_put}
 
 -- ---- what each record keeps, the fold keeps
 

@@ -1,6 +1,4 @@
 mod Folds
-pub mod Put
 mod Rows
 mod Runs
 mod Short
-pub mod Steps

@@ -7,3 +7,5 @@ pub mod Chosen
 pub mod Examples
 pub mod Fits
 pub mod Steps
+pub mod PutLaws
+pub mod StepsLaws

@@ -1,10 +1,12 @@
 -- Why a run of a script ends before its end.
-use Rattle.std.specs.Prelude.{◌≡◌, ℕ, ⊤, Bool, true, false, Option, List, Result, Ok, Err, IfSome}
+use Rattle.std.specs.Prelude.{◌≡◌, ◌≤◌, ℕ, max, ⊤, Bool, true, false, Option, List, Result, Ok, Err, IfSome}
 use Rattle.std.specs.Io.KnownBytes.{IsAtEnd, Keeps}
 use Rattle.wf_stream.specs.Reading.{Rises}
 use Rattle.wf_script.specs.Script.{IsScriptText}
 use Rattle.wf_script.specs.declared.fault.ScriptFault.{ScriptFault}
 use Rattle.wf_script.specs.declared.fault.ScriptFault.TheVariants as script
+use Rattle.wf_script.specs.declared.fault.Wrong.{Wrong}
+use Rattle.wf_script.specs.declared.fault.Wrong.TheVariants as wrongs
 use Rattle.wf_script.specs.declared.fault.PlayFault.{PlayFault}
 use Rattle.wf_script.specs.declared.fault.PlayFault.TheVariants as play
 
@@ -17,6 +19,25 @@ is_memory (script.BadMap line) = false
 
 abbrev pub IsMemory : ScriptFault → Type 0
 IsMemory fault = is_memory fault ≡ true
+
+-- what is wrong with a line, as the fault at the line of that number
+abbrev pub fault_of : Wrong → ℕ → ScriptFault
+fault_of wrongs.Memory line = script.Memory line
+fault_of wrongs.BadLine line = script.BadLine line
+fault_of wrongs.OverLimit line = script.OverLimit line
+fault_of wrongs.BadMap line = script.BadMap line
+
+-- the line that a fault names
+abbrev pub line_of : ScriptFault → ℕ
+line_of (script.Memory line) = line
+line_of (script.BadLine line) = line
+line_of (script.OverLimit line) = line
+line_of (script.BadMap line) = line
+
+-- A fault names one of so many lines; the first one, where there is none.
+pub record IsAtLine (count : ℕ) (fault : ScriptFault) : Type 0 where
+  pub some : 1 ≤ line_of fault
+  pub most : line_of fault ≤ max 1 count
 
 -- why an input can't be had: memory ran out, or a read failed
 abbrev pub IsInputFault : PlayFault → Type 0

@@ -1,20 +1,38 @@
 -- A script as contracts see it.
 use Rattle.std.specs.Prelude.{◌≤◌, ℕ, List, length}
 use Rattle.wf_ballot.specs.Node.{most_nodes}
+use Rattle.wf_def.specs.Definition.{Definition}
 use Rattle.wf_script.specs.Lines.{line_feeds, most_script_bytes, most_lines, most_maps}
+use Rattle.wf_script.specs.Order.{Order, view}
+use Rattle.wf_script.specs.declared.maps.Named as maps
+use Rattle.wf_script.specs.declared.order.Numbered as orders
 
--- How many nodes its farm has, and how many maps and orders it has. What these are is shown by cases.
+-- an order, and the number of its line
+pub record Numbered : Type 0 where
+  pub line : ℕ
+  pub order : Order
+
+-- one of the code
+abbrev pub numbered : orders.Numbered → Numbered
+numbered n = record { line = n.line; order = view n.order }
+
+-- How many nodes its farm has, what its maps mean, and its orders with their lines, all as they stand in its text. An order names a map by
+-- its place among the maps. Which text is which script, no definition says: cases show it.
 pub record Script : Type 0 where
   pub nodes : ℕ
-  pub maps : ℕ
-  pub orders : ℕ
+  pub maps : List Definition
+  pub orders : List Numbered
+
+-- what a map with a name means
+abbrev pub definition : maps.Named → Definition
+definition named = named.canon
 
 -- Each of these is within its limit.
 pub record IsScript (script : Script) : Type 0 where
   pub some : 1 ≤ script.nodes
   pub nodes : script.nodes ≤ most_nodes
-  pub maps : script.maps ≤ most_maps
-  pub orders : script.orders ≤ most_lines
+  pub maps : length script.maps ≤ most_maps
+  pub orders : length script.orders ≤ most_lines
 
 -- A text within the limits of scripts.
 pub record IsScriptText (text : List ℕ) : Type 0 where

@@ -1,9 +1,15 @@
--- What an order of a script does to the farm on which it is played.
+-- A script that is played on a farm.
 use Rattle.std.specs.Prelude.{◌≡◌, ◌⊎◌, ℕ, List}
 use Rattle.wf_def.specs.Definition.{Definition}
 use Rattle.wf_model.specs.World.{Event}
 use Rattle.wf_farm.specs.Agreement.{HistoriesGrow, Publishes}
 use Rattle.wf_farm.specs.Farm.{Farm, Runs, size}
+use Rattle.wf_script.specs.Script.{Script}
+
+-- The script, and the farm as its orders so far left it.
+pub record Session : Type 0 where
+  pub script : Script
+  pub farm : Farm
 
 -- The farm has gone on by some events of the model. Its nodes are as they were, or what each had published begins what
 -- it has published now.

@@ -164,7 +164,7 @@ impl<'s> Session<'s> {
 
     /// What the first running node publishes there that has published it.
     fn first_published(&self, slot: Slot) -> Option<&Canon>
-        ensures { IfSome result (λ canon. IsPublished self.now slot canon.now) }
+        ensures { IfSome result (λ canon. IsPublished self.now.farm slot canon.now) }
     {
         for number in 0..self.farm.size() {
             if let Some(canon) = self.published_by(number, slot) {
@@ -176,7 +176,7 @@ impl<'s> Session<'s> {
 
     /// Does a running node publish another map there than this one, which some node publishes?
     fn some_publish_another(&self, slot: Slot, known: &Canon) -> bool
-        requires { IsPublished self.now slot known.now }
+        requires { IsPublished self.now.farm slot known.now }
         ensures { result ≡ false }
     {
         for number in 0..self.farm.size() {
@@ -191,8 +191,8 @@ impl<'s> Session<'s> {
 
     /// Are these two different maps, both published there?
     fn are_unequal(&self, slot: Slot, known: &Canon, canon: &Canon) -> bool
-        requires known { IsPublished self.now slot known.now }
-        requires canon { IsPublished self.now slot canon.now }
+        requires known { IsPublished self.now.farm slot known.now }
+        requires canon { IsPublished self.now.farm slot canon.now }
         ensures { result ≡ false }
     {
         // The law: what is published under one sequence is one map.
@@ -202,7 +202,7 @@ impl<'s> Session<'s> {
 
     /// What the node publishes there, if it runs.
     fn published_by(&self, number: usize, slot: Slot) -> Option<&Canon>
-        ensures { IfSome result (λ canon. IsPublished self.now slot canon.now) }
+        ensures { IfSome result (λ canon. IsPublished self.now.farm slot canon.now) }
     {
         match self.farm.node(number) {
             Some(node) => node.history().canon(slot),

@@ -1,5 +1,9 @@
 //! Why a script isn't played.
 
+ghost use Rattle.std.specs.Prelude.{◌≡◌};
+ghost use Rattle.wf_script.specs.Fault.{fault_of};
+ghost use Rattle.wf_script.specs.declared.fault.Wrong.TheVariants as wrongs;
+
 use std::alloc::{AllocError, AllocFailed};
 use thiserror::Error;
 
@@ -46,7 +50,9 @@ pub(crate) enum Wrong {
 
 impl Wrong {
     /// The fault, at the line of this number.
-    pub(crate) fn at(self, line: usize) -> ScriptFault {
+    pub(crate) fn at(self, line: usize) -> ScriptFault
+        ensures { result ≡ fault_of self line }
+    {
         match self {
             Wrong::Memory => ScriptFault::Memory(line),
             Wrong::BadLine => ScriptFault::BadLine(line),
@@ -57,12 +63,16 @@ impl Wrong {
 }
 
 impl From<AllocError> for Wrong {
+    ghost from_gives = { λ _ wrong. wrong ≡ wrongs.Memory };
+
     fn from(_error: AllocError) -> Wrong {
         Wrong::Memory
     }
 }
 
 impl<T: Drop> From<AllocFailed<T>> for Wrong {
+    ghost from_gives = { λ _ wrong. wrong ≡ wrongs.Memory };
+
     fn from(_error: AllocFailed<T>) -> Wrong {
         Wrong::Memory
     }

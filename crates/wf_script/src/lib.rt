@@ -20,20 +20,28 @@
 //! A [`Session`] is the farm on which a script is played, an order after the other; [`run_script`] does both over any reader
 //! and writer.
 //!
-//! Its model: of a script, how many nodes, maps and orders it has; of a session, its farm.
+//! Its model: of a script, how many nodes it has, what its maps mean, and its orders with their lines; of a session, its
+//! script and its farm.
 //!
-//! It promises of each order, whatever it is, that the farm has gone on by some events of the model, that no node's list
-//! lost a map, and that the farm's nodes agree, with the laws beneath that: ballots belong to their nodes, promises are
-//! kept, and each Accept has a majority of promises behind it ([`Session::perform`]); so two running nodes never publish
-//! different maps ([`Session::differ`]), and two that stand at one sequence, or that are asked for one map, answer a client
-//! equally ([`Session::equal`]). Of a script it promises its limits, and of a run that a fault of the reader or the writer
-//! comes for that cause, that nothing is written where the input is no script, and that where the run succeeds, the whole
-//! input is within the limits of scripts. Which words are which order, and what is written, no contract says: cases show it.
+//! It promises of each order that the farm is what that order does: a step, a stop, a restart or a torn step is one event of
+//! the model, deliveries are theirs in turn, a pump is the farm's own, `skip` and questions leave the world as it is; and
+//! where memory was wanted, that is told at exactly the order's line ([`Session::perform`]). Whatever an order is, the farm
+//! has gone on by some events of the model, no node's list lost a map, and the farm's nodes agree, with the laws beneath
+//! that: ballots belong to their nodes, promises are kept, and each Accept has a majority of promises behind it. So two
+//! running nodes never publish different maps ([`Session::differ`]), and two that stand at one sequence, or that are asked
+//! for one map, answer a client equally ([`Session::equal`]).
+//!
+//! Of a script it promises its limits, that a text over a limit is refused at exactly the line where it goes over, and that
+//! each fault is at a line that there is ([`Script::read`]); of a run that a fault of the reader or the writer comes for that
+//! cause, that nothing is written where the input is no script, and that where the run succeeds, the whole input is within
+//! the limits of scripts. Which line of a text is which order, and what is written, no contract says: cases show it.
 #![tactic(auto)]
 
 mod answer;
+mod delivery;
 mod fault;
 mod law;
+mod limit;
 mod lines;
 mod maps;
 mod order;
@@ -44,7 +52,8 @@ mod session;
 mod words;
 
 pub use fault::{PlayFault, ScriptFault};
+pub use limit::{MOST_LINES, MOST_SCRIPT_BYTES};
 pub use maps::MOST_MAPS;
 pub use run::run_script;
-pub use script::{MOST_LINES, MOST_SCRIPT_BYTES, Script};
+pub use script::Script;
 pub use session::Session;

@@ -1,17 +1,36 @@
 //! The lines of a script, one after the other.
 
-ghost use Rattle.std.specs.Prelude.{◌≡◌, ◌≤◌, length};
-ghost use Rattle.wf_script.specs.Lines.{line_feeds};
+ghost use Rattle.std.specs.Prelude.{◌≡◌, ◌≤◌, ◌+◌, length, take, drop, not, ◌==◌, [], IfSome, IfNone};
+ghost use Rattle.std.specs.List.{prefix_len};
+ghost use Rattle.wf_script.specs.Lines.{line_feeds, lines, without_return, is_in_line};
+
+use std::marker::Model;
 
 /// The lines that are left, and the number of the last one that was given.
-#[derive(Clone, Copy)]
+#[derive(Drop)]
 pub(crate) struct Lines<'a> {
     rest: &'a [u8],
     number: usize,
 }
 
+impl<'a> Model for Lines<'a> {
+    ghost use Rattle.std.specs.Prelude.{◌+◌, ◌<◌, ◌^◌, length};
+    ghost use Rattle.wf_script.specs.Lines.{Lines, lines};
+
+    ghost Value = { Lines };
+
+    ghost view = { λ l. record { number = l.number; left = lines l.rest.now } };
+
+    ghost invariant = { λ l. l.number + length l.rest.now < 2 ^ 64 };
+}
+
 impl<'a> Lines<'a> {
-    pub(crate) fn new(bytes: &'a [u8]) -> Lines<'a> {
+    ghost use Rattle.wf_script.specs.Lines.{IsNext, total};
+
+    pub(crate) fn new(bytes: &'a [u8]) -> Lines<'a>
+        ensures number { result.number ≡ 0 }
+        ensures left { result.left ≡ lines bytes.now }
+    {
         Lines {
             rest: bytes,
             number: 0,
@@ -19,16 +38,23 @@ impl<'a> Lines<'a> {
     }
 
     /// The number of the last line that was given, counted from 1; 0 before the first.
-    pub(crate) fn number(&self) -> usize {
+    pub(crate) fn number(&self) -> usize
+        ensures { result ≡ self.now.number }
+    {
         self.number
     }
 
     /// The next line, without the line feed that ends it and the carriage return before that.
-    pub(crate) fn next(&mut self) -> Option<&'a [u8]> {
+    #[tactic(auto, using(crate::proofs::Cutting::none_left, crate::proofs::Cutting::ended_line, crate::proofs::Cutting::last_line, crate::proofs::Cutting::one_less))]
+    pub(crate) fn next(&mut self) -> Option<&'a [u8]>
+        ensures none { IfNone result (self.old.left ≡ []) }
+        ensures some { IfSome result (λ line. IsNext line.now self.old self.new) }
+        ensures total { total self.new ≡ total self.old }
+    {
         if self.rest.is_empty() {
             return None;
         }
-        self.number = self.number.saturating_add(1);
+        self.number += 1;
         let (line, end) = self.rest.split_at(length_of_line(self.rest));
         match end.split_first() {
             Some((_, rest)) => {
@@ -46,12 +72,16 @@ impl<'a> Lines<'a> {
 
 /// How many bytes stand before the first line feed.
 fn length_of_line(bytes: &[u8]) -> usize
-    ensures { result ≤ length bytes.now }
+    ensures value { result ≡ prefix_len is_in_line bytes.now }
+    ensures most { result ≤ length bytes.now }
 {
     bytes.iter().take_while(|byte| **byte != b'\n').count()
 }
 
-fn without_return(line: &[u8]) -> &[u8] {
+#[tactic(auto, using(crate::proofs::Cutting::return_dropped, crate::proofs::Cutting::no_return, crate::proofs::Cutting::nothing_dropped))]
+fn without_return(line: &[u8]) -> &[u8]
+    ensures { result.now ≡ without_return line.now }
+{
     match line.split_last() {
         Some((last, front)) => { if *last == b'\r' { front } else { line } }
         None => line,

@@ -29,6 +29,9 @@ pub(crate) struct Maps {
 }
 
 impl Maps {
+    ghost use Rattle.std.specs.Prelude.{map, slice_get, option_copied};
+    ghost use Rattle.wf_script.specs.Script.{definition};
+
     pub(crate) fn new(alloc: Global) -> Maps {
         Maps {
             named: Vec::new(alloc),
@@ -64,7 +67,9 @@ impl Maps {
     }
 
     /// The definition of the map of this number.
-    pub(crate) fn canon(&self, number: usize) -> Option<&Canon> {
+    pub(crate) fn canon(&self, number: usize) -> Option<&Canon>
+        ensures { option_copied result ≡ slice_get (map definition self.now.named.items) number }
+    {
         match self.named.get(number) {
             Some(map) => Some(&map.canon),
             None => None,

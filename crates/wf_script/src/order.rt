@@ -6,6 +6,13 @@ use crate::words::{Words, number};
 use std::alloc::Global;
 use wf_farm::Kept;
 
+/// An order, and the number of its line.
+#[derive(Drop)]
+pub(crate) struct Numbered {
+    pub(crate) line: usize,
+    pub(crate) order: Order,
+}
+
 /// What a line asks for. A node, a message and a sequence are their numbers, a map is its number in the script.
 #[derive(Drop)]
 pub(crate) enum Order {
@@ -182,7 +189,7 @@ fn map(maps: &Maps, words: &mut Words<'_>) -> Result<usize, Wrong> {
 fn numbers(alloc: Global, words: &mut Words<'_>) -> Result<Vec<usize>, Wrong> {
     let mut numbers = Vec::new(alloc);
     // No line has more words than the script has bytes.
-    for _ in 0..crate::script::MOST_SCRIPT_BYTES {
+    for _ in 0..crate::limit::MOST_SCRIPT_BYTES {
         match words.next() {
             Some(word) => numbers.push(number(word)?)?,
             None => return Ok(numbers),

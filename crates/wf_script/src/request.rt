@@ -57,9 +57,9 @@ impl<'s> Session<'s> {
         second: usize,
         query: &[u8],
     ) -> Result<bool, FarmFault>
-        ensures test { IfOk result (λ equal. Compares self.now first second query.now equal) }
-        ensures law { IfOk result (λ equal. IsTrueWhereOne self.now first second query.now equal) }
-        ensures fault { IfErr result (λ fault. IsUncompared self.now first second fault) }
+        ensures test { IfOk result (λ equal. Compares self.now.farm first second query.now equal) }
+        ensures law { IfOk result (λ equal. IsTrueWhereOne self.now.farm first second query.now equal) }
+        ensures fault { IfErr result (λ fault. IsUncompared self.now.farm first second fault) }
     {
         compare_nodes(alloc, &self.farm, first, second, query)
     }

@@ -8,7 +8,8 @@ ghost use Rattle.wf_script.specs.Script.{IsScriptText};
 ghost use Rattle.wf_script.specs.Fault.{CountsReads, CountsWrites, IsMemory, IsInputFault, IsReadingFault, IsPlayingFault, KeepsQuiet, ReadsWhole};
 
 use crate::fault::{PlayFault, ScriptFault};
-use crate::script::{MOST_SCRIPT_BYTES, Script};
+use crate::limit::MOST_SCRIPT_BYTES;
+use crate::script::Script;
 use crate::session::Session;
 use std::alloc::Global;
 use std::io::ErrorKind;
@@ -89,6 +90,7 @@ fn play<K: Sink>(alloc: Global, script: &Script, sink: &mut K) -> Result<(), Pla
 }
 
 /// Performs so many orders from the first on, and writes what each of them writes.
+#[tactic(auto, using(crate::proofs::Performing::fault_is_memory))]
 fn perform_all<K: Sink>(
     alloc: Global,
     session: &mut Session<'_>,

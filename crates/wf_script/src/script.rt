@@ -1,36 +1,26 @@
 //! A script, read whole.
 
-ghost use Rattle.std.specs.Prelude.{◌≡◌, ◌≤◌, ◌<◌, ◌+◌, length, IfOk, OnOk, OnErr, IfNone, IfSome};
+ghost use Rattle.std.specs.Prelude.{◌≡◌, ◌≤◌, ◌<◌, ◌+◌, ◌↔◌, length, slice_get, option_map, option_copied, IsTrue, max, Err, None, IfOk, IfErr, OnOk, OnErr, IfNone, IfSome};
 ghost use Rattle.wf_ballot.specs.Node.{most_nodes};
-ghost use Rattle.wf_script.specs.Lines.{line_feeds, most_script_bytes, most_lines, most_maps};
+ghost use Rattle.wf_script.specs.Fault.{IsAtLine};
+ghost use Rattle.wf_script.specs.Lines.{line_feeds, lines, most_script_bytes, most_lines, most_maps, over_limit, total};
 
 use crate::fault::{ScriptFault, Wrong};
-use crate::lines::{Lines, lines_ended};
+use crate::limit::{MOST_LINES, line_over};
+use crate::lines::Lines;
 use crate::maps::{Maps, canon_of, is_name};
-use crate::order::{Order, read_order};
+use crate::order::{Numbered, read_order};
 use crate::words::{Words, ends_map, is_skipped};
 use std::alloc::Global;
 use std::marker::Model;
 use wf_ballot::NODES;
-
-/// The longest script, in bytes.
-pub const MOST_SCRIPT_BYTES: usize = 1_048_576;
-
-/// The most lines of a script.
-pub const MOST_LINES: usize = 10_000;
+use wf_canon::Canon;
 
 /// A script: how many nodes its farm has, its maps, and its orders with their lines.
 pub struct Script {
     pub(crate) nodes: u8,
     pub(crate) maps: Maps,
     pub(crate) orders: Vec<Numbered>,
-}
-
-/// An order, and the number of its line.
-#[derive(Drop)]
-pub(crate) struct Numbered {
-    pub(crate) line: usize,
-    pub(crate) order: Order,
 }
 
 // By hand: a crate above proves one call where it drops a script, and not each part of one anew.
@@ -47,31 +37,40 @@ impl Drop for Script {
 }
 
 impl Model for Script {
-    ghost use Rattle.std.specs.Prelude.{length};
-    ghost use Rattle.wf_script.specs.Script.{Script, IsScript};
+    ghost use Rattle.std.specs.Prelude.{map};
+    ghost use Rattle.std.specs.Coded.{codes};
+    ghost use Rattle.wf_script.specs.Script.{Script, IsScript, definition, numbered};
 
     ghost Value = { Script };
 
+    ghost coded = { Prim.hlevel codes };
+
     ghost view = { λ s. record {
       nodes = s.nodes;
-      maps = length s.maps.named.items;
-      orders = length s.orders.items;
+      maps = map definition s.maps.named.items;
+      orders = map numbered s.orders.items;
     } };
 
     ghost invariant = { λ s. IsScript (record {
       nodes = s.nodes;
-      maps = length s.maps.named.items;
-      orders = length s.orders.items;
+      maps = map definition s.maps.named.items;
+      orders = map numbered s.orders.items;
     }) };
 }
 
 impl Script {
+    ghost use Rattle.wf_script.specs.Script.{numbered};
+
     /// Reads a script. A byte or a line over the limit is judged first (S3), then the lines in order, a map at the line
-    /// where it begins; on one line S2 comes before S3 before S4. A script without an order is S2 at line 1. Want of memory
-    /// is S1, at the line that wants it.
+    /// where it begins; on one line S2 comes before S3 before S4. A script without a line that isn't skipped is S2 at line 1.
+    /// Want of memory is S1, at the line that wants it. Each fault is at a line of the bytes, or at line 1 where they have
+    /// none.
+    #[tactic(auto, using(crate::proofs::Counting::over_at, crate::proofs::Counting::bytes_fit, crate::proofs::Counting::lines_fit, crate::proofs::Faults::at_line_of))]
     pub fn read(alloc: Global, bytes: &[u8]) -> Result<Script, ScriptFault>
         ensures bytes { OnOk result (length bytes.now ≤ most_script_bytes) }
         ensures lines { OnOk result (line_feeds bytes.now ≤ most_lines) }
+        ensures over { IfSome (over_limit bytes.now) (λ line. result ≡ Err (ScriptFault.OverLimit line)) }
+        ensures at { IfErr result (IsAtLine (length (lines bytes.now))) }
     {
         if let Some(line) = line_over(bytes) {
             return Err(ScriptFault::OverLimit(line));
@@ -102,20 +101,38 @@ impl Script {
 
     /// How many orders it has.
     pub fn len(&self) -> usize
-        ensures value { result ≡ self.now.orders }
+        ensures value { result ≡ length self.now.orders }
         ensures most { result ≤ most_lines }
     {
         self.orders.len()
     }
 
     /// Has it no order?
-    pub fn is_empty(&self) -> bool {
+    pub fn is_empty(&self) -> bool
+        ensures { IsTrue result ↔ (length self.now.orders ≡ 0) }
+    {
         self.orders.is_empty()
     }
 
+    /// The order of that number, counted from 0, with its line.
+    pub(crate) fn order(&self, number: usize) -> Option<&Numbered>
+        ensures { option_map (λ n. numbered n.now) result ≡ slice_get self.now.orders number }
+    {
+        self.orders.get(number)
+    }
+
+    /// What the map of that number means, counted from 0.
+    pub(crate) fn map(&self, number: usize) -> Option<&Canon>
+        ensures { option_copied result ≡ slice_get self.now.maps number }
+    {
+        self.maps.canon(number)
+    }
+
     /// Takes in the lines that are left. The script has no order yet.
+    #[tactic(auto, using(crate::proofs::Faults::wrong_at))]
     fn take_lines(&mut self, alloc: Global, lines: &mut Lines<'_>) -> Result<(), ScriptFault>
-        requires { self.old.orders ≡ 0 }
+        requires { length self.old.orders ≡ 0 }
+        ensures { IfErr result (IsAtLine (total lines.old)) }
     {
         for _ in 0..MOST_LINES {
             let Some(line) = lines.next() else {
@@ -137,8 +154,9 @@ impl Script {
         line: &[u8],
         lines: &mut Lines<'_>,
     ) -> Result<(), Wrong>
-        requires { self.old.orders < most_lines }
-        ensures { self.new.orders ≤ self.old.orders + 1 }
+        requires { length self.old.orders < most_lines }
+        ensures orders { length self.new.orders ≤ length self.old.orders + 1 }
+        ensures total { total lines.new ≡ total lines.old }
     {
         if is_skipped(line) {
             return Ok(());
@@ -162,7 +180,8 @@ impl Script {
         words: &mut Words<'_>,
         lines: &mut Lines<'_>,
     ) -> Result<(), Wrong>
-        ensures { self.new.orders ≡ self.old.orders }
+        ensures orders { self.new.orders ≡ self.old.orders }
+        ensures total { total lines.new ≡ total lines.old }
     {
         let name = words.text()?;
         words.end()?;
@@ -181,7 +200,9 @@ impl Script {
 }
 
 /// The lines up to `endmap`, each with a line feed.
-fn text_of_map(alloc: Global, lines: &mut Lines<'_>) -> Result<Vec<u8>, Wrong> {
+fn text_of_map(alloc: Global, lines: &mut Lines<'_>) -> Result<Vec<u8>, Wrong>
+    ensures { total lines.new ≡ total lines.old }
+{
     let mut text = Vec::new(alloc);
     for _ in 0..MOST_LINES {
         let Some(line) = lines.next() else {
@@ -197,8 +218,11 @@ fn text_of_map(alloc: Global, lines: &mut Lines<'_>) -> Result<Vec<u8>, Wrong> {
 }
 
 /// The number of nodes, which the first line that isn't skipped tells.
+#[tactic(auto, using(crate::proofs::Faults::wrong_at))]
 fn first_line(lines: &mut Lines<'_>) -> Result<u8, ScriptFault>
-    ensures { IfOk result (λ nodes. (1 ≤ nodes) × (nodes ≤ most_nodes)) }
+    ensures nodes { IfOk result (λ nodes. (1 ≤ nodes) × (nodes ≤ most_nodes)) }
+    ensures at { IfErr result (IsAtLine (total lines.old)) }
+    ensures total { total lines.new ≡ total lines.old }
 {
     for _ in 0..MOST_LINES {
         let Some(line) = lines.next() else {
@@ -228,33 +252,4 @@ fn nodes(line: &[u8]) -> Result<u8, Wrong>
         return Err(Wrong::BadLine);
     }
     Ok(nodes as u8)
-}
-
-/// The line that holds the first byte over the limit, or is the first over it: the lesser, where both are.
-fn line_over(bytes: &[u8]) -> Option<usize>
-    ensures bytes { IfNone result (length bytes.now ≤ most_script_bytes) }
-    ensures lines { IfNone result (line_feeds bytes.now ≤ most_lines) }
-{
-    if bytes.len() > MOST_SCRIPT_BYTES {
-        // The byte over the limit stands in the line that is open before it.
-        let ended = lines_ended(bytes.split_at(MOST_SCRIPT_BYTES).0);
-        return Some((ended + 1).min(MOST_LINES + 1));
-    }
-    if lines_begun(bytes) > MOST_LINES {
-        Some(MOST_LINES + 1)
-    } else {
-        None
-    }
-}
-
-/// How many lines the bytes have; the last may end without a line feed.
-fn lines_begun(bytes: &[u8]) -> usize
-    requires { length bytes.now ≤ most_script_bytes }
-    ensures { line_feeds bytes.now ≤ result }
-{
-    let ended = lines_ended(bytes);
-    match bytes.last() {
-        Some(last) if *last != b'\n' => ended + 1,
-        _ => ended,
-    }
 }

@@ -1,5 +1,6 @@
 //! A script is played on a farm, an order after the other.
 
+use crate::delivery::deliveries;
 use crate::fault::ScriptFault;
 use crate::law::farm_obeys_laws;
 use crate::order::{Order, Step};
@@ -20,29 +21,37 @@ pub struct Session<'s> {
 impl<'s> Model for Session<'s> {
     ghost use Rattle.std.specs.Coded.{codes};
     ghost use Rattle.std.specs.FinMap as map;
-    ghost use Rattle.wf_farm.specs.Farm.{Farm};
+    ghost use Rattle.wf_script.specs.Session.{Session};
 
-    ghost Value = { Farm };
+    ghost Value = { Session };
 
     ghost coded = { Prim.hlevel (codes, map.code) };
 
-    ghost view = { λ s. s.farm };
+    ghost view = { λ s. record { script = s.script.now; farm = s.farm } };
 }
 
 impl<'s> Session<'s> {
-    ghost use Rattle.std.specs.Prelude.{◌≡◌, IfOk, IfErr};
+    ghost use Rattle.std.specs.Prelude.{◌≡◌, Some, [], ◌∷◌, length, map, slice_get, option_map, option_copied, IfOk, IfErr, OnOk};
+    ghost use Rattle.wf_def.specs.Definition.{Definition};
+    ghost use Rattle.wf_model.specs.Table as table;
+    ghost use Rattle.wf_model.specs.World as world;
     ghost use Rattle.wf_farm.specs.Agreement.{HasOneHistory, IsOneWorld};
+    ghost use Rattle.wf_farm.specs.Event.{view as event_view, view_kept};
     ghost use Rattle.wf_farm.specs.Farm.{Shows, size};
     ghost use Rattle.wf_model.specs.World.{start};
     ghost use Rattle.wf_script.specs.Fault.{IsMemory};
     ghost use Rattle.wf_script.specs.Law.{HasKeptPromises, HasOwnBallots, HasPromisedMajorities};
+    ghost use Rattle.wf_script.specs.Order.{view};
+    ghost use Rattle.wf_script.specs.Performing.{ArePumped, Happens, HappensIf, Performs, PerformsAt, action_of, event_of, fault_at};
     ghost use Rattle.wf_script.specs.Session.{Plays};
 
     /// The farm before the script's first order: the model's start. S1 at line 1 where a growth was refused.
     pub fn new(alloc: Global, script: &'s Script) -> Result<Session<'s>, ScriptFault>
-        ensures start { IfOk result (λ farm. Shows farm (start script.now.nodes)) }
-        ensures size { IfOk result (λ farm. size farm ≡ script.now.nodes) }
-        ensures memory { IfErr result IsMemory }
+        ensures script { IfOk result (λ session. session.script ≡ script.now) }
+        ensures start { IfOk result (λ session. Shows session.farm (start script.now.nodes)) }
+        ensures size { IfOk result (λ session. size session.farm ≡ script.now.nodes) }
+        ensures fresh { IfOk result (λ session. session.farm.pumped ≡ 0) }
+        ensures memory { IfErr result (λ fault. fault ≡ ScriptFault.Memory 1) }
     {
         match Farm::new(alloc, script.nodes()) {
             Ok(farm) => Ok(Session { script, farm }),
@@ -52,44 +61,74 @@ impl<'s> Session<'s> {
 
     /// The farm, as the orders so far left it.
     pub fn farm(&self) -> &Farm
-        ensures { result.now ≡ self.now }
+        ensures { result.now ≡ self.now.farm }
     {
         &self.farm
     }
 
     /// Performs the order of that number, counted from 0, and appends what it writes; nothing where there is no such
-    /// order. Whatever it is, the farm has gone on by some events, and the laws hold of it as it is then. S1 at its line
-    /// where a growth was refused: then a part of it may have happened, or be written.
-    #[tactic(auto, using(crate::proofs::Playing::nothing_played))]
+    /// order. Whatever it is, the farm has gone on by some events, and the laws hold of it as it is then. S1 at the order's
+    /// line where a growth was refused: then a part of it may have happened, or be written.
     pub fn perform(
         &mut self,
         alloc: Global,
         number: usize,
         out: &mut String,
     ) -> Result<(), ScriptFault>
-        ensures plays { Plays self.old self.new }
-        ensures agree { HasOneHistory self.new }
-        ensures world { IsOneWorld self.new }
-        ensures ballots { HasOwnBallots self.new }
-        ensures promises { HasKeptPromises self.new }
-        ensures majorities { HasPromisedMajorities self.new }
-        ensures memory { IfErr result IsMemory }
+        ensures script { self.new.script ≡ self.old.script }
+        ensures does { OnOk result (PerformsAt self.old.script.maps (slice_get self.old.script.orders number) self.old.farm self.new.farm) }
+        ensures memory { IfErr result (λ fault. fault_at (slice_get self.old.script.orders number) ≡ Some fault) }
+        ensures plays { Plays self.old.farm self.new.farm }
+        ensures agree { HasOneHistory self.new.farm }
+        ensures world { IsOneWorld self.new.farm }
+        ensures ballots { HasOwnBallots self.new.farm }
+        ensures promises { HasKeptPromises self.new.farm }
+        ensures majorities { HasPromisedMajorities self.new.farm }
+    {
+        let performed = self.perform_order(alloc, number, out);
+        self.obeys_laws();
+        performed
+    }
+
+    /// The farm's laws, of the farm as it is.
+    fn obeys_laws(&self)
+        ensures agree { HasOneHistory self.now.farm }
+        ensures world { IsOneWorld self.now.farm }
+        ensures ballots { HasOwnBallots self.now.farm }
+        ensures promises { HasKeptPromises self.now.farm }
+        ensures majorities { HasPromisedMajorities self.now.farm }
+    {
+        farm_obeys_laws(&self.farm);
+    }
+
+    /// What the order does, or nothing.
+    #[tactic(auto, using(crate::proofs::Playing::nothing_played, crate::proofs::Performing::nothing_performed, crate::proofs::Performing::fault_there))]
+    fn perform_order(
+        &mut self,
+        alloc: Global,
+        number: usize,
+        out: &mut String,
+    ) -> Result<(), ScriptFault>
+        ensures script { self.new.script ≡ self.old.script }
+        ensures does { OnOk result (PerformsAt self.old.script.maps (slice_get self.old.script.orders number) self.old.farm self.new.farm) }
+        ensures memory { IfErr result (λ fault. fault_at (slice_get self.old.script.orders number) ≡ Some fault) }
+        ensures plays { Plays self.old.farm self.new.farm }
     {
         let script = self.script;
-        let performed = match script.orders.get(number) {
+        match script.order(number) {
             Some(numbered) => match self.obey(alloc, &numbered.order, out) {
                 Ok(()) => Ok(()),
                 Err(_) => Err(ScriptFault::Memory(numbered.line)),
             },
             None => Ok(()),
-        };
-        farm_obeys_laws(&self.farm);
-        performed
+        }
     }
 
     #[tactic(auto, using(crate::proofs::Playing::nothing_played, crate::proofs::Playing::skipped_played))]
     fn obey(&mut self, alloc: Global, order: &Order, out: &mut String) -> Result<(), AllocError>
-        ensures { Plays self.old self.new }
+        ensures script { self.new.script ≡ self.old.script }
+        ensures does { OnOk result (Performs self.old.script.maps (view order.now) self.old.farm self.new.farm) }
+        ensures plays { Plays self.old.farm self.new.farm }
     {
         match order {
             Order::Step(node, step) => self.step(alloc, *node, *step, out),
@@ -111,7 +150,9 @@ impl<'s> Session<'s> {
     /// The events happen in turn; that the last one is refused is told.
     #[tactic(auto, using(crate::proofs::Playing::run_played, crate::proofs::Playing::part_played))]
     fn run(&mut self, alloc: Global, events: &[Event], out: &mut String) -> Result<(), AllocError>
-        ensures { Plays self.old self.new }
+        ensures script { self.new.script ≡ self.old.script }
+        ensures does { OnOk result (Happens (map event_view events.now) self.old.farm self.new.farm) }
+        ensures plays { Plays self.old.farm self.new.farm }
     {
         if self.farm.run(alloc, events).is_err() {
             return Err(AllocError);
@@ -123,14 +164,15 @@ impl<'s> Session<'s> {
     }
 
     fn happen(&mut self, alloc: Global, event: Event, out: &mut String) -> Result<(), AllocError>
-        ensures { Plays self.old self.new }
+        ensures script { self.new.script ≡ self.old.script }
+        ensures does { OnOk result (Happens (event_view event ∷ []) self.old.farm self.new.farm) }
+        ensures plays { Plays self.old.farm self.new.farm }
     {
         let events = [event];
         self.run(alloc, &events, out)
     }
 
     /// A step of the node.
-    #[tactic(auto, using(crate::proofs::Playing::nothing_played))]
     fn step(
         &mut self,
         alloc: Global,
@@ -138,22 +180,39 @@ impl<'s> Session<'s> {
         step: Step,
         out: &mut String,
     ) -> Result<(), AllocError>
-        ensures { Plays self.old self.new }
+        ensures script { self.new.script ≡ self.old.script }
+        ensures does { OnOk result (HappensIf (option_map (event_of node) (action_of self.old.script.maps step)) self.old.farm self.new.farm) }
+        ensures plays { Plays self.old.farm self.new.farm }
     {
-        let event = match step {
-            Step::Propose(map) => match self.copy_of(map)? {
-                Some(canon) => Event::Propose(node, canon),
-                None => return Ok(()),
-            },
-            Step::Retry => Event::Retry(node),
-            Step::CatchUp => Event::CatchUp(node),
-            Step::Deliver(message) => Event::Deliver(node, message),
-        };
-        self.happen(alloc, event, out)
+        match step {
+            Step::Propose(map) => self.propose(alloc, node, map, out),
+            Step::Retry => self.happen(alloc, Event::Retry(node), out),
+            Step::CatchUp => self.happen(alloc, Event::CatchUp(node), out),
+            Step::Deliver(message) => self.happen(alloc, Event::Deliver(node, message), out),
+        }
+    }
+
+    /// The node begins a proposal of the map.
+    #[tactic(auto, using(crate::proofs::Playing::nothing_played, crate::proofs::Performing::proposed, crate::proofs::Performing::unproposed))]
+    fn propose(
+        &mut self,
+        alloc: Global,
+        node: usize,
+        map: usize,
+        out: &mut String,
+    ) -> Result<(), AllocError>
+        ensures script { self.new.script ≡ self.old.script }
+        ensures does { OnOk result (HappensIf (option_map (λ d. world.Propose node d) (slice_get self.old.script.maps map)) self.old.farm self.new.farm) }
+        ensures plays { Plays self.old.farm self.new.farm }
+    {
+        match self.copy_of(map) {
+            Ok(Some(canon)) => self.happen(alloc, Event::Propose(node, canon), out),
+            Ok(None) => Ok(()),
+            Err(error) => Err(error),
+        }
     }
 
     /// The node stops within a step.
-    #[tactic(auto, using(crate::proofs::Playing::nothing_played))]
     fn tear(
         &mut self,
         alloc: Global,
@@ -162,24 +221,53 @@ impl<'s> Session<'s> {
         kept: Kept,
         out: &mut String,
     ) -> Result<(), AllocError>
-        ensures { Plays self.old self.new }
+        ensures script { self.new.script ≡ self.old.script }
+        ensures does { OnOk result (HappensIf (option_map (λ a. world.Torn node a (view_kept kept)) (action_of self.old.script.maps step)) self.old.farm self.new.farm) }
+        ensures plays { Plays self.old.farm self.new.farm }
     {
-        let action = match step {
-            Step::Propose(map) => match self.copy_of(map)? {
-                Some(canon) => Action::Propose(canon),
-                None => return Ok(()),
-            },
-            Step::Retry => Action::Retry,
-            Step::CatchUp => Action::CatchUp,
-            Step::Deliver(message) => Action::Deliver(message),
-        };
-        self.happen(alloc, Event::Torn(node, action, kept), out)
+        match step {
+            Step::Propose(map) => self.tear_proposal(alloc, node, map, kept, out),
+            Step::Retry => self.happen(alloc, Event::Torn(node, Action::Retry, kept), out),
+            Step::CatchUp => self.happen(alloc, Event::Torn(node, Action::CatchUp, kept), out),
+            Step::Deliver(message) => {
+                self.happen(
+                    alloc,
+                    Event::Torn(node, Action::Deliver(message), kept),
+                    out,
+                )
+            }
+        }
+    }
+
+    /// The node stops where it begins a proposal of the map.
+    #[tactic(auto, using(crate::proofs::Playing::nothing_played, crate::proofs::Performing::proposed, crate::proofs::Performing::unproposed))]
+    fn tear_proposal(
+        &mut self,
+        alloc: Global,
+        node: usize,
+        map: usize,
+        kept: Kept,
+        out: &mut String,
+    ) -> Result<(), AllocError>
+        ensures script { self.new.script ≡ self.old.script }
+        ensures does { OnOk result (HappensIf (option_map (λ d. world.Torn node (table.Propose d) (view_kept kept)) (slice_get self.old.script.maps map)) self.old.farm self.new.farm) }
+        ensures plays { Plays self.old.farm self.new.farm }
+    {
+        match self.copy_of(map) {
+            Ok(Some(canon)) => {
+                self.happen(alloc, Event::Torn(node, Action::Propose(canon), kept), out)
+            }
+            Ok(None) => Ok(()),
+            Err(error) => Err(error),
+        }
     }
 
     /// The definition of the map of this number. An order names a map of its own script, so there is one.
-    fn copy_of(&self, map: usize) -> Result<Option<Canon>, AllocError> {
+    fn copy_of(&self, map: usize) -> Result<Option<Canon>, AllocError>
+        ensures { IfOk result (λ copy. copy ≡ slice_get self.now.script.maps map) }
+    {
         let script = self.script;
-        match script.maps.canon(map) {
+        match script.map(map) {
             Some(canon) => Ok(Some(canon.copy()?)),
             None => Ok(None),
         }
@@ -194,7 +282,9 @@ impl<'s> Session<'s> {
         messages: &[usize],
         out: &mut String,
     ) -> Result<(), AllocError>
-        ensures { Plays self.old self.new }
+        ensures script { self.new.script ≡ self.old.script }
+        ensures does { OnOk result (Happens (map (λ k. world.Deliver node k) messages.now) self.old.farm self.new.farm) }
+        ensures plays { Plays self.old.farm self.new.farm }
     {
         let events = deliveries(alloc, node, messages)?;
         self.run(alloc, &events, out)
@@ -202,21 +292,16 @@ impl<'s> Session<'s> {
 
     #[tactic(auto, using(crate::proofs::Playing::pump_played, crate::proofs::Playing::pump_part_played))]
     fn pump(&mut self, alloc: Global, nodes: &[usize], out: &mut String) -> Result<(), AllocError>
-        ensures { Plays self.old self.new }
+        ensures script { self.new.script ≡ self.old.script }
+        ensures does { OnOk result (ArePumped nodes.now self.old.farm self.new.farm) }
+        ensures plays { Plays self.old.farm self.new.farm }
     {
-        match self.farm.pump(alloc, nodes) {
-            Ok(false) => Ok(()),
-            Ok(true) => writeln!(out, "pump stopped"),
-            Err(_) => Err(AllocError),
+        let Ok(stopped) = self.farm.pump(alloc, nodes) else {
+            return Err(AllocError);
+        };
+        if stopped {
+            return out.push_str("pump stopped\n");
         }
+        Ok(())
     }
-}
-
-/// The deliveries of the messages to the node, in their order.
-fn deliveries(alloc: Global, node: usize, messages: &[usize]) -> Result<Vec<Event>, AllocError> {
-    let mut events = Vec::new(alloc);
-    for message in messages {
-        events.push(Event::Deliver(node, *message))?;
-    }
-    Ok(events)
 }

@@ -1,2 +1,4 @@
 pub mod Service
 pub mod Fault
+pub mod Listening
+pub mod Serving

@@ -4,12 +4,16 @@
 //! [`serve`] opens the nodes, lets them hear one another, and serves; [`serve_connection`] is one connection, over any reader
 //! and writer.
 //!
-//! It promises that node i of n stands at place i throughout, so that all that the nodes hear of one another is what
-//! `deliver_all` of `wf_farm` delivers, and why it fails: the line that names the port couldn't be written, or the nodes
-//! couldn't begin. What a served node answers is the contract of `wf_edge`'s `serve_one`.
+//! It promises of a connection that the node at its place serves the request, as `wf_edge`'s `serve_one` says, while each
+//! other node stays as it is; that then the nodes are what `wf_farm`'s `deliver_all` leaves of exactly the messages that
+//! the node handed out; and that a proposal of that node which still runs is asked to begin anew, once, what it says then
+//! being delivered likewise, while nothing happens where none runs (`specs/Serving.antt`). Node i of n stands at place i
+//! throughout. Of the port it promises that the line which is written names it, the one that was asked for where that isn't
+//! 0; and why nodes aren't served, with what is written of that line by then (`specs/Listening.antt`).
 //!
-//! It doesn't say what comes in by a socket or what goes out, which node serves which connection, nor that a proposal is
-//! published: that is shown by hand, with the built program.
+//! How many of a message's deliveries are lost `deliver_all` doesn't say. It isn't said either what comes in by a socket or
+//! what goes out, which node serves which connection, how many connections come, what a port of the system's is, nor that a
+//! proposal is published: sockets have no model. That is shown by hand, with the built program, and by tests.
 #![tactic(auto)]
 
 mod fault;

@@ -1,7 +1,9 @@
 //! The nodes open, catch up and tell their port, and the connections come.
-ghost use Rattle.std.specs.Prelude.{◌<◌, length};
+ghost use Rattle.std.specs.Prelude.{◌≡◌, ◌<◌, length, IfSome};
+ghost use Rattle.std.specs.String.{string_bytes};
 ghost use Rattle.wf_farm.specs.Delivering.{StandInTurn};
 ghost use Rattle.wf_serve.specs.Fault.{CountsWrites};
+ghost use Rattle.wf_serve.specs.Listening.{IsPortFor, IsTold, IsWriting, port_line};
 ghost use Rattle.wf_serve.specs.Service.{IsService};
 
 use crate::fault::ServeFault;
@@ -20,15 +22,17 @@ use wf_tape::Tape;
 /// what their tapes stand for, each asks for what it missed, and they hear one another. After each connection the nodes hear
 /// what its node has said; where its proposal still runs, it begins that anew, once.
 ///
-/// `Start` where a tape doesn't open, the port can't be had or memory ran out, and `Write` where the line can't be written. A
-/// connection that can't be accepted counts as one without a request.
+/// `Start` where a tape doesn't open, the port can't be had or memory ran out: nothing of the line is written then. `Write`
+/// where the line can't be written: a beginning of it may be. The port is the service's; where that is 0, one that the system
+/// gives. A connection that can't be accepted counts as one without a request.
 pub fn serve<R: Files + Net<Listener = TcpListener, Stream = TcpStream> + AllocGlobal, K: Sink>(
     rt: &R,
     service: Service<'_>,
     sink: &mut K,
 ) -> Result<(), ServeFault>
     requires { IsService service }
-    ensures { CountsWrites result (K.failures sink.old) (K.failures sink.new) }
+    ensures told { IsTold service.entry.port (K.written sink.old) (K.written sink.new) result }
+    ensures writes { CountsWrites result (K.failures sink.old) (K.failures sink.new) }
 {
     match service.state {
         Some(folder) => serve_files(rt, service, folder, sink),
@@ -43,7 +47,8 @@ fn serve_memory<R: Net<Listener = TcpListener, Stream = TcpStream> + AllocGlobal
     sink: &mut K,
 ) -> Result<(), ServeFault>
     requires { IsService service }
-    ensures { CountsWrites result (K.failures sink.old) (K.failures sink.new) }
+    ensures told { IsTold service.entry.port (K.written sink.old) (K.written sink.new) result }
+    ensures writes { CountsWrites result (K.failures sink.old) (K.failures sink.new) }
 {
     match in_memory(rt.alloc(), service.nodes) {
         Ok(nodes) => serve_opened(rt, service, nodes, sink),
@@ -59,7 +64,8 @@ fn serve_files<R: Files + Net<Listener = TcpListener, Stream = TcpStream> + Allo
     sink: &mut K,
 ) -> Result<(), ServeFault>
     requires { IsService service }
-    ensures { CountsWrites result (K.failures sink.old) (K.failures sink.new) }
+    ensures told { IsTold service.entry.port (K.written sink.old) (K.written sink.new) result }
+    ensures writes { CountsWrites result (K.failures sink.old) (K.failures sink.new) }
 {
     match in_files(rt, service.nodes, folder) {
         Ok(nodes) => serve_opened(rt, service, nodes, sink),
@@ -75,7 +81,8 @@ fn serve_opened<
 >(rt: &R, service: Service<'_>, mut nodes: Vec<Node<T>>, sink: &mut K) -> Result<(), ServeFault>
     requires some { 0 < length nodes.items }
     requires in_turn { StandInTurn nodes.items }
-    ensures { CountsWrites result (K.failures sink.old) (K.failures sink.new) }
+    ensures told { IsTold service.entry.port (K.written sink.old) (K.written sink.new) result }
+    ensures writes { CountsWrites result (K.failures sink.old) (K.failures sink.new) }
 {
     let outcome = serve_nodes(rt, service, nodes.as_mut_slice(), sink);
     drop(nodes);
@@ -91,14 +98,15 @@ fn serve_nodes<R: Net<Listener = TcpListener, Stream = TcpStream> + AllocGlobal,
 ) -> Result<(), ServeFault>
     requires some { 0 < length nodes.old }
     requires in_turn { StandInTurn nodes.old }
-    ensures { CountsWrites result (K.failures sink.old) (K.failures sink.new) }
+    ensures told { IsTold service.entry.port (K.written sink.old) (K.written sink.new) result }
+    ensures writes { CountsWrites result (K.failures sink.old) (K.failures sink.new) }
 {
     catch_up(rt.alloc(), nodes);
     let address = SocketAddr::from((Ipv4Addr::LOCALHOST, service.port));
     let Ok(listener) = TcpListener::bind(rt, address) else {
         return Err(ServeFault::Start);
     };
-    let outcome = tell_port(rt.alloc(), &listener, sink);
+    let outcome = tell_port(rt.alloc(), &listener, service.port, sink);
     if outcome.is_ok() {
         serve_connections(rt.alloc(), &listener, nodes, service.requests);
     }
@@ -107,14 +115,19 @@ fn serve_nodes<R: Net<Listener = TcpListener, Stream = TcpStream> + AllocGlobal,
 }
 
 /// Writes the line that names the port.
-fn tell_port<K: Sink>(alloc: Global, listener: &TcpListener, sink: &mut K) -> Result<(), ServeFault>
-    ensures { CountsWrites result (K.failures sink.old) (K.failures sink.new) }
+fn tell_port<K: Sink>(
+    alloc: Global,
+    listener: &TcpListener,
+    asked: u16,
+    sink: &mut K,
+) -> Result<(), ServeFault>
+    ensures told { IsTold asked (K.written sink.old) (K.written sink.new) result }
+    ensures writes { CountsWrites result (K.failures sink.old) (K.failures sink.new) }
 {
-    let Ok(address) = listener.local_addr() else {
+    let Some(port) = port_of(listener, asked) else {
         return Err(ServeFault::Start);
     };
-    let port = address.port();
-    let Ok(line) = format!(in alloc; "listening {port}\n") else {
+    let Some(line) = line_of(alloc, port) else {
         return Err(ServeFault::Start);
     };
     let outcome = put(sink, line.as_bytes());
@@ -122,9 +135,33 @@ fn tell_port<K: Sink>(alloc: Global, listener: &TcpListener, sink: &mut K) -> Re
     outcome
 }
 
+/// The port that is listened at: the asked one, and where that is 0 the one that the system has given.
+fn port_of(listener: &TcpListener, asked: u16) -> Option<u16>
+    ensures { IfSome result (IsPortFor asked) }
+{
+    if asked != 0 {
+        return Some(asked);
+    }
+    match listener.local_addr() {
+        Ok(address) => Some(address.port()),
+        Err(_) => None,
+    }
+}
+
+/// The line that names a port. None where there is no memory for it.
+fn line_of(alloc: Global, port: u16) -> Option<String>
+    ensures { IfSome result (λ line. string_bytes line ≡ port_line port) }
+{
+    match format!(in alloc; "listening {port}\n") {
+        Ok(line) => Some(line),
+        Err(_) => None,
+    }
+}
+
 /// Writes all the bytes.
 fn put<K: Sink>(sink: &mut K, bytes: &[u8]) -> Result<(), ServeFault>
-    ensures { CountsWrites result (K.failures sink.old) (K.failures sink.new) }
+    ensures written { IsWriting bytes.now (K.written sink.old) (K.written sink.new) result }
+    ensures writes { CountsWrites result (K.failures sink.old) (K.failures sink.new) }
 {
     match write_all(sink, bytes) {
         Ok(()) => Ok(()),

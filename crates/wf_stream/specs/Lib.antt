@@ -1,3 +1,4 @@
 pub mod Memory
 pub mod Reading
 pub mod Stream
+pub mod KnownLaws

@@ -67,7 +67,7 @@ impl<S> Stream<S> {
 }
 
 /// One read, again where a signal interrupted it.
-#[tactic(auto, using(crate::proofs::Known::keeps_same, crate::proofs::Known::keeps_twice, crate::proofs::Known::reads_after))]
+#[tactic(auto, using(crate::specs::KnownLaws::keeps_same, crate::specs::KnownLaws::keeps_twice, crate::specs::KnownLaws::reads_after))]
 fn read_again<R: Read>(reader: &mut R, buf: &mut [u8]) -> io::Result<usize>
     ensures bound { ReadsAtMost result buf.new }
     ensures bytes { ReadConsumes (R.remaining reader.old) (R.remaining reader.new) result buf.new }
@@ -98,7 +98,7 @@ impl<R: Read> Source for Stream<R> {
 }
 
 /// One write, again where a signal interrupted it. A writer that takes nothing has failed.
-#[tactic(auto, using(crate::proofs::Known::keeps_same, crate::proofs::Known::keeps_twice, crate::proofs::Known::writes_after))]
+#[tactic(auto, using(crate::specs::KnownLaws::keeps_same, crate::specs::KnownLaws::keeps_twice, crate::specs::KnownLaws::writes_after))]
 fn write_again<W: Write>(writer: &mut W, buf: &[u8]) -> io::Result<usize>
     ensures bound { WritesAtMost result buf.now }
     ensures some { IfOk result (λ count. 0 < length buf.now → 0 < count) }

@@ -7,8 +7,8 @@ use Rattle.wf_ballot.specs.Round.{IsRound}
 use Rattle.wf_ballot.specs.Sequence.{seq_bytes}
 use Rattle.wf_ballot.specs.Ballot.{Ballot, IsBallot, round_bytes, ballot_bytes}
 use Rattle.wf_ballot.specs.Front.{AreBytes, ReadsFront, front_round, front_ballot}
-use Rattle.wf_ballot.proofs.Fronts.{reads_rounds, reads_slots, reads_ballots}
-use Rattle.wf_ballot.proofs.Spelling.{length-round_bytes, length-seq_bytes, length-ballot_bytes}
+use Rattle.wf_ballot.specs.FrontLaws.{reads_rounds, reads_slots, reads_ballots}
+use Rattle.wf_ballot.specs.FieldLaws.{length-round_bytes, length-seq_bytes, length-ballot_bytes}
 use Rattle.wf_model.specs.Stored.{Record, Tried, Promised, Accepted, Published}
 use Rattle.wf_tape.specs.declared.kind.Kind.{Kind}
 use Rattle.wf_tape.specs.declared.kind.Kind.TheVariants as kinds

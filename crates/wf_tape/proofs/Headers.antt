@@ -8,7 +8,7 @@ use Rattle.std.specs.Prelude.{find}
 use Rattle.std.specs.Int.{w32, from_be_bytes, to_be_bytes}
 use Rattle.wf_ballot.specs.Front.{AreBytes}
 use Rattle.wf_ballot.specs.Frame.{frame}
-use Rattle.wf_ballot.proofs.Fronts.{four_bytes, AreBytes-take}
+use Rattle.wf_ballot.specs.FrontLaws.{four_bytes, AreBytes-take}
 use Rattle.wf_tape.specs.declared.kind.Kind.{Kind}
 use Rattle.wf_tape.specs.declared.kind.Kind.TheVariants as kinds
 use Rattle.wf_tape.specs.declared.fault.RecordFault.{RecordFault}

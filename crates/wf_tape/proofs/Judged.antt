@@ -5,6 +5,7 @@ use Rattle.std.specs.Prelude.{IfOk, IfErr, IsErrOf}
 use Rattle.wf_ballot.specs.Front.{AreBytes}
 use Rattle.wf_ballot.specs.Frame.{frame}
 use Rattle.wf_def.specs.Definition.{Definition}
+use Rattle.wf_canon.specs.Saying.{OneTextOneMap}
 use Rattle.wf_model.specs.Stored.{Record}
 use Rattle.wf_tape.specs.declared.kind.Kind.{Kind}
 use Rattle.wf_tape.specs.declared.fault.RecordFault.{RecordFault}
@@ -54,16 +55,16 @@ ok_same : (x y : Kind × List ℕ) → ok x ≡ ok y → x ≡ y
 ok_same x y e = cc
 
 -- No spelling begins another: bytes that begin with both are cut into one frame, and so into one record.
-pub none_begins_another : (q r : Record Definition) (a b after_a after_b : List ℕ) → Spells q a → Spells r b →
+pub none_begins_another : OneTextOneMap → (q r : Record Definition) (a b after_a after_b : List ℕ) → Spells q a → Spells r b →
     a ++ after_a ≡ b ++ after_b → (q ≡ r) × (a ≡ b) × (after_a ≡ after_b)
-none_begins_another q r a b after_a after_b spells_a spells_b e =
+none_begins_another one_map q r a b after_a after_b spells_a spells_b e =
     let frame_q = frame_of q a after_a (a ++ after_a) spells_a refl in
     let frame_r = frame_of r b after_b (a ++ after_a) spells_b e in
     let same_frame = ok_same (kind_of (texts q), body (texts q)) (kind_of (texts r), body (texts r)) (sym frame_q ∙ frame_r) in
     let same_texts = some_same (texts q) (texts r)
     (sym (fields_of_body q spells_a.is_record) ∙ ap (λ (f : Kind × List ℕ). fields_of f.0 f.1) same_frame ∙ fields_of_body r spells_b.is_record) in
     let same_bytes : a ≡ b = spells_a.spelled ∙ ap text_spelling same_texts ∙ sym spells_b.spelled in (
-      texts_apart q r spells_a.is_record spells_b.is_record same_texts,
+      texts_apart one_map q r spells_a.is_record spells_b.is_record same_texts,
       same_bytes,
       sym (drop-append_seam a after_a) ∙ ap (drop (length a)) e ∙ ap (λ (t : List ℕ). drop (length t) (b ++ after_b)) same_bytes ∙ drop-append_seam b after_b,
     )

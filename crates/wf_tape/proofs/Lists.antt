@@ -2,6 +2,7 @@
 use Rattle.std.proofs.Common.{◌≡◌, ◌⊎◌, ℕ, ◌+◌, ◌^◌, ◌<◌, ◌≤◌, List, [], ◌∷◌, ◌++◌, ◌-◌, length, take, drop, refl, sym, ap, subst, ◌∙◌, append_assoc, length-append, length-drop, arith, inl, inr}
 use Rattle.std.proofs.lemmas.List.{append-nil, take_at, drop_at, take-append-drop}
 use Rattle.wf_def.specs.Definition.{Definition}
+use Rattle.wf_canon.specs.Saying.{OneTextOneMap}
 use Rattle.wf_model.specs.Stored.{Record}
 use Rattle.wf_tape.specs.Spelling.{Spells}
 use Rattle.wf_tape.specs.Records.{Splits, BeginsWithNone, ReadsAs, AreRecords, IsCleanOrTorn, IsTapeOf, IsBad, length_of}
@@ -47,26 +48,26 @@ pub whole_reads : (bytes : List ℕ) (records : List (Record Definition)) → Ar
 whole_reads bytes records are = ([], record { splits = are; longest = none_begins_nothing })
 
 -- There is one longest list of records: two of them are split off record by record.
-pub one_reading : (bytes : List ℕ) (xs ys : List (Record Definition)) (rest_x rest_y : List ℕ) → Splits bytes xs rest_x → BeginsWithNone rest_x →
+pub one_reading : OneTextOneMap → (bytes : List ℕ) (xs ys : List (Record Definition)) (rest_x rest_y : List ℕ) → Splits bytes xs rest_x → BeginsWithNone rest_x →
     Splits bytes ys rest_y → BeginsWithNone rest_y → xs ≡ ys
-one_reading bytes [] [] rest_x rest_y x none_x y none_y = refl
-one_reading bytes [] (r ∷ ys) rest_x rest_y x none_x y none_y = absurd (none_x r y.0 y.1 y.2 (sym x ∙ y.3))
-one_reading bytes (q ∷ xs) [] rest_x rest_y x none_x y none_y = absurd (none_y q x.0 x.1 x.2 (sym y ∙ x.3))
-one_reading bytes (q ∷ xs) (r ∷ ys) rest_x rest_y x none_x y none_y =
-    let same = none_begins_another q r x.0 y.0 x.1 y.1 x.2 y.2 (sym x.3 ∙ y.3) in
-    let later = one_reading x.1 xs ys rest_x rest_y x.4 none_x (subst (λ (t : List ℕ). Splits t ys rest_y) (sym same.2) y.4) none_y in
+one_reading one_map bytes [] [] rest_x rest_y x none_x y none_y = refl
+one_reading one_map bytes [] (r ∷ ys) rest_x rest_y x none_x y none_y = absurd (none_x r y.0 y.1 y.2 (sym x ∙ y.3))
+one_reading one_map bytes (q ∷ xs) [] rest_x rest_y x none_x y none_y = absurd (none_y q x.0 x.1 x.2 (sym y ∙ x.3))
+one_reading one_map bytes (q ∷ xs) (r ∷ ys) rest_x rest_y x none_x y none_y =
+    let same = none_begins_another one_map q r x.0 y.0 x.1 y.1 x.2 y.2 (sym x.3 ∙ y.3) in
+    let later = one_reading one_map x.1 xs ys rest_x rest_y x.4 none_x (subst (λ (t : List ℕ). Splits t ys rest_y) (sym same.2) y.4) none_y in
     ap (λ (p : Record Definition). p ∷ xs) same.0 ∙ ap (λ (ps : List (Record Definition)). r ∷ ps) later
 
 -- whole records read as no other list
-pub reads_only : (bytes : List ℕ) (records others : List (Record Definition)) → AreRecords bytes records → ReadsAs bytes others → records ≡ others
-reads_only bytes records others are reads = one_reading bytes records others [] reads.0 are none_begins_nothing reads.1.splits reads.1.longest
+pub reads_only : OneTextOneMap → (bytes : List ℕ) (records others : List (Record Definition)) → AreRecords bytes records → ReadsAs bytes others → records ≡ others
+reads_only one_map bytes records others are reads = one_reading one_map bytes records others [] reads.0 are none_begins_nothing reads.1.splits reads.1.longest
 
 -- A record cut short begins with no record: what followed the cut would follow the whole record too.
-pub cut_begins_none : (r : Record Definition) (front : List ℕ) (byte : ℕ) (after : List ℕ) → Spells r (front ++ byte ∷ after) → BeginsWithNone front
-cut_begins_none r front byte after spells q spelled behind spells_q e =
+pub cut_begins_none : OneTextOneMap → (r : Record Definition) (front : List ℕ) (byte : ℕ) (after : List ℕ) → Spells r (front ++ byte ∷ after) → BeginsWithNone front
+cut_begins_none one_map r front byte after spells q spelled behind spells_q e =
     let longer : spelled ++ (behind ++ byte ∷ after) ≡ (front ++ byte ∷ after) ++ [] =
     sym (append_assoc spelled behind (byte ∷ after)) ∙ ap (λ (t : List ℕ). t ++ byte ∷ after) (sym e) ∙ sym (append-nil (front ++ byte ∷ after)) in
-    let same = none_begins_another q r spelled (front ++ byte ∷ after) (behind ++ byte ∷ after) [] spells_q spells longer in
+    let same = none_begins_another one_map q r spelled (front ++ byte ∷ after) (behind ++ byte ∷ after) [] spells_q spells longer in
     absurd (omega (arith, ap length same.2, length-append behind (byte ∷ after)))
 
 -- one record more behind whole records
@@ -75,13 +76,13 @@ pub one_more : (content : List ℕ) (records : List (Record Definition)) (r : Re
 one_more content records r spelled are spells = splits_push (content ++ spelled) records spelled r spelled [] (splits_on content records [] spelled are) spells (sym (append-nil spelled))
 
 -- Behind whole records, a beginning of one more: the same records are read, or one more where it is whole.
-pub cut_reads : (content : List ℕ) (records : List (Record Definition)) (r : Record Definition) (front after : List ℕ) → AreRecords content records → Spells r (front ++ after) →
+pub cut_reads : OneTextOneMap → (content : List ℕ) (records : List (Record Definition)) (r : Record Definition) (front after : List ℕ) → AreRecords content records → Spells r (front ++ after) →
     ReadsAs (content ++ front) records ⊎ ReadsAs (content ++ front) (records ++ r ∷ [])
-cut_reads content records r front [] are spells =
+cut_reads one_map content records r front [] are spells =
     let whole : Spells r front = subst (λ (t : List ℕ). Spells r t) (append-nil front) spells in
     inr (whole_reads (content ++ front) (records ++ r ∷ []) (one_more content records r front are whole))
-cut_reads content records r front (byte ∷ after) are spells =
-    inl (front, record { splits = splits_on content records [] front are; longest = cut_begins_none r front byte after spells })
+cut_reads one_map content records r front (byte ∷ after) are spells =
+    inl (front, record { splits = splits_on content records [] front are; longest = cut_begins_none one_map r front byte after spells })
 
 -- ---- the bytes of a tape
 

@@ -3,6 +3,7 @@ use Rattle.std.proofs.Common.{◌≡◌, ◌⊎◌, ℕ, ◌≤◌, arith, List,
 use Rattle.std.proofs.lemmas.List.{append_cancel_left}
 use Rattle.std.proofs.lemmas.Bool.{cases_lt}
 use Rattle.wf_def.specs.Definition.{Definition}
+use Rattle.wf_canon.specs.Saying.{OneTextOneMap}
 use Rattle.wf_model.specs.Stored.{Record}
 use Rattle.wf_tape.specs.declared.opening.OpenFault.{OpenFault}
 use Rattle.wf_tape.specs.declared.opening.OpenFault.TheVariants.{TapeFailed, BadRecord, Memory}
@@ -33,19 +34,19 @@ pub same_unchanged : (old new : List ℕ → Type 0) → LeavesNoOther old new �
 same_unchanged old new no_other image left = (image, no_other image left, λ records reads. reads)
 
 -- The records at the front are read as the whole content is.
-front_same : (content : List ℕ) (records : List (Record Definition)) (n : ℕ) → HasRead content records n → ReadsSame content (take n content)
-front_same content records n read others reads =
+front_same : OneTextOneMap → (content : List ℕ) (records : List (Record Definition)) (n : ℕ) → HasRead content records n → ReadsSame content (take n content)
+front_same one_map content records n read others reads =
     let front = first_are_records content records n read.within read.is_tape.reads.splits in
-    let same = one_reading content records others (drop n content) reads.0 read.is_tape.reads.splits read.is_tape.reads.longest reads.1.splits reads.1.longest in
+    let same = one_reading one_map content records others (drop n content) reads.0 read.is_tape.reads.splits read.is_tape.reads.longest reads.1.splits reads.1.longest in
     subst (λ (rs : List (Record Definition)). ReadsAs (take n content) rs) same (whole_reads (take n content) records front)
 
 -- so what is left once the records alone are kept reads the same
-pub same_settled : (content : List ℕ) (records : List (Record Definition)) (n : ℕ) (old mid new : List ℕ → Type 0) → HasRead content records n → old content → LeavesNoOther old mid →
+pub same_settled : OneTextOneMap → (content : List ℕ) (records : List (Record Definition)) (n : ℕ) (old mid new : List ℕ → Type 0) → HasRead content records n → old content → LeavesNoOther old mid →
     LeavesOldOr (take n content) mid new → Follows ReadsSame old new
-same_settled content records n old mid new read is_image no_other or_front image left =
+same_settled one_map content records n old mid new read is_image no_other or_front image left =
     elim (or_front image left) [
       | inl was ↦ (image, no_other image was, λ records reads. reads)
-      | inr is ↦ (content, is_image, subst (λ (t : List ℕ). ReadsSame content t) (sym is) (front_same content records n read))
+      | inr is ↦ (content, is_image, subst (λ (t : List ℕ). ReadsSame content t) (sym is) (front_same one_map content records n read))
     ]
 
 pub holds_front : (content new_content : List ℕ) (records : List (Record Definition)) (n : ℕ) (images : List ℕ → Type 0) → HasRead content records n → new_content ≡ take n content → IsOnlyImage new_content images → Holds new_content images records
@@ -65,10 +66,10 @@ pub reads_held : (content : List ℕ) (records : List (Record Definition)) (imag
 reads_held content records images held image left = subst (λ (t : List ℕ). ReadsAs t records) (sym (held.only.no_other image left)) (whole_reads content records held.are_records)
 
 -- What is left while that is done reads as the bytes did.
-pub same_found : (bytes kept content : List ℕ) (records : List (Record Definition)) (n : ℕ) (old new : List ℕ → Type 0) → HasRead bytes records n → IsContent bytes content old → kept ≡ bytes →
+pub same_found : OneTextOneMap → (bytes kept content : List ℕ) (records : List (Record Definition)) (n : ℕ) (old new : List ℕ → Type 0) → HasRead bytes records n → IsContent bytes content old → kept ≡ bytes →
     LeavesOldOr (take n kept) old new → Follows ReadsSame old new
-same_found bytes kept content records n old new read is same or_front =
-    same_settled bytes records n old old new read (subst (λ (t : List ℕ). old t) (sym is.same) is.is_image) (λ image left. left)
+same_found one_map bytes kept content records n old new read is same or_front =
+    same_settled one_map bytes records n old old new read (subst (λ (t : List ℕ). old t) (sym is.same) is.is_image) (λ image left. left)
     (subst (λ (t : List ℕ). LeavesOldOr (take n t) old new) same or_front)
 
 -- Reading leaves no other image: so what is left once the tape is settled comes of what was there before both.
@@ -110,27 +111,27 @@ added_front content spelled image within behind =
     (behind.0, within.0, behind.1, append_cancel_left content spelled (behind.0 ++ within.0) regrouped)
 
 -- each image reads as the records before, or with the one that is added
-pub same_or_more : (content spelled : List ℕ) (r : Record Definition) (old new : List ℕ → Type 0) → IsSettled content old → Spells r spelled → IsCutShort (content ++ spelled) old new →
+pub same_or_more : OneTextOneMap → (content spelled : List ℕ) (r : Record Definition) (old new : List ℕ → Type 0) → IsSettled content old → Spells r spelled → IsCutShort (content ++ spelled) old new →
     Follows (ReadsSameOrOneMore r) old new
-same_or_more content spelled r old new settled spells cut image left =
+same_or_more one_map content spelled r old new settled spells cut image left =
     let held = settled.1 in
     let behind : IsBeginning content image = subst (λ (t : List ℕ). IsBeginning t image) (held.only.no_other (cut image left).1.0 (cut image left).1.1) (cut image left).1.2 in
     let parts = added_front content spelled image (cut image left).0 behind in
     let cut_spelled : Spells r (parts.0 ++ parts.1) = subst (λ (t : List ℕ). Spells r t) parts.3 spells in
-    let reads = subst (λ (t : List ℕ). ReadsAs t settled.0 ⊎ ReadsAs t (settled.0 ++ r ∷ [])) (sym parts.2) (cut_reads content settled.0 r parts.0 parts.1 held.are_records cut_spelled) in
-    (content, held.only.is_image, λ others read. subst (λ (rs : List (Record Definition)). ReadsAs image rs ⊎ ReadsAs image (rs ++ r ∷ [])) (reads_only content settled.0 others held.are_records read) reads)
+    let reads = subst (λ (t : List ℕ). ReadsAs t settled.0 ⊎ ReadsAs t (settled.0 ++ r ∷ [])) (sym parts.2) (cut_reads one_map content settled.0 r parts.0 parts.1 held.are_records cut_spelled) in
+    (content, held.only.is_image, λ others read. subst (λ (rs : List (Record Definition)). ReadsAs image rs ⊎ ReadsAs image (rs ++ r ∷ [])) (reads_only one_map content settled.0 others held.are_records read) reads)
 
 pub same_kept : (r : Record Definition) (old new : List ℕ → Type 0) → LeavesNoOther old new → Follows (ReadsSameOrOneMore r) old new
 same_kept r old new no_other image left = (image, no_other image left, λ records reads. inl reads)
 
 -- after Ok there is one more
-pub now_more : (content spelled new_content : List ℕ) (r : Record Definition) (old new : List ℕ → Type 0) → IsSettled content old → Spells r spelled → new_content ≡ content ++ spelled → IsOnlyImage new_content new →
+pub now_more : OneTextOneMap → (content spelled new_content : List ℕ) (r : Record Definition) (old new : List ℕ → Type 0) → IsSettled content old → Spells r spelled → new_content ≡ content ++ spelled → IsOnlyImage new_content new →
     Follows (ReadsOneMore r) old new
-now_more content spelled new_content r old new settled spells is only image left =
+now_more one_map content spelled new_content r old new settled spells is only image left =
     let held = settled.1 in
     let image_is : image ≡ content ++ spelled = only.no_other image left ∙ is in
     let reads = subst (λ (t : List ℕ). ReadsAs t (settled.0 ++ r ∷ [])) (sym image_is) (whole_reads (content ++ spelled) (settled.0 ++ r ∷ []) (one_more content settled.0 r spelled held.are_records spells)) in
-    (content, held.only.is_image, λ others read. subst (λ (rs : List (Record Definition)). ReadsAs image (rs ++ r ∷ [])) (reads_only content settled.0 others held.are_records read) reads)
+    (content, held.only.is_image, λ others read. subst (λ (rs : List (Record Definition)). ReadsAs image (rs ++ r ∷ [])) (reads_only one_map content settled.0 others held.are_records read) reads)
 
 -- and the tape holds them
 pub settled_more : (content spelled new_content : List ℕ) (r : Record Definition) (old new : List ℕ → Type 0) → IsSettled content old → Spells r spelled → new_content ≡ content ++ spelled → IsOnlyImage new_content new →

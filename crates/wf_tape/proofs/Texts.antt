@@ -2,7 +2,7 @@
 use Rattle.std.proofs.Common.{◌≡◌, ℕ, ◌≤◌, List, length, refl, arith}
 use Rattle.wf_def.specs.Definition.{Definition}
 use Rattle.wf_canon.specs.Canon.{canon, line}
-use Rattle.wf_canon.proofs.MeaningLaw.{one_definition}
+use Rattle.wf_canon.specs.Saying.{OneTextOneMap}
 use Rattle.wf_model.specs.Stored.{Record, Tried, Promised, Accepted, Published}
 use Rattle.wf_tape.specs.Kind.{most_text}
 use Rattle.wf_tape.specs.Record.{texts, HasText, IsRecordOf, IsRecord}
@@ -29,15 +29,15 @@ texts_fit (Accepted s b d) p = (p.0, p.1, canon_is_text d p.2)
 texts_fit (Published s d) p = (p.0, canon_is_text d p.1)
 
 -- records with equal texts are equal
-pub texts_apart : (q r : Record Definition) → IsRecord q → IsRecord r → texts q ≡ texts r → q ≡ r
-texts_apart (Tried round) (Tried other) p q e = cc
-texts_apart (Tried round) r p q e = absurd cc
-texts_apart (Promised s b) (Promised t c) p q e = cc
-texts_apart (Promised s b) r p q e = absurd cc
-texts_apart (Accepted s b d) (Accepted t c f) p q e = let same : d ≡ f = one_definition d f p.2.within q.2.within cc in cc
-texts_apart (Accepted s b d) r p q e = absurd cc
-texts_apart (Published s d) (Published t f) p q e = let same : d ≡ f = one_definition d f p.1.within q.1.within cc in cc
-texts_apart (Published s d) r p q e = absurd cc
+pub texts_apart : OneTextOneMap → (q r : Record Definition) → IsRecord q → IsRecord r → texts q ≡ texts r → q ≡ r
+texts_apart one_map (Tried round) (Tried other) p q e = cc
+texts_apart one_map (Tried round) r p q e = absurd cc
+texts_apart one_map (Promised s b) (Promised t c) p q e = cc
+texts_apart one_map (Promised s b) r p q e = absurd cc
+texts_apart one_map (Accepted s b d) (Accepted t c f) p q e = let same : d ≡ f = one_map d f p.2.within q.2.within cc in cc
+texts_apart one_map (Accepted s b d) r p q e = absurd cc
+texts_apart one_map (Published s d) (Published t f) p q e = let same : d ≡ f = one_map d f p.1.within q.1.within cc in cc
+texts_apart one_map (Published s d) r p q e = absurd cc
 
 -- a record's text is canonical
 pub not_bad : (r : Record Definition) → IsRecord r → HasBadText (texts r) → ⊥

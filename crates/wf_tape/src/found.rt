@@ -17,6 +17,7 @@ use crate::record::Record;
 use crate::tape::Tape;
 use std::alloc::Global;
 use std::marker::Model;
+use wf_canon::one_text_one_map;
 
 /// A tape that was read and isn't a journal's yet: its records are known, and nothing is changed on it. So
 /// whoever finds fault with the records hands the tape back as it was. Contracts see the tape, the bytes
@@ -77,6 +78,8 @@ impl<T: Tape> Found<T> {
         ensures later { IfErr result (λ e. T.failed self.tape ≤ T.failed e.0) }
         ensures failed { IfErr result (λ e. IsWhyFailed e.1 (T.failed self.tape) (T.failed e.0)) }
     {
+        // The law: equal texts are those of one map, so no record reads as another.
+        one_text_one_map();
         let Found {
             mut tape,
             bytes,

@@ -15,6 +15,7 @@ use crate::record::Record;
 use crate::tape::Tape;
 use std::alloc::Global;
 use std::marker::Model;
+use wf_canon::one_text_one_map;
 
 /// The records of a node on its tape. Contracts see the tape, and whether the journal is halted; where it
 /// isn't, an honest tape holds whole records and nothing else, all of them synced.
@@ -87,6 +88,8 @@ impl<T: Tape> Journal<T> {
         ensures memory { T.honest → IsErrOf result AddFault.Memory → IsUnchanged (T.content self.old.tape) (T.content self.new.tape) (T.images self.old.tape) (T.images self.new.tape) }
         ensures still_running { IsErrOf result AddFault.Memory → self.new.halted ≡ false }
     {
+        // The law: equal texts are those of one map, so no record reads as another.
+        one_text_one_map();
         let Ok(bytes) = encode(alloc, entry) else {
             return Err(AddFault::Memory);
         };

@@ -10,11 +10,15 @@ mod commands;
 #[cfg(test)]
 mod edge;
 #[cfg(test)]
+mod farm;
+#[cfg(test)]
 mod map;
 #[cfg(test)]
 mod node;
 #[cfg(test)]
 mod record;
+#[cfg(test)]
+mod serve;
 #[cfg(test)]
 mod tape;
 #[cfg(test)]

@@ -6,7 +6,7 @@ use wf_def::limits::{MOST_BUFFER, MOST_PRIORITY};
 use wf_def::whole::Whole;
 
 /// LABEL.
-#[derive(Drop)]
+#[derive(Default, Drop)]
 pub struct LabelSlots {
     /// The letters' colour.
     pub color: Option<Color>,

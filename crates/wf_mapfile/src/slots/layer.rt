@@ -1,31 +1,25 @@
-//! What the keywords of LAYER and FEATURE fill, and the room that the map has for what they say.
+//! What the keywords of LAYER fill.
 
-use crate::layers::{LayerName, Layers};
-use crate::room::Room;
+use crate::layers::LayerName;
 use crate::slots::Metadata;
 use wf_def::choice::LayerKind;
-use wf_def::feature::Parts;
 use wf_def::layer::{Classes, Features};
 use wf_def::text::Text;
 
-/// FEATURE.
-#[derive(Drop)]
-pub struct FeatureSlots {
-    /// The parts of the shape.
-    pub parts: Parts,
-    /// How many more points may come.
-    pub room: usize,
-    /// The values of the attributes.
-    pub items: Option<Text>,
-    /// The text of the label.
-    pub text: Option<Text>,
-}
-
 /// LAYER.
 #[derive(Drop)]
-pub struct LayerSlots<'a> {
-    /// The layers before this one, whose names are taken.
-    pub others: &'a Layers,
+pub struct LayerSlots {
+    /// How features are drawn.
+    pub classes: Classes,
+    /// The shapes.
+    pub features: Features,
+    /// What is said at most once.
+    pub single: LayerOnce,
+}
+
+/// What LAYER says at most once.
+#[derive(Default, Drop)]
+pub struct LayerOnce {
     /// What the layer is called.
     pub name: Option<LayerName>,
     /// What the features are.
@@ -38,12 +32,13 @@ pub struct LayerSlots<'a> {
     pub items: Option<Text>,
     /// The pairs that are kept.
     pub metadata: Option<Metadata>,
-    /// How features are drawn.
-    pub classes: Classes,
-    /// The shapes.
-    pub features: Features,
-    /// How many more features and points may come.
-    pub room: Room,
+    /// What is dropped.
+    pub dropped: LayerDropped,
+}
+
+/// What LAYER says and is dropped: that it came.
+#[derive(Default, Drop)]
+pub struct LayerDropped {
     /// Whether the layer is on.
     pub status: Option<()>,
     /// The units of coordinates.

@@ -5,7 +5,7 @@ use wf_def::limits::{MOST_SIZE, MOST_WIDTH};
 use wf_def::whole::Whole;
 
 /// STYLE.
-#[derive(Drop)]
+#[derive(Default, Drop)]
 pub struct StyleSlots {
     /// What fills a polygon or a marker, and draws a line.
     pub color: Option<Color>,

@@ -1,4 +1,4 @@
-use Rattle.wf_model.proofs.Steps.{refused_changes_nothing}
+use Rattle.wf_model.specs.StepsLaws.{refused_changes_nothing}
 use Rattle.wf_model.proofs.refused_changes_nothing.Goals as goal
 
 pub returns : goal.returns

@@ -8,7 +8,7 @@ pub returns-clause-read : goal.returns-clause-read
 returns-clause-read c = begins view c.judge.result c.args.bytes.now (λ i. omega (arith, c.type_inv.bytes i)) c.judge.ensures
 
 pub returns-clause-each : goal.returns-clause-each
-returns-clause-each c = whole_is_read view c.judge.result c.args.bytes.now c.judge.ensures
+returns-clause-each c = whole_is_read c.one_text_one_map.ensures view c.judge.result c.args.bytes.now c.judge.ensures
 
 pub returns-clause-refused : goal.returns-clause-refused
 returns-clause-refused c = refused view c.judge.result c.args.bytes.now (λ i. omega (arith, c.type_inv.bytes i)) c.judge.ensures
@@ -17,7 +17,7 @@ pub returns-clause-short : goal.returns-clause-short
 returns-clause-short c = (short_unfinished view c.judge.result c.args.bytes.now c.judge.ensures, unfinished_short view c.judge.result c.args.bytes.now c.judge.ensures)
 
 pub returns-clause-none_yet : goal.returns-clause-none_yet
-returns-clause-none_yet c = short_is_none view c.judge.result c.args.bytes.now c.judge.ensures
+returns-clause-none_yet c = short_is_none c.one_text_one_map.ensures view c.judge.result c.args.bytes.now c.judge.ensures
 
 pub returns-clause-count : goal.returns-clause-count
 returns-clause-count c = has_bytes view c.judge.result c.args.bytes.now (begins view c.judge.result c.args.bytes.now (λ i. omega (arith, c.type_inv.bytes i)) c.judge.ensures)

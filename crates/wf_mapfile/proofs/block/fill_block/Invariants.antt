@@ -1,7 +1,11 @@
 use Rattle.std.proofs.Common.{◌≡◌, ◌-◌}
-use Rattle.wf_mapfile.specs.Reading.{fill}
+use Rattle.wf_mapfile.specs.Steps.{fill}
 use Rattle.wf_mapfile.proofs.block.fill_block.Given as goal
 
--- what is left to fill, from here, gives what was to be filled
+-- what is left to fill, from here, gives what was to be filled, within what it was
 abbrev pub invariant-loop : goal.invariant-loop
-invariant-loop g l = fill g.S.Slots.put (l.end - l.counter) l.slots l.parser ≡ fill g.S.Slots.put l.end l.initial.slots l.initial.parser
+invariant-loop g l =
+    (fill (g.S.Slots.put (g.S.Slots.within l.initial.slots)) (l.end - l.counter) (g.S.Slots.said l.slots) l.parser
+    ≡ fill (g.S.Slots.put (g.S.Slots.within l.initial.slots)) l.end (g.S.Slots.said l.initial.slots) l.initial.parser)
+    × (g.S.Slots.within l.slots ≡ g.S.Slots.within l.initial.slots)
+    × g.S.Slots.Holds l.slots

@@ -6,4 +6,4 @@ pub returns-in_default : goal.returns-in_default
 returns-in_default g c = keeps_itself c.args.nodes.now
 
 pub returns : goal.returns
-returns g c = c.serve_connection.ensures
+returns g c = c.serve_connection-outcome.ensures.turn

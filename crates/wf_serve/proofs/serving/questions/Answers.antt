@@ -13,4 +13,4 @@ pub said_at-said-requires-clause-in_turn : goal.said_at-said-requires-clause-in_
 said_at-said-requires-clause-in_turn g c = c.loop-number.invariant.in_turn c.requires
 
 pub loop-number-preserved : goal.loop-number-preserved
-loop-number-preserved g c = keeps_twice c.args.nodes.now c.loop-number.nodes c.said_at-said.new.nodes c.loop-number.invariant c.said_at-said.ensures
+loop-number-preserved g c = keeps_twice c.args.nodes.now c.loop-number.nodes c.said_at-said.new.nodes c.loop-number.invariant c.said_at-said.ensures.turn

@@ -1,16 +1,28 @@
--- The nodes stand in turn still: after the request, after the deliveries, and after the second try.
+-- The request, the deliveries and the second try come one after the other; the nodes stand in turn still.
 use Rattle.std.proofs.Common.{arith}
 use Rattle.wf_serve.proofs.Opened.{keeps_twice}
 use Rattle.wf_serve.proofs.serving.serve_connection.Goals as goal
 
-pub deliver_all-requires : goal.deliver_all-requires
-deliver_all-requires g c = record { in_turn = c.served_at-said.ensures.in_turn c.requires.in_turn }
+pub hear-requires : goal.hear-requires
+hear-requires g c = c.served_at-outcome.ensures.turn.in_turn c.requires.in_turn
 
 pub retry-requires-clause-within : goal.retry-requires-clause-within
-retry-requires-clause-within g c = omega (arith, c.requires.within, c.served_at-said.ensures.as_many, c.deliver_all.ensures.size)
+retry-requires-clause-within g c = omega (arith, c.requires.within, c.served_at-outcome.ensures.turn.as_many, c.hear.ensures.turn.as_many)
 
-pub returns : goal.returns
-returns g c =
-    keeps_twice c.args.nodes.now c.served_at-said.new.nodes c.retry.new.nodes c.served_at-said.ensures
-    (keeps_twice c.served_at-said.new.nodes c.deliver_all.new.nodes c.retry.new.nodes
-    (record { as_many = c.deliver_all.ensures.size; in_turn = λ turns. c.deliver_all.ensures.in_turn }) c.retry.ensures)
+pub retry-requires-clause-in_turn : goal.retry-requires-clause-in_turn
+retry-requires-clause-in_turn g c = c.hear.ensures.turn.in_turn (c.served_at-outcome.ensures.turn.in_turn c.requires.in_turn)
+
+pub returns-clause-connection : goal.returns-clause-connection
+returns-clause-connection g c = record {
+  said = c.served_at-outcome.result.messages;
+  served = c.served_at-outcome.new.nodes;
+  heard = c.hear.new.nodes;
+  request = c.served_at-outcome.ensures.served;
+  hearing = c.hear.ensures.heard;
+  retry = c.retry.ensures.retried;
+}
+
+pub returns-clause-turn : goal.returns-clause-turn
+returns-clause-turn g c =
+    keeps_twice c.args.nodes.now c.served_at-outcome.new.nodes c.retry.new.nodes c.served_at-outcome.ensures.turn
+    (keeps_twice c.served_at-outcome.new.nodes c.hear.new.nodes c.retry.new.nodes c.hear.ensures.turn c.retry.ensures.turn)

@@ -1,5 +1,5 @@
 use Rattle.std.proofs.Common.{rules}
-use Rattle.wf_stream.proofs.Known.{write_step}
+use Rattle.wf_stream.specs.KnownLaws.{write_step}
 use Rattle.wf_stream.proofs.stream.write_all.Goals as goal
 
 pub loop-rest-preserved : goal.loop-rest-preserved

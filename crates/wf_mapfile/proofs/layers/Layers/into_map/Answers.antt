@@ -1,6 +1,5 @@
 use Rattle.std.proofs.Common.{◌≡◌, ◌++◌, List, true, sym, ap, ◌∙◌, rules}
 use Rattle.wf_def.specs.Limits.{has_layer, is_repeated}
-use Rattle.wf_mapfile.specs.Gathered.{Gathered}
 use Rattle.wf_mapfile.proofs.Unlike.{Entry}
 use Rattle.wf_mapfile.proofs.GatheredLaw.{InTurn, in_turn}
 use Rattle.wf_mapfile.proofs.layers.Layers.into_map.Goals as goal
@@ -9,9 +8,8 @@ use Rattle.wf_mapfile.proofs.layers.Layers.into_map.Goals.{After-into_text}
 -- this layer may be added to those before it
 turn : (c : After-into_text) → InTurn c.loop-entry.all.layers c.in-Some.entry
 turn c =
-    let others : Gathered = record { layers = c.self.inside.entries.items; room = c.self.inside.room } in
-    let whole : c.args.self.layers ≡ c.self.inside.entries.items = search rules in
-    in_turn others c.self.invariant c.loop-entry.all.layers c.in-Some.entry c.next.new.self.rest.items
+    let whole : c.args.self ≡ c.self.inside.entries.items = search rules in
+    in_turn c.self.inside.entries.items c.self.inside.features c.self.inside.points c.self.invariant c.loop-entry.all.layers c.in-Some.entry c.next.new.self.rest.items
     (ap (λ (rest : List Entry). c.loop-entry.all.layers ++ rest) (sym c.in-Some.ensures.steps.0) ∙ c.loop-entry.invariant.1 ∙ whole)
 
 pub add_layer-requires-clause-room : goal.add_layer-requires-clause-room

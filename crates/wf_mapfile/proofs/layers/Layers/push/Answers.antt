@@ -1,17 +1,22 @@
-use Rattle.std.proofs.Common.{◌≡◌, ◌++◌, [], ◌∷◌, rules}
-use Rattle.wf_mapfile.specs.Gathered.{Gathered}
-use Rattle.wf_mapfile.specs.Room.{behind_layer}
+use Rattle.std.proofs.Common.{◌≡◌, ◌++◌, ◌≤◌, [], ◌∷◌, length, rules}
+use Rattle.std.specs.Prelude.{sum_by}
+use Rattle.wf_def.specs.Limits.{points_of_feature}
+use Rattle.wf_mapfile.specs.Layer.{features_left, points_left}
 use Rattle.wf_mapfile.proofs.Unlike.{Entry}
-use Rattle.wf_mapfile.proofs.GatheredLaw.{Follows, one_more}
+use Rattle.wf_mapfile.proofs.GatheredLaw.{one_more, left_over}
 use Rattle.wf_mapfile.proofs.layers.Layers.push.Goals as goal
 
 -- one more layer, where it may follow those that are there
 pub invariant_of-self-2 : goal.invariant_of-self-2
 invariant_of-self-2 c =
-    let others : Gathered = record { layers = c.self.inside.entries.items; room = c.self.inside.room } in
-    let layer : Entry = (c.args.name, c.args.layer) in
-    let may : Follows others layer = record { new = search rules; features = search rules; points = search rules } in
-    let more = one_more others layer c.self.invariant c.text.ensures.within (search rules) may in
-    let pushed : c.push.new.self.items ≡ c.self.inside.entries.items ++ layer ∷ [] = search rules in
-    let left : c.behind_layer-room.result ≡ behind_layer c.self.inside.room c.args.layer = search rules in
-    rw (pushed, left) more
+    let inside = c.self.inside in
+    let layer : Entry = (c.args.read.name, c.args.read.layer) in
+    let left = left_over inside.entries.items inside.features inside.points c.self.invariant in
+    let counted : c.args.read.points ≡ sum_by points_of_feature c.args.read.layer.features = search rules in
+    let fewer : length c.args.read.layer.features ≤ features_left inside.entries.items = search rules in
+    let less : c.args.read.points ≤ points_left inside.entries.items = search rules in
+    let pushed : c.push.new.self.items ≡ inside.entries.items ++ layer ∷ [] = search rules in
+    let same : c.features-features.result.now ≡ c.args.read.layer.features = search rules in
+    rw (pushed, same, counted)
+    (one_more inside.entries.items inside.features inside.points layer c.self.invariant c.text.ensures.within (search rules) (search rules)
+    (rw left.0 fewer) (rw (← counted, left.1) less))

@@ -2,7 +2,7 @@ use Rattle.std.proofs.Common.{rules, ◌≡◌, string_bytes, true, false, is_so
 use Rattle.std.specs.HashSet.{contains_text}
 use Rattle.std.proofs.lemmas.Map.Text.{hash_set_updates_text}
 use Rattle.wf_mapfile.specs.Grammar.{end}
-use Rattle.wf_mapfile.specs.Slots.{keep}
+use Rattle.wf_mapfile.specs.Pairs.{keep}
 use Rattle.wf_mapfile.proofs.Pairs.{collect_more}
 use Rattle.wf_mapfile.proofs.parser.Parser.metadata.Goals as goal
 

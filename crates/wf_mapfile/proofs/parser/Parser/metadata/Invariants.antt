@@ -1,6 +1,6 @@
 use Rattle.std.proofs.Common.{◌≡◌, ◌-◌, false}
 use Rattle.std.specs.HashSet.{contains_text}
-use Rattle.wf_mapfile.specs.Slots.{collect}
+use Rattle.wf_mapfile.specs.Pairs.{collect}
 use Rattle.wf_mapfile.specs.Web.{no_metadata}
 use Rattle.wf_mapfile.proofs.parser.Parser.metadata.Given as goal
 

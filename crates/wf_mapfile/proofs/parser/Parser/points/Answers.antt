@@ -1,12 +1,14 @@
-use Rattle.std.proofs.Common.{◌≡◌, ◌++◌, [], ◌∷◌, false, is_some, sym, ◌∙◌, rules, arith, length-append}
+use Rattle.std.proofs.Common.{◌≡◌, ◌++◌, [], ◌∷◌, false, is_some, length, sym, ◌∙◌, rules}
 use Rattle.wf_mapfile.specs.Grammar.{end}
-use Rattle.wf_mapfile.proofs.PointsLaw.{gather_more}
+use Rattle.wf_mapfile.proofs.PointsLaw.{points_more, points_fit}
 use Rattle.wf_mapfile.proofs.parser.Parser.points.Goals as goal
 
 -- a point behind those so far
 pub loop-preserved : goal.loop-preserved
 loop-preserved c =
     let closed : is_some (end c.loop.self) ≡ false = search rules in
+    let count : c.len.result ≡ length c.loop.part = c.len.ensures.value in
     let pushed : c.push.new.self ≡ c.loop.part ++ c.in_ok-point.point ∷ [] = c.in_ok-push.ensures.pushed in
-    let more = gather_more c.loop.left c.loop.part c.len-end.result c.loop.counter c.loop.self c.next_point.new.self c.in_ok-point.point c.loop-test.true closed c.in_ok-point.ensures.read in
-    (rw pushed (sym more ∙ c.loop.invariant.0), rw pushed (omega (arith, length-append c.loop.part (c.in_ok-point.point ∷ []), c.loop.invariant.1, c.in_ok-point.ensures.one)))
+    let read = rw count at c.in_ok-point.ensures.read in
+    let more = points_more c.args.most c.loop.part c.len-end.result c.loop.counter c.loop.self c.next_point.new.self c.in_ok-point.point c.loop-test.true closed read in
+    (rw pushed (sym more ∙ c.loop.invariant.0), rw pushed (points_fit c.args.most c.loop.part c.in_ok-point.point (rw count at c.in_ok-point.ensures.one)))

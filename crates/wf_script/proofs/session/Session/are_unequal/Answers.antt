@@ -2,11 +2,12 @@
 use Rattle.std.proofs.Common.{◌∙◌, sym, ap, subst}
 use Rattle.wf_canon.specs.Canon.{canon}
 use Rattle.wf_farm.specs.Agreement.{HasOneHistory}
+use Rattle.wf_script.specs.Session.{Session}
 use Rattle.wf_script.proofs.Playing.{published_once, same_texts}
 use Rattle.wf_script.proofs.session.Session.are_unequal.Goals as goal
 
 pub returns : goal.returns
 returns c =
-    let one = subst HasOneHistory c.self.view_is c.agree.ensures.agree in
-    let same = published_once c.args.self.now c.args.slot c.args.known.now c.args.canon.now one c.requires.known c.requires.canon in
+    let one = subst HasOneHistory (ap (λ (s : Session). s.farm) c.self.view_is) c.agree.ensures.agree in
+    let same = published_once c.args.self.now.farm c.args.slot c.args.known.now c.args.canon.now one c.requires.known c.requires.canon in
     same_texts _ _ c.ne.result c.ne.ensures (c.text.ensures.value ∙ ap canon same ∙ sym c.text-2.ensures.value)

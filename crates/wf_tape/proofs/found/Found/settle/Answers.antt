@@ -32,7 +32,7 @@ returns-in-Ok-clause-reads g c = λ honest records read.
 pub returns-in-Ok-clause-images : goal.returns-in-Ok-clause-images
 returns-in-Ok-clause-images g c = λ honest.
     let follows =
-    same_found c.self.inside.bytes.items c.deref.result.now (g.T.Tape.content c.self.inside.tape) c.self.invariant.0.0 c.self.inside.front
+    same_found c.one_text_one_map.ensures c.self.inside.bytes.items c.deref.result.now (g.T.Tape.content c.self.inside.tape) c.self.invariant.0.0 c.self.inside.front
     (g.T.Tape.images c.self.inside.tape) (g.T.Tape.images c.settle.new.tape) c.self.invariant.0.1 (c.self.invariant.1 honest) c.deref.ensures.value (c.settle.ensures.images honest) in
     subst (λ tape. Follows ReadsSame (g.T.Tape.images c.args.self.tape) (g.T.Tape.images tape)) (sym (ap (λ j. j.tape) c.over.ensures))
     (subst (λ tape. Follows ReadsSame (g.T.Tape.images tape) (g.T.Tape.images c.settle.new.tape)) (ap (λ f. f.tape) c.self.view_is) follows)
@@ -40,6 +40,6 @@ returns-in-Ok-clause-images g c = λ honest.
 pub returns-clause-images_err : goal.returns-clause-images_err
 returns-clause-images_err g c = λ honest.
     let follows =
-    same_found c.self.inside.bytes.items c.deref.result.now (g.T.Tape.content c.self.inside.tape) c.self.invariant.0.0 c.self.inside.front
+    same_found c.one_text_one_map.ensures c.self.inside.bytes.items c.deref.result.now (g.T.Tape.content c.self.inside.tape) c.self.invariant.0.0 c.self.inside.front
     (g.T.Tape.images c.self.inside.tape) (g.T.Tape.images c.settle.new.tape) c.self.invariant.0.1 (c.self.invariant.1 honest) c.deref.ensures.value (c.settle.ensures.images honest) in
     subst (λ tape. Follows ReadsSame (g.T.Tape.images tape) (g.T.Tape.images c.settle.new.tape)) (ap (λ f. f.tape) c.self.view_is) follows

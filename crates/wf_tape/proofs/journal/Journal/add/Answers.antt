@@ -17,7 +17,7 @@ returns-in-Ok-write-clause-one_more g c = λ honest.
     let running : c.self.inside.halted ≡ false = ap (λ j. j.halted) c.self.view_is ∙ c.requires in
     let spells = subst (λ (t : List ℕ). Spells (view c.args.entry.now) t) (sym c.deref.ensures.value) c.in-Ok.ensures in
     subst (λ tape. Follows (ReadsOneMore (view c.args.entry.now)) (g.T.Tape.images tape) (g.T.Tape.images c.write.new.tape)) same
-    (now_more (g.T.Tape.content c.self.inside.tape) c.deref.result.now (g.T.Tape.content c.write.new.tape) (view c.args.entry.now) (g.T.Tape.images c.self.inside.tape) (g.T.Tape.images c.write.new.tape)
+    (now_more c.one_text_one_map.ensures (g.T.Tape.content c.self.inside.tape) c.deref.result.now (g.T.Tape.content c.write.new.tape) (view c.args.entry.now) (g.T.Tape.images c.self.inside.tape) (g.T.Tape.images c.write.new.tape)
     (c.self.invariant honest running) spells (c.in-Ok-write.ensures.ok honest) (c.in-Ok-write.ensures.only honest))
 
 pub returns-in-Ok-write-clause-images : goal.returns-in-Ok-write-clause-images
@@ -26,7 +26,7 @@ returns-in-Ok-write-clause-images g c = λ honest.
     let running : c.self.inside.halted ≡ false = ap (λ j. j.halted) c.self.view_is ∙ c.requires in
     let spells = subst (λ (t : List ℕ). Spells (view c.args.entry.now) t) (sym c.deref.ensures.value) c.in-Ok.ensures in
     subst (λ tape. Follows (ReadsSameOrOneMore (view c.args.entry.now)) (g.T.Tape.images tape) (g.T.Tape.images c.write.new.tape)) same
-    (same_or_more (g.T.Tape.content c.self.inside.tape) c.deref.result.now (view c.args.entry.now) (g.T.Tape.images c.self.inside.tape) (g.T.Tape.images c.write.new.tape)
+    (same_or_more c.one_text_one_map.ensures (g.T.Tape.content c.self.inside.tape) c.deref.result.now (view c.args.entry.now) (g.T.Tape.images c.self.inside.tape) (g.T.Tape.images c.write.new.tape)
     (c.self.invariant honest running) spells (c.in-Ok-write.ensures.images honest (λ e. absurd cc)))
 
 pub returns-in-Err-Memory-clause-images : goal.returns-in-Err-Memory-clause-images
@@ -41,5 +41,5 @@ returns-clause-images g c = λ honest.
     let running : c.self.inside.halted ≡ false = ap (λ j. j.halted) c.self.view_is ∙ c.requires in
     let spells = subst (λ (t : List ℕ). Spells (view c.args.entry.now) t) (sym c.deref.ensures.value) c.in-Ok.ensures in
     subst (λ tape. Follows (ReadsSameOrOneMore (view c.args.entry.now)) (g.T.Tape.images tape) (g.T.Tape.images c.write.new.tape)) same
-    (same_or_more (g.T.Tape.content c.self.inside.tape) c.deref.result.now (view c.args.entry.now) (g.T.Tape.images c.self.inside.tape) (g.T.Tape.images c.write.new.tape)
+    (same_or_more c.one_text_one_map.ensures (g.T.Tape.content c.self.inside.tape) c.deref.result.now (view c.args.entry.now) (g.T.Tape.images c.self.inside.tape) (g.T.Tape.images c.write.new.tape)
     (c.self.invariant honest running) spells (c.in-Err-Device.ensures.images honest (λ e. absurd (cc (c.in-Err-Device.field-0-is, e)))))

@@ -1,4 +1,0 @@
-pub mod Order
-pub mod Quorum
-pub mod Spelling
-pub mod Fronts

@@ -1,0 +1,63 @@
+-- What was counted while a block was read is what its value has.
+use Rattle.std.proofs.Common.{◌≡◌, Bool, true, false, ◌&&◌, List, [], ℕ, length, refl, sym, ap, ◌∙◌}
+use Rattle.std.specs.Prelude.{nat_lt, nat_le, Option, Some, None, if◌then◌else◌, sum_by, unwrap_or}
+use Rattle.std.specs.List.{list_all}
+use Rattle.wf_def.specs.Definition.{FeatureDefinition, LayerDefinition}
+use Rattle.wf_def.specs.Layer as def
+use Rattle.wf_def.specs.Limit.{most_items_bytes}
+use Rattle.wf_def.specs.Limits.{points_of_feature}
+use Rattle.wf_def.specs.declared.choice.LayerKind.{LayerKind}
+use Rattle.wf_mapfile.specs.declared.slots.feature.FeatureSlots.{FeatureSlots}
+use Rattle.wf_mapfile.specs.declared.slots.layer.LayerSlots.{LayerSlots}
+use Rattle.wf_mapfile.specs.Grammar.{◌>>=◌}
+use Rattle.wf_mapfile.specs.Web.{no_metadata}
+use Rattle.wf_mapfile.specs.Feature.{feature_of}
+use Rattle.wf_mapfile.specs.Layer.{layer_of}
+
+pub given : {A : Type 0} (so : Bool) (x y : A) → (if so then Some x else None) ≡ Some y → x ≡ y
+given true x y e = cc
+given false x y e = absurd (let impossible : ⊥ = cc in impossible)
+
+-- a feature's points are those of its parts
+pub feature_counted : (said : FeatureSlots) (f : FeatureDefinition) → feature_of said ≡ Some f → sum_by length said.parts ≡ points_of_feature f
+unfolding feature_of def.feature_of
+feature_counted said f e = ap points_of_feature (given (nat_lt 0 (length said.parts)) (record { parts = said.parts; items = unwrap_or said.single.items []; text = unwrap_or said.single.text [] }) f e)
+
+abbrev Entry : Type 0
+Entry = List ℕ × LayerDefinition
+
+built : (so : Bool) (name : List ℕ) (x : LayerDefinition) (l : Entry) → ((if so then Some x else None) >>= λ d. Some (name, d)) ≡ Some l → (name ≡ l.0) × (x ≡ l.1)
+built true name x l e =
+    let same : (name, x) ≡ l = cc in
+    (ap (λ (p : Entry). p.0) same, ap (λ (p : Entry). p.1) same)
+built false name x l e = absurd (let impossible : ⊥ = cc in impossible)
+
+-- a layer has the name and the features that were said
+pub record AsSaid (said : LayerSlots) (l : Entry) : Type 0 where
+  pub name : said.single.name ≡ Some l.0
+  pub features : said.features ≡ l.1.features
+
+as_said : (name : Option (List ℕ)) (kind : Option LayerKind) (features : List FeatureDefinition) (so : List ℕ → LayerKind → Bool) (x : List ℕ → LayerKind → LayerDefinition) (l : Entry) →
+    ((n : List ℕ) (k : LayerKind) → (x n k).features ≡ features) →
+    (name >>= λ n. kind >>= λ k. (if so n k then Some (x n k) else None) >>= λ d. Some (n, d)) ≡ Some l → (name ≡ Some l.0) × (features ≡ l.1.features)
+as_said None kind features so x l same e = absurd (let impossible : ⊥ = cc in impossible)
+as_said (Some n) None features so x l same e = absurd (let impossible : ⊥ = cc in impossible)
+as_said (Some n) (Some k) features so x l same e =
+    let parts = built (so n k) n (x n k) l e in
+    (ap (λ (n : List ℕ). Some n) parts.0, sym (same n k) ∙ ap (λ (d : LayerDefinition). d.features) parts.1)
+
+pub layer_counted : (said : LayerSlots) (l : Entry) → layer_of said ≡ Some l → AsSaid said l
+unfolding layer_of def.layer_of
+layer_counted said l e =
+    let parts = as_said said.single.name said.single.kind said.features
+    (λ n k. nat_le (length (unwrap_or said.single.items [])) most_items_bytes && list_all (def.has_enough_points k) said.features)
+    (λ n k. record {
+      kind = k;
+      title = unwrap_or (unwrap_or said.single.metadata no_metadata).title n;
+      class_item = unwrap_or said.single.class_item [];
+      label_item = unwrap_or said.single.label_item [];
+      items = unwrap_or said.single.items [];
+      classes = said.classes;
+      features = said.features;
+    }) l (λ n k. refl) e in
+    record { name = parts.0; features = parts.1 }

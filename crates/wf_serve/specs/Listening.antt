@@ -1,0 +1,28 @@
+-- What is told of the port that is listened at.
+use Rattle.std.specs.Prelude.{◌≡◌, ◌≢◌, ◌≤◌, ◌++◌, ℕ, List, codes, decimal, take, Option, Result, Ok, Err}
+use Rattle.std.specs.Io.KnownBytes.{Appends, Keeps}
+use Rattle.wf_serve.specs.Service.{last_port}
+use Rattle.wf_serve.specs.declared.fault.ServeFault.{ServeFault}
+use Rattle.wf_serve.specs.declared.fault.ServeFault.TheVariants as faults
+
+-- the line that names a port
+abbrev pub port_line : ℕ → List ℕ
+port_line port = codes "listening " ++ decimal port ++ codes "\n"
+
+-- The port that is listened at: the one that was asked for, any where that is 0.
+pub record IsPortFor (asked port : ℕ) : Type 0 where
+  pub is : asked ≢ 0 → port ≡ asked
+  pub most : port ≤ last_port
+
+-- the bytes were written, or a beginning of them where the writer failed
+abbrev pub IsWriting : List ℕ → Option (List ℕ) → Option (List ℕ) → Result (Unit {0}) ServeFault → Type 0
+IsWriting bytes old new (Ok done) = Appends old new bytes
+IsWriting bytes old new (Err faults.Write) = (count : ℕ) × Appends old new (take count bytes)
+IsWriting bytes old new (Err faults.Start) = ⊥
+
+-- What is written by the time that the nodes are served no more: the line of such a port, or a beginning of it where the writer failed; nothing
+-- where they didn't begin.
+abbrev pub IsTold : ℕ → Option (List ℕ) → Option (List ℕ) → Result (Unit {0}) ServeFault → Type 0
+IsTold asked old new (Ok done) = (port : ℕ) × IsPortFor asked port × Appends old new (port_line port)
+IsTold asked old new (Err faults.Write) = (port : ℕ) × IsPortFor asked port × ((count : ℕ) × Appends old new (take count (port_line port)))
+IsTold asked old new (Err faults.Start) = Keeps old new

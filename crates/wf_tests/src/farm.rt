@@ -1,0 +1,91 @@
+//! Three new nodes agree on a first map.
+ghost use Rattle.std.specs.Prelude.{◌≡◌, ◌<◌, IfSome};
+
+use crate::value::{MAP_A, map};
+use std::alloc::Global;
+use std::process::Abort;
+use wf_ballot::NodeId;
+use wf_canon::Canon;
+use wf_codec::Message;
+use wf_farm::{Pumped, deliver_all};
+use wf_node::{Input, Node};
+use wf_tape::MemoryTape;
+
+/// Each message goes to each node: the Prepare, three Promises, the Accept, three Accepted and the Chosen.
+const FIRST_PUBLISH: Pumped = Pumped {
+    deliveries: 27,
+    stopped: false,
+};
+
+/// A new node of three.
+fn node(alloc: Global, number: u8) -> Option<Node<MemoryTape>>
+    requires { number < 3 }
+    ensures id { IfSome result (λ node. node.id ≡ number) }
+    ensures of { IfSome result (λ node. node.n ≡ 3) }
+{
+    let id = NodeId::new(number)?;
+    match Node::open(alloc, MemoryTape::new(Vec::new(alloc)), id, 3) {
+        Ok(node) => Some(node),
+        Err(refused) => {
+            drop(refused);
+            None
+        }
+    }
+}
+
+/// What a node says that proposes a map; nothing where there is no memory.
+fn propose(alloc: Global, node: &mut Node<MemoryTape>, map: Canon) -> Vec<Message>
+    ensures id { node.new.id ≡ node.old.id }
+    ensures of { node.new.n ≡ node.old.n }
+{
+    match node.step(alloc, Input::Propose(map)) {
+        Ok(said) => said,
+        Err(_) => Vec::new(alloc),
+    }
+}
+
+/// What becomes of the messages, and whether each of the nodes has published one map then.
+#[tactic(auto, using(crate::proofs::InTurn::three_in_turn))]
+fn hear(
+    alloc: Global,
+    first: Node<MemoryTape>,
+    second: Node<MemoryTape>,
+    third: Node<MemoryTape>,
+    messages: Vec<Message>,
+) -> (Pumped, bool)
+    requires first { first.id ≡ 0 }
+    requires of_three { first.n ≡ 3 }
+    requires second { second.id ≡ 1 }
+    requires also_of_three { second.n ≡ 3 }
+    requires third { third.id ≡ 2 }
+    requires last_of_three { third.n ≡ 3 }
+{
+    let mut nodes = [first, second, third];
+    let pumped = deliver_all(alloc, &mut nodes, messages);
+    let published = nodes.iter().all(|node| node.published().number() == 1);
+    drop(nodes);
+    (pumped, published)
+}
+
+/// What becomes of a map that node 0 of three new ones proposes. None where there is no memory.
+fn published(rt: &impl Abort, alloc: Global) -> Option<(Pumped, bool)> {
+    let mut first = node(alloc, 0)?;
+    let Some(second) = node(alloc, 1) else {
+        drop(first);
+        return None;
+    };
+    let Some(third) = node(alloc, 2) else {
+        drop(first);
+        drop(second);
+        return None;
+    };
+    let prepare = propose(alloc, &mut first, map(rt, alloc, MAP_A));
+    Some(hear(alloc, first, second, third, prepare))
+}
+
+#[test]
+fn three_nodes_publish_a_first_map_by_27_deliveries(rt: HostRuntime) {
+    let expected = Some((FIRST_PUBLISH, true));
+    // Where something found no memory, all is done once more.
+    assert!(rt; published(&rt, rt.alloc()) == expected || published(&rt, rt.alloc()) == expected);
+}
