@@ -3,9 +3,7 @@ pub mod KnownText
 pub mod LayerLaw
 pub mod MeaningLaw
 pub mod MapLaw
-pub mod MapText
 pub mod NumberWord
 pub mod Steps
 pub mod TokenLaw
 pub mod Writing
-pub mod WrittenLaw

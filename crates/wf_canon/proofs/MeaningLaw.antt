@@ -1,10 +1,13 @@
 -- The canonical text of a map means that map.
-use Rattle.std.proofs.Common.{◌≡◌, ℕ, ◌<◌, ◌≤◌, Bool, true, false, not, ◌&&◌, cond, leb, nat_le, List, [], ◌∷◌, ◌++◌, length, Option, Some, None, Err, refl, sym, ap, ◌∙◌, arith}
+use Rattle.std.proofs.Common.{◌≡◌, ℕ, ◌<◌, ◌≤◌, Bool, true, false, not, ◌&&◌, cond, leb, nat_le, List, [], ◌∷◌, length, Option, Some, None, Err, refl, sym, ap, ◌∙◌, arith}
 use Rattle.std.specs.Prelude.{codes}
+use Rattle.std.specs.List.{list_all}
 use Rattle.std.specs.Str.{is_utf8, bytes_eq}
 use Rattle.std.proofs.lemmas.Slice.Eq.{bytes_eq-Decides}
 use Rattle.std.proofs.lemmas.Bool.Decides.{nat_tests}
 use Rattle.std.proofs.lemmas.List.{append-nil}
+use Rattle.std.proofs.lemmas.List.Folds.{list_all-append}
+use Rattle.wf_text.specs.Booleans.{and_left, and_right}
 use Rattle.wf_def.specs.Definition.{Definition}
 use Rattle.wf_def.specs.Limits.{IsWithinLimits}
 use Rattle.wf_token.specs.Token.{Token, Word, Between, without_mark, tokens, tokens_from}
@@ -13,25 +16,34 @@ use Rattle.wf_mapfile.specs.Meaning.{file, longest_mapfile, meaning, Means, Mean
 use Rattle.wf_mapfile.specs.Reading.{IsNotUtf8, is_memory}
 use Rattle.wf_mapfile.specs.declared.fault.MapFault.{MapFault}
 use Rattle.wf_mapfile.specs.declared.fault.MapFault.TheVariants as reading
-use Rattle.wf_token.specs.Spelling.{line}
-use Rattle.wf_canon.specs.Canon.{end_line, map_lines, canon}
+use Rattle.wf_token.specs.Spelling.{is_written, are_written, line}
+use Rattle.wf_canon.specs.Canon.{map_lines, canon}
 use Rattle.wf_canon.specs.declared.fault.CanonFault.{CanonFault}
 use Rattle.wf_canon.specs.declared.fault.CanonFault.TheVariants.{TooBig, NotCanonical, Memory}
 use Rattle.wf_canon.specs.Saying.{Says}
 use Rattle.wf_canon.specs.Refusal.{HasNoCanon, IsCauseOf, IsWhyRefused, refused_again}
 use Rattle.wf_token.specs.Spelling.{tokens_of}
 use Rattle.wf_token.specs.SpellingLaws.{lex_text}
-use Rattle.wf_canon.proofs.WrittenLaw.{map_is_written}
 use Rattle.wf_token.specs.Utf8Laws.{text_of-is_utf8}
-use Rattle.wf_canon.proofs.MapLaw.{map_body, map_again}
+use Rattle.wf_canon.proofs.Steps.{inside, is_keyword}
+use Rattle.wf_canon.proofs.MapLaw.{map_again}
 
 -- ---- the text is read
 
 file_again : (d : Definition) → IsWithinLimits d → file (tokens_of (map_lines d)) ≡ Some d
 unfolding file word
 file_again d h =
-    ap (λ (ts : List Token). file (Word (codes "MAP") ∷ ts)) (sym (append-nil (tokens_of (map_body d ++ end_line ∷ []))))
-    ∙ rw (map_again d h []) refl
+    ap (λ (ts : List Token). file (Word (codes "MAP") ∷ ts)) (sym (append-nil (tokens_of (inside (map_lines d))))) ∙ rw ((map_again d h).read []) refl
+
+lines_are_written : (lines : List (List Token)) → list_all is_written (tokens_of lines) ≡ true → are_written lines ≡ true
+lines_are_written [] e = refl
+lines_are_written (l ∷ lines) e =
+    let all : (list_all is_written l && list_all is_written (tokens_of lines)) ≡ true = sym (list_all-append is_written l (tokens_of lines)) ∙ e in
+    rw (and_left (list_all is_written l) (list_all is_written (tokens_of lines)) all) (lines_are_written lines (and_right (list_all is_written l) (list_all is_written (tokens_of lines)) all))
+
+map_is_written : (d : Definition) → IsWithinLimits d → are_written (map_lines d) ≡ true
+unfolding is_keyword
+map_is_written d h = lines_are_written (map_lines d) (map_again d h).written
 
 no_mark : (d : Definition) → without_mark (canon d) ≡ canon d
 unfolding without_mark canon line

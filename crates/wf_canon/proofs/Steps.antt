@@ -1,121 +1,163 @@
--- Lines that are written for a block are read keyword by keyword, whatever follows.
+-- Lines that are written for a block are read keyword by keyword, whatever follows, and each of their tokens as it was written.
 --
 -- A line, or a keyword with the lines of its block, is one step: it brings what was said from one state to the next. So lines that
 -- are put together, or written for each element of a list, bring it from the first state to the last.
-use Rattle.std.proofs.Common.{◌≡◌, ℕ, zero, suc, ◌-◌, ◌≤◌, ltb, List, [], ◌∷◌, ◌++◌, length, All, true, false, Option, Some, None, refl, sym, ap, ◌∙◌, append_assoc, length-append, arith}
+use Rattle.std.proofs.Common.{◌≡◌, ℕ, zero, suc, ◌-◌, ◌≤◌, ltb, Bool, true, false, not, ◌&&◌, List, [], ◌∷◌, ◌++◌, length, All, Option, Some, None, refl, sym, ap, ◌∙◌, append_assoc, length-append, arith}
 use Rattle.std.specs.Prelude.{codes, IfSome, sum_by}
-use Rattle.std.specs.List.{flat_map, Contains}
+use Rattle.std.specs.List.{flat_map, list_all, Contains}
 use Rattle.std.proofs.lemmas.Bool.{lt-ltb}
 use Rattle.std.proofs.lemmas.List.{append-nil}
 use Rattle.std.proofs.lemmas.List.Concat.{flat_map-append}
 use Rattle.std.proofs.lemmas.List.Elements.{All-contains, All-same, Contains-append_right}
+use Rattle.std.proofs.lemmas.List.Folds.{list_all-append}
 use Rattle.std.proofs.lemmas.List.Sums.{sum_by-append, sum_by-cons}
-use Rattle.wf_token.specs.Token.{Token, Word}
-use Rattle.wf_token.specs.Spelling.{tokens_of}
+use Rattle.wf_text.specs.Booleans.{and_left, and_right, not_true}
+use Rattle.wf_token.specs.Token.{Token, Word, is_plain, is_slash, is_quote, is_hash}
+use Rattle.wf_token.specs.Spelling.{is_word, is_written, tokens_of}
 use Rattle.wf_mapfile.specs.Grammar.{is_end, word}
 use Rattle.wf_mapfile.specs.Steps.{fill, block}
 use Rattle.wf_canon.specs.Canon.{alone, end_line}
 
 -- ---- readers
 
--- the lines are read to this value, and what follows them is left
-abbrev pub Reads : {A : Type 0} → (List Token → Option (A × List Token)) → List (List Token) → A → Type 0
-Reads reader lines value = (rest : List Token) → reader (tokens_of lines ++ rest) ≡ Some (value, rest)
+abbrev pub Reader : Type 0 → Type 0
+Reader A = List Token → Option (A × List Token)
 
-pub tokens_of-append : (xs ys : List (List Token)) → tokens_of (xs ++ ys) ≡ tokens_of xs ++ tokens_of ys
-tokens_of-append xs ys = flat_map-append (λ tokens. tokens) xs ys
-
--- lines, their END and what follows
-pub closed : (body : List (List Token)) (rest : List Token) → tokens_of (body ++ end_line ∷ []) ++ rest ≡ tokens_of body ++ Word (codes "END") ∷ rest
-closed body rest = ap (λ (ts : List Token). ts ++ rest) (tokens_of-append body (end_line ∷ [])) ∙ append_assoc (tokens_of body) (Word (codes "END") ∷ []) rest
+-- the tokens may be written, and are read to this value, and what follows them is left
+pub record Reads {A : Type 0} (reader : Reader A) (tokens : List Token) (value : A) : Type 0 where
+  pub written : list_all is_written tokens ≡ true
+  pub read : (rest : List Token) → reader (tokens ++ rest) ≡ Some (value, rest)
 
 -- ---- steps
 
--- the tokens are read up to END, wherever as many keywords may come as there are tokens
-abbrev pub IsFilled : {S : Type 0} → (S → List ℕ → List Token → Option (S × List Token)) → S → List Token → S × List Token → Type 0
-IsFilled put said tokens r = (most : ℕ) → length tokens ≤ most → fill put most said tokens ≡ Some r
+-- what a keyword says beside what was said
+abbrev pub Put : Type 0 → Type 0
+Put S = S → List ℕ → Reader S
 
--- the lines bring what was said from one state to another, and then the rest is read
-pub record Fills {S : Type 0} (put : S → List ℕ → List Token → Option (S × List Token)) (before : S) (lines : List (List Token)) (after : S) : Type 0 where
-  pub steps : (rest : List Token) (r : S × List Token) → IsFilled put after rest r → IsFilled put before (tokens_of lines ++ rest) r
+-- the lines of a block behind its keyword, END too
+abbrev pub inside : List (List Token) → List (List Token)
+inside [] = []
+inside (keyword ∷ lines) = lines
 
-one_step : {S : Type 0} (put : S → List ℕ → List Token → Option (S × List Token)) (before after : S) (w : List ℕ) (tokens rest : List Token) (r : S × List Token)
-    → is_end w ≡ false → put before w tokens ≡ Some (after, rest) → length rest ≤ length tokens → IsFilled put after rest r → IsFilled put before (Word w ∷ tokens) r
+-- a word that may be written, and isn't END
+unfoldable pub is_keyword : List ℕ → Bool
+unfolding is_end is_plain is_slash is_quote is_hash
+is_keyword w = is_word w && not (is_end w)
+
+-- keywords up to END are read, wherever as many may come as there are tokens
+abbrev pub More : {S : Type 0} → Put S → S → List Token → S × List Token → Type 0
+More put said tokens r = (most : ℕ) → length tokens ≤ most → fill put most said tokens ≡ Some r
+
+-- END was read
+abbrev pub Ended : {S : Type 0} → S → List Token → S × List Token → Type 0
+Ended said rest r = r ≡ (said, rest)
+
+-- the lines may be written, and are steps from what was said to what follows: more keywords, or nothing
+pub record Fills {S : Type 0} (put : Put S) (before : S) (lines : List (List Token)) (follows : List Token → S × List Token → Type 0) : Type 0 where
+  pub written : list_all is_written (tokens_of lines) ≡ true
+  pub steps : (rest : List Token) (r : S × List Token) → follows rest r → More put before (tokens_of lines ++ rest) r
+
+-- a keyword of these tokens, which are read to the value, brings what was said to the next
+abbrev pub Says : {S A : Type 0} → Put S → S → List ℕ → Reader A → List Token → A → S → Type 0
+Says put before w reader tokens value next = (rest : List Token) → reader (tokens ++ rest) ≡ Some (value, rest) → put before w (tokens ++ rest) ≡ Some (next, rest)
+
+one_step : {S : Type 0} (put : Put S) (before next : S) (w : List ℕ) (tokens rest : List Token) (r : S × List Token)
+    → is_end w ≡ false → put before w tokens ≡ Some (next, rest) → length rest ≤ length tokens → More put next rest r → More put before (Word w ∷ tokens) r
 unfolding fill word
-one_step put before after w tokens rest r other said fewer filled zero enough = absurd (omega arith)
-one_step put before after w tokens rest r other said fewer filled (suc most) enough = let left = filled most (omega arith) in rw (other, said) left
+one_step put before next w tokens rest r other said fewer more zero enough = absurd (omega arith)
+one_step put before next w tokens rest r other said fewer more (suc most) enough = let left = more most (omega arith) in rw (other, said) left
 
--- a keyword and its arguments, on one line or more
-pub keyword : {S : Type 0} {put : S → List ℕ → List Token → Option (S × List Token)} {before after : S} {w : List ℕ} {arguments : List Token} {lines : List (List Token)}
-    → is_end w ≡ false → ((rest : List Token) → put before w ((arguments ++ tokens_of lines) ++ rest) ≡ Some (after, rest)) → Fills put before ((Word w ∷ arguments) ∷ lines) after
-keyword {put = put} {before = before} {after = after} {w = w} {arguments = arguments} {lines = lines} other said = record {
-  steps = λ rest r filled.
-      one_step put before after w ((arguments ++ tokens_of lines) ++ rest) rest r other (said rest) (omega (arith, length-append (arguments ++ tokens_of lines) rest)) filled;
+-- a keyword and what it asks for, on one line or more
+pub keyword : {S A : Type 0} {put : Put S} {before next : S} {w : List ℕ} {arguments : List Token} {lines : List (List Token)} {reader : Reader A} {value : A}
+    → is_keyword w ≡ true → Reads reader (arguments ++ tokens_of lines) value → Says put before w reader (arguments ++ tokens_of lines) value next → Fills put before ((Word w ∷ arguments) ∷ lines) (More put next)
+unfolding is_keyword
+keyword {put = put} {before = before} {next = next} {w = w} {arguments = arguments} {lines = lines} known asked said = record {
+  written = rw (and_left (is_word w) (not (is_end w)) known, asked.written) refl;
+  steps = λ rest r more.
+      one_step put before next w ((arguments ++ tokens_of lines) ++ rest) rest r (not_true (is_end w) (and_right (is_word w) (not (is_end w)) known)) (said rest (asked.read rest)) (omega (arith, length-append (arguments ++ tokens_of lines) rest)) more;
 }
 
+tokens_of-append : (xs ys : List (List Token)) → tokens_of (xs ++ ys) ≡ tokens_of xs ++ tokens_of ys
+tokens_of-append xs ys = flat_map-append (λ tokens. tokens) xs ys
+
 -- lines and more lines
-pub both : {S : Type 0} {put : S → List ℕ → List Token → Option (S × List Token)} {before after : S} {xs ys : List (List Token)} (between : S)
-    → Fills put before xs between → Fills put between ys after → Fills put before (xs ++ ys) after
+pub both : {S : Type 0} {put : Put S} {before : S} {xs ys : List (List Token)} {follows : List Token → S × List Token → Type 0} (between : S)
+    → Fills put before xs (More put between) → Fills put between ys follows → Fills put before (xs ++ ys) follows
 both {put = put} {before = before} {xs = xs} {ys = ys} between first second = record {
-  steps = λ rest r filled.
+  written = rw (tokens_of-append xs ys, list_all-append is_written (tokens_of xs) (tokens_of ys), first.written) second.written;
+  steps = λ rest r last.
       let all : tokens_of (xs ++ ys) ++ rest ≡ tokens_of xs ++ (tokens_of ys ++ rest) =
       ap (λ (ts : List Token). ts ++ rest) (tokens_of-append xs ys) ∙ append_assoc (tokens_of xs) (tokens_of ys) rest in
-      rw all (first.steps (tokens_of ys ++ rest) r (second.steps rest r filled));
+      rw all (first.steps (tokens_of ys ++ rest) r (second.steps rest r last));
 }
 
 -- a keyword alone on its line, the lines of its block, and more lines
-pub inner : {S : Type 0} {put : S → List ℕ → List Token → Option (S × List Token)} {before after : S} {w : List ℕ} {more : List (List Token)} (lines : List (List Token)) (next : S)
-    → is_end w ≡ false → ((rest : List Token) → put before w (tokens_of lines ++ rest) ≡ Some (next, rest)) → Fills put next more after → Fills put before (alone w ∷ lines ++ more) after
-inner {put = put} {before = before} {w = w} lines next other said others = both next (keyword {put = put} {before = before} {w = w} {arguments = []} {lines = lines} other said) others
+pub inner : {S A : Type 0} {put : Put S} {before : S} {w : List ℕ} {more : List (List Token)} {follows : List Token → S × List Token → Type 0} {reader : Reader A} {value : A} (lines : List (List Token)) (next : S)
+    → is_keyword w ≡ true → Reads reader (tokens_of lines) value → Says put before w reader (tokens_of lines) value next → Fills put next more follows → Fills put before (alone w ∷ lines ++ more) follows
+inner {w = w} lines next known asked said others = both next (keyword {w = w} {arguments = []} {lines = lines} known asked said) others
 
 -- a line, and more lines
-pub line : {S : Type 0} {put : S → List ℕ → List Token → Option (S × List Token)} {before after : S} {w : List ℕ} {arguments : List Token} {more : List (List Token)} (next : S)
-    → is_end w ≡ false → ((rest : List Token) → put before w (arguments ++ rest) ≡ Some (next, rest)) → Fills put next more after → Fills put before ((Word w ∷ arguments) ∷ more) after
-line {put = put} {before = before} {w = w} {arguments = arguments} next other said others =
-    both next (keyword {put = put} {before = before} {w = w} {arguments = arguments} {lines = []} other (λ rest. ap (λ (ts : List Token). put before w (ts ++ rest)) (append-nil arguments) ∙ said rest)) others
+pub line : {S A : Type 0} {put : Put S} {before : S} {w : List ℕ} {arguments : List Token} {more : List (List Token)} {follows : List Token → S × List Token → Type 0} {reader : Reader A} {value : A} (next : S)
+    → is_keyword w ≡ true → Reads reader arguments value → Says put before w reader arguments value next → Fills put next more follows → Fills put before ((Word w ∷ arguments) ∷ more) follows
+line {put = put} {before = before} {w = w} {arguments = arguments} {reader = reader} {value = value} next known asked said others =
+    let alike = append-nil arguments in
+    let all : Reads reader (arguments ++ []) value = rw alike asked in
+    both next (keyword {put = put} {before = before} {w = w} {arguments = arguments} {lines = []} known all (λ rest e. rw alike (said rest (asked.read rest)))) others
 
-pub none : {S : Type 0} {put : S → List ℕ → List Token → Option (S × List Token)} {said : S} → Fills put said [] said
-none = record { steps = λ rest r filled. filled }
+pub none : {S : Type 0} {put : Put S} {said : S} → Fills put said [] (More put said)
+none = record { written = refl; steps = λ rest r more. more }
 
--- what is written for a value that may be absent
-pub there : {S X : Type 0} {put : S → List ℕ → List Token → Option (S × List Token)} (P : X → Type 0) (of : Option X → List (List Token)) (state : Option X → S) (o : Option X)
-    → of None ≡ [] → ((x : X) → P x → Fills put (state None) (of (Some x)) (state (Some x))) → IfSome o P → Fills put (state None) (of o) (state o)
-there P of state None empty step some = rw empty none
-there P of state (Some x) empty step some = step x some
-
--- what is written for each element of a list puts it behind those before it
-pub each : {S X : Type 0} {put : S → List ℕ → List Token → Option (S × List Token)} (of : X → List (List Token)) (state : List X → S) (done xs : List X)
-    → ((before : List X) (x : X) (after : List X) → done ++ xs ≡ before ++ x ∷ after → Fills put (state before) (of x) (state (before ++ x ∷ [])))
-    → Fills put (state done) (flat_map of xs) (state (done ++ xs))
-each of state done [] step = rw (append-nil done) none
-each of state done (x ∷ xs) step =
-    let same : (done ++ x ∷ []) ++ xs ≡ done ++ x ∷ xs = append_assoc done (x ∷ []) xs in
-    rw same at (both (state (done ++ x ∷ [])) (step done x xs refl) (each of state (done ++ x ∷ []) xs (λ before y after e. step before y after (sym same ∙ e))))
-
--- ---- an element, with those before it and those after it
-
-pub holds_at : {X : Type 0} (P : X → Type 0) (xs before : List X) (x : X) (after : List X) → All P xs → xs ≡ before ++ x ∷ after → P x
-holds_at P xs before x after all e =
-    let here : Contains (before ++ x ∷ after) x = Contains-append_right before (x ∷ after) x (zero, omega arith, refl) in
-    All-contains P (before ++ x ∷ after) x (All-same P (before ++ x ∷ after) xs (sym e) all) here
-
--- there is room for it
-pub room_at : {X : Type 0} (most : ℕ) (xs before : List X) (x : X) (after : List X) → length xs ≤ most → xs ≡ before ++ x ∷ after → ltb (length before) most ≡ true
-room_at most xs before x after few e = lt-ltb (length before) most (omega (arith, ap length e, length-append before (x ∷ after)))
-
--- those before it leave as much as it has
-pub left_at : {X : Type 0} (f : X → ℕ) (most : ℕ) (xs before : List X) (x : X) (after : List X) → sum_by f xs ≤ most → xs ≡ before ++ x ∷ after → f x ≤ most - sum_by f before
-left_at f most xs before x after few e = omega (arith, ap (sum_by f) e, sum_by-append f before (x ∷ after), sum_by-cons f x after)
-
--- ---- blocks
-
-at_end : {S : Type 0} (put : S → List ℕ → List Token → Option (S × List Token)) (said : S) (rest : List Token) → IsFilled put said (Word (codes "END") ∷ rest) (said, rest)
+at_end : {S : Type 0} (put : Put S) (said : S) (rest : List Token) → More put said (Word (codes "END") ∷ rest) (said, rest)
 unfolding fill word is_end
 at_end put said rest zero enough = absurd (omega arith)
 at_end put said rest (suc most) enough = refl
 
+-- the END of a block
+pub ended : {S : Type 0} {put : Put S} {said : S} → Fills put said (end_line ∷ []) (Ended said)
+unfolding is_keyword
+ended {put = put} {said = said} = record { written = refl; steps = λ rest r is. rw is (at_end put said rest) }
+
+-- what is written for a value that may be absent
+pub there : {S X : Type 0} {put : Put S} (P : X → Type 0) (of : Option X → List (List Token)) (state : Option X → S) (o : Option X)
+    → of None ≡ [] → ((x : X) → P x → Fills put (state None) (of (Some x)) (More put (state (Some x)))) → IfSome o P → Fills put (state None) (of o) (More put (state o))
+there P of state None empty step some = rw empty none
+there P of state (Some x) empty step some = step x some
+
+-- ---- lists
+
+-- an element of a list, with those before it
+pub record IsAt {X : Type 0} (xs before : List X) (x : X) : Type 0 where
+  pub after : List X
+  pub is : xs ≡ before ++ x ∷ after
+
+pub holds_at : {X : Type 0} {xs before : List X} {x : X} (P : X → Type 0) → IsAt xs before x → All P xs → P x
+holds_at {xs = xs} {before = before} {x = x} P place all =
+    let here : Contains (before ++ x ∷ place.after) x = Contains-append_right before (x ∷ place.after) x (zero, omega arith, refl) in
+    All-contains P (before ++ x ∷ place.after) x (All-same P (before ++ x ∷ place.after) xs (sym place.is) all) here
+
+-- there is room for it
+pub room_at : {X : Type 0} {xs before : List X} {x : X} (most : ℕ) → IsAt xs before x → length xs ≤ most → ltb (length before) most ≡ true
+room_at {before = before} {x = x} most place few = lt-ltb (length before) most (omega (arith, ap length place.is, length-append before (x ∷ place.after)))
+
+-- those before it leave as much as it has
+pub left_at : {X : Type 0} {xs before : List X} {x : X} (f : X → ℕ) (most : ℕ) → IsAt xs before x → sum_by f xs ≤ most → f x ≤ most - sum_by f before
+left_at {before = before} {x = x} f most place few = omega (arith, ap (sum_by f) place.is, sum_by-append f before (x ∷ place.after), sum_by-cons f x place.after)
+
+-- what is written for each element of a list puts it behind those before it
+pub each : {S X : Type 0} {put : Put S} (of : X → List (List Token)) (state : List X → S) (done xs : List X)
+    → ((before : List X) (x : X) → IsAt (done ++ xs) before x → Fills put (state before) (of x) (More put (state (before ++ x ∷ []))))
+    → Fills put (state done) (flat_map of xs) (More put (state (done ++ xs)))
+each of state done [] step = rw (append-nil done) none
+each of state done (x ∷ xs) step =
+    let same : (done ++ x ∷ []) ++ xs ≡ done ++ x ∷ xs = append_assoc done (x ∷ []) xs in
+    rw same at (both (state (done ++ x ∷ [])) (step done x (record { after = xs; is = refl })) (each of state (done ++ x ∷ []) xs (λ before y place. step before y (rw same at place))))
+
+-- ---- blocks
+
 -- a block's lines and its END are read as what they say
-pub block_again : {S : Type 0} {put : S → List ℕ → List Token → Option (S × List Token)} {before after : S} (body : List (List Token))
-    → Fills put before body after → Reads (block put before) (body ++ end_line ∷ []) after
-block_again {put = put} {after = after} body fills rest =
-    rw (closed body rest) (fills.steps (Word (codes "END") ∷ rest) (after, rest) (at_end put after rest) (length (tokens_of body ++ Word (codes "END") ∷ rest)) (omega arith))
+pub block_again : {S A : Type 0} {put : Put S} {before after : S} {reader : Reader A} {value : A} (lines : List (List Token))
+    → Fills put before lines (Ended after) → ((rest : List Token) → block put before (tokens_of lines ++ rest) ≡ Some (after, rest) → reader (tokens_of lines ++ rest) ≡ Some (value, rest)) → Reads reader (tokens_of lines) value
+block_again {after = after} lines fills says = record {
+  written = fills.written;
+  read = λ rest. says rest (fills.steps rest (after, rest) refl (length (tokens_of lines ++ rest)) (omega arith));
+}

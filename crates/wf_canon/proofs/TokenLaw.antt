@@ -1,40 +1,66 @@
 -- What is written for a text, a number, a colour or a choice is read as that value, whatever follows.
-use Rattle.std.proofs.Common.{◌≡◌, ℕ, ◌*◌, ◌/◌, ◌%◌, ◌≤◌, true, false, leb, List, ◌∷◌, Some, refl, sym, ap, ◌∙◌, arith}
-use Rattle.std.specs.Prelude.{ℤ, pos, codes}
+use Rattle.std.proofs.Common.{◌≡◌, ℕ, ◌*◌, ◌/◌, ◌%◌, ◌≤◌, Bool, true, false, not, ◌&&◌, ◌||◌, cond, eqb, leb, List, [], ◌∷◌, Some, refl, arith}
+use Rattle.std.specs.Prelude.{ℤ, pos}
 use Rattle.std.specs.Fmt.{decimal}
+use Rattle.std.specs.List.{list_any}
 use Rattle.std.proofs.lemmas.Bool.Decides.{nat_tests}
 use Rattle.std.proofs.lemmas.List.{append-nil}
 use Rattle.wf_def.specs.Limits.{IsColor}
 use Rattle.wf_def.specs.Micro.{IsMicro}
-use Rattle.wf_def.specs.Text.{is_text}
+use Rattle.wf_def.specs.Text.{is_text, has_both_quotes}
 use Rattle.wf_def.specs.Whole.{whole_between}
 use Rattle.wf_def.specs.declared.color.Color.{Color}
-use Rattle.wf_token.specs.Token.{Token, Word, Quoted}
-use Rattle.wf_mapfile.specs.Grammar.{is_end, word, argument, text, chosen, choice, number, whole, end}
-use Rattle.wf_mapfile.specs.Color.{color, rgb_color, hash_digits}
+use Rattle.wf_text.specs.Booleans.{and_left, and_right, not_true}
 use Rattle.wf_text.specs.NumberText.{fraction_text, magnitude_text, number_text}
-use Rattle.wf_canon.specs.Canon.{whole_word}
 use Rattle.wf_text.specs.NumberTextLaws as numbers
+use Rattle.wf_token.specs.Token.{Word, Quoted}
+use Rattle.wf_token.specs.Spelling.{is_word, lacks, is_written}
+use Rattle.wf_token.specs.WordLaws.{decimal_is_word}
+use Rattle.wf_mapfile.specs.Grammar.{is_end, argument, text, chosen, choice, number, whole}
+use Rattle.wf_mapfile.specs.Color.{color, rgb_color, hash_digits}
+use Rattle.wf_canon.specs.Canon.{number_word, whole_word}
 use Rattle.wf_canon.proofs.NumberWord.{number_word_is}
+use Rattle.wf_canon.proofs.Steps.{Reads, is_keyword}
 
-pub text_again : (t : List ℕ) (rest : List Token) → is_text t ≡ true → text (Quoted t ∷ rest) ≡ Some (t, rest)
+-- ---- texts
+
+or_left : (a b : Bool) → (a || b) ≡ false → a ≡ false
+or_left true b e = absurd cc
+or_left false b e = refl
+
+or_right : (a b : Bool) → (a || b) ≡ false → b ≡ false
+or_right true b e = absurd cc
+or_right false b e = e
+
+none_lacks : (q : ℕ) (t : List ℕ) → list_any (λ b. eqb b q) t ≡ false → lacks q t ≡ true
+none_lacks q [] e = refl
+none_lacks q (b ∷ t) e =
+    let first : eqb b q ≡ false = or_left (eqb b q) (list_any (λ x. eqb x q) t) e in
+    rw first (none_lacks q t (or_right (eqb b q) (list_any (λ x. eqb x q) t) e))
+
+-- a text is written in a quote that it lacks: it doesn't hold both
+lacks_its_quote : (double single : Bool) (t : List ℕ) → list_any (λ b. eqb b 34) t ≡ double → list_any (λ b. eqb b 39) t ≡ single → (double && single) ≡ false → lacks (cond double 39 34) t ≡ true
+lacks_its_quote true true t d s e = absurd cc
+lacks_its_quote true false t d s e = none_lacks 39 t s
+lacks_its_quote false single t d s e = none_lacks 34 t d
+
+pub text_lacks_both : (t : List ℕ) → is_text t ≡ true → has_both_quotes t ≡ false
+unfolding is_text
+text_lacks_both t e = not_true (has_both_quotes t) (and_right _ _ e)
+
+pub written_text : (t : List ℕ) → is_text t ≡ true → is_written (Quoted t) ≡ true
+written_text t e =
+    rw e (lacks_its_quote (list_any (λ b. eqb b 34) t) (list_any (λ b. eqb b 39) t) t refl refl (text_lacks_both t e))
+
+pub text_again : (t : List ℕ) → is_text t ≡ true → Reads text (Quoted t ∷ []) t
 unfolding text argument
-text_again t rest e = rw e refl
+text_again t e = record { written = rw (written_text t e) refl; read = λ rest. rw e refl }
 
-pub number_again : (m : ℤ) (rest : List Token) → IsMicro m → number (Word (number_text m) ∷ rest) ≡ Some (m, rest)
+-- ---- numbers
+
+pub number_again : (m : ℤ) → IsMicro m → Reads number (number_word m ∷ []) m
 unfolding number argument
-number_again m rest h = rw ((number_word_is m h).1, numbers.number_again m h) refl
-
-pub end_again : (rest : List Token) → end (Word (codes "END") ∷ rest) ≡ Some rest
-unfolding end word is_end
-end_again rest = refl
-
--- one of a table's words
-pub chosen_again : {A : Type 0} (table : List (List ℕ × A)) (w : List ℕ) (value : A) (rest : List Token) → is_end w ≡ false → choice table w ≡ Some value → chosen table (Word w ∷ rest) ≡ Some (value, rest)
-unfolding chosen argument
-chosen_again table w value rest other is = rw (other, is) refl
-
--- ---- whole numbers
+number_again m h = let word = number_word_is m h in record { written = rw word.0 refl; read = λ rest. rw (word.1, numbers.number_again m h) refl }
 
 units : (n : ℕ) → (n * 1000000) / 1000000 ≡ n
 units n = omega arith
@@ -54,20 +80,32 @@ in_the_range least most n low high =
     let below : leb n most ≡ true = grind (arith, nat_tests) in
     rw (units n, no_parts n, above, below) refl
 
-pub whole_again : (least most n : ℕ) (rest : List Token) → least ≤ n → n ≤ most → n ≤ 100000000 → whole least most (whole_word n ∷ rest) ≡ Some (n, rest)
+pub whole_again : (least most n : ℕ) → least ≤ n → n ≤ most → n ≤ 100000000 → Reads (whole least most) (whole_word n ∷ []) n
 unfolding whole
-whole_again least most n rest low high small =
-    let read : number (Word (decimal n) ∷ rest) ≡ Some (pos (n * 1000000), rest) =
-    ap (λ (w : List ℕ). number (Word w ∷ rest)) (sym (whole_text n)) ∙ number_again (pos (n * 1000000)) rest (omega arith) in
-    rw (read, in_the_range least most n low high) refl
+whole_again least most n low high small =
+    let read : Reads number (whole_word n ∷ []) (pos (n * 1000000)) = rw (whole_text n) at (number_again (pos (n * 1000000)) (omega arith)) in
+    record { written = read.written; read = λ rest. rw (read.read rest, in_the_range least most n low high) refl }
 
 -- ---- colours
 
-pub color_again : (c : Color) (rest : List Token) → IsColor c → color (whole_word c.r ∷ whole_word c.g ∷ whole_word c.b ∷ rest) ≡ Some (c, rest)
+pub color_again : (c : Color) → IsColor c → Reads color (whole_word c.r ∷ whole_word c.g ∷ whole_word c.b ∷ []) c
 unfolding color rgb_color hash_digits
-color_again c rest h =
-    rw (
-      whole_again 0 255 c.r (whole_word c.g ∷ whole_word c.b ∷ rest) (omega arith) (omega (arith, h.r)) (omega (arith, h.r)),
-      whole_again 0 255 c.g (whole_word c.b ∷ rest) (omega arith) (omega (arith, h.g)) (omega (arith, h.g)),
-      whole_again 0 255 c.b rest (omega arith) (omega (arith, h.b)) (omega (arith, h.b)),
-    ) refl
+color_again c h = record {
+  written = rw (decimal_is_word c.r (omega (arith, h.r)), decimal_is_word c.g (omega (arith, h.g)), decimal_is_word c.b (omega (arith, h.b))) refl;
+  read = λ rest.
+      rw (
+        (whole_again 0 255 c.r (omega arith) (omega (arith, h.r)) (omega (arith, h.r))).read (whole_word c.g ∷ whole_word c.b ∷ rest),
+        (whole_again 0 255 c.g (omega arith) (omega (arith, h.g)) (omega (arith, h.g))).read (whole_word c.b ∷ rest),
+        (whole_again 0 255 c.b (omega arith) (omega (arith, h.b)) (omega (arith, h.b))).read rest,
+      ) refl;
+}
+
+-- ---- words
+
+-- one of a table's words
+pub chosen_again : {A : Type 0} (table : List (List ℕ × A)) (w : List ℕ) (value : A) → is_keyword w ≡ true → choice table w ≡ Some value → Reads (chosen table) (Word w ∷ []) value
+unfolding chosen argument is_keyword
+chosen_again table w value known is = record {
+  written = rw (and_left (is_word w) (not (is_end w)) known) refl;
+  read = λ rest. rw (not_true (is_end w) (and_right (is_word w) (not (is_end w)) known), is) refl;
+}

@@ -1,9 +1,10 @@
 -- Pieces that are written one after the other are written as one.
-use Rattle.std.proofs.Common.{◌≡◌, ℕ, ◌+◌, List, [], ◌∷◌, ◌++◌, take, ap, sym, ◌∙◌, subst, append_assoc, true, false, length, ◌<◌, ◌≤◌, arith}
-use Rattle.std.specs.Prelude.{nat_lt, map}
+use Rattle.std.proofs.Common.{◌≡◌, ℕ, ◌+◌, List, [], ◌∷◌, ◌++◌, Some, get_or, take, ap, sym, ◌∙◌, subst, append_assoc, true, false, length, ◌<◌, ◌≤◌, arith}
+use Rattle.std.specs.Prelude.{nat_lt, map, slice_get}
 use Rattle.std.proofs.lemmas.List.{map-append}
 use Rattle.std.proofs.lemmas.Bool.Decides.{nat_tests}
-use Rattle.std.proofs.lemmas.List.{append-nil}
+use Rattle.std.proofs.lemmas.List.{append-nil, take_more}
+use Rattle.std.proofs.lemmas.Option.{slice_get_within, get_or_from_slice_get}
 use Rattle.std.proofs.lemmas.List.Concat.{flat_map-append}
 use Rattle.std.specs.List.{flat_map}
 use Rattle.wf_token.specs.Token.{Token}
@@ -34,9 +35,6 @@ is_long is long = grind (arith, nat_tests, is.counted)
 pub is_short : {d : Draft} {text : List ℕ} → IsDraftOf d text → nat_lt most_canon_bytes d.length ≡ false → length text ≤ most_canon_bytes
 is_short is short = grind (arith, nat_tests, is.counted)
 
-pub short_count : {d : Draft} {text : List ℕ} → IsDraftOf d text → length text ≤ most_canon_bytes → d.length ≤ most_canon_bytes
-short_count is short = grind (arith, nat_tests, is.counted)
-
 -- ---- lines
 
 pub text_of-append : (xs ys : List (List Token)) → text_of (xs ++ ys) ≡ text_of xs ++ text_of ys
@@ -47,6 +45,18 @@ last_line l written = same written (sym (append-nil (line l)))
 
 pub lines : {a b c : Draft} (xs ys : List (List Token)) → Writes a (text_of xs) b → Writes b (text_of ys) c → Writes a (text_of (xs ++ ys)) c
 lines xs ys first second = same (both first second) (sym (text_of-append xs ys))
+
+-- the text of a block, line by line
+pub ruleset pieces = (flat_map-append, append_assoc)
+
+-- ---- lists
+
+-- one more is taken of a list
+pub taken : {X : Type 0} (xs : List X) (i : ℕ) (x : X) → i < length xs → x ≡ get_or xs i x → take (i + 1) xs ≡ take i xs ++ x ∷ []
+taken {X = X} xs i x within is = take_more xs i x within ∙ ap (λ (y : X). take i xs ++ y ∷ []) (sym is)
+
+pub next_taken : {X : Type 0} (xs : List X) (i : ℕ) (x : X) → slice_get xs i ≡ Some x → take (i + 1) xs ≡ take i xs ++ x ∷ []
+next_taken {X = X} xs i x here = take_more xs i x (slice_get_within xs i x here) ∙ ap (λ (y : X). take i xs ++ y ∷ []) (get_or_from_slice_get xs i x x here)
 
 -- one more of a list is written
 pub one_more : {X : Type 0} {a b c : Draft} (of : X → List (List Token)) (xs : List X) (i : ℕ) (x : X) → take (i + 1) xs ≡ take i xs ++ x ∷ []

@@ -21,10 +21,10 @@ pub fn push_style(out: &mut Draft, style: &Style)
     ensures { Writes out.old (text_of (style_lines style.now)) out.new }
 {
     push_alone(out, "STYLE");
-    push_optional_color(out, "COLOR", style.color());
-    push_optional_color(out, "OUTLINECOLOR", style.outline_color());
-    push_with_whole(out, "WIDTH", style.width());
-    push_with_whole(out, "SIZE", style.size());
+    push_optional_color(out, "COLOR", style.color);
+    push_optional_color(out, "OUTLINECOLOR", style.outline_color);
+    push_with_whole(out, "WIDTH", style.width.get());
+    push_with_whole(out, "SIZE", style.size.get());
     push_alone(out, "END");
 }
 
@@ -79,12 +79,12 @@ fn push_label(out: &mut Draft, label: &Label)
     ensures { Writes out.old (text_of (label_lines label.now)) out.new }
 {
     push_alone(out, "LABEL");
-    push_with_color(out, "COLOR", label.color());
-    push_with_word(out, "SIZE", size_word(label.size()));
-    push_with_word(out, "POSITION", position_word(label.position()));
-    push_with_whole(out, "PRIORITY", label.priority());
-    push_with_word(out, "FORCE", force_word(label.force()));
-    push_with_whole(out, "BUFFER", label.buffer());
+    push_with_color(out, "COLOR", label.color);
+    push_with_word(out, "SIZE", size_word(label.size));
+    push_with_word(out, "POSITION", position_word(label.position));
+    push_with_whole(out, "PRIORITY", label.priority.get());
+    push_with_word(out, "FORCE", force_word(label.force));
+    push_with_whole(out, "BUFFER", label.buffer.get());
     push_alone(out, "END");
 }
 

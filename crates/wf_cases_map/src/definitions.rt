@@ -37,7 +37,12 @@ fn style_of_width(word: &str) -> Result<Style, Unanswered> {
     let width = word.parse::<u8>().ok().and_then(|width| Whole::new(width));
     let size = Whole::new(1);
     match (width, size) {
-        (Some(width), Some(size)) => Ok(Style::new(None, None, width, size)),
+        (Some(width), Some(size)) => Ok(Style {
+            color: None,
+            outline_color: None,
+            width,
+            size,
+        }),
         _ => Err(Unanswered::BadWords),
     }
 }
@@ -47,7 +52,7 @@ fn write_styles(styles: &Styles, answer: &mut Vec<u8>) -> Answered {
     write_text(if styles.is_full() { "full:" } else { "room:" }, answer)?;
     for style in styles.as_slice() {
         write_text(" ", answer)?;
-        write_whole(u64::from(style.width()), answer)?;
+        write_whole(u64::from(style.width.get()), answer)?;
     }
     Ok(write_line("", answer)?)
 }

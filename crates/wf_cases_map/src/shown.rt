@@ -155,9 +155,9 @@ fn write_color(color: Option<Color>, answer: &mut Vec<u8>) -> Answered {
 
 fn write_style(style: &Style, answer: &mut Vec<u8>) -> Answered {
     write_text(" style", answer)?;
-    write_color(style.color(), answer)?;
-    write_color(style.outline_color(), answer)?;
-    write_numbers(&[style.width(), style.size()], answer)
+    write_color(style.color, answer)?;
+    write_color(style.outline_color, answer)?;
+    write_numbers(&[style.width.get(), style.size.get()], answer)
 }
 
 fn size_name(size: LabelSize) -> &'static str {
@@ -186,14 +186,14 @@ fn position_name(position: LabelPosition) -> &'static str {
 
 fn write_label(label: &Label, answer: &mut Vec<u8>) -> Answered {
     write_text(" label", answer)?;
-    write_color(Some(label.color()), answer)?;
+    write_color(Some(label.color), answer)?;
     write_texts(
-        &[size_name(label.size()), position_name(label.position())],
+        &[size_name(label.size), position_name(label.position)],
         answer,
     )?;
-    write_numbers(&[label.priority()], answer)?;
-    write_text(if label.force() { " true" } else { " false" }, answer)?;
-    write_numbers(&[label.buffer()], answer)
+    write_numbers(&[label.priority.get()], answer)?;
+    write_text(if label.force { " true" } else { " false" }, answer)?;
+    write_numbers(&[label.buffer.get()], answer)
 }
 
 /// Appends a class's name, expression, styles and label, on a line.

@@ -1,29 +1,19 @@
 -- What a map definition says, without memory: coordinates in millionths, texts as bytes, lists in order.
-use Rattle.std.specs.Prelude.{ℕ, pos, Bool, List, [], Option, codes}
+use Rattle.std.specs.Prelude.{ℕ, pos, List, [], Option, codes}
 use Rattle.wf_def.specs.Extent.{ExtentValue}
-use Rattle.wf_def.specs.declared.color.Color.{Color}
 use Rattle.wf_def.specs.declared.point.Point.{Point}
+use Rattle.wf_def.specs.declared.style.Style.{Style}
+use Rattle.wf_def.specs.declared.label.Label.{Label}
 use Rattle.wf_def.specs.declared.choice.Projection.{Projection}
 use Rattle.wf_def.specs.declared.choice.Projection.TheVariants.{Epsg4326}
 use Rattle.wf_def.specs.declared.choice.LayerKind.{LayerKind}
-use Rattle.wf_def.specs.declared.choice.LabelSize.{LabelSize}
-use Rattle.wf_def.specs.declared.choice.LabelPosition.{LabelPosition}
 
--- how a feature is drawn: widths and sizes in pixels
-pub record StyleDefinition : Type 0 where
-  pub color : Option Color
-  pub outline_color : Option Color
-  pub width : ℕ
-  pub size : ℕ
+-- how a feature is drawn, and how its text is: plain values, so that the declared types are their definitions
+abbrev pub StyleDefinition : Type 0
+StyleDefinition = Style
 
--- how a feature's text is drawn: the free space around it in pixels
-pub record LabelDefinition : Type 0 where
-  pub color : Color
-  pub size : LabelSize
-  pub position : LabelPosition
-  pub priority : ℕ
-  pub force : Bool
-  pub buffer : ℕ
+abbrev pub LabelDefinition : Type 0
+LabelDefinition = Label
 
 -- which features are drawn alike
 pub record ClassDefinition : Type 0 where

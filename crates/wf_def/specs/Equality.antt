@@ -23,12 +23,12 @@ point_eq a b = int_eq a.x b.x && int_eq a.y b.y
 abbrev pub extent_eq : ExtentValue → ExtentValue → Bool
 extent_eq a b = int_eq a.minx b.minx && (int_eq a.miny b.miny && (int_eq a.maxx b.maxx && int_eq a.maxy b.maxy))
 
-unfoldable pub style_eq : StyleDefinition → StyleDefinition → Bool
-style_eq a b = option_eq color_eq a.color b.color && option_eq color_eq a.outline_color b.outline_color && a.width == b.width && a.size == b.size
+abbrev pub style_eq : StyleDefinition → StyleDefinition → Bool
+style_eq a b = option_eq color_eq a.color b.color && (option_eq color_eq a.outline_color b.outline_color && (a.width == b.width && a.size == b.size))
 
-unfoldable pub label_eq : LabelDefinition → LabelDefinition → Bool
-label_eq a b = color_eq a.color b.color && sameb label_sizes a.size b.size && sameb label_positions a.position b.position
-    && a.priority == b.priority && beq a.force b.force && a.buffer == b.buffer
+abbrev pub label_eq : LabelDefinition → LabelDefinition → Bool
+label_eq a b = color_eq a.color b.color && (sameb label_sizes a.size b.size && (sameb label_positions a.position b.position
+    && (a.priority == b.priority && (beq a.force b.force && a.buffer == b.buffer))))
 
 unfoldable pub class_eq : ClassDefinition → ClassDefinition → Bool
 class_eq a b = bytes_eq a.name b.name && option_eq bytes_eq a.expression b.expression && pointwise style_eq a.styles b.styles

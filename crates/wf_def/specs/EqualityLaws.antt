@@ -35,31 +35,20 @@ pub point_eq-Decides : (a b : Point) → Decides (point_eq a b) (a ≡ b)
 point_eq-Decides a b = Decides-like _ (λ e i. record { x = e.0 i; y = e.1 i }) (λ e. (ap (λ p. p.x) e, ap (λ p. p.y) e))
     (Decides-and _ _ (Decides-int_eq _ _) (Decides-int_eq _ _))
 
-pub point_eq_equiv : IsEquivalence point_eq
-point_eq_equiv = decided point_eq point_eq-Decides
-
 pub extent_eq-Decides : (a b : ExtentValue) → Decides (extent_eq a b) (a ≡ b)
 extent_eq-Decides a b = Decides-like _ (λ e i. record { minx = e.0 i; miny = e.1.0 i; maxx = e.1.1.0 i; maxy = e.1.1.1 i })
     (λ e. (ap (λ p. p.minx) e, (ap (λ p. p.miny) e, (ap (λ p. p.maxx) e, ap (λ p. p.maxy) e))))
     (Decides-and _ _ (Decides-int_eq _ _) (Decides-and _ _ (Decides-int_eq _ _) (Decides-and _ _ (Decides-int_eq _ _) (Decides-int_eq _ _))))
 
 pub style_eq-Decides : (a b : StyleDefinition) → Decides (style_eq a b) (a ≡ b)
-unfolding style_eq
-style_eq-Decides a b = Decides-like _ (λ e i. record { color = e.0.0.0 i; outline_color = e.0.0.1 i; width = e.0.1 i; size = e.1 i })
-    (λ e. (((ap (λ x. x.color) e, ap (λ x. x.outline_color) e), ap (λ x. x.width) e), ap (λ x. x.size) e))
-    (Decides-and _ _ (Decides-and _ _ (Decides-and _ _ (option_eq-Decides color_eq-Decides _ _) (option_eq-Decides color_eq-Decides _ _)) (Decides-eqb _ _)) (Decides-eqb _ _))
-
-pub style_eq_equiv : IsEquivalence style_eq
-style_eq_equiv = decided style_eq style_eq-Decides
+style_eq-Decides a b = Decides-like _ (λ e i. record { color = e.0 i; outline_color = e.1.0 i; width = e.1.1.0 i; size = e.1.1.1 i })
+    (λ e. (ap (λ x. x.color) e, (ap (λ x. x.outline_color) e, (ap (λ x. x.width) e, ap (λ x. x.size) e))))
+    (Decides-and _ _ (option_eq-Decides color_eq-Decides _ _) (Decides-and _ _ (option_eq-Decides color_eq-Decides _ _) (Decides-and _ _ (Decides-eqb _ _) (Decides-eqb _ _))))
 
 pub label_eq-Decides : (a b : LabelDefinition) → Decides (label_eq a b) (a ≡ b)
-unfolding label_eq
-label_eq-Decides a b = Decides-like _ (λ e i. record { color = e.0.0.0.0.0 i; size = e.0.0.0.0.1 i; position = e.0.0.0.1 i; priority = e.0.0.1 i; force = e.0.1 i; buffer = e.1 i })
-    (λ e. (((((ap (λ x. x.color) e, ap (λ x. x.size) e), ap (λ x. x.position) e), ap (λ x. x.priority) e), ap (λ x. x.force) e), ap (λ x. x.buffer) e))
-    (Decides-and _ _ (Decides-and _ _ (Decides-and _ _ (Decides-and _ _ (Decides-and _ _ (color_eq-Decides _ _) (sameb-Decides label_sizes tt _ _)) (sameb-Decides label_positions tt _ _)) (Decides-eqb _ _)) (booleans_Decides _ _)) (Decides-eqb _ _))
-
-pub label_eq_equiv : IsEquivalence label_eq
-label_eq_equiv = decided label_eq label_eq-Decides
+label_eq-Decides a b = Decides-like _ (λ e i. record { color = e.0 i; size = e.1.0 i; position = e.1.1.0 i; priority = e.1.1.1.0 i; force = e.1.1.1.1.0 i; buffer = e.1.1.1.1.1 i })
+    (λ e. (ap (λ x. x.color) e, (ap (λ x. x.size) e, (ap (λ x. x.position) e, (ap (λ x. x.priority) e, (ap (λ x. x.force) e, ap (λ x. x.buffer) e))))))
+    (Decides-and _ _ (color_eq-Decides _ _) (Decides-and _ _ (sameb-Decides label_sizes tt _ _) (Decides-and _ _ (sameb-Decides label_positions tt _ _) (Decides-and _ _ (Decides-eqb _ _) (Decides-and _ _ (booleans_Decides _ _) (Decides-eqb _ _))))))
 
 pub class_eq-Decides : (a b : ClassDefinition) → Decides (class_eq a b) (a ≡ b)
 unfolding class_eq

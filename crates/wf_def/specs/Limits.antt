@@ -37,11 +37,6 @@ pub record IsLabel (l : LabelDefinition) : Type 0 where
   pub priority_most : l.priority ≤ most_priority
   pub buffer_most : l.buffer ≤ most_buffer
 
--- a class's styles
-pub record IsStyles (styles : List StyleDefinition) : Type 0 where
-  pub most : length styles ≤ most_styles
-  pub each : All IsStyle styles
-
 pub record IsClass (c : ClassDefinition) : Type 0 where
   pub name : IsText c.name
   pub expression : IfSome c.expression IsText
@@ -61,14 +56,6 @@ pub record IsFeature (f : FeatureDefinition) : Type 0 where
   pub parts : IsParts f.parts
   pub items : IsText f.items
   pub text : IsText f.text
-
--- a layer's classes
-pub record IsClasses (classes : List ClassDefinition) : Type 0 where
-  pub most : length classes ≤ most_classes
-  pub each : All IsClass classes
-
-abbrev pub IsFeatures : List FeatureDefinition → Type 0
-IsFeatures features = All IsFeature features
 
 -- how many points a part has at least: a ring needs three
 abbrev pub least_points : LayerKind → ℕ

@@ -1,78 +1,19 @@
 //! Classes.
-ghost use Rattle.std.specs.Prelude.{◌≡◌, ◌<◌, ◌↔◌, [], ◌∷◌, ◌++◌, length, IsTrue, IfSome, OnOk, OnErr};
-ghost use Rattle.wf_def.specs.Limits.{IsClass, IsStyles, IsLabel};
+ghost use Rattle.std.specs.Prelude.{◌≡◌, IfSome};
+ghost use Rattle.wf_def.specs.Limits.{IsClass, IsLabel};
 ghost use Rattle.wf_text.specs.Text.{IsText};
-ghost use Rattle.wf_def.specs.Limit.{most_styles};
 
+use crate::color::Color;
 use crate::label::Label;
 use crate::limits::MOST_STYLES;
+use crate::members::{Capped, Limited};
 use crate::style::Style;
-use std::alloc::{AllocError, Global};
+use std::alloc::AllocError;
 use std::marker::Model;
 use wf_text::text::Text;
 
-/// The styles of a class, in the order in which they are drawn: at most 8.
-pub struct Styles {
-    styles: Vec<Style>,
-}
-
-// By hand: a crate above proves one call where it drops a class's styles, and not each part of it anew.
-impl Drop for Styles {
-    fn drop(self) {
-        let Styles { styles } = self;
-        drop(styles);
-    }
-}
-
-impl Model for Styles {
-    ghost use Rattle.std.specs.Prelude.{List};
-    ghost use Rattle.wf_def.specs.Definition.{StyleDefinition};
-    ghost use Rattle.wf_def.specs.Limits.{IsStyles};
-
-    ghost Value = { List StyleDefinition };
-
-    ghost view = { λ s. s.styles.items };
-
-    ghost invariant = { λ s. IsStyles s.styles.items };
-}
-
-impl Styles {
-    /// No styles.
-    pub fn new(alloc: Global) -> Self
-        ensures { result ≡ [] }
-    {
-        Styles {
-            styles: Vec::new(alloc),
-        }
-    }
-
-    /// Whether there is no room for another style.
-    pub fn is_full(&self) -> bool
-        ensures full { IsTrue result ↔ (length self.now ≡ most_styles) }
-        ensures within { IsStyles self.now }
-    {
-        self.styles.len() >= MOST_STYLES
-    }
-
-    /// Puts a style behind the others, which it is drawn over. After want of memory they are as they were.
-    pub fn push(&mut self, style: Style) -> Result<(), AllocError>
-        requires { length self.old < most_styles }
-        ensures pushed { OnOk result (self.new ≡ self.old ++ style ∷ []) }
-        ensures unchanged { OnErr result (self.new ≡ self.old) }
-    {
-        let _ = style.width();
-        self.styles.push(style)?;
-        Ok(())
-    }
-
-    /// The styles in order.
-    pub fn as_slice(&self) -> &[Style]
-        ensures value { result.now ≡ self.now }
-        ensures within { IsStyles self.now }
-    {
-        &self.styles
-    }
-}
+/// The styles of a class, in the order in which they are drawn: at most 8, each drawn over the one before it.
+pub type Styles = Capped<Style, MOST_STYLES>;
 
 /// Which features are drawn alike, and how (MapServer mapfile reference, CLASS).
 pub struct Class {
@@ -172,17 +113,13 @@ fn know_label(label: &Option<Label>)
     ensures { IfSome label.now IsLabel }
 {
     if let Some(label) = label {
-        let _ = label.color();
-    }
-}
-
-impl Clone for Styles {
-    ghost is_clone = { λ styles copy. copy ≡ styles };
-
-    fn clone(&self) -> Result<Self, AllocError> {
-        Ok(Styles {
-            styles: self.styles.clone()?,
-        })
+        let Color {
+            r: _r,
+            g: _g,
+            b: _b,
+        } = label.color;
+        let _ = label.priority.get();
+        let _ = label.buffer.get();
     }
 }
 
@@ -197,4 +134,19 @@ impl Clone for Class {
             label: self.label,
         })
     }
+}
+
+impl Limited for Class {
+    ghost use Rattle.wf_def.specs.Limits.{IsClass};
+    ghost use Rattle.wf_def.specs.EqualityLaws.{class_eq-Decides};
+
+    ghost IsWithin = { IsClass };
+
+    fn know(&self) {
+        let _ = self.name();
+    }
+
+    ghost copies = { λ _ _ same. same };
+
+    ghost decides = { class_eq-Decides };
 }

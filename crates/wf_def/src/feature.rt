@@ -1,151 +1,19 @@
 //! Features.
-ghost use Rattle.std.specs.Prelude.{◌≡◌, [], ◌∷◌, ◌++◌, ◌↔◌, length, IsTrue, OnOk, OnErr};
+ghost use Rattle.std.specs.Prelude.{◌≡◌};
 ghost use Rattle.wf_def.specs.Layer.{feature_of};
-ghost use Rattle.wf_def.specs.Limits.{IsPart, IsParts, IsFeature};
+ghost use Rattle.wf_def.specs.Limits.{IsFeature};
 
+use crate::members::{Limited, Members};
 use crate::point::Point;
-use std::alloc::{AllocError, Global};
+use std::alloc::AllocError;
 use std::marker::Model;
 use wf_text::text::Text;
 
 /// A part of a shape: points, in order.
-pub struct Part {
-    points: Vec<Point>,
-}
-
-// By hand: a crate above proves one call where it drops a part, and not each part of it anew.
-impl Drop for Part {
-    fn drop(self) {
-        let Part { points } = self;
-        drop(points);
-    }
-}
-
-impl Model for Part {
-    ghost use Rattle.std.specs.Prelude.{List};
-    ghost use Rattle.wf_def.specs.declared.point.Point.{Point as PointValue};
-    ghost use Rattle.wf_def.specs.Limits.{IsPart};
-
-    ghost Value = { List PointValue };
-
-    ghost view = { λ p. p.points.items };
-
-    ghost invariant = { λ p. IsPart p.points.items };
-}
-
-impl Part {
-    /// No points.
-    pub fn new(alloc: Global) -> Self
-        ensures { result ≡ [] }
-    {
-        Part {
-            points: Vec::new(alloc),
-        }
-    }
-
-    /// Puts a point behind the others. After want of memory they are as they were.
-    pub fn push(&mut self, point: Point) -> Result<(), AllocError>
-        ensures pushed { OnOk result (self.new ≡ self.old ++ point ∷ []) }
-        ensures unchanged { OnErr result (self.new ≡ self.old) }
-    {
-        let _ = point.x.millionths();
-        let _ = point.y.millionths();
-        self.points.push(point)?;
-        Ok(())
-    }
-
-    /// How many points there are.
-    pub fn len(&self) -> usize
-        ensures value { result ≡ length self.now }
-        ensures within { IsPart self.now }
-    {
-        self.points.len()
-    }
-
-    /// Whether there is no point.
-    pub fn is_empty(&self) -> bool
-        ensures { IsTrue result ↔ (length self.now ≡ 0) }
-    {
-        self.points.is_empty()
-    }
-
-    /// The points in order.
-    pub fn as_slice(&self) -> &[Point]
-        ensures value { result.now ≡ self.now }
-        ensures within { IsPart self.now }
-    {
-        &self.points
-    }
-}
+pub type Part = Members<Point>;
 
 /// The parts of a shape, in order.
-pub struct Parts {
-    parts: Vec<Part>,
-}
-
-// By hand: a crate above proves one call where it drops a shape's parts, and not each part of it anew.
-impl Drop for Parts {
-    fn drop(self) {
-        let Parts { parts } = self;
-        drop(parts);
-    }
-}
-
-impl Model for Parts {
-    ghost use Rattle.std.specs.Prelude.{List};
-    ghost use Rattle.wf_def.specs.declared.point.Point.{Point as PointValue};
-    ghost use Rattle.wf_def.specs.Limits.{IsParts};
-
-    ghost Value = { List (List PointValue) };
-
-    ghost view = { λ p. p.parts.items };
-
-    ghost invariant = { λ p. IsParts p.parts.items };
-}
-
-impl Parts {
-    /// No parts.
-    pub fn new(alloc: Global) -> Self
-        ensures { result ≡ [] }
-    {
-        Parts {
-            parts: Vec::new(alloc),
-        }
-    }
-
-    /// Puts a part behind the others. After want of memory they are as they were.
-    pub fn push(&mut self, part: Part) -> Result<(), AllocError>
-        ensures pushed { OnOk result (self.new ≡ self.old ++ part ∷ []) }
-        ensures unchanged { OnErr result (self.new ≡ self.old) }
-    {
-        let _ = part.as_slice();
-        self.parts.push(part)?;
-        Ok(())
-    }
-
-    /// How many parts there are.
-    pub fn len(&self) -> usize
-        ensures value { result ≡ length self.now }
-        ensures within { IsParts self.now }
-    {
-        self.parts.len()
-    }
-
-    /// Whether there is no part.
-    pub fn is_empty(&self) -> bool
-        ensures { IsTrue result ↔ (length self.now ≡ 0) }
-    {
-        self.parts.is_empty()
-    }
-
-    /// The parts in order.
-    pub fn as_slice(&self) -> &[Part]
-        ensures value { result.now ≡ self.now }
-        ensures within { IsParts self.now }
-    {
-        &self.parts
-    }
-}
+pub type Parts = Members<Part>;
 
 /// A shape with its attributes and its label's text (MapServer mapfile reference, FEATURE).
 pub struct Feature {
@@ -215,26 +83,6 @@ impl Feature {
     }
 }
 
-impl Clone for Part {
-    ghost is_clone = { λ part copy. copy ≡ part };
-
-    fn clone(&self) -> Result<Self, AllocError> {
-        Ok(Part {
-            points: self.points.clone()?,
-        })
-    }
-}
-
-impl Clone for Parts {
-    ghost is_clone = { λ parts copy. copy ≡ parts };
-
-    fn clone(&self) -> Result<Self, AllocError> {
-        Ok(Parts {
-            parts: self.parts.clone()?,
-        })
-    }
-}
-
 impl Clone for Feature {
     ghost is_clone = { λ feature copy. copy ≡ feature };
 
@@ -245,4 +93,19 @@ impl Clone for Feature {
             text: self.text.clone()?,
         })
     }
+}
+
+impl Limited for Feature {
+    ghost use Rattle.wf_def.specs.Limits.{IsFeature};
+    ghost use Rattle.wf_def.specs.EqualityLaws.{feature_eq-Decides};
+
+    ghost IsWithin = { IsFeature };
+
+    fn know(&self) {
+        let _ = self.text();
+    }
+
+    ghost copies = { λ _ _ same. same };
+
+    ghost decides = { feature_eq-Decides };
 }

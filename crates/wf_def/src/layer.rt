@@ -1,135 +1,24 @@
 //! Layers.
-ghost use Rattle.std.specs.Prelude.{◌≡◌, ◌<◌, ◌↔◌, [], ◌∷◌, ◌++◌, length, IsTrue, OnOk, OnErr};
+ghost use Rattle.std.specs.Prelude.{◌≡◌, ◌↔◌, IsTrue};
 ghost use Rattle.std.specs.List.{list_all};
 ghost use Rattle.wf_def.specs.Layer.{EnoughPointsAreTested, layer_of, has_enough_points};
-ghost use Rattle.wf_def.specs.Limits.{IsLayer, IsLayerName, IsClasses, IsFeatures, least_points};
-ghost use Rattle.wf_def.specs.Limit.{most_classes};
+ghost use Rattle.wf_def.specs.Limits.{IsLayer, IsLayerName, least_points};
 
 use crate::choice::LayerKind;
 use crate::class::Class;
 use crate::feature::Feature;
 use crate::limits::{MOST_CLASSES, MOST_ITEMS_BYTES};
+use crate::members::{Capped, Members};
 use crate::text::clone_both;
-use std::alloc::{AllocError, Global};
+use std::alloc::AllocError;
 use std::marker::Model;
 use wf_text::text::Text;
 
 /// The classes of a layer, in the order in which they are tried: at most 16.
-pub struct Classes {
-    classes: Vec<Class>,
-}
+pub type Classes = Capped<Class, MOST_CLASSES>;
 
-// By hand: a crate above proves one call where it drops a layer's classes, and not each part of it anew.
-impl Drop for Classes {
-    fn drop(self) {
-        let Classes { classes } = self;
-        drop(classes);
-    }
-}
-
-impl Model for Classes {
-    ghost use Rattle.std.specs.Prelude.{List};
-    ghost use Rattle.wf_def.specs.Definition.{ClassDefinition};
-    ghost use Rattle.wf_def.specs.Limits.{IsClasses};
-
-    ghost Value = { List ClassDefinition };
-
-    ghost view = { λ c. c.classes.items };
-
-    ghost invariant = { λ c. IsClasses c.classes.items };
-}
-
-impl Classes {
-    /// No classes.
-    pub fn new(alloc: Global) -> Self
-        ensures { result ≡ [] }
-    {
-        Classes {
-            classes: Vec::new(alloc),
-        }
-    }
-
-    /// Whether there is no room for another class.
-    pub fn is_full(&self) -> bool
-        ensures full { IsTrue result ↔ (length self.now ≡ most_classes) }
-        ensures within { IsClasses self.now }
-    {
-        self.classes.len() >= MOST_CLASSES
-    }
-
-    /// Puts a class behind the others, which are tried before it. After want of memory they are as they were.
-    pub fn push(&mut self, class: Class) -> Result<(), AllocError>
-        requires { length self.old < most_classes }
-        ensures pushed { OnOk result (self.new ≡ self.old ++ class ∷ []) }
-        ensures unchanged { OnErr result (self.new ≡ self.old) }
-    {
-        let _ = class.name();
-        self.classes.push(class)?;
-        Ok(())
-    }
-
-    /// The classes in order.
-    pub fn as_slice(&self) -> &[Class]
-        ensures value { result.now ≡ self.now }
-        ensures within { IsClasses self.now }
-    {
-        &self.classes
-    }
-}
-
-/// The features of a layer, in the order in which they are drawn.
-pub struct Features {
-    features: Vec<Feature>,
-}
-
-// By hand: a crate above proves one call where it drops a layer's features, and not each part of it anew.
-impl Drop for Features {
-    fn drop(self) {
-        let Features { features } = self;
-        drop(features);
-    }
-}
-
-impl Model for Features {
-    ghost use Rattle.std.specs.Prelude.{List};
-    ghost use Rattle.wf_def.specs.Definition.{FeatureDefinition};
-    ghost use Rattle.wf_def.specs.Limits.{IsFeatures};
-
-    ghost Value = { List FeatureDefinition };
-
-    ghost view = { λ f. f.features.items };
-
-    ghost invariant = { λ f. IsFeatures f.features.items };
-}
-
-impl Features {
-    /// No features.
-    pub fn new(alloc: Global) -> Self
-        ensures { result ≡ [] }
-    {
-        Features {
-            features: Vec::new(alloc),
-        }
-    }
-
-    /// Puts a feature behind the others, which it is drawn over. After want of memory they are as they were.
-    pub fn push(&mut self, feature: Feature) -> Result<(), AllocError>
-        ensures pushed { OnOk result (self.new ≡ self.old ++ feature ∷ []) }
-        ensures unchanged { OnErr result (self.new ≡ self.old) }
-    {
-        let _ = feature.text();
-        self.features.push(feature)?;
-        Ok(())
-    }
-
-    /// The features in order.
-    pub fn as_slice(&self) -> &[Feature]
-        ensures value { result.now ≡ self.now }
-        ensures within { IsFeatures self.now }
-    {
-        &self.features
-    }
-}
+/// The features of a layer, in the order in which they are drawn: each over the one before it.
+pub type Features = Members<Feature>;
 
 /// Features of one kind with what they are drawn by; the layer's name stands in the map (MapServer mapfile reference, LAYER).
 pub struct Layer {
@@ -304,26 +193,6 @@ fn least_points(kind: LayerKind) -> usize
         LayerKind::Points => 1,
         LayerKind::Lines => 2,
         LayerKind::Polygons => 3,
-    }
-}
-
-impl Clone for Classes {
-    ghost is_clone = { λ classes copy. copy ≡ classes };
-
-    fn clone(&self) -> Result<Self, AllocError> {
-        Ok(Classes {
-            classes: self.classes.clone()?,
-        })
-    }
-}
-
-impl Clone for Features {
-    ghost is_clone = { λ features copy. copy ≡ features };
-
-    fn clone(&self) -> Result<Self, AllocError> {
-        Ok(Features {
-            features: self.features.clone()?,
-        })
     }
 }
 

@@ -7,9 +7,10 @@
 //! pairs of name and layer.
 //!
 //! It promises that every value is within the limits of `specs/Limits.antt`: each type's accessors ensure both the value and its
-//! limits. What a caller can know, as room for one more, is a condition of the call that needs it; what only the parts tell, as too
-//! few points for the layer's kind, answers none, and a repeated name is refused. After want of memory a value is as it was. It passes
-//! on the texts and numbers of wf_text, which a map is made of. It says nothing of mapfiles, of pictures or of the web.
+//! limits, and what is plain data, as a style or a label, has fields whose types are within them. What a caller can know, as room for
+//! one more, is a condition of the call that needs it; what only the parts tell, as too few points for the layer's kind, answers none,
+//! and a repeated name is refused. After want of memory a value is as it was. It passes on the texts and numbers of wf_text, which a
+//! map is made of. It says nothing of mapfiles, of pictures or of the web.
 #![tactic(auto)]
 
 pub mod attribute;
@@ -24,6 +25,7 @@ pub mod label;
 pub mod layer;
 pub mod limits;
 pub mod map;
+pub mod members;
 pub mod micro;
 pub mod number_form;
 pub mod point;

@@ -1,5 +1,6 @@
 //! Points.
 
+use crate::members::Limited;
 use wf_text::micro::Micro;
 
 /// A point in the map's coordinates, in the order of the mapfile: east, then north.
@@ -7,4 +8,20 @@ use wf_text::micro::Micro;
 pub struct Point {
     pub x: Micro,
     pub y: Micro,
+}
+
+impl Limited for Point {
+    ghost use Rattle.wf_def.specs.Limits.{IsPoint};
+    ghost use Rattle.wf_def.specs.EqualityLaws.{point_eq-Decides};
+
+    ghost IsWithin = { IsPoint };
+
+    fn know(&self) {
+        let _ = self.x.millionths();
+        let _ = self.y.millionths();
+    }
+
+    ghost copies = { λ _ _ same. same };
+
+    ghost decides = { point_eq-Decides };
 }

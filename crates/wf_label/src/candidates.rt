@@ -108,7 +108,7 @@ fn of_priority(priority: u8, label: Option<Label>) -> Option<Label>
     ensures { result ≡ of_priority priority label }
 {
     let label = label?;
-    if label.priority() == priority {
+    if label.priority.get() == priority {
         Some(label)
     } else {
         None

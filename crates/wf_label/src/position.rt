@@ -19,14 +19,14 @@ pub(crate) fn at_anchor<'a>(label: &Label, text: &'a str, anchor: Anchor) -> Pla
     requires anchor { IsAnchor anchor }
     ensures { placed_value result ≡ at_anchor label.now text.now anchor }
 {
-    let size = label.size();
+    let size = label.size;
     Placed {
-        left: left_of(label.position(), anchor.column, short_width(size, text)),
-        bottom: bottom_of(label.position(), anchor.row, text_height(size)),
+        left: left_of(label.position, anchor.column, short_width(size, text)),
+        bottom: bottom_of(label.position, anchor.row, text_height(size)),
         scale: size,
-        buffer: label.buffer(),
-        force: label.force(),
-        color: label.color(),
+        buffer: label.buffer.get(),
+        force: label.force,
+        color: label.color,
         text,
     }
 }

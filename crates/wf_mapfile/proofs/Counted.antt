@@ -1,16 +1,13 @@
 -- What was counted while a block was read is what its value has.
-use Rattle.std.proofs.Common.{◌≡◌, Bool, true, false, ◌&&◌, List, [], ℕ, length, refl, sym, ap, ◌∙◌}
-use Rattle.std.specs.Prelude.{nat_lt, nat_le, Option, Some, None, if◌then◌else◌, sum_by, unwrap_or}
-use Rattle.std.specs.List.{list_all}
+use Rattle.std.proofs.Common.{◌≡◌, Bool, true, false, List, ℕ, length, refl, sym, ap, ◌∙◌}
+use Rattle.std.specs.Prelude.{nat_lt, Option, Some, None, if◌then◌else◌, sum_by}
 use Rattle.wf_def.specs.Definition.{FeatureDefinition, LayerDefinition}
 use Rattle.wf_def.specs.Layer as def
-use Rattle.wf_def.specs.Limit.{most_items_bytes}
 use Rattle.wf_def.specs.Limits.{points_of_feature}
 use Rattle.wf_def.specs.declared.choice.LayerKind.{LayerKind}
 use Rattle.wf_mapfile.specs.declared.slots.feature.FeatureSlots.{FeatureSlots}
 use Rattle.wf_mapfile.specs.declared.slots.layer.LayerSlots.{LayerSlots}
 use Rattle.wf_mapfile.specs.Grammar.{◌>>=◌}
-use Rattle.wf_mapfile.specs.Web.{no_metadata}
 use Rattle.wf_mapfile.specs.Feature.{feature_of}
 use Rattle.wf_mapfile.specs.Layer.{layer_of}
 
@@ -21,7 +18,7 @@ given false x y e = absurd (let impossible : ⊥ = cc in impossible)
 -- a feature's points are those of its parts
 pub feature_counted : (said : FeatureSlots) (f : FeatureDefinition) → feature_of said ≡ Some f → sum_by length said.parts ≡ points_of_feature f
 unfolding feature_of def.feature_of
-feature_counted said f e = ap points_of_feature (given (nat_lt 0 (length said.parts)) (record { parts = said.parts; items = unwrap_or said.single.items []; text = unwrap_or said.single.text [] }) f e)
+feature_counted said f e = ap points_of_feature (given (nat_lt 0 (length said.parts)) _ f e)
 
 abbrev Entry : Type 0
 Entry = List ℕ × LayerDefinition
@@ -49,15 +46,5 @@ as_said (Some n) (Some k) features so x l same e =
 pub layer_counted : (said : LayerSlots) (l : Entry) → layer_of said ≡ Some l → AsSaid said l
 unfolding layer_of def.layer_of
 layer_counted said l e =
-    let parts = as_said said.single.name said.single.kind said.features
-    (λ n k. nat_le (length (unwrap_or said.single.items [])) most_items_bytes && list_all (def.has_enough_points k) said.features)
-    (λ n k. record {
-      kind = k;
-      title = unwrap_or (unwrap_or said.single.metadata no_metadata).title n;
-      class_item = unwrap_or said.single.class_item [];
-      label_item = unwrap_or said.single.label_item [];
-      items = unwrap_or said.single.items [];
-      classes = said.classes;
-      features = said.features;
-    }) l (λ n k. refl) e in
+    let parts = as_said said.single.name said.single.kind said.features _ _ l (λ n k. refl) e in
     record { name = parts.0; features = parts.1 }

@@ -1,6 +1,7 @@
 -- METADATA read in one pass says what its pairs say.
 use Rattle.std.proofs.Common.{◌≡◌, ℕ, zero, suc, ◌+◌, ◌-◌, ◌<◌, ◌≤◌, Bool, true, false, not, ◌&&◌, ◌||◌, List, [], ◌∷◌, length, map, arith, refl, sym, ap, subst, ◌∙◌}
 use Rattle.std.specs.Prelude.{Option, Some, None, is_some, codes, if◌then◌else◌, bytes_eq}
+use Rattle.std.specs.Cmp.{first_so, second_so}
 use Rattle.std.specs.List.{list_any, list_all}
 use Rattle.std.specs.Option.{option_or}
 use Rattle.std.specs.Str.{str_to_ascii_lowercase}
@@ -12,6 +13,7 @@ use Rattle.wf_mapfile.specs.Grammar.{◌>>=◌, text, end}
 use Rattle.wf_mapfile.specs.Metadata.{pairs, all_differ, value_at, kept, metadata}
 use Rattle.wf_mapfile.specs.Pairs.{keep, new_pair, collect}
 use Rattle.wf_mapfile.specs.Web.{no_metadata}
+use Rattle.wf_mapfile.proofs.Booleans.{neither, not_so}
 use Rattle.wf_mapfile.proofs.Options.{bind_assoc, bind_same, bind_none}
 
 abbrev Pair : Type 0
@@ -132,23 +134,11 @@ abbrev last_at : List ℕ → Option (List ℕ) → List Pair → Option (List �
 last_at key slot [] = slot
 last_at key slot (pair ∷ others) = last_at key (if bytes_eq pair.0 key then Some pair.1 else slot) others
 
-or_false : (a b : Bool) → (a || b) ≡ false → (a ≡ false) × (b ≡ false)
-or_false false b e = (refl, e)
-or_false true b e = absurd (let impossible : ⊥ = cc in impossible)
-
-and_true : (a b : Bool) → (a && b) ≡ true → (a ≡ true) × (b ≡ true)
-and_true true b e = (refl, e)
-and_true false b e = absurd (let impossible : ⊥ = cc in impossible)
-
-not_true : (a : Bool) → not a ≡ true → a ≡ false
-not_true false e = refl
-not_true true e = absurd (let impossible : ⊥ = cc in impossible)
-
 absent : (key : List ℕ) (all : List Pair) → list_any (bytes_eq key) (keys_of all) ≡ false → value_at key all ≡ None
 unfolding value_at
 absent key [] none = refl
 absent key (pair ∷ others) none =
-    let parts = or_false (bytes_eq key pair.0) (list_any (bytes_eq key) (keys_of others)) none in
+    let parts = neither (bytes_eq key pair.0) (list_any (bytes_eq key) (keys_of others)) none in
     rw (bytes_eq-comm pair.0 key, parts.0) (absent key others parts.1)
 
 -- a key that comes once has one value
@@ -165,8 +155,7 @@ last_at-value_at : (key : List ℕ) (all : List Pair) → all_differ (keys_of al
 unfolding all_differ value_at
 last_at-value_at key [] differ slot = refl
 last_at-value_at key (pair ∷ others) differ slot =
-    let parts = and_true (not (list_any (bytes_eq pair.0) (keys_of others))) (all_differ (keys_of others)) differ in
-    last_at-pair key slot pair others (not_true _ parts.0) (last_at-value_at key others parts.1) (bytes_eq pair.0 key) refl
+    last_at-pair key slot pair others (not_so _ (first_so _ _ differ)) (last_at-value_at key others (second_so _ _ differ)) (bytes_eq pair.0 key) refl
 
 -- a pair goes to one slot at most, since the keys of the slots are unlike
 unlike : (key a b : List ℕ) → bytes_eq a b ≡ false → bytes_eq key a ≡ true → bytes_eq key b ≡ false

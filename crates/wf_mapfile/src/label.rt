@@ -70,14 +70,14 @@ impl LabelSlots {
     fn filled(self) -> Label
         ensures { result ≡ label_of self }
     {
-        Label::new(
-            self.color.unwrap_or(BLACK),
-            self.size.unwrap_or(LabelSize::Medium),
-            self.position.unwrap_or(LabelPosition::CenterCenter),
-            or_least(self.priority),
-            self.force.unwrap_or(false),
-            or_least(self.buffer),
-        )
+        Label {
+            color: self.color.unwrap_or(BLACK),
+            size: self.size.unwrap_or(LabelSize::Medium),
+            position: self.position.unwrap_or(LabelPosition::CenterCenter),
+            priority: or_least(self.priority),
+            force: self.force.unwrap_or(false),
+            buffer: or_least(self.buffer),
+        }
     }
 }
 

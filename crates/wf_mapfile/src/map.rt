@@ -155,37 +155,23 @@ impl MapSlots {
         } = single;
         let extent = extent.ok_or(MapFault::Missing)?;
         let projection = projection.ok_or(MapFault::Missing)?;
-        let map = without_layers(alloc, name, extent, projection, web)?;
+        let name = text_or(alloc, name, DEFAULT_NAME)?;
+        let Service {
+            title,
+            abstract_text,
+            address,
+        } = Service::new(alloc, &name, web)?;
+        let map = MapDef::new(
+            alloc,
+            name,
+            title,
+            abstract_text,
+            address,
+            extent,
+            projection,
+        );
         Ok(layers.into_map(map)?)
     }
-}
-
-/// The map of this block, before its layers, with defaults for what wasn't said.
-#[tactic(auto, unfolding(crate::specs::Map::definition))]
-fn without_layers(
-    alloc: Global,
-    name: Option<Text>,
-    extent: Extent,
-    projection: Projection,
-    web: Option<Metadata>,
-) -> Result<MapDef, AllocError>
-    ensures { IfOk result (λ map. map ≡ definition name extent projection (unwrap_or web no_metadata) []) }
-{
-    let name = text_or(alloc, name, DEFAULT_NAME)?;
-    let Service {
-        title,
-        abstract_text,
-        address,
-    } = Service::new(alloc, &name, web)?;
-    Ok(MapDef::new(
-        alloc,
-        name,
-        title,
-        abstract_text,
-        address,
-        extent,
-        projection,
-    ))
 }
 
 /// What a map tells of its service.

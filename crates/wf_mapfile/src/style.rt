@@ -56,12 +56,12 @@ impl StyleSlots {
     fn filled(self) -> Style
         ensures { result ≡ style_of self }
     {
-        Style::new(
-            self.color,
-            self.outline_color,
-            or_least(self.width),
-            or_least(self.size),
-        )
+        Style {
+            color: self.color,
+            outline_color: self.outline_color,
+            width: or_least(self.width),
+            size: or_least(self.size),
+        }
     }
 }
 

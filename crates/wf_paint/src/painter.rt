@@ -129,8 +129,8 @@ fn draw_polygon(
     ensures { OnOk result (IsPainted (polygon view.now style.now parts.now) pixmap.old pixmap.new) }
 {
     let edges = rings(alloc, view, parts)?;
-    draw_inside(pixmap, &edges, style.color());
-    draw_along(pixmap, style.width(), &edges, style.outline_color());
+    draw_inside(pixmap, &edges, style.color);
+    draw_along(pixmap, style.width.get(), &edges, style.outline_color);
     Ok(())
 }
 
@@ -146,7 +146,7 @@ fn draw_line(
     ensures { OnOk result (IsPainted (line view.now style.now parts.now) pixmap.old pixmap.new) }
 {
     let segments = paths(alloc, view, parts)?;
-    draw_along(pixmap, style.width(), &segments, style.color());
+    draw_along(pixmap, style.width.get(), &segments, style.color);
     Ok(())
 }
 
@@ -166,6 +166,6 @@ fn draw_part_squares(pixmap: &mut Pixmap, view: &View, points: &[Point], style: 
     ensures { IsPainted (part_squares view.now style.now points.now) pixmap.old pixmap.new }
 {
     for point in points {
-        draw_about(pixmap, style.size(), view.place(point), style.color());
+        draw_about(pixmap, style.size.get(), view.place(point), style.color);
     }
 }

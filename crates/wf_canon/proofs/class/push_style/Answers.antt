@@ -1,12 +1,12 @@
-use Rattle.wf_canon.proofs.MapText.{style_written}
+use Rattle.wf_canon.proofs.Writing.{pieces, both, last_line}
 use Rattle.wf_canon.proofs.class.push_style.Goals as goal
 
 pub returns : goal.returns
 returns c =
-    style_written c.args.style.now
-    c.push_alone.ensures
-    (rw c.color.ensures.value at c.push_optional_color.ensures)
-    (rw c.outline_color.ensures.value at c.push_optional_color-2.ensures)
-    (rw c.width.ensures.value at c.push_with_whole.ensures)
-    (rw c.size.ensures.value at c.push_with_whole-2.ensures)
-    c.push_alone-2.ensures
+    simp pieces
+    (both c.push_alone.ensures
+    (both c.push_optional_color.ensures
+    (both c.push_optional_color-2.ensures
+    (both (rw c.get.ensures.value at c.push_with_whole.ensures)
+    (both (rw c.get-2.ensures.value at c.push_with_whole-2.ensures)
+    (last_line _ c.push_alone-2.ensures))))))

@@ -1,6 +1,5 @@
 use Rattle.wf_canon.specs.Canon.{style_lines}
-use Rattle.wf_canon.proofs.Writing.{nothing, one_more}
-use Rattle.wf_canon.proofs.MapText.{taken}
+use Rattle.wf_canon.proofs.Writing.{nothing, one_more, taken}
 use Rattle.wf_canon.proofs.class.push_styles.Goals as goal
 
 pub loop-style-init : goal.loop-style-init

@@ -1,6 +1,5 @@
 use Rattle.wf_canon.specs.Canon.{part_lines}
-use Rattle.wf_canon.proofs.Writing.{nothing, one_more}
-use Rattle.wf_canon.proofs.MapText.{taken}
+use Rattle.wf_canon.proofs.Writing.{nothing, one_more, taken}
 use Rattle.wf_canon.proofs.feature.push_parts.Goals as goal
 
 pub loop-part-init : goal.loop-part-init

@@ -1,6 +1,5 @@
 use Rattle.wf_canon.specs.Canon.{point_line}
-use Rattle.wf_canon.proofs.Writing.{nothing, one_line_more}
-use Rattle.wf_canon.proofs.MapText.{taken}
+use Rattle.wf_canon.proofs.Writing.{nothing, one_line_more, taken}
 use Rattle.wf_canon.proofs.feature.push_points.Goals as goal
 
 pub loop-point-init : goal.loop-point-init

@@ -1,6 +1,5 @@
 use Rattle.wf_canon.specs.Canon.{class_lines}
-use Rattle.wf_canon.proofs.Writing.{nothing, one_more}
-use Rattle.wf_canon.proofs.MapText.{taken}
+use Rattle.wf_canon.proofs.Writing.{nothing, one_more, taken}
 use Rattle.wf_canon.proofs.layer.push_classes.Goals as goal
 
 pub loop-class-init : goal.loop-class-init

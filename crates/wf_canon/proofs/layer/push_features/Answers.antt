@@ -1,6 +1,5 @@
 use Rattle.wf_canon.specs.Canon.{feature_lines}
-use Rattle.wf_canon.proofs.Writing.{nothing, one_more}
-use Rattle.wf_canon.proofs.MapText.{taken}
+use Rattle.wf_canon.proofs.Writing.{nothing, one_more, taken}
 use Rattle.wf_canon.proofs.layer.push_features.Goals as goal
 
 pub loop-feature-init : goal.loop-feature-init

@@ -1,16 +1,16 @@
-use Rattle.wf_canon.proofs.MapText.{layer_written}
+use Rattle.wf_canon.proofs.Writing.{pieces, both, last_line}
 use Rattle.wf_canon.proofs.layer.push_layer.Goals as goal
 
 pub returns : goal.returns
 returns c =
-    layer_written (c.args.name.now, c.args.layer.now)
-    c.push_alone.ensures
-    (rw c.as_bytes.ensures.value at c.push_with_text.ensures)
-    (rw (c.kind_word.ensures, c.kind.ensures.value) at c.push_with_word.ensures)
-    (rw (c.as_bytes-2.ensures.value, c.class_item.ensures.value) at c.push_with_text-2.ensures)
-    (rw (c.as_bytes-3.ensures.value, c.label_item.ensures.value) at c.push_with_text-3.ensures)
-    (rw (c.as_bytes-4.ensures.value, c.items.ensures.value) at c.push_attribute_names.ensures)
-    (rw (c.as_bytes-5.ensures.value, c.title.ensures.value) at c.push_metadata.ensures)
-    (rw c.classes.ensures.value at c.push_classes.ensures)
-    (rw c.features.ensures.value at c.push_features.ensures)
-    c.push_alone-2.ensures
+    simp pieces (simp pieces at
+    (both c.push_alone.ensures
+    (both (rw c.as_bytes.ensures.value at c.push_with_text.ensures)
+    (both (rw (c.kind_word.ensures, c.kind.ensures.value) at c.push_with_word.ensures)
+    (both (rw (c.as_bytes-2.ensures.value, c.class_item.ensures.value) at c.push_with_text-2.ensures)
+    (both (rw (c.as_bytes-3.ensures.value, c.label_item.ensures.value) at c.push_with_text-3.ensures)
+    (both (rw (c.as_bytes-4.ensures.value, c.items.ensures.value) at c.push_attribute_names.ensures)
+    (both (rw (c.as_bytes-5.ensures.value, c.title.ensures.value) at c.push_metadata.ensures)
+    (both (rw c.classes.ensures.value at c.push_classes.ensures)
+    (both (rw c.features.ensures.value at c.push_features.ensures)
+    (last_line _ c.push_alone-2.ensures)))))))))))

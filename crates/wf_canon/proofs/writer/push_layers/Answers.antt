@@ -1,8 +1,7 @@
 use Rattle.std.proofs.Common.{ℕ, List}
 use Rattle.wf_def.specs.Definition.{LayerDefinition}
 use Rattle.wf_canon.specs.Canon.{layer_lines}
-use Rattle.wf_canon.proofs.Writing.{nothing, one_more}
-use Rattle.wf_canon.proofs.MapText.{next_taken}
+use Rattle.wf_canon.proofs.Writing.{nothing, one_more, next_taken}
 use Rattle.wf_canon.proofs.writer.push_layers.Goals as goal
 
 pub loop-index-init : goal.loop-index-init

@@ -1,11 +1,13 @@
-use Rattle.wf_canon.proofs.MapText.{map_written}
+use Rattle.wf_canon.specs.Canon.{canon}
+use Rattle.wf_canon.proofs.Writing.{pieces, both, last_line}
 use Rattle.wf_canon.proofs.writer.push_map.Goals as goal
 
 pub returns-clause-written : goal.returns-clause-written
+unfolding canon
 returns-clause-written c =
-    map_written c.args.map.now
-    c.push_heading.ensures.written
-    (rw c.projection.ensures.value at c.push_projection.ensures)
-    c.push_web.ensures
-    c.push_layers.ensures
-    c.push_alone.ensures
+    simp pieces (simp pieces at
+    (both c.push_heading.ensures.written
+    (both (rw c.projection.ensures.value at c.push_projection.ensures)
+    (both c.push_web.ensures
+    (both c.push_layers.ensures
+    (last_line _ c.push_alone.ensures))))))

@@ -8,4 +8,4 @@ pub loop-point-init : goal.loop-point-init
 loop-point-init c = IsPainted-none c.args.pixmap.now
 
 pub loop-point-preserved : goal.loop-point-preserved
-loop-point-preserved c = IsPainted-more (λ point. in_color (SquareOf c.args.style.now.size (place_of c.args.view.now point)) c.args.style.now.color) c.args.points.now c.loop-point.point-index c.point-item.result c.point-item.result c.args.pixmap.now c.loop-point.pixmap _ (omega arith) c.point-item.is c.loop-point.invariant (rw (← c.size.ensures.value, ← c.place.ensures, ← c.color.ensures.value) c.draw_about.ensures)
+loop-point-preserved c = IsPainted-more (λ point. in_color (SquareOf c.args.style.now.size (place_of c.args.view.now point)) c.args.style.now.color) c.args.points.now c.loop-point.point-index c.point-item.result c.point-item.result c.args.pixmap.now c.loop-point.pixmap _ (omega arith) c.point-item.is c.loop-point.invariant (rw (← c.get.ensures.value, ← c.place.ensures) c.draw_about.ensures)

@@ -9,8 +9,8 @@ invariant_of-result c = record {
   label_item = c.as_bytes-3.ensures.within;
   items = c.as_bytes-4.ensures.within;
   items_most = search rules;
-  classes_most = c.as_slice.ensures.within.most;
-  classes = c.as_slice.ensures.within.each;
+  classes_most = c.as_slice.ensures.most;
+  classes = c.as_slice.ensures.within;
   features = c.as_slice-2.ensures.within;
   shapes = shapes_from_test _ _ (search rules);
 }

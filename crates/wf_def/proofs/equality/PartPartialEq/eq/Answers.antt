@@ -1,8 +1,0 @@
-use Rattle.std.proofs.Common.{rules}
-use Rattle.std.specs.Cmp.Lexicographic.{pointwise_decides}
-use Rattle.std.proofs.lemmas.Bool.Decides.{Decides-at}
-use Rattle.wf_def.specs.EqualityLaws.{point_eq-Decides}
-use Rattle.wf_def.proofs.equality.PartPartialEq.eq.Goals as goal
-
-pub returns-clause-equal : goal.returns-clause-equal
-returns-clause-equal c = Decides-at _ _ (search rules) (pointwise_decides point_eq-Decides _ _)

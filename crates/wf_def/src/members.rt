@@ -1,0 +1,207 @@
+//! Lists whose members are within their limits: one form for a map's styles, classes, points, parts and features.
+ghost use Rattle.std.specs.Prelude.{◌≡◌, ◌<◌, ◌≤◌, ◌↔◌, [], ◌∷◌, ◌++◌, length, All, IsTrue, OnOk, OnErr};
+ghost use Rattle.std.specs.Bool.{Decides};
+ghost use Rattle.std.specs.Cmp.{partial_equiv_from_equiv};
+ghost use Rattle.std.specs.Cmp.Lexicographic.{pointwise, lists_equiv};
+
+use std::alloc::{AllocError, Global};
+use std::marker::Model;
+
+/// What may stand in such a list: a value that is within limits of its own.
+pub trait Limited: Clone + Eq {
+    /// The limits: what is true of each value.
+    ghost IsWithin: { Self → Type 0 };
+
+    /// Makes known that a value is within its limits.
+    fn know(&self)
+        ensures { IsWithin self.now };
+
+    /// A copy is the value again.
+    ghost copies: { (value copy : Self) → Self.is_clone value copy → copy ≡ value };
+
+    /// Equal values are the same.
+    ghost decides: { (a b : Self) → Decides (Self.PartialEq.eq a b) (a ≡ b) };
+}
+
+/// Members in order, as many as memory holds: points, parts and features are counted over a whole map alone.
+pub struct Members<T: Limited> {
+    members: Vec<T>,
+}
+
+// By hand: a crate above proves one call where it drops the members, and not each part of them anew.
+impl<T: Limited + Drop> Drop for Members<T> {
+    fn drop(self) {
+        let Members { members } = self;
+        drop(members);
+    }
+}
+
+impl<T: Limited> Model for Members<T> {
+    ghost use Rattle.std.specs.Prelude.{List, All};
+
+    ghost Value = { List T };
+
+    ghost view = { λ m. m.members.items };
+
+    ghost invariant = { λ m. All T.IsWithin m.members.items };
+}
+
+impl<T: Limited> Members<T> {
+    /// No members.
+    pub fn new(alloc: Global) -> Self
+        ensures { result ≡ [] }
+    {
+        Members {
+            members: Vec::new(alloc),
+        }
+    }
+
+    /// How many members there are.
+    pub fn len(&self) -> usize
+        ensures value { result ≡ length self.now }
+        ensures within { All T.IsWithin self.now }
+    {
+        self.members.len()
+    }
+
+    /// Whether there is no member.
+    pub fn is_empty(&self) -> bool
+        ensures { IsTrue result ↔ (length self.now ≡ 0) }
+    {
+        self.members.is_empty()
+    }
+
+    /// The members in order.
+    pub fn as_slice(&self) -> &[T]
+        ensures value { result.now ≡ self.now }
+        ensures within { All T.IsWithin self.now }
+    {
+        &self.members
+    }
+}
+
+impl<T: Limited + Drop> Members<T> {
+    /// Puts one behind the others. After want of memory they are as they were.
+    pub fn push(&mut self, member: T) -> Result<(), AllocError>
+        ensures pushed { OnOk result (self.new ≡ self.old ++ member ∷ []) }
+        ensures unchanged { OnErr result (self.new ≡ self.old) }
+    {
+        member.know();
+        self.members.push(member)?;
+        Ok(())
+    }
+}
+
+impl<T: Limited + Drop> Clone for Members<T> {
+    ghost is_clone = { λ members copy. copy ≡ members };
+
+    fn clone(&self) -> Result<Self, AllocError> {
+        Ok(Members {
+            members: self.members.clone()?,
+        })
+    }
+}
+
+impl<T: Limited> PartialEq for Members<T> {
+    ghost eq = { pointwise T.PartialEq.eq };
+
+    ghost laws = { partial_equiv_from_equiv (lists_equiv T.Eq.laws) };
+
+    fn eq(&self, other: &Self) -> bool
+        ensures test { result ≡ pointwise T.PartialEq.eq self.now other.now }
+        ensures equal { IsTrue result ↔ (self.now ≡ other.now) }
+    {
+        self.as_slice() == other.as_slice()
+    }
+}
+
+impl<T: Limited> Eq for Members<T> {
+    ghost laws = { lists_equiv T.Eq.laws };
+}
+
+impl<T: Limited + Drop> Limited for Members<T> {
+    ghost use Rattle.std.specs.Prelude.{All};
+    ghost use Rattle.std.specs.Cmp.Lexicographic.{pointwise_decides};
+
+    ghost IsWithin = { All T.IsWithin };
+
+    fn know(&self) {
+        let _ = self.as_slice();
+    }
+
+    ghost copies = { λ _ _ same. same };
+
+    ghost decides = { pointwise_decides T.decides };
+}
+
+/// Members in order, at most `MOST`: a class's styles, a layer's classes.
+pub struct Capped<T: Limited, const MOST: usize> {
+    members: Members<T>,
+}
+
+impl<T: Limited + Drop, const MOST: usize> Drop for Capped<T, MOST> {
+    fn drop(self) {
+        let Capped { members } = self;
+        drop(members);
+    }
+}
+
+impl<T: Limited, const MOST: usize> Model for Capped<T, MOST> {
+    ghost use Rattle.std.specs.Prelude.{List, length, ◌≤◌};
+
+    ghost Value = { List T };
+
+    ghost view = { λ m. m.members };
+
+    ghost invariant = { λ m. length m.members ≤ MOST };
+}
+
+impl<T: Limited, const MOST: usize> Capped<T, MOST> {
+    /// No members.
+    pub fn new(alloc: Global) -> Self
+        ensures { result ≡ [] }
+    {
+        Capped {
+            members: Members::new(alloc),
+        }
+    }
+
+    /// Whether there is no room for another.
+    pub fn is_full(&self) -> bool
+        ensures full { IsTrue result ↔ (length self.now ≡ MOST) }
+        ensures most { length self.now ≤ MOST }
+        ensures within { All T.IsWithin self.now }
+    {
+        self.members.len() >= MOST
+    }
+
+    /// The members in order.
+    pub fn as_slice(&self) -> &[T]
+        ensures value { result.now ≡ self.now }
+        ensures most { length self.now ≤ MOST }
+        ensures within { All T.IsWithin self.now }
+    {
+        self.members.as_slice()
+    }
+}
+
+impl<T: Limited + Drop, const MOST: usize> Capped<T, MOST> {
+    /// Puts one behind the others. After want of memory they are as they were.
+    pub fn push(&mut self, member: T) -> Result<(), AllocError>
+        requires { length self.old < MOST }
+        ensures pushed { OnOk result (self.new ≡ self.old ++ member ∷ []) }
+        ensures unchanged { OnErr result (self.new ≡ self.old) }
+    {
+        self.members.push(member)
+    }
+}
+
+impl<T: Limited + Drop, const MOST: usize> Clone for Capped<T, MOST> {
+    ghost is_clone = { λ members copy. copy ≡ members };
+
+    fn clone(&self) -> Result<Self, AllocError> {
+        Ok(Capped {
+            members: self.members.clone()?,
+        })
+    }
+}
