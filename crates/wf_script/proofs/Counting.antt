@@ -1,8 +1,8 @@
 -- How many lines a text has.
-use Rattle.std.proofs.Common.{◌≡◌, ◌∙◌, ℕ, ◌+◌, ◌<◌, ◌≤◌, zero, suc, Bool, true, false, cond, nat_lt, Option, Some, None, take, subst, List, [], ◌∷◌, ◌++◌, length, refl, sym, ap, arith, ◌&&◌}
+use Rattle.std.proofs.Common.{◌≡◌, ◌∙◌, ℕ, ◌+◌, ◌<◌, ◌≤◌, zero, suc, Bool, true, false, cond, nat_lt, Option, Some, None, take, subst, List, [], ◌∷◌, ◌++◌, length, refl, arith, ◌&&◌}
 use Rattle.std.specs.Prelude.{◌==◌, if◌then◌else◌, filter, IfSome}
 use Rattle.std.proofs.lemmas.Bool.Decides.{nat_tests}
-use Rattle.wf_script.specs.Lines.{lines, before, is_line_end, lesser, line_at, line_feeds, most_lines, most_script_bytes, over_bytes, over_limit, over_lines}
+use Rattle.wf_script.specs.Lines.{lines, before, lesser, line_at, line_feeds, most_lines, most_script_bytes, over_bytes, over_limit, over_lines}
 use Rattle.wf_script.specs.Fault.{IsAtLine}
 use Rattle.wf_script.specs.declared.fault.ScriptFault.TheVariants.{OverLimit}
 
@@ -146,9 +146,12 @@ pub bytes_fit : (bytes : List ℕ) → over_limit bytes ≡ None → length byte
 unfolding over_limit over_bytes over_lines
 bytes_fit bytes none = no_bytes_over (nat_lt most_script_bytes (length bytes)) bytes (over_lines bytes) refl none
 
-pub lines_fit : (bytes : List ℕ) → over_limit bytes ≡ None → line_feeds bytes ≤ most_lines
+pub few_lines : (bytes : List ℕ) → over_limit bytes ≡ None → length (lines bytes) ≤ most_lines
 unfolding over_limit over_bytes over_lines
+few_lines bytes none = no_lines_over (nat_lt most_lines (length (lines bytes))) bytes (over_bytes bytes) refl none
+
+pub lines_fit : (bytes : List ℕ) → over_limit bytes ≡ None → line_feeds bytes ≤ most_lines
 lines_fit bytes none =
-    let few = no_lines_over (nat_lt most_lines (length (lines bytes))) bytes (over_bytes bytes) refl none in
+    let few = few_lines bytes none in
     let feeds = feeds_within bytes in
     omega arith

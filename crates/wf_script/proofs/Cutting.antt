@@ -3,7 +3,7 @@ use Rattle.std.proofs.Common.{◌≡◌, ◌∙◌, ℕ, ◌+◌, ◌≤◌, suc
 use Rattle.std.specs.Prelude.{◌==◌, if◌then◌else◌}
 use Rattle.std.specs.List.{prefix_len}
 use Rattle.std.proofs.lemmas.Grind.{common_steps}
-use Rattle.wf_script.specs.Lines.{Lines, IsNext, lines, before, is_line_end, is_in_line, total, without_return}
+use Rattle.wf_script.specs.Lines.{Lines, IsNext, lines, before, is_in_line, total, without_return}
 
 -- a carriage return at the end, another byte there, and nothing
 dropped_if : (t : Bool) (byte : ℕ) → t ≡ true → (if t then [] else byte ∷ []) ≡ []

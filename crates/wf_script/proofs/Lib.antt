@@ -2,7 +2,13 @@ mod Comparing
 mod Counting
 mod Cutting
 mod Faults
+mod Going
+mod Listing
+mod Naming
+mod Numbers
+mod Parting
 mod Performing
 mod Playing
+mod Whole
 mod WholeInput
 mod Worlds

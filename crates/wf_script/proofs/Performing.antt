@@ -1,7 +1,6 @@
 -- What an order does, at its place among the orders of its script.
-use Rattle.std.proofs.Common.{◌≡◌, ◌∙◌, ℕ, Bool, List, [], ◌∷◌, map, sym, ap, subst, slice_get, Option, Some, None, refl}
+use Rattle.std.proofs.Common.{◌≡◌, ℕ, Bool, List, [], ◌∷◌, subst, slice_get, Option, Some, None, refl}
 use Rattle.std.specs.Prelude.{option_map, Result, Ok, Err, OnOk}
-use Rattle.std.specs.Borrow.{Bor}
 use Rattle.wf_def.specs.Definition.{Definition}
 use Rattle.wf_model.specs.World.{Event}
 use Rattle.wf_farm.specs.Farm.{Farm}

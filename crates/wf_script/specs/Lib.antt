@@ -1,7 +1,14 @@
 pub mod Lines
+pub mod Words
+pub mod Verb
 pub mod Order
+pub mod Orders
 pub mod Script
+pub mod Text
+pub mod Drafting
+pub mod Naming
 pub mod Fault
+pub mod Reading
 pub mod Session
 pub mod Performing
 pub mod Comparison

@@ -1,5 +1,5 @@
 -- The lines of a script, and how long a script is.
-use Rattle.std.specs.Prelude.{◌≡◌, ◌==◌, ◌&&◌, not, ◌+◌, ◌≤◌, ℕ, Bool, true, false, List, [], ◌∷◌, length, filter, take, min, nat_lt, Option, Some, None, if◌then◌else◌}
+use Rattle.std.specs.Prelude.{◌≡◌, ◌==◌, ◌&&◌, not, ◌+◌, ℕ, Bool, false, List, [], ◌∷◌, length, filter, take, min, nat_lt, Option, Some, None, if◌then◌else◌}
 
 -- how many lines end within the bytes
 abbrev pub line_feeds : List ℕ → ℕ

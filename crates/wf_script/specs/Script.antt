@@ -17,7 +17,7 @@ abbrev pub numbered : orders.Numbered → Numbered
 numbered n = record { line = n.line; order = view n.order }
 
 -- How many nodes its farm has, what its maps mean, and its orders with their lines, all as they stand in its text. An order names a map by
--- its place among the maps. Which text is which script, no definition says: cases show it.
+-- its place among the maps. Which text is which script, Text.antt says.
 pub record Script : Type 0 where
   pub nodes : ℕ
   pub maps : List Definition

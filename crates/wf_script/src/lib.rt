@@ -20,6 +20,9 @@
 //! A [`Session`] is the farm on which a script is played, an order after the other; [`run_script`] does both over any reader
 //! and writer.
 //!
+//! The way through a text: `lines`, `words` of a line, the `verb` that the first word is, the `order` that the others are, and
+//! `draft`, which holds what was said so far.
+//!
 //! Its model: of a script, how many nodes it has, what its maps mean, and its orders with their lines; of a session, its
 //! script and its farm.
 //!
@@ -31,14 +34,17 @@
 //! running nodes never publish different maps ([`Session::differ`]), and two that stand at one sequence, or that are asked
 //! for one map, answer a client equally ([`Session::equal`]).
 //!
-//! Of a script it promises its limits, that a text over a limit is refused at exactly the line where it goes over, and that
-//! each fault is at a line that there is ([`Script::read`]); of a run that a fault of the reader or the writer comes for that
-//! cause, that nothing is written where the input is no script, and that where the run succeeds, the whole input is within
-//! the limits of scripts. Which line of a text is which order, and what is written, no contract says: cases show it.
+//! Of a script it promises that what is read is exactly the script that the text is, and that a text is refused, want of memory
+//! aside, only where it is none (`script_of` of `specs/Text.antt`, on [`Script::read`]): its nodes, what each of its maps means,
+//! and each of its orders with its line. A text over a limit is refused at exactly the line where it goes over, and each fault is
+//! at a line that there is. Of a run it promises that a fault of the reader or the writer comes for that cause, that nothing is
+//! written where the input is no script, and that where the run succeeds, the whole input is within the limits of scripts. Which
+//! of several faults is told, and what is written, no contract says: cases show it.
 #![tactic(auto)]
 
 mod answer;
 mod delivery;
+mod draft;
 mod fault;
 mod law;
 mod limit;
@@ -49,6 +55,7 @@ mod request;
 mod run;
 mod script;
 mod session;
+mod verb;
 mod words;
 
 pub use fault::{PlayFault, ScriptFault};

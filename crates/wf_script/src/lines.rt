@@ -48,6 +48,7 @@ impl<'a> Lines<'a> {
     #[tactic(auto, using(crate::proofs::Cutting::none_left, crate::proofs::Cutting::ended_line, crate::proofs::Cutting::last_line, crate::proofs::Cutting::one_less))]
     pub(crate) fn next(&mut self) -> Option<&'a [u8]>
         ensures none { IfNone result (self.old.left ≡ []) }
+        ensures end { IfNone result (self.new ≡ self.old) }
         ensures some { IfSome result (λ line. IsNext line.now self.old self.new) }
         ensures total { total self.new ≡ total self.old }
     {

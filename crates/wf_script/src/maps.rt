@@ -1,7 +1,13 @@
 //! The maps of a script, by their names.
 
+ghost use Rattle.std.specs.Char.{is_ascii_alphanumeric};
+ghost use Rattle.std.specs.List.{list_all, position};
 ghost use Rattle.std.specs.Prelude.{◌≡◌, ◌<◌, ◌≤◌, ◌↔◌, length, IsTrue};
 ghost use Rattle.wf_script.specs.Lines.{most_maps};
+ghost use Rattle.wf_script.specs.Reading.{Gives};
+ghost use Rattle.wf_script.specs.Naming.{name as name_of};
+ghost use Rattle.wf_script.specs.Text.{is_name, map_of};
+ghost use Rattle.std.specs.Str.{bytes_eq};
 
 use crate::fault::Wrong;
 use std::alloc::{AllocError, Global};
@@ -17,7 +23,7 @@ const MOST_NAME_BYTES: usize = 32;
 /// A definition and its name.
 #[derive(Drop)]
 pub(crate) struct Named {
-    name: String,
+    pub(crate) name: String,
     canon: Canon,
 }
 
@@ -29,10 +35,13 @@ pub(crate) struct Maps {
 }
 
 impl Maps {
-    ghost use Rattle.std.specs.Prelude.{map, slice_get, option_copied};
+    ghost use Rattle.std.specs.Prelude.{◌++◌, ◌∷◌, [], OnOk, map, slice_get, option_copied};
+    ghost use Rattle.wf_script.specs.Orders.{place_of};
     ghost use Rattle.wf_script.specs.Script.{definition};
 
-    pub(crate) fn new(alloc: Global) -> Maps {
+    pub(crate) fn new(alloc: Global) -> Maps
+        ensures { result.named.items ≡ [] }
+    {
         Maps {
             named: Vec::new(alloc),
         }
@@ -48,6 +57,8 @@ impl Maps {
     /// Adds a map behind the others.
     pub(crate) fn add(&mut self, alloc: Global, name: &str, canon: Canon) -> Result<(), AllocError>
         requires { length self.old.named.items < most_maps }
+        ensures names { OnOk result (map name_of self.new.named.items ≡ map name_of self.old.named.items ++ name.now ∷ []) }
+        ensures maps { OnOk result (map definition self.new.named.items ≡ map definition self.old.named.items ++ canon ∷ []) }
     {
         match String::from_str(alloc, name) {
             Ok(name) => {
@@ -62,8 +73,11 @@ impl Maps {
     }
 
     /// The number of the map of this name, counted from 0.
-    pub(crate) fn number_of(&self, name: &str) -> Option<usize> {
-        self.named.iter().position(|map| map.name.as_str() == name)
+    #[tactic(auto, using(crate::proofs::Naming::found_by_name))]
+    pub(crate) fn number_of(&self, name: &str) -> Option<usize>
+        ensures { result ≡ place_of (map name_of self.now.named.items) name.now }
+    {
+        number_of(&self.named, name)
     }
 
     /// The definition of the map of this number.
@@ -87,17 +101,39 @@ impl Maps {
     }
 }
 
+/// The number of the first map of this name, counted from 0.
+fn number_of(maps: &[Named], name: &str) -> Option<usize>
+    ensures { result ≡ position (λ map. bytes_eq (name_of map) name.now) maps.now }
+{
+    maps.iter().position(|map| is_named(map, name))
+}
+
+/// Has the map this name?
+fn is_named(map: &Named, name: &str) -> bool
+    ensures { result ≡ bytes_eq (name_of map.now) name.now }
+{
+    map.name.as_str() == name
+}
+
 /// Is it a name of a map: 1 to 32 letters and digits?
-pub(crate) fn is_name(word: &str) -> bool {
+#[tactic(auto, unfolding(crate::specs::Text::is_name))]
+pub(crate) fn is_name(word: &str) -> bool
+    ensures { result ≡ is_name word.now }
+{
     !word.is_empty() && word.len() <= MOST_NAME_BYTES && are_letters(word.as_bytes())
 }
 
-fn are_letters(word: &[u8]) -> bool {
+fn are_letters(word: &[u8]) -> bool
+    ensures { result ≡ list_all is_ascii_alphanumeric word.now }
+{
     word.iter().all(|byte| byte.is_ascii_alphanumeric())
 }
 
 /// The definition of a map's text.
-pub(crate) fn canon_of(alloc: Global, text: &[u8]) -> Result<Canon, Wrong> {
+#[tactic(auto, unfolding(crate::specs::Text::map_of))]
+pub(crate) fn canon_of(alloc: Global, text: &[u8]) -> Result<Canon, Wrong>
+    ensures { Gives (λ canon. canon) result (map_of text.now) }
+{
     let map = match wf_mapfile::read(alloc, text) {
         Ok(map) => map,
         Err(MapFault::Memory) => return Err(Wrong::Memory),

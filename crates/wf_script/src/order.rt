@@ -1,7 +1,15 @@
 //! What a line of a script asks for.
 
+ghost use Rattle.std.specs.Prelude.{◌≡◌, [], OnOk, map};
+ghost use Rattle.wf_script.specs.Naming.{name};
+ghost use Rattle.wf_script.specs.Order.{view};
+ghost use Rattle.wf_script.specs.Orders.{a_kept, a_map, a_step, definition_order, deliver_order, equal_order, get_order, numbers, order_by, order_of, proposal_order, pump_order, restart_order, some_numbers, step_by, step_order, stop_order, torn_order};
+ghost use Rattle.wf_script.specs.Reading.{Gives};
+ghost use Rattle.wf_script.specs.Words.{a_word};
+
 use crate::fault::Wrong;
 use crate::maps::Maps;
+use crate::verb::Verb;
 use crate::words::{Words, number};
 use std::alloc::Global;
 use wf_farm::Kept;
@@ -62,10 +70,17 @@ pub(crate) enum Question {
     Same,
 }
 
-/// The order of a line that isn't skipped and begins no map.
-pub(crate) fn read_order(alloc: Global, maps: &Maps, line: &[u8]) -> Result<Order, Wrong> {
-    let mut words = Words::new(line);
-    let order = first_order(alloc, maps, &mut words)?;
+/// The order that a verb and all the words behind it are.
+#[tactic(auto, unfolding(crate::specs::Orders::order_of))]
+pub(crate) fn read_order(
+    alloc: Global,
+    maps: &Maps,
+    verb: Verb,
+    words: &mut Words<'_>,
+) -> Result<Order, Wrong>
+    ensures { Gives (λ o. view o) result (order_of (map name maps.now.named.items) verb words.old) }
+{
+    let order = order_by(alloc, maps, verb, words)?;
     match words.end() {
         Ok(()) => Ok(order),
         Err(wrong) => {
@@ -75,93 +90,93 @@ pub(crate) fn read_order(alloc: Global, maps: &Maps, line: &[u8]) -> Result<Orde
     }
 }
 
-fn first_order(alloc: Global, maps: &Maps, words: &mut Words<'_>) -> Result<Order, Wrong> {
-    match words.text()? {
-        "deliver" => deliveries(alloc, words),
-        "pump" => Ok(Order::Pump(numbers(alloc, words)?)),
-        "get" => get(alloc, words),
-        "equal" => equal(alloc, words),
-        word => plain_order(word, maps, words),
+/// The order that a verb and the words behind it are.
+#[tactic(auto, unfolding(crate::specs::Orders::order_by))]
+fn order_by(alloc: Global, maps: &Maps, verb: Verb, words: &mut Words<'_>) -> Result<Order, Wrong>
+    ensures { Gives (λ o. (view o, words.new)) result (order_by (map name maps.now.named.items) verb words.old) }
+{
+    match verb {
+        // A map is no order.
+        Verb::Map => Err(Wrong::BadLine),
+        Verb::Propose | Verb::Retry | Verb::CatchUp => step_order(maps, verb, words),
+        Verb::Deliver => deliver(alloc, words),
+        Verb::Stop => stop(words),
+        Verb::Restart => restart(words),
+        Verb::Torn => torn(maps, words),
+        Verb::Pump => pump(alloc, words),
+        Verb::Skip => Ok(Order::Skip),
+        Verb::Published => Ok(Order::Ask(Question::Published)),
+        Verb::Sent => Ok(Order::Ask(Question::Sent)),
+        Verb::Proposal => proposal(words),
+        Verb::Definition => definition(words),
+        Verb::Same => Ok(Order::Ask(Question::Same)),
+        Verb::Get => get(alloc, words),
+        Verb::Equal => equal(alloc, words),
     }
 }
 
-/// An order that holds no list.
-fn plain_order(word: &str, maps: &Maps, words: &mut Words<'_>) -> Result<Order, Wrong> {
-    match word {
-        "skip" => Ok(Order::Skip),
-        "stop" => Ok(Order::Stop(words.number()?)),
-        "restart" => Ok(Order::Restart(words.number()?)),
-        "torn" => torn(maps, words),
-        word => step_or_question(word, maps, words),
-    }
-}
-
-fn step_or_question(word: &str, maps: &Maps, words: &mut Words<'_>) -> Result<Order, Wrong> {
-    match word {
-        "propose" => propose(maps, words),
-        "retry" => Ok(Order::Step(words.number()?, Step::Retry)),
-        "catchup" => Ok(Order::Step(words.number()?, Step::CatchUp)),
-        word => Ok(Order::Ask(asked(word, words)?)),
-    }
-}
-
-/// A question about nodes and their numbers alone.
-fn asked(word: &str, words: &mut Words<'_>) -> Result<Question, Wrong> {
-    match word {
-        "published" => Ok(Question::Published),
-        "sent" => Ok(Question::Sent),
-        "proposal" => Ok(Question::Proposal(words.number()?)),
-        "definition" => {
-            let node = words.number()?;
-            Ok(Question::Definition(node, words.number()?))
-        }
-        "same" => Ok(Question::Same),
-        _ => Err(Wrong::BadLine),
-    }
-}
-
-/// `propose I NAME`.
-fn propose(maps: &Maps, words: &mut Words<'_>) -> Result<Order, Wrong> {
+/// A node and a step of it, as `propose I NAME`.
+#[tactic(auto, unfolding(crate::specs::Orders::step_order))]
+fn step_order(maps: &Maps, verb: Verb, words: &mut Words<'_>) -> Result<Order, Wrong>
+    ensures { Gives (λ o. (view o, words.new)) result (step_order (map name maps.now.named.items) verb words.old) }
+{
     let node = words.number()?;
-    Ok(Order::Step(node, Step::Propose(map(maps, words)?)))
+    let step = step_by(maps, verb, words)?;
+    Ok(Order::Step(node, step))
+}
+
+/// `stop I`.
+#[tactic(auto, unfolding(crate::specs::Orders::stop_order))]
+fn stop(words: &mut Words<'_>) -> Result<Order, Wrong>
+    ensures { Gives (λ o. (view o, words.new)) result (stop_order words.old) }
+{
+    let node = words.number()?;
+    Ok(Order::Stop(node))
+}
+
+/// `restart I`.
+#[tactic(auto, unfolding(crate::specs::Orders::restart_order))]
+fn restart(words: &mut Words<'_>) -> Result<Order, Wrong>
+    ensures { Gives (λ o. (view o, words.new)) result (restart_order words.old) }
+{
+    let node = words.number()?;
+    Ok(Order::Restart(node))
 }
 
 /// `deliver I K ..`, with one message at least.
-fn deliveries(alloc: Global, words: &mut Words<'_>) -> Result<Order, Wrong> {
+#[tactic(auto, unfolding(crate::specs::Orders::deliver_order))]
+fn deliver(alloc: Global, words: &mut Words<'_>) -> Result<Order, Wrong>
+    ensures { Gives (λ o. (view o, words.new)) result (deliver_order words.old) }
+{
     let node = words.number()?;
-    let messages = numbers(alloc, words)?;
-    if messages.is_empty() {
-        return Err(Wrong::BadLine);
-    }
+    let messages = some_numbers(alloc, words)?;
     Ok(Order::Deliver(node, messages))
 }
 
-/// `get I QUERY`.
-fn get(alloc: Global, words: &mut Words<'_>) -> Result<Order, Wrong> {
-    let node = words.number()?;
-    Ok(Order::Get(node, query(alloc, words)?))
-}
-
-/// `equal I J QUERY`.
-fn equal(alloc: Global, words: &mut Words<'_>) -> Result<Order, Wrong> {
-    let node = words.number()?;
-    let other = words.number()?;
-    Ok(Order::Equal(node, other, query(alloc, words)?))
-}
-
-/// The query that the next word is, byte for byte.
-fn query(alloc: Global, words: &mut Words<'_>) -> Result<Vec<u8>, Wrong> {
-    Ok(Vec::from_slice(alloc, words.word()?)?)
+/// `pump`, or `pump I ..`.
+#[tactic(auto, unfolding(crate::specs::Orders::pump_order))]
+fn pump(alloc: Global, words: &mut Words<'_>) -> Result<Order, Wrong>
+    ensures { Gives (λ o. (view o, words.new)) result (pump_order words.old) }
+{
+    let nodes = numbers(alloc, words)?;
+    Ok(Order::Pump(nodes))
 }
 
 /// `torn I before E` or `torn I after E`.
-fn torn(maps: &Maps, words: &mut Words<'_>) -> Result<Order, Wrong> {
+#[tactic(auto, unfolding(crate::specs::Orders::torn_order))]
+fn torn(maps: &Maps, words: &mut Words<'_>) -> Result<Order, Wrong>
+    ensures { Gives (λ o. (view o, words.new)) result (torn_order (map name maps.now.named.items) words.old) }
+{
     let node = words.number()?;
     let kept = part_kept(words)?;
-    Ok(Order::Torn(node, step_after(maps, words)?, kept))
+    let step = step_after(maps, words)?;
+    Ok(Order::Torn(node, step, kept))
 }
 
-fn part_kept(words: &mut Words<'_>) -> Result<Kept, Wrong> {
+#[tactic(auto, unfolding(crate::specs::Orders::a_kept))]
+fn part_kept(words: &mut Words<'_>) -> Result<Kept, Wrong>
+    ensures { Gives (λ kept. (kept, words.new)) result (a_kept words.old) }
+{
     match words.text()? {
         "before" => Ok(Kept::Before),
         "after" => Ok(Kept::After),
@@ -170,30 +185,110 @@ fn part_kept(words: &mut Words<'_>) -> Result<Kept, Wrong> {
 }
 
 /// A step of a node that is named already.
-fn step_after(maps: &Maps, words: &mut Words<'_>) -> Result<Step, Wrong> {
-    match words.text()? {
-        "propose" => Ok(Step::Propose(map(maps, words)?)),
-        "retry" => Ok(Step::Retry),
-        "catchup" => Ok(Step::CatchUp),
-        "deliver" => Ok(Step::Deliver(words.number()?)),
+#[tactic(auto, unfolding(crate::specs::Orders::a_step))]
+fn step_after(maps: &Maps, words: &mut Words<'_>) -> Result<Step, Wrong>
+    ensures { Gives (λ step. (step, words.new)) result (a_step (map name maps.now.named.items) words.old) }
+{
+    match Verb::of(words.text()?) {
+        Some(verb) => step_by(maps, verb, words),
+        None => Err(Wrong::BadLine),
+    }
+}
+
+/// The step that a verb and the words behind it are.
+#[tactic(auto, unfolding(crate::specs::Orders::step_by))]
+fn step_by(maps: &Maps, verb: Verb, words: &mut Words<'_>) -> Result<Step, Wrong>
+    ensures { Gives (λ step. (step, words.new)) result (step_by (map name maps.now.named.items) verb words.old) }
+{
+    match verb {
+        Verb::Propose => {
+            let map = map(maps, words)?;
+            Ok(Step::Propose(map))
+        }
+        Verb::Retry => Ok(Step::Retry),
+        Verb::CatchUp => Ok(Step::CatchUp),
+        Verb::Deliver => {
+            let message = words.number()?;
+            Ok(Step::Deliver(message))
+        }
         _ => Err(Wrong::BadLine),
     }
 }
 
 /// The number of the map that the next word names.
-fn map(maps: &Maps, words: &mut Words<'_>) -> Result<usize, Wrong> {
-    maps.number_of(words.text()?).ok_or(Wrong::BadLine)
+#[tactic(auto, unfolding(crate::specs::Orders::a_map))]
+fn map(maps: &Maps, words: &mut Words<'_>) -> Result<usize, Wrong>
+    ensures { Gives (λ n. (n, words.new)) result (a_map (map name maps.now.named.items) words.old) }
+{
+    let name = words.text()?;
+    match maps.number_of(name) {
+        Some(number) => Ok(number),
+        None => Err(Wrong::BadLine),
+    }
+}
+
+/// `proposal I`.
+#[tactic(auto, unfolding(crate::specs::Orders::proposal_order))]
+fn proposal(words: &mut Words<'_>) -> Result<Order, Wrong>
+    ensures { Gives (λ o. (view o, words.new)) result (proposal_order words.old) }
+{
+    let node = words.number()?;
+    Ok(Order::Ask(Question::Proposal(node)))
+}
+
+/// `definition I S`.
+#[tactic(auto, unfolding(crate::specs::Orders::definition_order))]
+fn definition(words: &mut Words<'_>) -> Result<Order, Wrong>
+    ensures { Gives (λ o. (view o, words.new)) result (definition_order words.old) }
+{
+    let node = words.number()?;
+    let sequence = words.number()?;
+    Ok(Order::Ask(Question::Definition(node, sequence)))
+}
+
+/// `get I QUERY`.
+#[tactic(auto, unfolding(crate::specs::Orders::get_order))]
+fn get(alloc: Global, words: &mut Words<'_>) -> Result<Order, Wrong>
+    ensures { Gives (λ o. (view o, words.new)) result (get_order words.old) }
+{
+    let node = words.number()?;
+    let query = words.word()?;
+    Ok(Order::Get(node, Vec::from_slice(alloc, query)?))
+}
+
+/// `equal I J QUERY`.
+#[tactic(auto, unfolding(crate::specs::Orders::equal_order))]
+fn equal(alloc: Global, words: &mut Words<'_>) -> Result<Order, Wrong>
+    ensures { Gives (λ o. (view o, words.new)) result (equal_order words.old) }
+{
+    let node = words.number()?;
+    let other = words.number()?;
+    let query = words.word()?;
+    Ok(Order::Equal(node, other, Vec::from_slice(alloc, query)?))
+}
+
+/// The numbers that the words left are, one at least.
+#[tactic(auto, using(crate::proofs::Listing::none_at_all, crate::proofs::Listing::some_found, crate::proofs::Listing::not_even_one))]
+fn some_numbers(alloc: Global, words: &mut Words<'_>) -> Result<Vec<usize>, Wrong>
+    ensures value { Gives (λ v. v.items) result (some_numbers words.old) }
+    ensures end { OnOk result (words.new ≡ []) }
+{
+    let numbers = numbers(alloc, words)?;
+    if numbers.is_empty() {
+        return Err(Wrong::BadLine);
+    }
+    Ok(numbers)
 }
 
 /// The numbers that the words left are.
-fn numbers(alloc: Global, words: &mut Words<'_>) -> Result<Vec<usize>, Wrong> {
+#[tactic(auto, using(crate::proofs::Listing::none_so_far, crate::proofs::Listing::no_words, crate::proofs::Listing::one_number))]
+fn numbers(alloc: Global, words: &mut Words<'_>) -> Result<Vec<usize>, Wrong>
+    ensures value { Gives (λ v. v.items) result (numbers words.old) }
+    ensures end { OnOk result (words.new ≡ []) }
+{
     let mut numbers = Vec::new(alloc);
-    // No line has more words than the script has bytes.
-    for _ in 0..crate::limit::MOST_SCRIPT_BYTES {
-        match words.next() {
-            Some(word) => numbers.push(number(word)?)?,
-            None => return Ok(numbers),
-        }
+    while let Some(word) = words.next() {
+        numbers.push(number(word)?)?;
     }
     Ok(numbers)
 }

@@ -4,13 +4,16 @@ ghost use Rattle.std.specs.Prelude.{◌≡◌, ◌≤◌, ◌<◌, ◌+◌, ◌�
 ghost use Rattle.wf_ballot.specs.Node.{most_nodes};
 ghost use Rattle.wf_script.specs.Fault.{IsAtLine};
 ghost use Rattle.wf_script.specs.Lines.{line_feeds, lines, most_script_bytes, most_lines, most_maps, over_limit, total};
+ghost use Rattle.wf_script.specs.Reading.{Gives, Tells};
+ghost use Rattle.wf_script.specs.Text.{head_from, nodes_of, script, script_of};
 
+use crate::draft::Draft;
 use crate::fault::{ScriptFault, Wrong};
-use crate::limit::{MOST_LINES, line_over};
+use crate::limit::line_over;
 use crate::lines::Lines;
-use crate::maps::{Maps, canon_of, is_name};
-use crate::order::{Numbered, read_order};
-use crate::words::{Words, ends_map, is_skipped};
+use crate::maps::Maps;
+use crate::order::Numbered;
+use crate::words::{Words, is_skipped};
 use std::alloc::Global;
 use std::marker::Model;
 use wf_ballot::NODES;
@@ -65,8 +68,9 @@ impl Script {
     /// where it begins; on one line S2 comes before S3 before S4. A script without a line that isn't skipped is S2 at line 1.
     /// Want of memory is S1, at the line that wants it. Each fault is at a line of the bytes, or at line 1 where they have
     /// none.
-    #[tactic(auto, using(crate::proofs::Counting::over_at, crate::proofs::Counting::bytes_fit, crate::proofs::Counting::lines_fit, crate::proofs::Faults::at_line_of))]
+    #[tactic(auto, using(crate::proofs::Counting::over_at, crate::proofs::Counting::bytes_fit, crate::proofs::Counting::lines_fit))]
     pub fn read(alloc: Global, bytes: &[u8]) -> Result<Script, ScriptFault>
+        ensures value { Tells (λ s. s) result (script_of bytes.now) }
         ensures bytes { OnOk result (length bytes.now ≤ most_script_bytes) }
         ensures lines { OnOk result (line_feeds bytes.now ≤ most_lines) }
         ensures over { IfSome (over_limit bytes.now) (λ line. result ≡ Err (ScriptFault.OverLimit line)) }
@@ -75,19 +79,7 @@ impl Script {
         if let Some(line) = line_over(bytes) {
             return Err(ScriptFault::OverLimit(line));
         }
-        let mut lines = Lines::new(bytes);
-        let mut script = Script {
-            nodes: first_line(&mut lines)?,
-            maps: Maps::new(alloc),
-            orders: Vec::new(alloc),
-        };
-        match script.take_lines(alloc, &mut lines) {
-            Ok(()) => Ok(script),
-            Err(fault) => {
-                drop(script);
-                Err(fault)
-            }
-        }
+        read_lines(alloc, bytes)
     }
 
     /// How many nodes its farm has.
@@ -127,107 +119,43 @@ impl Script {
     {
         self.maps.canon(number)
     }
-
-    /// Takes in the lines that are left. The script has no order yet.
-    #[tactic(auto, using(crate::proofs::Faults::wrong_at))]
-    fn take_lines(&mut self, alloc: Global, lines: &mut Lines<'_>) -> Result<(), ScriptFault>
-        requires { length self.old.orders ≡ 0 }
-        ensures { IfErr result (IsAtLine (total lines.old)) }
-    {
-        for _ in 0..MOST_LINES {
-            let Some(line) = lines.next() else {
-                return Ok(());
-            };
-            let number = lines.number();
-            if let Err(wrong) = self.take_line(alloc, number, line, lines) {
-                return Err(wrong.at(number));
-            }
-        }
-        Ok(())
-    }
-
-    /// Takes in a line of this number; where a map begins there, those of the map too.
-    fn take_line(
-        &mut self,
-        alloc: Global,
-        number: usize,
-        line: &[u8],
-        lines: &mut Lines<'_>,
-    ) -> Result<(), Wrong>
-        requires { length self.old.orders < most_lines }
-        ensures orders { length self.new.orders ≤ length self.old.orders + 1 }
-        ensures total { total lines.new ≡ total lines.old }
-    {
-        if is_skipped(line) {
-            return Ok(());
-        }
-        let mut words = Words::new(line);
-        if words.text()? == "map" {
-            return self.take_map(alloc, &mut words, lines);
-        }
-        let order = read_order(alloc, &self.maps, line)?;
-        self.orders.push(Numbered {
-            line: number,
-            order,
-        })?;
-        Ok(())
-    }
-
-    /// Takes in a map: its name, and its lines up to `endmap`.
-    fn take_map(
-        &mut self,
-        alloc: Global,
-        words: &mut Words<'_>,
-        lines: &mut Lines<'_>,
-    ) -> Result<(), Wrong>
-        ensures orders { self.new.orders ≡ self.old.orders }
-        ensures total { total lines.new ≡ total lines.old }
-    {
-        let name = words.text()?;
-        words.end()?;
-        if !is_name(name) || self.maps.number_of(name).is_some() {
-            return Err(Wrong::BadLine);
-        }
-        let text = text_of_map(alloc, lines)?;
-        if self.maps.is_full() {
-            return Err(Wrong::OverLimit);
-        }
-        let canon = canon_of(alloc, &text);
-        drop(text);
-        self.maps.add(alloc, name, canon?)?;
-        Ok(())
-    }
 }
 
-/// The lines up to `endmap`, each with a line feed.
-fn text_of_map(alloc: Global, lines: &mut Lines<'_>) -> Result<Vec<u8>, Wrong>
-    ensures { total lines.new ≡ total lines.old }
+/// Reads a script that is over no limit.
+#[tactic(auto, using(crate::proofs::Faults::at_line_of))]
+fn read_lines(alloc: Global, bytes: &[u8]) -> Result<Script, ScriptFault>
+    requires { length (lines bytes.now) ≤ most_lines }
+    ensures value { Tells (λ s. s) result (script (record { number = 0; left = lines bytes.now })) }
+    ensures at { IfErr result (IsAtLine (length (lines bytes.now))) }
 {
-    let mut text = Vec::new(alloc);
-    for _ in 0..MOST_LINES {
-        let Some(line) = lines.next() else {
-            return Err(Wrong::BadLine);
-        };
-        if ends_map(line) {
-            return Ok(text);
+    let mut lines = Lines::new(bytes);
+    let nodes = first_line(&mut lines)?;
+    let mut draft = Draft::new(alloc);
+    match draft.take_lines(alloc, &mut lines) {
+        Ok(()) => {
+            let Draft { maps, orders } = draft;
+            Ok(Script {
+                nodes,
+                maps,
+                orders,
+            })
         }
-        text.extend_from_slice(line)?;
-        text.push(b'\n')?;
+        Err(fault) => {
+            drop(draft);
+            Err(fault)
+        }
     }
-    Err(Wrong::BadLine)
 }
 
 /// The number of nodes, which the first line that isn't skipped tells.
-#[tactic(auto, using(crate::proofs::Faults::wrong_at))]
+#[tactic(auto, using(crate::proofs::Faults::wrong_at, crate::proofs::Going::same_want, crate::proofs::Going::head_line, crate::proofs::Going::head_skipped, crate::proofs::Going::no_head))]
 fn first_line(lines: &mut Lines<'_>) -> Result<u8, ScriptFault>
+    ensures value { Tells (λ nodes. (nodes, lines.new)) result (head_from lines.old) }
     ensures nodes { IfOk result (λ nodes. (1 ≤ nodes) × (nodes ≤ most_nodes)) }
     ensures at { IfErr result (IsAtLine (total lines.old)) }
     ensures total { total lines.new ≡ total lines.old }
 {
-    for _ in 0..MOST_LINES {
-        let Some(line) = lines.next() else {
-            return Err(ScriptFault::BadLine(1));
-        };
+    while let Some(line) = lines.next() {
         if !is_skipped(line) {
             return match nodes(line) {
                 Ok(nodes) => Ok(nodes),
@@ -239,8 +167,10 @@ fn first_line(lines: &mut Lines<'_>) -> Result<u8, ScriptFault>
 }
 
 /// The N of `nodes N`, 1 to 64.
+#[tactic(auto, unfolding(crate::specs::Text::nodes_of))]
 fn nodes(line: &[u8]) -> Result<u8, Wrong>
-    ensures { IfOk result (λ nodes. (1 ≤ nodes) × (nodes ≤ most_nodes)) }
+    ensures value { Gives (λ nodes. nodes) result (nodes_of line.now) }
+    ensures nodes { IfOk result (λ nodes. (1 ≤ nodes) × (nodes ≤ most_nodes)) }
 {
     let mut words = Words::new(line);
     if words.text()? != "nodes" {
