@@ -12,7 +12,7 @@ use Rattle.wf_wms.specs.Answer.{description}
 use Rattle.wf_stream.specs.Reading.{Rises}
 use Rattle.wf_script.specs.Fault as script
 use Rattle.wf_script.specs.Lines.{most_script_bytes}
-use Rattle.wf_script.specs.Script.{IsScriptText}
+use Rattle.wf_script.specs.Running.{IsFaultOf, IsScriptText, PlaysInput}
 use Rattle.wf_serve.specs.Listening.{IsTold}
 use Rattle.wf_serve.specs.declared.fault.ServeFault.TheVariants as serving
 use Rattle.wf_commands.specs.declared.line.Line.{Line}
@@ -94,12 +94,13 @@ IsOutcome output refuses input old new (Err faults.Read) = Keeps old new
 IsOutcome output refuses input old new (Err (faults.Script fault)) = ⊥
 IsOutcome output refuses input old new (Err faults.Serve) = ⊥
 
--- What is written of a script: nothing where it can't be read or isn't one. Where it is played to its end, or to a failed write, the whole
--- input was read: where that is known, it is a text within the limits of scripts. What its orders write is shown by cases.
+-- What is written of a script: nothing where it can't be read or isn't one. A fault of the script, want of memory aside, is the input's own,
+-- with its line. Where it is played to its end, or to a failed write, the whole input was read: where that is known, it is a script. Where it
+-- is played to its end, each of its orders was performed in turn on a new farm, and what they write was written.
 abbrev pub IsPlayed : Option (List ℕ) → Option (List ℕ) → Option (List ℕ) → Result (Unit {0}) RunFault → Type 0
-IsPlayed input old new (Ok done) = IfSome input IsScriptText
+IsPlayed input old new (Ok done) = IfSome input IsScriptText × PlaysInput input old new
 IsPlayed input old new (Err faults.Write) = IfSome input IsScriptText
-IsPlayed input old new (Err (faults.Script fault)) = script.is_memory fault ≡ false → Keeps old new
+IsPlayed input old new (Err (faults.Script fault)) = IsFaultOf input fault × (script.is_memory fault ≡ false → Keeps old new)
 IsPlayed input old new (Err faults.Read) = Keeps old new
 IsPlayed input old new (Err (faults.Map fault)) = ⊥
 IsPlayed input old new (Err (faults.Canon fault)) = ⊥

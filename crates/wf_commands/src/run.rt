@@ -173,8 +173,8 @@ pub fn run_canon<S: Source, K: Sink>(
     }
 }
 
-/// Reads a script to its end, or to the byte that makes it too long, and plays it on a farm in memory. What it writes is shown
-/// by cases, and what the farm does by the contracts of `wf_script`.
+/// Reads a script to its end, or to the byte that makes it too long, and plays it on a farm in memory: what its orders do and
+/// write, the contracts of `wf_script` say.
 pub fn run_script<S: Source, K: Sink>(
     alloc: Global,
     source: &mut S,

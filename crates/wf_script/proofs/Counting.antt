@@ -42,7 +42,7 @@ more_of false false next byte ls some = length_before byte ls some ∙ omega ari
 more_of false true true byte ls some = omega arith
 more_of false true false byte ls some = length_before byte ls some ∙ omega arith
 
-line_more : (byte next : ℕ) (rest : List ℕ) → length (lines (byte ∷ next ∷ rest)) ≡ cond (byte == 10) 1 0 + length (lines (next ∷ rest))
+pub line_more : (byte next : ℕ) (rest : List ℕ) → length (lines (byte ∷ next ∷ rest)) ≡ cond (byte == 10) 1 0 + length (lines (next ∷ rest))
 unfolding lines
 line_more byte next rest = more_of (byte == 10) (byte == 13) (next == 10) byte (lines (next ∷ rest)) (some_line next rest)
 
@@ -52,7 +52,7 @@ one_of true returns byte = refl
 one_of false true byte = refl
 one_of false false byte = refl
 
-one_line : (byte : ℕ) → length (lines (byte ∷ [])) ≡ 1
+pub one_line : (byte : ℕ) → length (lines (byte ∷ [])) ≡ 1
 unfolding lines
 one_line byte = one_of (byte == 10) (byte == 13) byte
 

@@ -1,11 +1,13 @@
 -- What one line says, and those behind it.
 use Rattle.std.proofs.Common.{◌≡◌, ◌∙◌, ℕ, ◌+◌, true, false, List, [], ◌∷◌, ◌++◌, Option, Some, None, refl, sym, ap}
-use Rattle.wf_mapfile.specs.Grammar.{◌>>=◌}
+use Rattle.std.specs.Prelude.{Result, Ok, Err}
 use Rattle.wf_script.specs.Fault.{fault_of, is_memory}
 use Rattle.wf_script.specs.Lines.{IsNext, Lines}
-use Rattle.wf_script.specs.Reading.{wants_memory}
+use Rattle.wf_script.specs.Reading.{◌>>=◌, at_line, wants_memory}
 use Rattle.wf_script.specs.Text.{Begun, State, closed, head, head_from, line_on, line_says, nodes_of, on_from, outside, read_on}
 use Rattle.wf_script.specs.Words.{ends_map, is_skipped}
+use Rattle.wf_script.specs.declared.fault.ScriptFault.{ScriptFault}
+use Rattle.wf_script.specs.declared.fault.ScriptFault.TheVariants as fault
 use Rattle.wf_script.specs.declared.fault.Wrong.{Wrong}
 use Rattle.wf_script.specs.declared.fault.Wrong.TheVariants as wrongs
 
@@ -28,24 +30,24 @@ one_line begun s line old new next =
     ∙ ap (λ n. read_on begun n s (line ∷ new.left)) (sym next.number)
     ∙ first_line begun s line new.left new.number
 
-pub no_line : (s : State) (ls : Lines) → ls.left ≡ [] → on_from None s ls ≡ Some s
+pub no_line : (s : State) (ls : Lines) → ls.left ≡ [] → on_from None s ls ≡ Ok s
 unfolding on_from read_on
 no_line s ls none = ap (λ left. read_on None (ls.number + 1) s left) none
 
-pub never_ended : (begun : Begun) (s : State) (ls : Lines) → ls.left ≡ [] → on_from (Some begun) s ls ≡ None
+pub never_ended : (begun : Begun) (s : State) (ls : Lines) → ls.left ≡ [] → on_from (Some begun) s ls ≡ Err (fault.BadLine begun.line)
 unfolding on_from read_on
 never_ended begun s ls none = ap (λ left. read_on (Some begun) (ls.number + 1) s left) none
 
 -- within a map
-closed_on : (c : Option State) (ls : Lines) → (c >>= outside >>= (λ t. on_from t.0 t.1 ls)) ≡ c >>= (λ t. on_from None t ls)
-closed_on None ls = refl
-closed_on (Some t) ls = refl
+closed_on : (c : Result State ScriptFault) (ls : Lines) → (c >>= outside >>= (λ t. on_from t.0 t.1 ls)) ≡ c >>= (λ t. on_from None t ls)
+closed_on (Err fault) ls = refl
+closed_on (Ok t) ls = refl
 
-pub map_ended : (begun : Begun) (s : State) (line : List ℕ) (ls : Lines) → ends_map line ≡ true → line_on (Some begun) s line ls ≡ closed begun.name begun.text s >>= (λ t. on_from None t ls)
+pub map_ended : (begun : Begun) (s : State) (line : List ℕ) (ls : Lines) → ends_map line ≡ true → line_on (Some begun) s line ls ≡ at_line begun.line (closed begun.name begun.text s) >>= (λ t. on_from None t ls)
 unfolding line_on line_says
-map_ended begun s line ls is = rw is (closed_on (closed begun.name begun.text s) ls)
+map_ended begun s line ls is = rw is (closed_on (at_line begun.line (closed begun.name begun.text s)) ls)
 
-pub map_goes_on : (begun : Begun) (s : State) (line : List ℕ) (ls : Lines) → ends_map line ≡ false → line_on (Some begun) s line ls ≡ on_from (Some (record { name = begun.name; text = begun.text ++ line ++ 10 ∷ [] })) s ls
+pub map_goes_on : (begun : Begun) (s : State) (line : List ℕ) (ls : Lines) → ends_map line ≡ false → line_on (Some begun) s line ls ≡ on_from (Some (record { line = begun.line; name = begun.name; text = begun.text ++ line ++ 10 ∷ [] })) s ls
 unfolding line_on line_says
 map_goes_on begun s line ls isnt = rw isnt refl
 
@@ -55,7 +57,7 @@ unfolding line_on line_says
 line_skipped s line ls is = rw is refl
 
 -- what is said first, in the head of a script
-pub head_line : (line : List ℕ) (old new : Lines) → IsNext line old new → is_skipped line ≡ false → head_from old ≡ nodes_of line >>= (λ nodes. Some (nodes, new))
+pub head_line : (line : List ℕ) (old new : Lines) → IsNext line old new → is_skipped line ≡ false → head_from old ≡ at_line new.number (nodes_of line) >>= (λ nodes. Ok (nodes, new))
 unfolding head_from head
 head_line line old new next isnt =
     ap (λ left. head (old.number + 1) left) next.left
@@ -69,6 +71,6 @@ head_skipped line old new next is =
     ∙ ap (λ n. head n (line ∷ new.left)) (sym next.number)
     ∙ rw is refl
 
-pub no_head : (ls : Lines) → ls.left ≡ [] → head_from ls ≡ None
+pub no_head : (ls : Lines) → ls.left ≡ [] → head_from ls ≡ Err (fault.BadLine 1)
 unfolding head_from head
 no_head ls none = ap (λ left. head (ls.number + 1) left) none

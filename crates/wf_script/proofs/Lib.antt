@@ -3,12 +3,15 @@ mod Counting
 mod Cutting
 mod Faults
 mod Going
+mod Judging
 mod Listing
 mod Naming
 mod Numbers
 mod Parting
 mod Performing
 mod Playing
+mod Running
+mod Telling
 mod Whole
 mod WholeInput
 mod Worlds

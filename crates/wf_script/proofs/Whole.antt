@@ -1,13 +1,13 @@
 -- What all the lines of a text say.
-use Rattle.std.proofs.Common.{◌≡◌, ◌∙◌, ℕ, List, Option, Some, None, sym, ap, subst}
-use Rattle.std.specs.Prelude.{Result, Err, false}
-use Rattle.wf_mapfile.specs.Grammar.{◌>>=◌}
+use Rattle.std.proofs.Common.{◌≡◌, ◌∙◌, ℕ, List, Some, None, sym, ap, subst}
+use Rattle.std.specs.Prelude.{Result, Ok, Err, false}
 use Rattle.wf_script.specs.Fault.{is_memory}
 use Rattle.wf_script.specs.Lines.{Lines, lines, over_limit}
-use Rattle.wf_script.specs.Reading.{Tells}
+use Rattle.wf_script.specs.Reading.{◌>>=◌, Tells}
 use Rattle.wf_script.specs.Script.{Script}
 use Rattle.wf_script.specs.Text.{State, ended, head_from, nothing_said, on_from, script, script_of, unless_over}
 use Rattle.wf_script.specs.declared.fault.ScriptFault.{ScriptFault}
+use Rattle.wf_script.specs.declared.fault.ScriptFault.TheVariants.{OverLimit}
 
 -- the lines of a text, before the first is given
 pub record AreLinesOf (text : List ℕ) (ls : Lines) : Type 0 where
@@ -19,29 +19,29 @@ from_first text ls are =
     ap (λ n. script (record { number = n; left = lines text })) (sym are.number)
     ∙ ap (λ left. script (record { number = ls.number; left = left })) (sym are.left)
 
-behind_head : (ls : Lines) (head : Option (ℕ × Lines)) → head_from ls ≡ head →
+behind_head : (ls : Lines) (head : Result (ℕ × Lines) ScriptFault) → head_from ls ≡ head →
     script ls ≡ head >>= (λ first. on_from None nothing_said first.1 >>= (λ s. ended first.0 s))
 unfolding script
 behind_head ls head is = ap (λ h. h >>= (λ first. on_from None nothing_said first.1 >>= (λ s. ended first.0 s))) is
 
-pub all_said : (text : List ℕ) (ls now : Lines) (nodes : ℕ) (s : State) → AreLinesOf text ls → head_from ls ≡ Some (nodes, now) → on_from None nothing_said now ≡ Some s
-    → script (record { number = 0; left = lines text }) ≡ Some (record { nodes = nodes; maps = s.maps; orders = s.orders })
+pub all_said : (text : List ℕ) (ls now : Lines) (nodes : ℕ) (s : State) → AreLinesOf text ls → head_from ls ≡ Ok (nodes, now) → on_from None nothing_said now ≡ Ok s
+    → script (record { number = 0; left = lines text }) ≡ Ok (record { nodes = nodes; names = s.names; maps = s.maps; orders = s.orders })
 all_said text ls now nodes s are head rest =
-    from_first text ls are ∙ behind_head ls (Some (nodes, now)) head
-    ∙ ap (λ (found : Option State). found >>= (λ t. ended nodes t)) rest
+    from_first text ls are ∙ behind_head ls (Ok (nodes, now)) head
+    ∙ ap (λ (found : Result State ScriptFault). found >>= (λ t. ended nodes t)) rest
 
-pub none_said : (text : List ℕ) (ls now : Lines) (nodes : ℕ) → AreLinesOf text ls → head_from ls ≡ Some (nodes, now) → on_from None nothing_said now ≡ None
-    → script (record { number = 0; left = lines text }) ≡ None
-none_said text ls now nodes are head rest =
-    from_first text ls are ∙ behind_head ls (Some (nodes, now)) head
-    ∙ ap (λ (found : Option State). found >>= (λ t. ended nodes t)) rest
+pub none_said : (text : List ℕ) (ls now : Lines) (nodes : ℕ) (fault : ScriptFault) → AreLinesOf text ls → head_from ls ≡ Ok (nodes, now) → on_from None nothing_said now ≡ Err fault
+    → script (record { number = 0; left = lines text }) ≡ Err fault
+none_said text ls now nodes fault are head rest =
+    from_first text ls are ∙ behind_head ls (Ok (nodes, now)) head
+    ∙ ap (λ (found : Result State ScriptFault). found >>= (λ t. ended nodes t)) rest
 
 pub no_head_told : {X : Type 0} (view : X → Script) (result : Result X ScriptFault) (fault : ScriptFault) (text : List ℕ) (ls : Lines) → result ≡ Err fault → AreLinesOf text ls
-    → (is_memory fault ≡ false → head_from ls ≡ None) → Tells view result (script (record { number = 0; left = lines text }))
+    → (is_memory fault ≡ false → head_from ls ≡ Err fault) → Tells view result (script (record { number = 0; left = lines text }))
 no_head_told view result fault text ls is are why =
-    subst (λ r. Tells view r (script (record { number = 0; left = lines text }))) (sym is) (λ isnt. from_first text ls are ∙ behind_head ls None (why isnt))
+    subst (λ r. Tells view r (script (record { number = 0; left = lines text }))) (sym is) (λ isnt. from_first text ls are ∙ behind_head ls (Err fault) (why isnt))
 
-pub over_is_none : (text : List ℕ) (line : ℕ) → over_limit text ≡ Some line → script_of text ≡ None
+pub over_is_none : (text : List ℕ) (line : ℕ) → over_limit text ≡ Some line → script_of text ≡ Err (OverLimit line)
 unfolding script_of
 over_is_none text line over = ap (λ o. unless_over o (script (record { number = 0; left = lines text }))) over
 

@@ -1,8 +1,7 @@
 -- Why a run of a script ends before its end.
-use Rattle.std.specs.Prelude.{◌≡◌, ◌≤◌, ℕ, max, ⊤, Bool, true, false, Option, List, Result, Ok, Err, IfSome}
-use Rattle.std.specs.Io.KnownBytes.{IsAtEnd, Keeps}
+use Rattle.std.specs.Prelude.{◌≡◌, ◌≤◌, ℕ, max, ⊤, Bool, true, false, Option, List, Result, Ok, Err}
+use Rattle.std.specs.Io.KnownBytes.{Keeps}
 use Rattle.wf_stream.specs.Reading.{Rises}
-use Rattle.wf_script.specs.Script.{IsScriptText}
 use Rattle.wf_script.specs.declared.fault.ScriptFault.{ScriptFault}
 use Rattle.wf_script.specs.declared.fault.ScriptFault.TheVariants as script
 use Rattle.wf_script.specs.declared.fault.Wrong.{Wrong}
@@ -45,12 +44,6 @@ IsInputFault (play.Script fault) = IsMemory fault
 IsInputFault play.Read = ⊤
 IsInputFault play.Write = ⊥
 
--- why there is no script: its own fault, or a read failed
-abbrev pub IsReadingFault : PlayFault → Type 0
-IsReadingFault (play.Script fault) = ⊤
-IsReadingFault play.Read = ⊤
-IsReadingFault play.Write = ⊥
-
 -- why a script that was read isn't played to its end: memory ran out, or a write failed
 abbrev pub IsPlayingFault : PlayFault → Type 0
 IsPlayingFault (play.Script fault) = IsMemory fault
@@ -62,14 +55,6 @@ abbrev pub KeepsQuiet : Option (List ℕ) → Option (List ℕ) → PlayFault �
 KeepsQuiet old new (play.Script fault) = is_memory fault ≡ false → Keeps old new
 KeepsQuiet old new play.Read = Keeps old new
 KeepsQuiet old new play.Write = ⊤
-
--- Where a run succeeds, or fails at a write, the input was read to its end: where it is known, nothing of it is left, and it is a text
--- within the limits of scripts.
-abbrev pub ReadsWhole : Option (List ℕ) → Option (List ℕ) → Result (Unit {0}) PlayFault → Type 0
-ReadsWhole input left (Ok done) = IfSome input IsScriptText × IsAtEnd left
-ReadsWhole input left (Err play.Write) = IfSome input IsScriptText × IsAtEnd left
-ReadsWhole input left (Err (play.Script fault)) = ⊤
-ReadsWhole input left (Err play.Read) = ⊤
 
 -- A read fault comes only where a read has failed, and a run whose reads have failed ends with that fault or for want of memory.
 abbrev pub CountsReads : {T : Type 0} → Result T PlayFault → ℕ → ℕ → Type 0

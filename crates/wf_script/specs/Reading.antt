@@ -1,9 +1,20 @@
 -- What a function that reads a part of a script gives, beside what that part means.
-use Rattle.std.specs.Prelude.{◌≡◌, Bool, true, false, Option, Some, None, Result, Ok, Err}
+use Rattle.std.specs.Prelude.{◌≡◌, ℕ, Bool, true, false, Result, Ok, Err}
 use Rattle.wf_script.specs.declared.fault.Wrong.{Wrong}
 use Rattle.wf_script.specs.declared.fault.Wrong.TheVariants as wrongs
 use Rattle.wf_script.specs.declared.fault.ScriptFault.{ScriptFault}
-use Rattle.wf_script.specs.Fault.{is_memory}
+use Rattle.wf_script.specs.Fault.{fault_of, is_memory}
+
+-- what comes next is read where nothing is wrong so far
+infixl 10 ◌>>=◌
+abbrev pub ◌>>=◌ : {A B E : Type 0} → Result A E → (A → Result B E) → Result B E
+(Ok x) >>= next = next x
+(Err e) >>= next = Err e
+
+-- what is wrong with the line of this number, as the fault of the script
+abbrev pub at_line : {A : Type 0} → ℕ → Result A Wrong → Result A ScriptFault
+at_line n (Ok x) = Ok x
+at_line n (Err wrong) = Err (fault_of wrong n)
 
 -- memory ran out, which says nothing of the text
 abbrev pub wants_memory : Wrong → Bool
@@ -12,17 +23,18 @@ wants_memory wrongs.BadLine = false
 wants_memory wrongs.OverLimit = false
 wants_memory wrongs.BadMap = false
 
--- What was read, seen by view, is what is meant; whatever is wrong but want of memory is so only where nothing is meant.
-abbrev pub Gives : {X Y : Type 0} → (X → Y) → Result X Wrong → Option Y → Type 0
-Gives view (Ok x) meant = meant ≡ Some (view x)
-Gives view (Err wrong) meant = wants_memory wrong ≡ false → meant ≡ None
+-- What was read, seen by view, is what is meant; whatever is told to be wrong, but want of memory, is wrong.
+abbrev pub Gives : {X Y : Type 0} → (X → Y) → Result X Wrong → Result Y Wrong → Type 0
+Gives view (Ok x) meant = meant ≡ Ok (view x)
+Gives view (Err wrong) meant = wants_memory wrong ≡ false → meant ≡ Err wrong
 
 -- the same of a fault, with its line
-abbrev pub Tells : {X Y : Type 0} → (X → Y) → Result X ScriptFault → Option Y → Type 0
-Tells view (Ok x) meant = meant ≡ Some (view x)
-Tells view (Err fault) meant = is_memory fault ≡ false → meant ≡ None
+abbrev pub Tells : {X Y : Type 0} → (X → Y) → Result X ScriptFault → Result Y ScriptFault → Type 0
+Tells view (Ok x) meant = meant ≡ Ok (view x)
+Tells view (Err fault) meant = is_memory fault ≡ false → meant ≡ Err fault
 
--- What is meant from here on is what is meant from there on; whatever is wrong but want of memory is so only where nothing is.
-abbrev pub GoesOn : {X Y : Type 0} → Result X Wrong → Option Y → Option Y → Type 0
-GoesOn (Ok x) here there = here ≡ there
-GoesOn (Err wrong) here there = wants_memory wrong ≡ false → here ≡ None
+-- What is meant from here on is what is meant from there on; whatever is told to be wrong, but want of memory, is wrong at the line of
+-- this number.
+abbrev pub GoesOn : {X Y : Type 0} → ℕ → Result X Wrong → Result Y ScriptFault → Result Y ScriptFault → Type 0
+GoesOn n (Ok x) here there = here ≡ there
+GoesOn n (Err wrong) here there = wants_memory wrong ≡ false → here ≡ Err (fault_of wrong n)

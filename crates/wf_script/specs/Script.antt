@@ -2,7 +2,7 @@
 use Rattle.std.specs.Prelude.{◌≤◌, ℕ, List, length}
 use Rattle.wf_ballot.specs.Node.{most_nodes}
 use Rattle.wf_def.specs.Definition.{Definition}
-use Rattle.wf_script.specs.Lines.{line_feeds, most_script_bytes, most_lines, most_maps}
+use Rattle.wf_script.specs.Lines.{most_lines, most_maps}
 use Rattle.wf_script.specs.Order.{Order, view}
 use Rattle.wf_script.specs.declared.maps.Named as maps
 use Rattle.wf_script.specs.declared.order.Numbered as orders
@@ -16,10 +16,11 @@ pub record Numbered : Type 0 where
 abbrev pub numbered : orders.Numbered → Numbered
 numbered n = record { line = n.line; order = view n.order }
 
--- How many nodes its farm has, what its maps mean, and its orders with their lines, all as they stand in its text. An order names a map by
--- its place among the maps. Which text is which script, Text.antt says.
+-- How many nodes its farm has, its maps' names and what they mean, and its orders with their lines, all as they stand in its text. An order
+-- names a map by its place among the maps. Which text is which script, Text.antt says.
 pub record Script : Type 0 where
   pub nodes : ℕ
+  pub names : List (List ℕ)
   pub maps : List Definition
   pub orders : List Numbered
 
@@ -33,8 +34,3 @@ pub record IsScript (script : Script) : Type 0 where
   pub nodes : script.nodes ≤ most_nodes
   pub maps : length script.maps ≤ most_maps
   pub orders : length script.orders ≤ most_lines
-
--- A text within the limits of scripts.
-pub record IsScriptText (text : List ℕ) : Type 0 where
-  pub bytes : length text ≤ most_script_bytes
-  pub lines : line_feeds text ≤ most_lines

@@ -1,10 +1,12 @@
 -- The words of a line, and what a word is.
-use Rattle.std.specs.Prelude.{◌==◌, ◌&&◌, ◌+◌, ◌-◌, ◌*◌, ℕ, Bool, true, false, not, List, [], ◌∷◌, length, nat_le, filter, codes, if◌then◌else◌, Option, Some, None}
+use Rattle.std.specs.Prelude.{◌==◌, ◌&&◌, ◌+◌, ◌-◌, ◌*◌, ℕ, Bool, true, false, not, List, [], ◌∷◌, length, nat_le, filter, codes, if◌then◌else◌, Result, Ok, Err}
 use Rattle.std.specs.Char.{is_ascii_digit}
 use Rattle.std.specs.List.{fold, list_all}
 use Rattle.std.specs.Str.{bytes_eq, is_utf8}
-use Rattle.wf_mapfile.specs.Grammar.{◌>>=◌}
 use Rattle.wf_script.specs.Lines.{before}
+use Rattle.wf_script.specs.Reading.{◌>>=◌}
+use Rattle.wf_script.specs.declared.fault.Wrong.{Wrong}
+use Rattle.wf_script.specs.declared.fault.Wrong.TheVariants.{BadLine}
 
 -- what stands between spaces, empty where there is nothing between two
 unfoldable pub pieces : List ℕ → List (List ℕ)
@@ -35,33 +37,33 @@ abbrev pub value : List ℕ → ℕ
 value digits = fold (λ n digit. 10 * n + (digit - 48)) 0 digits
 
 -- the number that a word is: 1 to 9 decimal digits
-unfoldable pub number : List ℕ → Option ℕ
-number word = if not (length word == 0) && nat_le (length word) most_digits && list_all is_ascii_digit word then Some (value word) else None
+unfoldable pub number : List ℕ → Result ℕ Wrong
+number word = if not (length word == 0) && nat_le (length word) most_digits && list_all is_ascii_digit word then Ok (value word) else Err BadLine
 
 -- the text that a word is
-unfoldable pub text_of : List ℕ → Option (List ℕ)
-text_of word = if is_utf8 word then Some word else None
+unfoldable pub text_of : List ℕ → Result (List ℕ) Wrong
+text_of word = if is_utf8 word then Ok word else Err BadLine
 
--- the first word and those behind it; a word that is a text; a number; and no word at all
-unfoldable pub a_word : List (List ℕ) → Option (List ℕ × List (List ℕ))
-a_word [] = None
-a_word (word ∷ rest) = Some (word, rest)
+-- the first word and those behind it; a word that is a text; a number; and no word at all: another line is a bad one
+unfoldable pub a_word : List (List ℕ) → Result (List ℕ × List (List ℕ)) Wrong
+a_word [] = Err BadLine
+a_word (word ∷ rest) = Ok (word, rest)
 
-unfoldable pub a_text : List (List ℕ) → Option (List ℕ × List (List ℕ))
+unfoldable pub a_text : List (List ℕ) → Result (List ℕ × List (List ℕ)) Wrong
 a_text words = do
   word ← a_word words
   text ← text_of word.0
-  Some (text, word.1)
+  Ok (text, word.1)
 
-unfoldable pub a_number : List (List ℕ) → Option (ℕ × List (List ℕ))
+unfoldable pub a_number : List (List ℕ) → Result (ℕ × List (List ℕ)) Wrong
 a_number words = do
   word ← a_word words
   n ← number word.0
-  Some (n, word.1)
+  Ok (n, word.1)
 
-unfoldable pub no_word : List (List ℕ) → Option (Unit {0})
-no_word [] = Some tt
-no_word (word ∷ rest) = None
+unfoldable pub no_word : List (List ℕ) → Result (Unit {0}) Wrong
+no_word [] = Ok tt
+no_word (word ∷ rest) = Err BadLine
 
 -- whether the first byte is a number sign
 abbrev pub is_comment : List ℕ → Bool

@@ -1,120 +1,48 @@
 //! What is asked of a farm, and its answers.
 
+ghost use Rattle.std.specs.Prelude.{◌≡◌, ◌++◌, OnOk, codes, length, option_copied, slice_get};
+ghost use Rattle.std.specs.String.{string_bytes};
+ghost use Rattle.wf_farm.specs.Farm.{running_in};
+ghost use Rattle.wf_learner.specs.History.{map_at};
+ghost use Rattle.wf_script.specs.Telling.{definition_line, name_of, no_node, proposal_line, published_line, published_word, sent_line, standing_words};
+
 use crate::order::Question;
+use crate::script::Script;
 use crate::session::Session;
-use std::alloc::{AllocError, Global};
+use std::alloc::AllocError;
 use std::fmt::Write;
-use wf_ballot::{SEQUENCES, Seq, Slot};
-use wf_canon::{Canon, CanonFault};
+use wf_ballot::{Seq, Slot};
+use wf_canon::Canon;
+use wf_def::map::MapDef;
+use wf_farm::Farm;
 use wf_node::Node;
 use wf_proposer::Standing;
 use wf_tape::MemoryTape;
 
 impl<'s> Session<'s> {
-    ghost use Rattle.std.specs.Prelude.{◌≡◌, ◌≤◌, false, None, IfSome};
+    ghost use Rattle.std.specs.Prelude.{◌≤◌, false, None, IfSome};
     ghost use Rattle.wf_ballot.specs.Sequence.{last_sequence};
     ghost use Rattle.wf_script.specs.Session.{IsPublished};
+    ghost use Rattle.wf_script.specs.Telling.{answer_text};
 
     /// Appends the answer, a line.
-    pub(crate) fn answer(
-        &self,
-        alloc: Global,
-        question: Question,
-        out: &mut String,
-    ) -> Result<(), AllocError> {
+    pub(crate) fn answer(&self, question: Question, out: &mut String) -> Result<(), AllocError>
+        ensures { OnOk result (string_bytes out.new ≡ string_bytes out.old ++ answer_text self.now.script question self.now.farm) }
+    {
         match question {
-            Question::Published => self.tell_published(out),
-            Question::Sent => self.tell_sent(out),
-            Question::Proposal(node) => self.tell_proposal(node, out),
+            Question::Published => tell_published(&self.farm, out),
+            Question::Sent => tell_sent(&self.farm, out),
+            Question::Proposal(node) => tell_proposal(&self.farm, node, out),
             Question::Definition(node, sequence) => {
-                self.tell_definition(alloc, node, sequence, out)
+                tell_definition(self.script, &self.farm, node, sequence, out)
             }
             Question::Same => self.tell_same(out),
         }
     }
 
-    /// Each node's last published sequence, `-` for a stopped one.
-    fn tell_published(&self, out: &mut String) -> Result<(), AllocError> {
-        out.push_str("published")?;
-        for number in 0..self.farm.size() {
-            self.tell_published_by(number, out)?;
-        }
-        out.push_str("\n")
-    }
-
-    fn tell_published_by(&self, number: usize, out: &mut String) -> Result<(), AllocError> {
-        match self.farm.node(number) {
-            Some(node) => {
-                let published = node.published().number();
-                write!(out, " {published}")
-            }
-            None => out.push_str(" -"),
-        }
-    }
-
-    fn tell_sent(&self, out: &mut String) -> Result<(), AllocError> {
-        let count = self.farm.sent_count();
-        writeln!(out, "sent {count}")
-    }
-
-    fn tell_proposal(&self, number: usize, out: &mut String) -> Result<(), AllocError> {
-        let Some(node) = self.farm.node(number) else {
-            return tell_no_node(out);
-        };
-        write!(out, "proposal {number} ")?;
-        match node.proposal() {
-            Standing::None => out.push_str("none\n"),
-            Standing::Running => out.push_str("running\n"),
-            Standing::Published(slot) => tell_ended("published", slot, out),
-            Standing::Overtaken(slot) => tell_ended("overtaken", slot, out),
-        }
-    }
-
-    /// The name of the first equal map; `?` where there is none, or where the node hasn't published the sequence.
-    fn tell_definition(
-        &self,
-        alloc: Global,
-        number: usize,
-        sequence: usize,
-        out: &mut String,
-    ) -> Result<(), AllocError> {
-        let Some(node) = self.farm.node(number) else {
-            return tell_no_node(out);
-        };
-        let name = self.name_at(alloc, node, sequence)?.unwrap_or("?");
-        writeln!(out, "definition {number} {sequence} {name}")
-    }
-
-    /// The name of the map that the node publishes at the sequence, if the script has it.
-    fn name_at(
-        &self,
-        alloc: Global,
-        node: &Node<MemoryTape>,
-        sequence: usize,
-    ) -> Result<Option<&str>, AllocError> {
-        if sequence > SEQUENCES as usize {
-            return Ok(None);
-        }
-        let Some(seq) = Seq::new(sequence as u16) else {
-            return Ok(None);
-        };
-        let Some(map) = node.definition(seq) else {
-            return Ok(None);
-        };
-        match Canon::of(alloc, map) {
-            Ok(canon) => {
-                let script = self.script;
-                let name = script.maps.name_of(canon.text());
-                drop(canon);
-                Ok(name)
-            }
-            Err(CanonFault::Memory) => Err(AllocError),
-            // No map of a script has so long a text.
-            Err(_) => Ok(None),
-        }
-    }
-
-    fn tell_same(&self, out: &mut String) -> Result<(), AllocError> {
+    fn tell_same(&self, out: &mut String) -> Result<(), AllocError>
+        ensures { OnOk result (string_bytes out.new ≡ string_bytes out.old ++ codes "same\n") }
+    {
         match self.differ() {
             Some(slot) => {
                 let number = slot.number();
@@ -211,11 +139,103 @@ impl<'s> Session<'s> {
     }
 }
 
-pub(crate) fn tell_no_node(out: &mut String) -> Result<(), AllocError> {
-    out.push_str("no node\n")
+/// Each node's last published sequence, `-` for a stopped one.
+fn tell_published(farm: &Farm, out: &mut String) -> Result<(), AllocError>
+    ensures { OnOk result (string_bytes out.new ≡ string_bytes out.old ++ published_line farm.now.places) }
+{
+    out.push_str("published")?;
+    for number in 0..farm.size() {
+        tell_published_by(farm, number, out)?;
+    }
+    out.push_str("\n")
 }
 
-fn tell_ended(how: &str, slot: Slot, out: &mut String) -> Result<(), AllocError> {
-    let number = slot.number();
-    writeln!(out, "{how} {number}")
+fn tell_published_by(farm: &Farm, number: usize, out: &mut String) -> Result<(), AllocError>
+    ensures { OnOk result (string_bytes out.new ≡ string_bytes out.old ++ published_word (running_in (slice_get farm.now.places number))) }
+{
+    match farm.node(number) {
+        Some(node) => {
+            let published = node.published().number();
+            write!(out, " {published}")
+        }
+        None => out.push_str(" -"),
+    }
+}
+
+fn tell_sent(farm: &Farm, out: &mut String) -> Result<(), AllocError>
+    ensures { OnOk result (string_bytes out.new ≡ string_bytes out.old ++ sent_line (length farm.now.sent)) }
+{
+    let count = farm.sent_count();
+    writeln!(out, "sent {count}")
+}
+
+fn tell_proposal(farm: &Farm, number: usize, out: &mut String) -> Result<(), AllocError>
+    ensures { OnOk result (string_bytes out.new ≡ string_bytes out.old ++ proposal_line number (running_in (slice_get farm.now.places number))) }
+{
+    let Some(node) = farm.node(number) else {
+        return tell_no_node(out);
+    };
+    write!(out, "proposal {number} ")?;
+    tell_standing(node.proposal(), out)
+}
+
+fn tell_standing(standing: Standing, out: &mut String) -> Result<(), AllocError>
+    ensures { OnOk result (string_bytes out.new ≡ string_bytes out.old ++ standing_words standing) }
+{
+    match standing {
+        Standing::None => out.push_str("none\n"),
+        Standing::Running => out.push_str("running\n"),
+        Standing::Published(slot) => {
+            let number = slot.number();
+            writeln!(out, "published {number}")
+        }
+        Standing::Overtaken(slot) => {
+            let number = slot.number();
+            writeln!(out, "overtaken {number}")
+        }
+    }
+}
+
+/// The name of the first equal map; `?` where there is none, or where the node hasn't published the sequence.
+fn tell_definition(
+    script: &Script,
+    farm: &Farm,
+    number: usize,
+    sequence: usize,
+    out: &mut String,
+) -> Result<(), AllocError>
+    ensures { OnOk result (string_bytes out.new ≡ string_bytes out.old ++ definition_line script.now number sequence (running_in (slice_get farm.now.places number))) }
+{
+    let Some(node) = farm.node(number) else {
+        return tell_no_node(out);
+    };
+    let name = name_at(script, node, sequence);
+    writeln!(out, "definition {number} {sequence} {name}")
+}
+
+/// The name of the map that the node publishes at the sequence, `?` where the script has it not.
+fn name_at<'s>(script: &'s Script, node: &Node<MemoryTape>, sequence: usize) -> &'s str
+    ensures { result.now ≡ name_of script.now (map_at node.now.parts.history sequence) }
+{
+    match published_at(node, sequence) {
+        Some(map) => script.name_of(map),
+        None => "?",
+    }
+}
+
+/// The map that the node publishes at the sequence.
+#[tactic(auto, using(crate::proofs::Telling::unpublished))]
+fn published_at<'n>(node: &'n Node<MemoryTape>, sequence: usize) -> Option<&'n MapDef>
+    ensures { option_copied result ≡ map_at node.now.parts.history sequence }
+{
+    if sequence > node.published().number() as usize {
+        return None;
+    }
+    node.definition(Seq::new(sequence as u16)?)
+}
+
+pub(crate) fn tell_no_node(out: &mut String) -> Result<(), AllocError>
+    ensures { OnOk result (string_bytes out.new ≡ string_bytes out.old ++ no_node) }
+{
+    out.push_str("no node\n")
 }

@@ -56,7 +56,7 @@ impl Draft {
     /// Takes in the line that was given last; where a map begins there, those of the map too.
     #[tactic(auto, unfolding(crate::specs::Text::line_on, crate::specs::Text::line_says, crate::specs::Text::said, crate::specs::Text::said_by, crate::specs::Text::map_on))]
     fn take_line(&mut self, alloc: Global, line: &[u8], lines: &mut Lines<'_>) -> Result<(), Wrong>
-        ensures value { GoesOn result (line_on None (state self.old.maps.named.items self.old.orders.items) line.now lines.old) (on_from None (state self.new.maps.named.items self.new.orders.items) lines.new) }
+        ensures value { GoesOn lines.old.number result (line_on None (state self.old.maps.named.items self.old.orders.items) line.now lines.old) (on_from None (state self.new.maps.named.items self.new.orders.items) lines.new) }
         ensures total { total lines.new ≡ total lines.old }
         ensures left { length lines.new.left ≤ length lines.old.left }
         ensures orders { length self.new.orders.items ≤ length self.old.orders.items + 1 }
@@ -101,7 +101,7 @@ impl Draft {
         words: &mut Words<'_>,
         lines: &mut Lines<'_>,
     ) -> Result<(), Wrong>
-        ensures value { GoesOn result (map_on (state self.old.maps.named.items self.old.orders.items) words.old lines.old) (on_from None (state self.new.maps.named.items self.new.orders.items) lines.new) }
+        ensures value { GoesOn lines.old.number result (map_on (state self.old.maps.named.items self.old.orders.items) words.old lines.old) (on_from None (state self.new.maps.named.items self.new.orders.items) lines.new) }
         ensures total { total lines.new ≡ total lines.old }
         ensures left { length lines.new.left ≤ length lines.old.left }
         ensures orders { self.new.orders ≡ self.old.orders }

@@ -23,23 +23,25 @@
 //! The way through a text: `lines`, `words` of a line, the `verb` that the first word is, the `order` that the others are, and
 //! `draft`, which holds what was said so far.
 //!
-//! Its model: of a script, how many nodes it has, what its maps mean, and its orders with their lines; of a session, its
-//! script and its farm.
+//! Its model: of a script, how many nodes it has, its maps' names and what they mean, and its orders with their lines; of a
+//! session, its script and its farm.
 //!
 //! It promises of each order that the farm is what that order does: a step, a stop, a restart or a torn step is one event of
 //! the model, deliveries are theirs in turn, a pump is the farm's own, `skip` and questions leave the world as it is; and
-//! where memory was wanted, that is told at exactly the order's line ([`Session::perform`]). Whatever an order is, the farm
+//! where memory was wanted, that is told at exactly the order's line ([`Session::perform`]). It promises what each order writes,
+//! too (`Writes` of `specs/Telling.antt`): of an event its refusal, of a question its answer. Whatever an order is, the farm
 //! has gone on by some events of the model, no node's list lost a map, and the farm's nodes agree, with the laws beneath
 //! that: ballots belong to their nodes, promises are kept, and each Accept has a majority of promises behind it. So two
 //! running nodes never publish different maps ([`Session::differ`]), and two that stand at one sequence, or that are asked
 //! for one map, answer a client equally ([`Session::equal`]).
 //!
-//! Of a script it promises that what is read is exactly the script that the text is, and that a text is refused, want of memory
-//! aside, only where it is none (`script_of` of `specs/Text.antt`, on [`Script::read`]): its nodes, what each of its maps means,
-//! and each of its orders with its line. A text over a limit is refused at exactly the line where it goes over, and each fault is
-//! at a line that there is. Of a run it promises that a fault of the reader or the writer comes for that cause, that nothing is
-//! written where the input is no script, and that where the run succeeds, the whole input is within the limits of scripts. Which
-//! of several faults is told, and what is written, no contract says: cases show it.
+//! Of a script it promises that what is read is exactly the script that the text is, or the fault for which it is none, with its
+//! line, unless memory is wanted (`script_of` of `specs/Text.antt`, on [`Script::read`]): its nodes, each of its maps by its name
+//! and what it means, and each of its orders with its line. Want of memory is told at a line that there is, too, and never hides
+//! that a text is over a limit. Of a run it promises that a fault of the reader or the writer comes for that cause, that nothing
+//! is written where the input is no script, which is told by the input's own fault, and that where the run succeeds, the whole
+//! input is a script, each of its orders was performed in turn on a new farm, and exactly what they write was written
+//! (`PlaysInput` of `specs/Running.antt`, on [`run_script`]).
 #![tactic(auto)]
 
 mod answer;

@@ -2,16 +2,20 @@
 
 ghost use Rattle.std.specs.Char.{is_ascii_alphanumeric};
 ghost use Rattle.std.specs.List.{list_all, position};
-ghost use Rattle.std.specs.Prelude.{◌≡◌, ◌<◌, ◌≤◌, ◌↔◌, length, IsTrue};
+ghost use Rattle.std.specs.Option.{option_and_then};
+ghost use Rattle.std.specs.Prelude.{◌≡◌, ◌<◌, ◌≤◌, ◌↔◌, length, IsTrue, option_copied, option_map, slice_get};
 ghost use Rattle.wf_script.specs.Lines.{most_maps};
 ghost use Rattle.wf_script.specs.Reading.{Gives};
 ghost use Rattle.wf_script.specs.Naming.{name as name_of};
 ghost use Rattle.wf_script.specs.Text.{is_name, map_of};
 ghost use Rattle.std.specs.Str.{bytes_eq};
+ghost use Rattle.wf_def.specs.Equality.{definition_eq};
+ghost use Rattle.wf_script.specs.Script.{definition};
 
 use crate::fault::Wrong;
 use std::alloc::{AllocError, Global};
 use wf_canon::{Canon, CanonFault};
+use wf_def::map::MapDef;
 use wf_mapfile::fault::MapFault;
 
 /// The most maps of a script.
@@ -35,9 +39,9 @@ pub(crate) struct Maps {
 }
 
 impl Maps {
-    ghost use Rattle.std.specs.Prelude.{◌++◌, ◌∷◌, [], OnOk, map, slice_get, option_copied};
+    ghost use Rattle.std.specs.Prelude.{◌++◌, ◌∷◌, [], OnOk, map};
     ghost use Rattle.wf_script.specs.Orders.{place_of};
-    ghost use Rattle.wf_script.specs.Script.{definition};
+    ghost use Rattle.wf_script.specs.Telling.{place_with};
 
     pub(crate) fn new(alloc: Global) -> Maps
         ensures { result.named.items ≡ [] }
@@ -90,14 +94,11 @@ impl Maps {
         }
     }
 
-    /// The name of the first map with this canonical text.
-    pub(crate) fn name_of(&self, text: &[u8]) -> Option<&str> {
-        for map in &self.named {
-            if map.canon.text() == text {
-                return Some(map.name.as_str());
-            }
-        }
-        None
+    /// The name of the first map that means this.
+    pub(crate) fn name_of(&self, meant: &MapDef) -> Option<&str>
+        ensures { option_copied result ≡ option_and_then (slice_get (map name_of self.now.named.items)) (place_with (map definition self.now.named.items) meant.now) }
+    {
+        name_of(&self.named, meant)
     }
 }
 
@@ -106,6 +107,30 @@ fn number_of(maps: &[Named], name: &str) -> Option<usize>
     ensures { result ≡ position (λ map. bytes_eq (name_of map) name.now) maps.now }
 {
     maps.iter().position(|map| is_named(map, name))
+}
+
+/// The name of the first map that means this.
+fn name_of<'m>(maps: &'m [Named], meant: &MapDef) -> Option<&'m str>
+    ensures { option_copied result ≡ option_map name_of (option_and_then (slice_get maps.now) (position (λ named. definition_eq (definition named) meant.now) maps.now)) }
+{
+    match maps.get(number_with(maps, meant)?) {
+        Some(named) => Some(named.name.as_str()),
+        None => None,
+    }
+}
+
+/// The number of the first map that means this, counted from 0.
+fn number_with(maps: &[Named], meant: &MapDef) -> Option<usize>
+    ensures { result ≡ position (λ named. definition_eq (definition named) meant.now) maps.now }
+{
+    maps.iter().position(|named| means(named, meant))
+}
+
+/// Does the map mean this?
+fn means(named: &Named, meant: &MapDef) -> bool
+    ensures { result ≡ definition_eq (definition named.now) meant.now }
+{
+    named.canon.def() == meant
 }
 
 /// Has the map this name?

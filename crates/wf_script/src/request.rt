@@ -1,8 +1,10 @@
 //! Requests that clients put to nodes of a farm, and what they get.
 
-ghost use Rattle.std.specs.Prelude.{◌≡◌, IfOk, IfErr};
+ghost use Rattle.std.specs.Prelude.{◌≡◌, ◌++◌, IfOk, IfErr, OnOk};
+ghost use Rattle.std.specs.String.{string_bytes};
 ghost use Rattle.wf_farm.specs.Answering.{Answers, sequence_at};
 ghost use Rattle.wf_script.specs.Comparison.{Compares, IsTrueWhereOne, IsUncompared, is_same_answer, is_same_kind};
+ghost use Rattle.wf_script.specs.Telling.{Adds, IsToldAbsent, TellsAnswer, TellsEqual, exception_line, kind_line, number_of};
 
 use crate::answer::tell_no_node;
 use crate::session::Session;
@@ -19,15 +21,10 @@ impl<'s> Session<'s> {
         number: usize,
         query: &[u8],
         out: &mut String,
-    ) -> Result<(), AllocError> {
-        match self.farm.answer(alloc, number, query) {
-            Ok(answer) => {
-                let told = tell_kind(number, answer.kind, answer.bytes.len(), out);
-                drop(answer);
-                told
-            }
-            Err(fault) => tell_no_answer(fault, out),
-        }
+    ) -> Result<(), AllocError>
+        ensures { OnOk result (Adds (TellsAnswer self.now.farm number query.now) (string_bytes out.old) (string_bytes out.new)) }
+    {
+        tell_answer(alloc, &self.farm, number, query, out)
     }
 
     /// Whether the two nodes answer the query equally.
@@ -38,7 +35,9 @@ impl<'s> Session<'s> {
         second: usize,
         query: &[u8],
         out: &mut String,
-    ) -> Result<(), AllocError> {
+    ) -> Result<(), AllocError>
+        ensures { OnOk result (Adds (TellsEqual self.now.farm first second query.now) (string_bytes out.old) (string_bytes out.new)) }
+    {
         match self.equal(alloc, first, second, query) {
             Ok(true) => out.push_str("equal\n"),
             Ok(false) => out.push_str("differ\n"),
@@ -147,19 +146,54 @@ fn is_same_kind(kind: Kind, other: Kind) -> bool
     kind == other
 }
 
-/// The line about an answer of so many bytes.
-fn tell_kind(number: usize, kind: Kind, size: usize, out: &mut String) -> Result<(), AllocError> {
-    match kind {
-        Kind::Capabilities => writeln!(out, "get {number} capabilities {size}"),
-        Kind::Map => writeln!(out, "get {number} map {size}"),
-        Kind::Exception(exception) => {
-            let code = number_of(exception);
-            writeln!(out, "get {number} exception E{code} {size}")
+/// What the node answers to the query.
+#[tactic(auto, using(crate::proofs::Telling::no_answer_told))]
+fn tell_answer(
+    alloc: Global,
+    farm: &Farm,
+    number: usize,
+    query: &[u8],
+    out: &mut String,
+) -> Result<(), AllocError>
+    ensures { OnOk result (Adds (TellsAnswer farm.now number query.now) (string_bytes out.old) (string_bytes out.new)) }
+{
+    match farm.answer(alloc, number, query) {
+        Ok(answer) => {
+            let told = tell_kind(number, answer.kind, answer.bytes.len(), out);
+            drop(answer);
+            told
         }
+        Err(fault) => tell_no_answer(fault, out),
     }
 }
 
-fn tell_no_answer(fault: FarmFault, out: &mut String) -> Result<(), AllocError> {
+/// The line about an answer of so many bytes.
+fn tell_kind(number: usize, kind: Kind, size: usize, out: &mut String) -> Result<(), AllocError>
+    ensures { OnOk result (string_bytes out.new ≡ string_bytes out.old ++ kind_line number kind size) }
+{
+    match kind {
+        Kind::Capabilities => writeln!(out, "get {number} capabilities {size}"),
+        Kind::Map => writeln!(out, "get {number} map {size}"),
+        Kind::Exception(exception) => tell_exception(number, exception, size, out),
+    }
+}
+
+fn tell_exception(
+    number: usize,
+    exception: Exception,
+    size: usize,
+    out: &mut String,
+) -> Result<(), AllocError>
+    ensures { OnOk result (string_bytes out.new ≡ string_bytes out.old ++ exception_line number exception size) }
+{
+    let code = number_of(exception);
+    writeln!(out, "get {number} exception E{code} {size}")
+}
+
+/// That there is no such node; want of memory is no answer.
+fn tell_no_answer(fault: FarmFault, out: &mut String) -> Result<(), AllocError>
+    ensures { OnOk result (IsToldAbsent fault (string_bytes out.old) (string_bytes out.new)) }
+{
     match fault {
         FarmFault::NoNode => tell_no_node(out),
         FarmFault::Memory(_) => Err(AllocError),
@@ -167,7 +201,9 @@ fn tell_no_answer(fault: FarmFault, out: &mut String) -> Result<(), AllocError> 
 }
 
 /// The number of an exception, 1 to 10.
-fn number_of(exception: Exception) -> u8 {
+fn number_of(exception: Exception) -> u8
+    ensures { result ≡ number_of exception }
+{
     match exception {
         Exception::MissingParameter(_) => 1,
         Exception::BadValue(_) => 2,

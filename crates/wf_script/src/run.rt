@@ -1,11 +1,12 @@
 //! A script is read and played, over any reader and writer.
 
-ghost use Rattle.std.specs.Prelude.{◌≡◌, ◌+◌, ◌<◌, IfErr, IfOk, IfSome, OnOk, length};
+ghost use Rattle.std.specs.Prelude.{◌≡◌, ◌+◌, ◌<◌, IfErr, IfOk, IfSome, Ok, OnOk, length};
 ghost use Rattle.std.specs.Io.KnownBytes.{IsAtEnd};
 ghost use Rattle.wf_stream.specs.Reading.{TakesUpTo};
 ghost use Rattle.wf_script.specs.Lines.{judged, most_script_bytes};
-ghost use Rattle.wf_script.specs.Script.{IsScriptText};
-ghost use Rattle.wf_script.specs.Fault.{CountsReads, CountsWrites, IsMemory, IsInputFault, IsReadingFault, IsPlayingFault, KeepsQuiet, ReadsWhole};
+ghost use Rattle.wf_script.specs.Fault.{CountsReads, CountsWrites, IsMemory, IsInputFault, IsPlayingFault, KeepsQuiet};
+ghost use Rattle.wf_script.specs.Running.{HavePlayed, IsRefusalOf, IsScriptText, PlaysInput, ReadsWhole, WritesPlay};
+ghost use Rattle.wf_script.specs.Text.{script_of};
 
 use crate::fault::{PlayFault, ScriptFault};
 use crate::limit::MOST_SCRIPT_BYTES;
@@ -15,9 +16,9 @@ use std::alloc::Global;
 use std::io::ErrorKind;
 use wf_stream::{Sink, Source, read_up_to, write_all};
 
-/// Reads a script to its end, or to the byte that makes it too long, and plays it: what each order writes is written once
-/// it is performed. A fault of the script, before its first order is performed, comes with nothing written; S1 at an order
-/// comes with what the orders before it wrote.
+/// Reads a script to its end, or to the byte that makes it too long, and plays it on a new farm: what each order writes is
+/// written once it is performed. A fault of the script, before its first order is performed, comes with nothing written; S1 at
+/// an order comes with what the orders before it wrote.
 #[tactic(auto, using(crate::proofs::Faults::no_writes_yet, crate::proofs::WholeInput::ends_whole, crate::proofs::WholeInput::no_script_ends))]
 pub fn run_script<S: Source, K: Sink>(
     alloc: Global,
@@ -25,6 +26,7 @@ pub fn run_script<S: Source, K: Sink>(
     sink: &mut K,
 ) -> Result<(), PlayFault>
     ensures whole { ReadsWhole (S.left source.old) (S.left source.new) result }
+    ensures plays { OnOk result (PlaysInput (S.left source.old) (K.written sink.old) (K.written sink.new)) }
     ensures quiet { IfErr result (KeepsQuiet (K.written sink.old) (K.written sink.new)) }
     ensures most { TakesUpTo (most_script_bytes + 1) (S.left source.old) (S.left source.new) }
     ensures reads { CountsReads result (S.failures source.old) (S.failures source.new) }
@@ -58,10 +60,12 @@ fn input<S: Source>(alloc: Global, source: &mut S) -> Result<Vec<u8>, PlayFault>
 }
 
 /// The script that the input is.
+#[tactic(auto, using(crate::proofs::WholeInput::no_input))]
 fn script<S: Source>(alloc: Global, source: &mut S) -> Result<Script, PlayFault>
     ensures whole { OnOk result (IfSome (S.left source.old) IsScriptText) }
+    ensures means { IfOk result (λ script. IfSome (S.left source.old) (λ text. script_of text ≡ Ok script)) }
     ensures end { OnOk result (IsAtEnd (S.left source.new)) }
-    ensures err { IfErr result IsReadingFault }
+    ensures err { IfErr result (IsRefusalOf (S.left source.old)) }
     ensures most { TakesUpTo (most_script_bytes + 1) (S.left source.old) (S.left source.new) }
     ensures reads { CountsReads result (S.failures source.old) (S.failures source.new) }
 {
@@ -76,6 +80,7 @@ fn script<S: Source>(alloc: Global, source: &mut S) -> Result<Script, PlayFault>
 
 /// Plays a script on a new farm.
 fn play<K: Sink>(alloc: Global, script: &Script, sink: &mut K) -> Result<(), PlayFault>
+    ensures plays { OnOk result (WritesPlay script.now (K.written sink.old) (K.written sink.new)) }
     ensures err { IfErr result IsPlayingFault }
     ensures writes { CountsWrites result (K.failures sink.old) (K.failures sink.new) }
 {
@@ -97,6 +102,7 @@ fn perform_all<K: Sink>(
     count: usize,
     sink: &mut K,
 ) -> Result<(), PlayFault>
+    ensures plays { OnOk result (HavePlayed count session.old.script session.old.farm session.new.farm (K.written sink.old) (K.written sink.new)) }
     ensures err { IfErr result IsPlayingFault }
     ensures writes { CountsWrites result (K.failures sink.old) (K.failures sink.new) }
 {
@@ -105,10 +111,10 @@ fn perform_all<K: Sink>(
         if let Err(fault) = session.perform(alloc, number, &mut out) {
             return Err(PlayFault::Script(fault));
         }
-        if write_all(sink, out.as_bytes()).is_err() {
-            return Err(PlayFault::Write);
+        match write_all(sink, out.as_bytes()) {
+            Ok(()) => out.clear(),
+            Err(_) => return Err(PlayFault::Write),
         }
-        out.clear();
     }
     Ok(())
 }

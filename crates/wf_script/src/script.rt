@@ -18,6 +18,7 @@ use std::alloc::Global;
 use std::marker::Model;
 use wf_ballot::NODES;
 use wf_canon::Canon;
+use wf_def::map::MapDef;
 
 /// A script: how many nodes its farm has, its maps, and its orders with their lines.
 pub struct Script {
@@ -42,6 +43,7 @@ impl Drop for Script {
 impl Model for Script {
     ghost use Rattle.std.specs.Prelude.{map};
     ghost use Rattle.std.specs.Coded.{codes};
+    ghost use Rattle.wf_script.specs.Naming.{name};
     ghost use Rattle.wf_script.specs.Script.{Script, IsScript, definition, numbered};
 
     ghost Value = { Script };
@@ -50,24 +52,28 @@ impl Model for Script {
 
     ghost view = { λ s. record {
       nodes = s.nodes;
+      names = map name s.maps.named.items;
       maps = map definition s.maps.named.items;
       orders = map numbered s.orders.items;
     } };
 
     ghost invariant = { λ s. IsScript (record {
       nodes = s.nodes;
+      names = map name s.maps.named.items;
       maps = map definition s.maps.named.items;
       orders = map numbered s.orders.items;
     }) };
 }
 
 impl Script {
+    ghost use Rattle.std.specs.Prelude.{Some};
     ghost use Rattle.wf_script.specs.Script.{numbered};
+    ghost use Rattle.wf_script.specs.Telling.{name_of};
 
     /// Reads a script. A byte or a line over the limit is judged first (S3), then the lines in order, a map at the line
     /// where it begins; on one line S2 comes before S3 before S4. A script without a line that isn't skipped is S2 at line 1.
-    /// Want of memory is S1, at the line that wants it. Each fault is at a line of the bytes, or at line 1 where they have
-    /// none.
+    /// Want of memory is S1, at the line that wants it, whatever the text is otherwise. Each fault is at a line of the bytes, or
+    /// at line 1 where they have none.
     #[tactic(auto, using(crate::proofs::Counting::over_at, crate::proofs::Counting::bytes_fit, crate::proofs::Counting::lines_fit))]
     pub fn read(alloc: Global, bytes: &[u8]) -> Result<Script, ScriptFault>
         ensures value { Tells (λ s. s) result (script_of bytes.now) }
@@ -111,6 +117,16 @@ impl Script {
         ensures { option_map (λ n. numbered n.now) result ≡ slice_get self.now.orders number }
     {
         self.orders.get(number)
+    }
+
+    /// The name of the first map that means this; `?` where there is none.
+    pub(crate) fn name_of(&self, meant: &MapDef) -> &str
+        ensures { result.now ≡ name_of self.now (Some meant.now) }
+    {
+        match self.maps.name_of(meant) {
+            Some(name) => name,
+            None => "?",
+        }
     }
 
     /// What the map of that number means, counted from 0.

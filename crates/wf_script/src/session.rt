@@ -1,5 +1,9 @@
 //! A script is played on a farm, an order after the other.
 
+ghost use Rattle.std.specs.Prelude.{◌≡◌, ◌++◌, OnOk};
+ghost use Rattle.std.specs.String.{string_bytes};
+ghost use Rattle.wf_script.specs.Telling.{pump_line};
+
 use crate::delivery::deliveries;
 use crate::fault::ScriptFault;
 use crate::law::farm_obeys_laws;
@@ -31,7 +35,7 @@ impl<'s> Model for Session<'s> {
 }
 
 impl<'s> Session<'s> {
-    ghost use Rattle.std.specs.Prelude.{◌≡◌, Some, [], ◌∷◌, length, map, slice_get, option_map, option_copied, IfOk, IfErr, OnOk};
+    ghost use Rattle.std.specs.Prelude.{Some, [], ◌∷◌, length, map, slice_get, option_map, option_copied, IfOk, IfErr};
     ghost use Rattle.wf_def.specs.Definition.{Definition};
     ghost use Rattle.wf_model.specs.Table as table;
     ghost use Rattle.wf_model.specs.World as world;
@@ -44,6 +48,7 @@ impl<'s> Session<'s> {
     ghost use Rattle.wf_script.specs.Order.{view};
     ghost use Rattle.wf_script.specs.Performing.{ArePumped, Happens, HappensIf, Performs, PerformsAt, action_of, event_of, fault_at};
     ghost use Rattle.wf_script.specs.Session.{Plays};
+    ghost use Rattle.wf_script.specs.Telling.{Adds, TellsPump, Writes, WritesAt, refusal_line, step_text};
 
     /// The farm before the script's first order: the model's start. S1 at line 1 where a growth was refused.
     pub fn new(alloc: Global, script: &'s Script) -> Result<Session<'s>, ScriptFault>
@@ -77,6 +82,7 @@ impl<'s> Session<'s> {
     ) -> Result<(), ScriptFault>
         ensures script { self.new.script ≡ self.old.script }
         ensures does { OnOk result (PerformsAt self.old.script.maps (slice_get self.old.script.orders number) self.old.farm self.new.farm) }
+        ensures tells { OnOk result (Adds (WritesAt self.old.script (slice_get self.old.script.orders number) self.old.farm self.new.farm) (string_bytes out.old) (string_bytes out.new)) }
         ensures memory { IfErr result (λ fault. fault_at (slice_get self.old.script.orders number) ≡ Some fault) }
         ensures plays { Plays self.old.farm self.new.farm }
         ensures agree { HasOneHistory self.new.farm }
@@ -102,7 +108,7 @@ impl<'s> Session<'s> {
     }
 
     /// What the order does, or nothing.
-    #[tactic(auto, using(crate::proofs::Playing::nothing_played, crate::proofs::Performing::nothing_performed, crate::proofs::Performing::fault_there))]
+    #[tactic(auto, using(crate::proofs::Playing::nothing_played, crate::proofs::Performing::nothing_performed, crate::proofs::Performing::fault_there, crate::proofs::Telling::nothing_written))]
     fn perform_order(
         &mut self,
         alloc: Global,
@@ -111,6 +117,7 @@ impl<'s> Session<'s> {
     ) -> Result<(), ScriptFault>
         ensures script { self.new.script ≡ self.old.script }
         ensures does { OnOk result (PerformsAt self.old.script.maps (slice_get self.old.script.orders number) self.old.farm self.new.farm) }
+        ensures tells { OnOk result (Adds (WritesAt self.old.script (slice_get self.old.script.orders number) self.old.farm self.new.farm) (string_bytes out.old) (string_bytes out.new)) }
         ensures memory { IfErr result (λ fault. fault_at (slice_get self.old.script.orders number) ≡ Some fault) }
         ensures plays { Plays self.old.farm self.new.farm }
     {
@@ -124,10 +131,11 @@ impl<'s> Session<'s> {
         }
     }
 
-    #[tactic(auto, using(crate::proofs::Playing::nothing_played, crate::proofs::Playing::skipped_played))]
+    #[tactic(auto, using(crate::proofs::Playing::nothing_played, crate::proofs::Playing::skipped_played, crate::proofs::Telling::just))]
     fn obey(&mut self, alloc: Global, order: &Order, out: &mut String) -> Result<(), AllocError>
         ensures script { self.new.script ≡ self.old.script }
         ensures does { OnOk result (Performs self.old.script.maps (view order.now) self.old.farm self.new.farm) }
+        ensures tells { OnOk result (Adds (Writes self.old.script (view order.now) self.old.farm self.new.farm) (string_bytes out.old) (string_bytes out.new)) }
         ensures plays { Plays self.old.farm self.new.farm }
     {
         match order {
@@ -141,7 +149,7 @@ impl<'s> Session<'s> {
                 self.farm.skip();
                 Ok(())
             }
-            Order::Ask(question) => self.answer(alloc, *question, out),
+            Order::Ask(question) => self.answer(*question, out),
             Order::Get(node, query) => self.tell_answer(alloc, *node, query, out),
             Order::Equal(node, other, query) => self.tell_equal(alloc, *node, *other, query, out),
         }
@@ -152,6 +160,7 @@ impl<'s> Session<'s> {
     fn run(&mut self, alloc: Global, events: &[Event], out: &mut String) -> Result<(), AllocError>
         ensures script { self.new.script ≡ self.old.script }
         ensures does { OnOk result (Happens (map event_view events.now) self.old.farm self.new.farm) }
+        ensures tells { OnOk result (string_bytes out.new ≡ string_bytes out.old ++ refusal_line self.new.farm.refused) }
         ensures plays { Plays self.old.farm self.new.farm }
     {
         if self.farm.run(alloc, events).is_err() {
@@ -166,6 +175,7 @@ impl<'s> Session<'s> {
     fn happen(&mut self, alloc: Global, event: Event, out: &mut String) -> Result<(), AllocError>
         ensures script { self.new.script ≡ self.old.script }
         ensures does { OnOk result (Happens (event_view event ∷ []) self.old.farm self.new.farm) }
+        ensures tells { OnOk result (string_bytes out.new ≡ string_bytes out.old ++ refusal_line self.new.farm.refused) }
         ensures plays { Plays self.old.farm self.new.farm }
     {
         let events = [event];
@@ -182,6 +192,7 @@ impl<'s> Session<'s> {
     ) -> Result<(), AllocError>
         ensures script { self.new.script ≡ self.old.script }
         ensures does { OnOk result (HappensIf (option_map (event_of node) (action_of self.old.script.maps step)) self.old.farm self.new.farm) }
+        ensures tells { OnOk result (string_bytes out.new ≡ string_bytes out.old ++ step_text (action_of self.old.script.maps step) self.new.farm.refused) }
         ensures plays { Plays self.old.farm self.new.farm }
     {
         match step {
@@ -203,6 +214,7 @@ impl<'s> Session<'s> {
     ) -> Result<(), AllocError>
         ensures script { self.new.script ≡ self.old.script }
         ensures does { OnOk result (HappensIf (option_map (λ d. world.Propose node d) (slice_get self.old.script.maps map)) self.old.farm self.new.farm) }
+        ensures tells { OnOk result (string_bytes out.new ≡ string_bytes out.old ++ step_text (slice_get self.old.script.maps map) self.new.farm.refused) }
         ensures plays { Plays self.old.farm self.new.farm }
     {
         match self.copy_of(map) {
@@ -223,6 +235,7 @@ impl<'s> Session<'s> {
     ) -> Result<(), AllocError>
         ensures script { self.new.script ≡ self.old.script }
         ensures does { OnOk result (HappensIf (option_map (λ a. world.Torn node a (view_kept kept)) (action_of self.old.script.maps step)) self.old.farm self.new.farm) }
+        ensures tells { OnOk result (string_bytes out.new ≡ string_bytes out.old ++ step_text (action_of self.old.script.maps step) self.new.farm.refused) }
         ensures plays { Plays self.old.farm self.new.farm }
     {
         match step {
@@ -251,6 +264,7 @@ impl<'s> Session<'s> {
     ) -> Result<(), AllocError>
         ensures script { self.new.script ≡ self.old.script }
         ensures does { OnOk result (HappensIf (option_map (λ d. world.Torn node (table.Propose d) (view_kept kept)) (slice_get self.old.script.maps map)) self.old.farm self.new.farm) }
+        ensures tells { OnOk result (string_bytes out.new ≡ string_bytes out.old ++ step_text (slice_get self.old.script.maps map) self.new.farm.refused) }
         ensures plays { Plays self.old.farm self.new.farm }
     {
         match self.copy_of(map) {
@@ -284,6 +298,7 @@ impl<'s> Session<'s> {
     ) -> Result<(), AllocError>
         ensures script { self.new.script ≡ self.old.script }
         ensures does { OnOk result (Happens (map (λ k. world.Deliver node k) messages.now) self.old.farm self.new.farm) }
+        ensures tells { OnOk result (string_bytes out.new ≡ string_bytes out.old ++ refusal_line self.new.farm.refused) }
         ensures plays { Plays self.old.farm self.new.farm }
     {
         let events = deliveries(alloc, node, messages)?;
@@ -294,14 +309,22 @@ impl<'s> Session<'s> {
     fn pump(&mut self, alloc: Global, nodes: &[usize], out: &mut String) -> Result<(), AllocError>
         ensures script { self.new.script ≡ self.old.script }
         ensures does { OnOk result (ArePumped nodes.now self.old.farm self.new.farm) }
+        ensures tells { OnOk result (Adds (TellsPump nodes.now self.old.farm self.new.farm) (string_bytes out.old) (string_bytes out.new)) }
         ensures plays { Plays self.old.farm self.new.farm }
     {
         let Ok(stopped) = self.farm.pump(alloc, nodes) else {
             return Err(AllocError);
         };
-        if stopped {
-            return out.push_str("pump stopped\n");
-        }
-        Ok(())
+        tell_pump(stopped, out)
     }
+}
+
+/// Whether a pump stopped early.
+fn tell_pump(stopped: bool, out: &mut String) -> Result<(), AllocError>
+    ensures { OnOk result (string_bytes out.new ≡ string_bytes out.old ++ pump_line stopped) }
+{
+    if stopped {
+        return out.push_str("pump stopped\n");
+    }
+    Ok(())
 }

@@ -5,10 +5,10 @@ use Rattle.wf_script.proofs.Going.{one_line, map_ended, map_goes_on}
 use Rattle.wf_script.proofs.draft.text_of_map.Goals as goal
 
 pub returns-then-ends_map-clause-value : goal.returns-then-ends_map-clause-value
-returns-then-ends_map-clause-value c = λ name s.
-    c.loop-line.invariant.value name s
-    ∙ one_line (Some (record { name = name; text = c.loop-line.text.items })) s c.in-Some.line.now c.loop-line.lines c.next.new.self c.in-Some.ensures.some
-    ∙ map_ended (record { name = name; text = c.loop-line.text.items }) s c.in-Some.line.now c.next.new.self (sym c.ends_map.ensures ∙ c.if-ends_map.true)
+returns-then-ends_map-clause-value c = λ n name s.
+    c.loop-line.invariant.value n name s
+    ∙ one_line (Some (record { line = n; name = name; text = c.loop-line.text.items })) s c.in-Some.line.now c.loop-line.lines c.next.new.self c.in-Some.ensures.some
+    ∙ map_ended (record { line = n; name = name; text = c.loop-line.text.items }) s c.in-Some.line.now c.next.new.self (sym c.ends_map.ensures ∙ c.if-ends_map.true)
 
 pub loop-line-preserved : goal.loop-line-preserved
 loop-line-preserved c =
@@ -16,11 +16,11 @@ loop-line-preserved c =
     let next = c.in-Some.ensures.some in
     let left = ap length next.left in
     record {
-      value = λ name s.
-          c.loop-line.invariant.value name s
-          ∙ one_line (Some (record { name = name; text = c.loop-line.text.items })) s c.in-Some.line.now c.loop-line.lines c.next.new.self next
-          ∙ map_goes_on (record { name = name; text = c.loop-line.text.items }) s c.in-Some.line.now c.next.new.self (sym c.ends_map.ensures ∙ c.if-ends_map.false)
-          ∙ ap (λ t. on_from (Some (record { name = name; text = t })) s c.next.new.self) (sym text);
+      value = λ n name s.
+          c.loop-line.invariant.value n name s
+          ∙ one_line (Some (record { line = n; name = name; text = c.loop-line.text.items })) s c.in-Some.line.now c.loop-line.lines c.next.new.self next
+          ∙ map_goes_on (record { line = n; name = name; text = c.loop-line.text.items }) s c.in-Some.line.now c.next.new.self (sym c.ends_map.ensures ∙ c.if-ends_map.false)
+          ∙ ap (λ t. on_from (Some (record { line = n; name = name; text = t })) s c.next.new.self) (sym text);
       total = c.in-Some.ensures.total ∙ c.loop-line.invariant.total;
       left = omega (arith, left, c.loop-line.invariant.left);
     }

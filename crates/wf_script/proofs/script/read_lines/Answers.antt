@@ -1,5 +1,6 @@
 -- The head, and then what the lines behind it say.
 use Rattle.std.proofs.Common.{◌≡◌, ◌∙◌, None, sym, subst, ap, false}
+use Rattle.std.specs.Prelude.{Err}
 use Rattle.std.proofs.lemmas.Result.{err_from_is_err_and}
 use Rattle.wf_script.specs.Fault.{is_memory}
 use Rattle.wf_script.specs.Text.{head_from, on_from}
@@ -11,7 +12,7 @@ returns-in_err-nodes-clause-value c =
     let told = err_from_is_err_and c.from_residual.result c.from_residual.ensures.1 in
     let are : AreLinesOf c.args.bytes.now c.new-lines.result = record { number = c.new-lines.ensures.number; left = c.new-lines.ensures.left } in
     no_head_told (λ s. s) c.from_residual.result told.0 c.args.bytes.now c.new-lines.result told.1 are
-    (subst (λ f. is_memory f ≡ false → head_from c.new-lines.result ≡ None) (sym told.2) c.in_err-nodes.ensures.value)
+    (subst (λ f. is_memory f ≡ false → head_from c.new-lines.result ≡ Err f) (sym told.2) c.in_err-nodes.ensures.value)
 
 pub returns-in-Ok-clause-value : goal.returns-in-Ok-clause-value
 returns-in-Ok-clause-value c =
@@ -21,4 +22,4 @@ returns-in-Ok-clause-value c =
 pub returns-in-Err-clause-value : goal.returns-in-Err-clause-value
 returns-in-Err-clause-value c = λ isnt.
     let are : AreLinesOf c.args.bytes.now c.new-lines.result = record { number = c.new-lines.ensures.number; left = c.new-lines.ensures.left } in
-    none_said c.args.bytes.now c.new-lines.result c.first_line.new.lines c.in_ok-nodes.nodes are c.in_ok-nodes.ensures.value (ap (λ s. on_from None s c.first_line.new.lines) (sym c.new-draft.ensures) ∙ c.in-Err.ensures.value isnt)
+    none_said c.args.bytes.now c.new-lines.result c.first_line.new.lines c.in_ok-nodes.nodes c.in-Err.fault are c.in_ok-nodes.ensures.value (ap (λ s. on_from None s c.first_line.new.lines) (sym c.new-draft.ensures) ∙ c.in-Err.ensures.value isnt)
