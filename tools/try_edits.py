@@ -3,6 +3,7 @@
 
     python3 tools/try_edits.py wf_ballot                    every edit of the crate
     python3 tools/try_edits.py wf_ballot half_is_a_majority one edit, or several by their names
+    python3 tools/try_edits.py --changed origin/main        every edit of each crate whose code or specs differ from a commit
     python3 tools/try_edits.py --applies                    only whether each edit of every crate still applies
 
 An edit in `must-fail/NAME.edit` is tried by the gate, one in `must-fail/by-hand/NAME.edit.md` only here. Each is applied
@@ -10,31 +11,24 @@ to a copy of the crate, and the prover has to refuse the copy: the test is the g
 (`rt check`) lends its kept work, so an edit costs what it changes. Run it over a crate whenever a clause or a definition
 of that crate changes. The last line counts; the status is 0 where every edit was refused.
 
-Options: --lanes N (how many side by side; 2 if left out), --by-hand (leave out those that the gate tries).
+Options: --lanes N (how many side by side; 2 if left out), --by-hand (leave out those that the gate tries), --record (write
+each crate's result, with the commit, into docs/EDITS.md; only where nothing of the crate is uncommitted).
 """
 
 import argparse
-import importlib.machinery
-import importlib.util
+import datetime
 import os
 import pathlib
 import queue
+import re
 import shutil
 import sys
 import tempfile
 from concurrent.futures import ThreadPoolExecutor
 
-TOP = pathlib.Path(__file__).resolve().parent.parent
+from kit import TOP, changed_files, git, load_rt
 
-
-def gate():
-    """The kit's command `rt` as a module: its function `must_fail` is the gate's own test of an edit."""
-    path = os.path.realpath(shutil.which("rt"))
-    sys.path.insert(0, os.path.dirname(path))
-    loader = importlib.machinery.SourceFileLoader("rattle_gate", path)
-    module = importlib.util.module_from_spec(importlib.util.spec_from_loader("rattle_gate", loader))
-    loader.exec_module(module)
-    return module
+RESULTS = TOP / "docs" / "EDITS.md"
 
 
 def name_of(edit):
@@ -47,13 +41,21 @@ def edits_of(folder, only_by_hand=False):
     return [*tried_by_gate, *sorted((folder / "must-fail" / "by-hand").glob("*.edit.md"))]
 
 
+def fault_of(rt, edit, folder):
+    """Says why an edit can't be applied to the code as it is, or None. The gate reads lines alone and passes over what it can't read."""
+    unread = [it for it in edit.read_text().splitlines() if it.strip() and not re.match(r"file: |old: |new:|#|--|//", it)]
+    if unread:
+        return f"it can't be applied, since a text of it has several lines, and only the first of them is read: {unread[0].strip()[:60]}"
+    return rt.read_edit(str(edit), str(folder))[1]
+
+
 def look(rt):
     """Says which edits can't be applied to the code as it is."""
     count = bad = 0
     for folder in sorted((TOP / "crates").iterdir()):
         for edit in edits_of(folder):
             count += 1
-            why = rt.read_edit(str(edit), str(folder))[1]
+            why = fault_of(rt, edit, folder)
             if why:
                 bad += 1
                 print(f"{edit.relative_to(TOP)}: {why}")
@@ -75,9 +77,13 @@ def try_all(rt, crate, edits, lanes):
             rooms.put(f"{room}/{lane}")
 
         def try_one(edit):
+            why = fault_of(rt, edit, pathlib.Path(crate.folder))
+            if why:
+                return False, f"must-fail {crate.name}/{edit.name}: BAD EDIT: {why}"
             lane = rooms.get()
             try:
-                return rt.must_fail(crate, str(edit), ["--jobs", "1"], lane)
+                kind, text = rt.must_fail(crate, str(edit), ["--jobs", "1"], lane)
+                return kind in (rt.REFUSED, rt.AT_LIMIT), text
             finally:
                 rooms.put(lane)
 
@@ -85,7 +91,36 @@ def try_all(rt, crate, edits, lanes):
             for is_refused, text in pool.map(try_one, edits):
                 print(text, flush=True)
                 refused += is_refused
-    print(f"{crate.name}: {len(edits)} edits, {refused} refused")
+    print(f"{crate.name}: {len(edits)} edits, {refused} refused", flush=True)
+    return refused
+
+
+def record(name, tried, refused):
+    """Writes a crate's result into the table of the document, in place of its last one."""
+    row = f"| `{name}` | {tried} | {refused} | {git('rev-parse', '--short', 'HEAD').strip()} | {datetime.date.today()} |"
+    lines = RESULTS.read_text().splitlines()
+    at = next((i for i, it in enumerate(lines) if it.startswith(f"| `{name}` |")), None)
+    if at is None:
+        lines.append(row)
+    else:
+        lines[at] = row
+    RESULTS.write_text("\n".join(lines) + "\n")
+
+
+def try_crate(rt, name, given):
+    """Tries a crate's edits, and returns how many were not refused."""
+    crate = next(it for it in rt.rtlib.crates_below(str(TOP)) if it.name == name)
+    edits = edits_of(TOP / "crates" / name, given.by_hand)
+    edits = [it for it in edits if not given.names or name_of(it) in given.names]
+    if any(below.build_rlib(["--jobs", "1"], anew=False) for below in crate.below()):
+        print(f"{name}: a library below it failed")
+        return 1
+    refused = try_all(rt, crate, edits, given.lanes)
+    if given.record and not given.names and not given.by_hand:
+        if git("status", "--porcelain", "--", f"crates/{name}").strip():
+            print(f"{name}: not recorded, since something of it isn't committed")
+        else:
+            record(name, len(edits), refused)
     return len(edits) - refused
 
 
@@ -93,26 +128,27 @@ def main():
     parser = argparse.ArgumentParser(description=__doc__, formatter_class=argparse.RawDescriptionHelpFormatter)
     parser.add_argument("crate", nargs="?")
     parser.add_argument("names", nargs="*")
+    parser.add_argument("--changed", metavar="BASE")
     parser.add_argument("--lanes", type=int, default=2)
     parser.add_argument("--by-hand", action="store_true")
     parser.add_argument("--applies", action="store_true")
+    parser.add_argument("--record", action="store_true")
     given = parser.parse_args()
-    rt = gate()
+    rt = load_rt()
     os.chdir(TOP)
     if given.applies:
         return 1 if look(rt) else 0
+    # (libraries and kept work that another checkout here made of the same files serve)
+    rt.share_work(False)
     rt.rtlib.guarded()
-    crate = next((it for it in rt.rtlib.crates_below(str(TOP)) if it.name == given.crate), None)
-    if crate is None:
+    every = [it.name for it in rt.rtlib.crates_below(str(TOP))]
+    chosen = sorted(changed_files(given.changed, ("src", "specs"), None)) if given.changed else [given.crate]
+    if not all(it in every for it in chosen):
         parser.error("crates.txt lists no such crate")
-    edits = edits_of(TOP / "crates" / given.crate, given.by_hand)
-    lost = {*given.names} - {name_of(it) for it in edits}
+    lost = {*given.names} - {name_of(it) for name in chosen for it in edits_of(TOP / "crates" / name, given.by_hand)}
     if lost:
         parser.error(f"no edit is named {', '.join(sorted(lost))}")
-    edits = [it for it in edits if not given.names or name_of(it) in given.names]
-    if any(below.build_rlib(["--jobs", "1"], anew=False) for below in crate.below()):
-        return 1
-    return 1 if try_all(rt, crate, edits, given.lanes) else 0
+    return 1 if sum(try_crate(rt, it, given) for it in chosen) else 0
 
 
 if __name__ == "__main__":

@@ -1,0 +1,98 @@
+#!/usr/bin/env python3
+"""Checks what was committed since a commit, and everything that stands on it, as the gate would.
+
+    python3 tools/check_changed.py BASE        BASE is a commit that passed the gate, as origin/main
+
+In a clean clone of the last commit it proves each crate that differs from BASE and each crate above one that does, proves
+and runs their tests, runs their programs as both compilers build them, and tries their mutants right in must-fail/. All
+that is the code of `rt ci` itself, which this calls. What it leaves out: the proofs, tests, programs and mutants of crates
+that don't differ and stand on nothing that does. The libraries of those are taken from a checkout on this machine that
+proved exactly the same files (the stamps are compared); one that no checkout has is proved here.
+
+The last line is `N passed, M failed`, the status 0 where nothing failed. Uncommitted changes aren't seen.
+"""
+
+import argparse
+import os
+import pathlib
+import subprocess
+import sys
+import tempfile
+
+from kit import TOP, changed_files, dependencies, git, load_rt
+
+# What a verdict on a crate reads: its code, its proofs, its mutants, and what its program is run on.
+PARTS = ("src", "specs", "proofs", "must-fail", "stdin", "stdout", "args", "status", "data")
+
+
+def is_read(path):
+    """Whether the gate reads the file: of must-fail/ only the mutants right there, and one that went asks for no check."""
+    return "/must-fail/" not in path or path.endswith(".edit") and (TOP / path).exists()
+
+
+def differing(base):
+    """The crates that differ from the commit, with those above them; all of them where what holds for all changed."""
+    every = dependencies()
+    lines = git("diff", "--name-only", "--no-renames", base, "HEAD").splitlines()
+    if "HANDLES" in lines:
+        return set(every)
+    was = git("show", f"{base}:crates.txt").splitlines()
+    now = git("show", "HEAD:crates.txt").splitlines()
+    found = {line.partition(":")[0].split()[0] for line in {*now} - {*was} if line.strip()}
+    found |= {name for name, files in changed_files(base, PARTS).items() if any(is_read(it) for it in files)}
+    found &= set(every)
+    while True:
+        above = {name for name, low in every.items() if not found.isdisjoint(low)} - found
+        if not above:
+            return found
+        found |= above
+
+
+def leave_out(rt, chosen):
+    """Has the gate take the library of each crate that isn't chosen from a checkout that proved the same, and try none of its mutants."""
+    give, edits_of = rt.Kept.give, rt.edits_of
+
+    def give_or_take(kept, crate, tests, key):
+        if crate.name in chosen:
+            return False
+        return tests or crate.is_program or give(kept, crate, tests, key) or rt.take_rlib(crate)
+
+    def nothing_kept(kept, crates, anew=False):
+        made(kept, crates, anew)
+        kept.is_full = True
+
+    # (the gate keeps only what it proved over libraries of its own)
+    made, rt.Kept.__init__, rt.Kept.tell = rt.Kept.__init__, nothing_kept, lambda kept: None
+    rt.Kept.give = give_or_take
+    rt.edits_of = lambda crate: edits_of(crate) if crate.name in chosen else ([], [])
+
+
+def check(rt, clone, chosen):
+    """Runs the gate's own code over the chosen crates of the clone, and returns its status."""
+    os.chdir(clone)
+    with tempfile.TemporaryDirectory(prefix="check-aside-") as aside, rt.ending():
+        return rt.ci_over(aside, False, sorted(chosen))
+
+
+def main():
+    parser = argparse.ArgumentParser(description=__doc__, formatter_class=argparse.RawDescriptionHelpFormatter)
+    parser.add_argument("base")
+    given = parser.parse_args()
+    chosen = differing(given.base)
+    print(f"to check: {' '.join(sorted(chosen)) or 'no crate differs'}", flush=True)
+    if not chosen:
+        print("0 passed, 0 failed")
+        return 0
+    rt = load_rt()
+    leave_out(rt, chosen)
+    with tempfile.TemporaryDirectory(prefix="check-changed-", dir=TOP.parent) as room:
+        clone = pathlib.Path(room) / "clone"
+        subprocess.run(["git", "clone", "--quiet", TOP, clone], check=True)
+        try:
+            return check(rt, clone, chosen)
+        finally:
+            os.chdir(TOP)
+
+
+if __name__ == "__main__":
+    sys.exit(main())
