@@ -1,0 +1,106 @@
+#!/usr/bin/env python3
+"""Looks for the dearest request: maps as full as their limits allow, asked for as often as LAYERS allows, at the largest size.
+
+Usage: bench/dearest.py [--program PROGRAM] [--only WORD] [--print-map NAME]
+
+Each map is published to a farm of one node and asked for once, 1,024 by 1,024 pixels, its layer named 1 and 64 times. Printed
+are the seconds of each answer and the longest of all. Canonical texts are bounded by 32,768 bytes and mapfiles by 65,536, which
+bounds the points: one of two digits takes four bytes.
+"""
+
+import argparse
+import pathlib
+import sys
+
+HERE = pathlib.Path(__file__).resolve().parent
+sys.path.insert(0, str(HERE))
+sys.path.insert(0, str(HERE.parent / "tools"))
+from tiles import ask  # noqa: E402
+from try_serve import Farm  # noqa: E402
+
+SIDE = 1_024
+MOST_CANONICAL = 32_600
+COLOURS = [f"{30 * k} {255 - 30 * k} {k}" for k in range(8)]
+
+
+def style(words, number):
+    return f"STYLE {words.format(color=COLOURS[number % 8])} END\n"
+
+
+def styles(words, count=8):
+    return "".join(style(words, number) for number in range(count))
+
+
+def mapfile(kind, styling, features, more=""):
+    layer = f"LAYER NAME a TYPE {kind}\nCLASS\n{styling}{more}END\n{''.join(features)}END\n"
+    return f'MAP NAME "dearest" EXTENT 0 0 9 9 PROJECTION "init=epsg:3857" END\n{layer}END\n'
+
+
+def feature(points, text=""):
+    return f"FEATURE\n{text}POINTS {' '.join(f'{x} {y}' for x, y in points)} END\nEND\n"
+
+
+def fitting(make, cost, base=1_500):
+    """As many features, or points, as the canonical text has room for."""
+    return [make(k) for k in range((MOST_CANONICAL - base) // cost)]
+
+
+def zigzag(k):
+    """Up and down over the whole height."""
+    return (k * 5 % 10, 9 * (k % 2))
+
+
+def cases():
+    comb = [feature(fitting(zigzag, 4))]
+    yield "one polygon of full-height edges, 8 fills and outlines of 16 pixels", mapfile(
+        "POLYGON", styles("COLOR {color} OUTLINECOLOR {color} WIDTH 16"), comb)
+    yield "one polygon of full-height edges, one fill", mapfile("POLYGON", styles("COLOR {color}", 1), comb)
+    yield "one line of full-height segments, 8 styles of falling width", mapfile(
+        "LINE", "".join(style(f"COLOR {{color}} WIDTH {16 - 2 * k}", k) for k in range(8)), comb)
+    flat = [feature([(y, x) for x, y in fitting(zigzag, 4)])]
+    yield "one line of full-width segments, 8 styles", mapfile("LINE", styles("COLOR {color} WIDTH 16"), flat)
+    big = fitting(lambda k: feature([(0, 0), (9, 0), (9, 9 - k % 2), (0, 9)]), 56)
+    yield "polygons over nearly the whole picture", mapfile("POLYGON", styles("COLOR {color}"), big)
+    thin = fitting(lambda k: feature([(0, k % 9), (9, k % 9 + 1), (9, k % 9)]), 52)
+    yield "thin triangles over the whole width", mapfile("POLYGON", styles("COLOR {color} OUTLINECOLOR {color} WIDTH 2"), thin)
+    spots = [feature([(k % 10, k // 10 % 10) for k in range(7_000)])]
+    yield "points of 64 pixels", mapfile("POINT", styles("COLOR {color} SIZE 64"), spots)
+    names = fitting(lambda k: feature([(k % 9, k % 7)], f'TEXT "{"N" * 40}"\n'), 84)
+    label = "LABEL SIZE GIANT FORCE {} END\n"
+    yield "labels of 40 letters, forced", mapfile("POINT", "", names, label.format("TRUE"))
+    short = fitting(lambda k: feature([(k % 10, k // 10 % 10)], 'TEXT "N"\n'), 45)
+    yield "many labels of one letter", mapfile("POINT", "", short, label.format("FALSE").replace("GIANT", "TINY"))
+
+
+def seconds(program, text, times):
+    farm = Farm(program, 2, None, nodes=1)
+    try:
+        ask(farm.port, "/publish", text.encode())
+        query = (f"VERSION=1.3.0&REQUEST=GetMap&LAYERS={','.join(['a'] * times)}&STYLES=&CRS=EPSG:3857&BBOX=-0.1,-0.1,9.1,9.1"
+                 f"&WIDTH={SIDE}&HEIGHT={SIDE}&FORMAT=image/x-portable-pixmap")
+        return ask(farm.port, "/wms?" + query)[1] / 1000
+    finally:
+        farm.process.kill()
+        farm.process.wait()
+
+
+def main():
+    parser = argparse.ArgumentParser(description=__doc__, formatter_class=argparse.RawDescriptionHelpFormatter)
+    parser.add_argument("--program", default=HERE.parent / "crates" / "wfarm" / "out" / "wfarm")
+    parser.add_argument("--only", default="")
+    parser.add_argument("--print-map", metavar="WORD")
+    given = parser.parse_args()
+    chosen = [(name, text) for name, text in cases() if given.only in name]
+    if given.print_map:
+        print(next(text for name, text in chosen if given.print_map in name), end="")
+        return
+    found = []
+    for name, text in chosen:
+        once, often = seconds(str(given.program), text, 1), seconds(str(given.program), text, 64)
+        print(f"{once:8.3f} s once, {often:8.3f} s with the layer named 64 times: {name} ({len(text)} bytes)", flush=True)
+        found += [(once, name), (often, name + ", 64 times")]
+    print("the dearest: %.3f s, %s" % max(found))
+
+
+if __name__ == "__main__":
+    main()

@@ -1,0 +1,214 @@
+#!/usr/bin/env python3
+"""Times pictures of the built program beside MapServer and nginx, all in one run, on loopback, one connection a request.
+
+Usage: bench/tiles.py [--program PROGRAM] [--map MAP ..] [--seconds S] [--alone]
+
+Asked of the farm (one node) and of MapServer (FastCGI behind lighttpd, one process), as uncompressed pixmaps:
+  kept      one tile of 256 by 256 on the grid, again and again; nginx serves the same bytes as a file
+  cold      the sixteen tiles of one metatile, each once; another background each round, so that nothing is kept
+  off grid  256 by 256, another box each time
+  large     1,024 by 1,024, another box each time
+Times are milliseconds of an answer, from connect to the last byte: the median, and the mean in brackets. Rates of the kept tile are
+wrk's, where it is installed, with one client. MapServer, lighttpd, spawn-fcgi, nginx and wrk are Debian's packages cgi-mapserver,
+lighttpd, spawn-fcgi, nginx-light and wrk; --alone leaves them out.
+"""
+
+import argparse
+import contextlib
+import os
+import pathlib
+import re
+import shutil
+import socket
+import statistics
+import subprocess
+import sys
+import tempfile
+import time
+
+HERE = pathlib.Path(__file__).resolve().parent
+sys.path.insert(0, str(HERE.parent / "tools"))
+from try_serve import Farm  # noqa: E402
+
+PIXMAP = "image/x-portable-pixmap"
+SPARE = 1_000_000
+
+
+def ask(port, target, body=None):
+    """The body of one answer, over a connection of its own, and the milliseconds that it took."""
+    head = f"{'GET' if body is None else 'POST'} {target} HTTP/1.1\r\nHost: localhost\r\nConnection: close\r\n"
+    if body is not None:
+        head += f"Content-Length: {len(body)}\r\n"
+    begun = time.perf_counter()
+    with socket.create_connection(("127.0.0.1", port), timeout=120) as peer:
+        peer.sendall(head.encode() + b"\r\n" + (body or b""))
+        pieces = []
+        while piece := peer.recv(1 << 18):
+            pieces.append(piece)
+    took = 1000 * (time.perf_counter() - begun)
+    head, _, body = b"".join(pieces).partition(b"\r\n\r\n")
+    if not re.match(rb"HTTP/1\.[01] 20[02] ", head):
+        sys.exit(f"{target[:200]}: {head[:200]!r} {body[:300]!r}")
+    return body, took
+
+
+class Map:
+    """A mapfile, its layers and its square extent."""
+
+    def __init__(self, path):
+        self.path = pathlib.Path(path).resolve()
+        self.name = self.path.stem
+        self.text = self.path.read_bytes()
+        words = self.text.decode()
+        layers = re.findall(r'^\s*LAYER\b.*?\bNAME\s+"?([\w-]+)"?', words, re.M | re.S | re.I)
+        self.layers = ",".join(layers)
+        self.extent = [float(it) for it in re.search(r"\bEXTENT" + r"\s+(-?[\d.]+)" * 4, words, re.I).groups()]
+
+    def query(self, box, size, background="0xFFFFFF"):
+        corners = ",".join(f"{it:.6f}".rstrip("0").rstrip(".") for it in box)
+        return (f"SERVICE=WMS&VERSION=1.3.0&REQUEST=GetMap&LAYERS={self.layers}&STYLES=&CRS=EPSG:3857&BBOX={corners}"
+                f"&WIDTH={size}&HEIGHT={size}&FORMAT={PIXMAP}&BGCOLOR={background}")
+
+    def tile(self, z, col, row, background="0xFFFFFF"):
+        side = (self.extent[2] - self.extent[0]) / 2**z
+        left, low = self.extent[0] + col * side, self.extent[1] + row * side
+        return self.query((left, low, left + side, low + side), 256, background)
+
+    def shifted(self, number, share, size):
+        """A box of this share of the extent, off the grid, another one for each number."""
+        side = (self.extent[2] - self.extent[0]) * share
+        room = (self.extent[2] - self.extent[0]) - side
+        left = self.extent[0] + room * ((number * 37 % 101) + 0.37) / 103
+        low = self.extent[1] + room * ((number * 61 % 101) + 0.61) / 103
+        return self.query((left, low, left + side, low + side), size)
+
+
+def tell(times):
+    return f"{statistics.median(times):9.2f} ({statistics.mean(times):.2f})"
+
+
+def measure(port, path, it, rounds):
+    """The times of the four kinds of request, asked of one server."""
+    def times(queries):
+        return [ask(port, path + query)[1] for query in queries]
+
+    found = {}
+    ask(port, path + it.tile(2, 1, 1))
+    found["kept"] = times([it.tile(2, 1, 1)] * (20 * rounds))
+    cold = [[it.tile(2, n % 4, n // 4, f"0x{round_:02X}FFFF") for n in range(16)] for round_ in range(rounds)]
+    found["cold"] = [sum(times(metatile)) / 16 for metatile in cold]
+    found["off grid"] = times(it.shifted(n, 0.24, 256) for n in range(10 * rounds))
+    found["large"] = times(it.shifted(n, 0.97, 1024) for n in range(3 * rounds))
+    return found
+
+
+def rate(port, target, seconds):
+    """Requests a second by wrk, one client, one connection a request; None without wrk."""
+    if not shutil.which("wrk"):
+        return None
+    words = ["wrk", "-t1", "-c1", f"-d{seconds}s", "-H", "Connection: close", f"http://127.0.0.1:{port}{target}"]
+    said = subprocess.run(words, capture_output=True, text=True).stdout
+    found = re.search(r"Requests/sec:\s+([\d.]+)", said)
+    return float(found[1]) if found else None
+
+
+def free_port():
+    with socket.socket() as it:
+        it.bind(("127.0.0.1", 0))
+        return it.getsockname()[1]
+
+
+def wait_for(port):
+    for _ in range(100):
+        with contextlib.suppress(OSError), socket.create_connection(("127.0.0.1", port), timeout=1):
+            return
+        time.sleep(0.05)
+    sys.exit("a server did not start")
+
+
+@contextlib.contextmanager
+def mapserver(it, room):
+    """MapServer as FastCGI behind lighttpd, one process; gives its port and path."""
+    output = f'  OUTPUTFORMAT NAME "ppm" DRIVER "GDAL/PNM" MIMETYPE "{PIXMAP}" IMAGEMODE RGB EXTENSION "ppm" END\n'
+    text = re.sub(r"^MAP$", "MAP\n" + output, it.text.decode(), count=1, flags=re.M)
+    text = re.sub(r'("wms_onlineresource".*)$', r'\1 "wms_getmap_formatlist" "' + PIXMAP + '"', text, count=1, flags=re.M)
+    (room / "served.map").write_text(text)
+    (room / "ms.conf").write_text(f'CONFIG\n ENV\n  MS_MAP_PATTERN "."\n END\n MAPS\n  "served" "{room}/served.map"\n END\nEND\n')
+    port, program = free_port(), shutil.which("mapserv") or "/usr/lib/cgi-bin/mapserv"
+    (room / "lighttpd.conf").write_text(
+        f'server.modules = ("mod_fastcgi")\nserver.document-root = "{room}"\nserver.bind = "127.0.0.1"\nserver.port = {port}\n'
+        f'fastcgi.server = ("/wms" => (("socket" => "{room}/socket", "check-local" => "disable")))\n')
+    environment = {**os.environ, "MAPSERVER_CONFIG_FILE": f"{room}/ms.conf"}
+    words = ["spawn-fcgi", "-n", "-s", f"{room}/socket", "-F", "1", "--", program]
+    quiet = {"stdout": subprocess.DEVNULL, "stderr": subprocess.DEVNULL}
+    running = [subprocess.Popen(words, env=environment, start_new_session=True, **quiet),
+               subprocess.Popen(["lighttpd", "-D", "-f", f"{room}/lighttpd.conf"], **quiet)]
+    try:
+        wait_for(port)
+        yield port, "/wms?map=served&"
+    finally:
+        for process in running:
+            process.kill()
+            process.wait()
+
+
+@contextlib.contextmanager
+def nginx(body, room):
+    """nginx with one worker, serving the bytes as a file; gives its port and path."""
+    port = free_port()
+    (room / "tile").write_bytes(body)
+    (room / "nginx.conf").write_text(
+        f"daemon off;\nworker_processes 1;\npid {room}/nginx.pid;\nerror_log /dev/null;\nuser root;\nevents {{}}\n"
+        f"http {{ access_log off; keepalive_timeout 0; sendfile on; client_body_temp_path {room}; proxy_temp_path {room};\n"
+        f"fastcgi_temp_path {room}; uwsgi_temp_path {room}; scgi_temp_path {room};\n"
+        f"server {{ listen 127.0.0.1:{port}; root {room}; default_type {PIXMAP}; }} }}\n")
+    process = subprocess.Popen([shutil.which("nginx") or "/usr/sbin/nginx", "-c", f"{room}/nginx.conf"])
+    try:
+        wait_for(port)
+        yield port, "/tile"
+    finally:
+        process.terminate()
+        process.wait()
+
+
+def compare(program, it, seconds, alone):
+    farm = Farm(program, SPARE, None, nodes=1)
+    try:
+        ask(farm.port, "/publish", it.text)
+        rounds = max(2, seconds)
+        ours = measure(farm.port, "/wms?", it, rounds)
+        tile, target = it.tile(2, 1, 1), "/wms?" + it.tile(2, 1, 1)
+        rates = {"wfarm": rate(farm.port, target, seconds)}
+        theirs = {}
+        with tempfile.TemporaryDirectory(prefix="tiles-") as room, contextlib.ExitStack() as stack:
+            os.chmod(room, 0o755)
+            if not alone:
+                port, path = stack.enter_context(mapserver(it, pathlib.Path(room)))
+                theirs = measure(port, path, it, rounds)
+                rates["MapServer"] = rate(port, path + tile, seconds)
+                port, path = stack.enter_context(nginx(ask(farm.port, target)[0], pathlib.Path(room)))
+                rates["nginx"] = rate(port, path, seconds)
+        print(f"\n{it.name}: {len(it.text)} bytes")
+        for kind, times in ours.items():
+            peer = f"  MapServer {tell(theirs[kind])}  {statistics.median(theirs[kind]) / statistics.median(times):6.2f} times its rate" if theirs else ""
+            print(f"  {kind:9} wfarm {tell(times)}{peer}")
+        print("  kept, requests a second: " + ", ".join(f"{name} {got:,.0f}" for name, got in rates.items() if got))
+    finally:
+        farm.process.kill()
+        farm.process.wait()
+
+
+def main():
+    parser = argparse.ArgumentParser(description=__doc__, formatter_class=argparse.RawDescriptionHelpFormatter)
+    parser.add_argument("--program", default=HERE.parent / "crates" / "wfarm" / "out" / "wfarm")
+    parser.add_argument("--map", nargs="*", default=sorted((HERE / "maps").glob("*.map")))
+    parser.add_argument("--seconds", type=int, default=3)
+    parser.add_argument("--alone", action="store_true")
+    given = parser.parse_args()
+    print(f"milliseconds of an answer: median (mean); {os.cpu_count()} processors")
+    for path in given.map:
+        compare(str(given.program), Map(path), given.seconds, given.alone)
+
+
+if __name__ == "__main__":
+    main()

@@ -1,0 +1,162 @@
+#!/usr/bin/env python3
+"""Writes docs/DEFINITIONS.md, an index of crates/*/specs/, from the comments that stand there: each definition is said once.
+
+    python3 tools/definitions.py              writes the index
+    python3 tools/definitions.py --check      says whether the index is what the comments say, and which words of public clauses no comment explains
+    python3 tools/definitions.py --all [WORD] prints each definition with its comment, or those whose name holds WORD
+
+A comment line `-- ..` above a definition says what it is; the comment at the top of a file says what the file is about.
+"""
+
+import argparse
+import re
+import sys
+
+from kit import TOP, dependencies
+
+DOCUMENT = TOP / "docs" / "DEFINITIONS.md"
+HEAD = """# Definitions
+
+An index of the words that contracts cite, crate by crate, lowest crate first: each file of `crates/*/specs/`, what it is about, and the words that it defines. What each word means stands above it in its file; `python3 tools/definitions.py --all` prints all of them. This page is made by that tool: change the comment, not the page. Definitions share nothing with the code's loops; they are meant to be read beside the standard (OGC 06-042, the MapServer mapfile reference, Netpbm's P6) or a textbook on Paxos. What files named `..Laws` state is proved.
+"""
+DEFINED = re.compile(r"(?:(?:unfoldable|abbrev|opaque) )?pub (?:(?:record|data) )?(\S+)")
+
+IMPORT = re.compile(r"ghost use Rattle\.(wf\w*)\.specs\.((?:\w+\.)*\w+)\.\{([^}]*)\}")
+FUNCTION = re.compile(r"^[ ]*(pub (?:const )?fn|fn) (\w+)")
+CLAUSE = re.compile(r"^\s+(requires|ensures)\b")
+BODY = re.compile(r"^\s*(\{|[^/]*\{$|.*;$)")
+
+
+def imported(text):
+    """The words of our own definitions that a file brings in, each with the crate and file that define it."""
+    words = {}
+    for crate, file, names in IMPORT.findall(text):
+        if file.startswith("declared."):
+            continue
+        for name in names.split(","):
+            spelled = name.strip().split(" as ")
+            words[spelled[-1].strip()] = f"{crate}/specs/{file.replace('.', '/')}.antt", spelled[0].strip()
+    return words
+
+
+def clauses(text):
+    """Each public function with the text of its clauses; a function of an impl of a trait counts as public."""
+    inside_trait_impl, name, said = False, None, []
+    for line in text.split("\n"):
+        if re.match(r"^impl\b", line):
+            inside_trait_impl = " for " in line
+        found = FUNCTION.match(line)
+        if found:
+            name = found[2] if found[1].startswith("pub") or inside_trait_impl else None
+            said = []
+        elif name and CLAUSE.match(line):
+            said.append(line)
+        elif name and said and not re.match(r"^\s*\{\}?\s*$", line):
+            said.append(line)
+        elif name and said:
+            yield name, "\n".join(said)
+            name = None
+
+
+def about(lines):
+    """The comment at the top of a file."""
+    text = []
+    for line in lines:
+        if not line.startswith("--"):
+            break
+        text.append(line.lstrip("-").strip())
+    return " ".join(it for it in text if it)
+
+
+def words_of(lines):
+    """The public definitions of a file, each with its comment: the last one above it, since a comment may be of several."""
+    found, said, is_open = [], [], False
+    for line in lines:
+        if line.startswith("--"):
+            said = [*said, line.lstrip("- ").rstrip("- ")] if is_open else [line.lstrip("- ").rstrip("- ")]
+            is_open = True
+            continue
+        is_open = False
+        at = DEFINED.match(line)
+        if at and at[1] != "mod":
+            found.append((at[1], " ".join(it for it in said if it)))
+    return found
+
+
+def files_of(crate):
+    """The files of a crate's definitions, each with its text in lines."""
+    every = sorted((TOP / "crates" / crate / "specs").rglob("*.antt"))
+    return [(it, it.read_text(encoding="utf-8").splitlines()) for it in every if it.name != "Lib.antt"]
+
+
+def section(crate):
+    """A crate's part of the index."""
+    lines = []
+    for file, text in files_of(crate):
+        top, words = about(text), ", ".join(f"`{word}`" for word, _ in words_of(text))
+        name = f"[{file.stem}](../{file.relative_to(TOP)})"
+        lines.append(f"- {name}: {top[:1].upper() + top[1:]} {words}".rstrip() + "\n")
+    return f"\n## {crate}\n\n" + "".join(lines) if lines else ""
+
+
+def print_all(part):
+    """Prints each definition whose name holds the text, with its comment."""
+    for crate in in_order():
+        for file, text in files_of(crate):
+            for word, said in words_of(text):
+                if part in word:
+                    print(f"{file.relative_to(TOP)}: {word}: {said or about(text)}")
+
+
+def in_order():
+    """The crates, each after those that it stands on."""
+    every, found = dependencies(), []
+
+    def put(name):
+        if name in every and name not in found:
+            for low in every[name]:
+                put(low)
+            found.append(name)
+
+    for name in every:
+        put(name)
+    return found
+
+
+def unexplained():
+    """The words of public clauses that no comment of their file explains."""
+    said = {(f"{file.relative_to(TOP / 'crates')}", word): comment
+            for crate in in_order() for file, text in files_of(crate) for word, comment in words_of(text)}
+    found = {}
+    for file in sorted((TOP / "crates").glob("*/src/**/*.rt")):
+        text = file.read_text(encoding="utf-8")
+        words = imported(text)
+        for function, clause in clauses(text):
+            clause = re.sub(r"//[^\n]*", "", clause)
+            for word in set(re.findall(r"[^\s(){},;.λ]+", clause)) & words.keys():
+                if said.get(words[word], "a case of a type") == "":
+                    found.setdefault(words[word], f"{file.relative_to(TOP)}, {function}")
+    return found
+
+
+def main():
+    parser = argparse.ArgumentParser(description=__doc__, formatter_class=argparse.RawDescriptionHelpFormatter)
+    parser.add_argument("--check", action="store_true")
+    parser.add_argument("--all", nargs="?", const="", metavar="WORD")
+    given = parser.parse_args()
+    if given.all is not None:
+        print_all(given.all)
+        return 0
+    text = HEAD + "".join(section(it) for it in in_order())
+    if not given.check:
+        DOCUMENT.write_text(text, encoding="utf-8")
+    is_same = DOCUMENT.read_text(encoding="utf-8") == text
+    print(f"docs/DEFINITIONS.md is {'what the comments say' if is_same else 'out of date: run tools/definitions.py'}")
+    bare = unexplained()
+    for (file, word), cited in sorted(bare.items()):
+        print(f"crates/{file}: no comment explains {word}, which {cited} cites")
+    return 0 if is_same and not bare else 1
+
+
+if __name__ == "__main__":
+    sys.exit(main())
