@@ -17,7 +17,7 @@ use Rattle.wf_paint.specs.Operation.{ShapeValue, FillOf, LineOf, SquareOf, Opera
 use Rattle.wf_paint.specs.Grid.{width_of}
 use Rattle.wf_paint.specs.Tile.{tile_view, tile_axis, tile_shift}
 use Rattle.wf_paint.specs.Drawing.{grid_view, grid_axis, first_pixel, IsPartOfTheDrawing}
-use Rattle.wf_paint.proofs.PaintedLemmas.{color_at-append, color_at-covered, color_at-left}
+use Rattle.wf_paint.proofs.OperationLemmas.{color_at-append, color_at-covered, color_at-left}
 use Rattle.wf_paint.proofs.MovedLemmas.{moved, segment, sixteenths, crosses_moved, on_moved, flat_map_alike, path_alike, ring_alike, inside_alike, on_any_alike, centre_moved, square_moved}
 
 -- ---- colours

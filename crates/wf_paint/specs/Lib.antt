@@ -6,7 +6,13 @@ pub mod Square
 pub mod View
 pub mod Segments
 pub mod Operation
+pub mod Styles
 pub mod Pixmap
+pub mod Cells
+pub mod Canvas
+pub mod Shown
+pub mod Level
+pub mod Span
 pub mod Grid
 pub mod Tile
 pub mod Drawing

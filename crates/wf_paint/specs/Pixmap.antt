@@ -2,7 +2,6 @@
 use Rattle.std.specs.Prelude.{◌≡◌, ◌≢◌, ℕ, ◌+◌, ◌-◌, ◌*◌, ◌/◌, ◌%◌, ◌<◌, ◌≤◌, List, length, slice_index, ℤ, pos}
 use Rattle.wf_def.specs.declared.color.Color.{Color}
 use Rattle.wf_paint.specs.View.{most_pixels}
-use Rattle.wf_paint.specs.Operation.{OperationValue, color_at}
 
 -- a size in pixels, and the bytes
 pub record PixmapValue : Type 0 where
@@ -36,13 +35,6 @@ pub record IsPicture (width height : ℕ) (picture : ℤ → ℤ → Color) (p :
   pub wide : p.width ≡ width
   pub high : p.height ≡ height
   pub pixels : (i : ℕ) → i < width * height → pixel_at p.bytes i ≡ picture (pos (column_of width i)) (pos (row_of width height i))
-
--- the operations in their order were painted over the old picture
-pub record IsPainted (ops : List OperationValue) (old new : PixmapValue) : Type 0 where
-  pub width : new.width ≡ old.width
-  pub height : new.height ≡ old.height
-  pub pixels : (i : ℕ) → i < old.width * old.height →
-      pixel_at new.bytes i ≡ color_at ops (pixel_at old.bytes i) (pos (column_of old.width i)) (pos (row_of old.width old.height i))
 
 -- the pixel in one place has the colour, and every other its old one
 pub record IsSet (place : ℕ) (color : Color) (old new : PixmapValue) : Type 0 where

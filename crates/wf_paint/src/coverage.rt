@@ -1,5 +1,5 @@
 //! Which pixels a shape covers.
-ghost use Rattle.std.specs.Prelude.{◌≡◌, ◌≤◌, pos};
+ghost use Rattle.std.specs.Prelude.{◌≡◌, ◌≤◌, ◌^◌, nat_abs, pos};
 ghost use Rattle.wf_def.specs.Limit.{most_width};
 ghost use Rattle.wf_paint.specs.Near.{IsReach, IsArea};
 ghost use Rattle.wf_paint.specs.Coverage.{run, rise, is_left_of, is_beside, meets, crosses, is_inside, deviation, margin, is_along, is_in_band, is_across, is_on_flat, is_steep, is_on, is_on_any};
@@ -27,7 +27,7 @@ pub fn covers(operation: &Operation, pixel: Pixel) -> bool
 
 /// How far the second place lies to the right of the first.
 #[tactic(auto, unfolding(crate::specs::Coverage::run))]
-fn run(from: Place, to: Place) -> i64
+pub(crate) fn run(from: Place, to: Place) -> i64
     ensures value { result ≡ run from to }
     ensures within { IsReach result }
 {
@@ -36,7 +36,7 @@ fn run(from: Place, to: Place) -> i64
 
 /// How far the second place lies above the first.
 #[tactic(auto, unfolding(crate::specs::Coverage::rise))]
-fn rise(from: Place, to: Place) -> i64
+pub(crate) fn rise(from: Place, to: Place) -> i64
     ensures value { result ≡ rise from to }
     ensures within { IsReach result }
 {
@@ -87,8 +87,9 @@ fn is_inside(place: Place, edges: &[Segment]) -> bool
 
 /// How far the place lies above the line from `left` to `right`, times the length of the line along x.
 #[tactic(auto, unfolding(crate::specs::Coverage::deviation))]
-fn deviation(place: Place, left: Place, right: Place) -> i128
-    ensures { result ≡ deviation place left right }
+pub(crate) fn deviation(place: Place, left: Place, right: Place) -> i128
+    ensures value { result ≡ deviation place left right }
+    ensures within { nat_abs result ≤ 2 ^ 109 }
 {
     let risen = product(rise(left, place), run(left, right));
     let expected = product(run(left, place), rise(left, right));
@@ -97,7 +98,7 @@ fn deviation(place: Place, left: Place, right: Place) -> i128
 
 /// Half the width of the line in sixteenths of a pixel, times its length along x.
 #[tactic(auto, unfolding(crate::specs::Coverage::margin))]
-fn margin(width: u8, left: Place, right: Place) -> i128
+pub(crate) fn margin(width: u8, left: Place, right: Place) -> i128
     ensures value { result ≡ margin width left right }
     ensures within { IsArea result }
 {
@@ -144,7 +145,7 @@ fn is_on_flat(width: u8, place: Place, from: Place, to: Place) -> bool
 
 /// Whether the line between two places is longer along y than along x.
 #[tactic(auto, unfolding(crate::specs::Coverage::is_steep))]
-fn is_steep(from: Place, to: Place) -> bool
+pub(crate) fn is_steep(from: Place, to: Place) -> bool
     ensures { result ≡ is_steep from to }
 {
     run(from, to).unsigned_abs() < rise(from, to).unsigned_abs()

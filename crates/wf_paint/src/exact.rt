@@ -30,7 +30,8 @@ pub(crate) fn product(a: i64, b: i64) -> i128
 pub(crate) fn area_difference(a: i128, b: i128) -> i128
     requires first { IsArea a }
     requires second { IsArea b }
-    ensures { result ≡ difference a b }
+    ensures value { result ≡ difference a b }
+    ensures within { nat_abs result ≤ 2 ^ 109 }
 {
     a - b
 }
@@ -39,7 +40,8 @@ pub(crate) fn area_difference(a: i128, b: i128) -> i128
 #[tactic(auto, unfolding(crate::specs::Exact::opposite))]
 pub(crate) fn opposite(a: i128) -> i128
     requires { IsArea a }
-    ensures { result ≡ opposite a }
+    ensures value { result ≡ opposite a }
+    ensures within { IsArea result }
 {
     -a
 }

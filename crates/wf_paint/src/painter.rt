@@ -1,11 +1,21 @@
 //! The painter: a map's layers over a background.
-ghost use Rattle.std.specs.Prelude.{◌≡◌, ◌<◌, [], ◌∷◌, length, OnOk, IfOk};
-ghost use Rattle.std.specs.List.{All};
-ghost use Rattle.wf_paint.specs.Operation.{operations, layer_operations, feature_operations, class_operations, style_operations, polygon, line, squares, part_squares, color_at};
-ghost use Rattle.wf_paint.specs.Pixmap.{IsPainted, IsPicture};
+//!
+//! It paints from the last operation to the first: a pixel has the colour of the first operation that covers it then, and whatever
+//! lies under painted pixels costs nothing.
+ghost use Rattle.std.specs.Prelude.{◌≡◌, ◌<◌, ◌+◌, None, cond, length, drop, slice_index, OnOk, IfOk};
+ghost use Rattle.std.specs.Bool.{Decides};
+ghost use Rattle.std.specs.List.{All, Contains, flat_map};
+ghost use Rattle.wf_paint.specs.Operation.{operations, layer_operations, feature_operations, class_operations, squares, part_squares, color_at};
+ghost use Rattle.wf_paint.specs.Styles.{line_along, filled_and_outlined};
+ghost use Rattle.wf_paint.specs.Pixmap.{IsPicture};
+ghost use Rattle.wf_paint.specs.Shown.{IsShown};
 
-use crate::draw::{draw_about, draw_along, draw_inside};
+use crate::about::draw_about;
+use crate::along::draw_along;
+use crate::canvas::Canvas;
+use crate::inside::draw_inside;
 use crate::pixmap::Pixmap;
+use crate::segment::Segment;
 use crate::segments::{paths, rings};
 use crate::view::View;
 use std::alloc::{AllocError, Global};
@@ -18,9 +28,8 @@ use wf_def::map::MapDef;
 use wf_def::point::Point;
 use wf_def::style::Style;
 
-/// Paints the layers in these places of the map, from the first to the last, over a background: each pixel has the colour of the
-/// last operation that covers it, else the background. Want of memory is the only error.
-#[tactic(auto, unfolding(crate::specs::Operation::operations))]
+/// Paints the layers in these places of the map, each over those before it, over a background: each pixel has the colour of the
+/// last operation that covers it, else the background. Allocation failure is the only error.
 pub fn paint(
     alloc: Global,
     map: &MapDef,
@@ -31,26 +40,58 @@ pub fn paint(
     requires { All (λ i. i < length map.now.layers) layers.now }
     ensures { IfOk result (λ p. IsPicture view.now.width view.now.height (color_at (operations map.now layers.now view.now) background) p) }
 {
-    let mut pixmap = Pixmap::filled(alloc, view.width(), view.height(), background)?;
-    for index in layers {
-        let (_, layer) = map.layer(*index);
-        draw_layer(alloc, &mut pixmap, view, layer)?;
-    }
-    Ok(pixmap)
+    let mut canvas = Canvas::blank(alloc, view.width(), view.height())?;
+    draw_layers(alloc, &mut canvas, map, layers, view)?;
+    Ok(canvas.finish(background))
 }
 
-/// Paints a layer's features in order.
+/// Paints the layers from the last to the first. One that is named again later is painted there alone: it would cover the same
+/// pixels.
+#[tactic(auto, unfolding(crate::specs::Operation::operations))]
+fn draw_layers(
+    alloc: Global,
+    canvas: &mut Canvas,
+    map: &MapDef,
+    layers: &[usize],
+    view: &View,
+) -> Result<(), AllocError>
+    requires { All (λ i. i < length map.now.layers) layers.now }
+    ensures { OnOk result (IsShown (operations map.now layers.now view.now) canvas.old canvas.new) }
+{
+    for place in (0..layers.len()).rev() {
+        if is_named_again(layers, place) {
+            continue;
+        }
+        let (_, layer) = map.layer(layers[place]);
+        draw_layer(alloc, canvas, view, layer)?;
+    }
+    Ok(())
+}
+
+/// Whether the layer in this place of the list stands in it again later.
+fn is_named_again(layers: &[usize], place: usize) -> bool
+    requires { place < length layers.now }
+    ensures { Decides result (Contains (drop (place + 1) layers.now) (slice_index layers.now place)) }
+{
+    layers[place + 1..].contains(&layers[place])
+}
+
+/// Paints a layer's features from the last to the first, until the canvas is full.
 #[tactic(auto, unfolding(crate::specs::Operation::layer_operations))]
 fn draw_layer(
     alloc: Global,
-    pixmap: &mut Pixmap,
+    canvas: &mut Canvas,
     view: &View,
     layer: &Layer,
 ) -> Result<(), AllocError>
-    ensures { OnOk result (IsPainted (layer_operations view.now layer.now) pixmap.old pixmap.new) }
+    ensures { OnOk result (IsShown (layer_operations view.now layer.now) canvas.old canvas.new) }
 {
-    for feature in layer.features() {
-        draw_feature(alloc, pixmap, view, layer, feature)?;
+    let features = layer.features();
+    for index in (0..features.len()).rev() {
+        if canvas.is_full() {
+            return Ok(());
+        }
+        draw_feature(alloc, canvas, view, layer, &features[index])?;
     }
     Ok(())
 }
@@ -59,17 +100,17 @@ fn draw_layer(
 #[tactic(auto, unfolding(crate::specs::Operation::feature_operations))]
 fn draw_feature(
     alloc: Global,
-    pixmap: &mut Pixmap,
+    canvas: &mut Canvas,
     view: &View,
     layer: &Layer,
     feature: &Feature,
 ) -> Result<(), AllocError>
-    ensures { OnOk result (IsPainted (feature_operations view.now layer.now feature.now) pixmap.old pixmap.new) }
+    ensures { OnOk result (IsShown (feature_operations view.now layer.now feature.now) canvas.old canvas.new) }
 {
     match layer.class_of(feature) {
         Some(index) => draw_class(
             alloc,
-            pixmap,
+            canvas,
             view,
             layer.kind(),
             feature.parts(),
@@ -79,93 +120,101 @@ fn draw_feature(
     }
 }
 
-/// Paints a feature's parts by the styles of a class, in order.
+/// Paints a feature's parts by the styles of a class.
+#[tactic(auto, unfolding(crate::specs::Operation::line, crate::specs::Operation::polygon))]
 fn draw_class(
     alloc: Global,
-    pixmap: &mut Pixmap,
+    canvas: &mut Canvas,
     view: &View,
     kind: LayerKind,
     parts: &[Part],
     class: &Class,
 ) -> Result<(), AllocError>
-    ensures { OnOk result (IsPainted (class_operations view.now kind parts.now (Some class.now)) pixmap.old pixmap.new) }
-{
-    for style in class.styles() {
-        draw_style(alloc, pixmap, view, kind, parts, style)?;
-    }
-    Ok(())
-}
-
-/// Paints a feature's parts by a style.
-fn draw_style(
-    alloc: Global,
-    pixmap: &mut Pixmap,
-    view: &View,
-    kind: LayerKind,
-    parts: &[Part],
-    style: &Style,
-) -> Result<(), AllocError>
-    ensures { OnOk result (IsPainted (style_operations view.now kind parts.now style.now) pixmap.old pixmap.new) }
+    ensures { OnOk result (IsShown (class_operations view.now kind parts.now (Some class.now)) canvas.old canvas.new) }
 {
     match kind {
         LayerKind::Points => {
-            draw_squares(pixmap, view, parts, style);
+            draw_markers(canvas, view, parts, class.styles());
             Ok(())
         }
-        LayerKind::Lines => draw_line(alloc, pixmap, view, parts, style),
-        LayerKind::Polygons => draw_polygon(alloc, pixmap, view, parts, style),
+        LayerKind::Lines => {
+            let segments = paths(alloc, view, parts)?;
+            draw_lines(canvas, &segments, class.styles());
+            Ok(())
+        }
+        LayerKind::Polygons => {
+            let edges = rings(alloc, view, parts)?;
+            draw_polygons(alloc, canvas, &edges, class.styles())
+        }
     }
 }
 
-/// Paints the inside in the style's colour, then the border in its outline's colour.
-#[tactic(auto, unfolding(crate::specs::Operation::polygon))]
-fn draw_polygon(
+/// Paints polygons by the styles from the last to the first: the border of each, and the inside once, since all fill the same.
+fn draw_polygons(
     alloc: Global,
-    pixmap: &mut Pixmap,
-    view: &View,
-    parts: &[Part],
-    style: &Style,
+    canvas: &mut Canvas,
+    edges: &[Segment],
+    styles: &[Style],
 ) -> Result<(), AllocError>
-    ensures { OnOk result (IsPainted (polygon view.now style.now parts.now) pixmap.old pixmap.new) }
+    ensures { OnOk result (IsShown (flat_map (filled_and_outlined edges.now) styles.now) canvas.old canvas.new) }
 {
-    let edges = rings(alloc, view, parts)?;
-    draw_inside(pixmap, &edges, style.color);
-    draw_along(pixmap, style.width.get(), &edges, style.outline_color);
+    let mut filled = false;
+    for index in (0..styles.len()).rev() {
+        let style = &styles[index];
+        draw_along(canvas, style.width.get(), edges, style.outline_color);
+        draw_inside(alloc, canvas, edges, inner_color(style, filled))?;
+        filled |= style.color.is_some();
+    }
     Ok(())
 }
 
-/// Paints a line along each part.
-#[tactic(auto, unfolding(crate::specs::Operation::line))]
-fn draw_line(
-    alloc: Global,
-    pixmap: &mut Pixmap,
-    view: &View,
-    parts: &[Part],
-    style: &Style,
-) -> Result<(), AllocError>
-    ensures { OnOk result (IsPainted (line view.now style.now parts.now) pixmap.old pixmap.new) }
+/// The colour of a style's inside, and none where a later style has filled it.
+fn inner_color(style: &Style, filled: bool) -> Option<Color>
+    ensures { result ≡ cond filled None style.now.color }
 {
-    let segments = paths(alloc, view, parts)?;
-    draw_along(pixmap, style.width.get(), &segments, style.color);
-    Ok(())
+    if filled { None } else { style.color }
 }
 
-/// Paints a square about each point.
+/// Paints lines along the segments by the styles from the last to the first.
+fn draw_lines(canvas: &mut Canvas, segments: &[Segment], styles: &[Style])
+    ensures { IsShown (flat_map (line_along segments.now) styles.now) canvas.old canvas.new }
+{
+    for index in (0..styles.len()).rev() {
+        let style = &styles[index];
+        draw_along(canvas, style.width.get(), segments, style.color);
+    }
+}
+
+/// Paints squares about the points by the styles from the last to the first.
+fn draw_markers(canvas: &mut Canvas, view: &View, parts: &[Part], styles: &[Style])
+    ensures { IsShown (flat_map (λ style. squares view.now style parts.now) styles.now) canvas.old canvas.new }
+{
+    for index in (0..styles.len()).rev() {
+        draw_squares(canvas, view, parts, &styles[index]);
+    }
+}
+
+/// Paints a square about each point, from the last part to the first.
 #[tactic(auto, unfolding(crate::specs::Operation::squares))]
-fn draw_squares(pixmap: &mut Pixmap, view: &View, parts: &[Part], style: &Style)
-    ensures { IsPainted (squares view.now style.now parts.now) pixmap.old pixmap.new }
+fn draw_squares(canvas: &mut Canvas, view: &View, parts: &[Part], style: &Style)
+    ensures { IsShown (squares view.now style.now parts.now) canvas.old canvas.new }
 {
-    for part in parts {
-        draw_part_squares(pixmap, view, part.as_slice(), style);
+    for index in (0..parts.len()).rev() {
+        draw_part_squares(canvas, view, parts[index].as_slice(), style);
     }
 }
 
-/// Paints a square about each point of a part.
+/// Paints a square about each point of a part, from the last to the first.
 #[tactic(auto, unfolding(crate::specs::Operation::part_squares))]
-fn draw_part_squares(pixmap: &mut Pixmap, view: &View, points: &[Point], style: &Style)
-    ensures { IsPainted (part_squares view.now style.now points.now) pixmap.old pixmap.new }
+fn draw_part_squares(canvas: &mut Canvas, view: &View, points: &[Point], style: &Style)
+    ensures { IsShown (part_squares view.now style.now points.now) canvas.old canvas.new }
 {
-    for point in points {
-        draw_about(pixmap, style.size.get(), view.place(point), style.color);
+    for index in (0..points.len()).rev() {
+        draw_about(
+            canvas,
+            style.size.get(),
+            view.place(&points[index]),
+            style.color,
+        );
     }
 }

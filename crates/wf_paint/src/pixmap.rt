@@ -1,10 +1,8 @@
 //! Pictures as bytes.
-ghost use Rattle.std.specs.Prelude.{◌≡◌, ◌≤◌, ◌<◌, ◌*◌, IfOk};
-ghost use Rattle.wf_paint.specs.View.{most_pixels};
-ghost use Rattle.wf_paint.specs.Pixmap.{IsPixmap, IsPicture, IsSet, column_of, row_of};
+ghost use Rattle.std.specs.Prelude.{◌≡◌, ◌<◌, ◌*◌};
+ghost use Rattle.wf_paint.specs.Pixmap.{IsPixmap, IsSet, column_of, row_of};
 
 use crate::operation::Pixel;
-use std::alloc::{AllocError, Global};
 use std::marker::Model;
 use wf_def::color::Color;
 
@@ -27,6 +25,18 @@ impl Model for Pixmap {
 }
 
 impl Pixmap {
+    /// The picture of this size with these bytes.
+    pub(crate) fn of(width: u32, height: u32, bytes: Vec<u8>) -> Self
+        requires { IsPixmap (record { width = width; height = height; bytes = bytes.items }) }
+        ensures { result ≡ record { width = width; height = height; bytes = bytes.items } }
+    {
+        Pixmap {
+            width,
+            height,
+            bytes,
+        }
+    }
+
     /// How wide the picture is, in pixels.
     pub fn width(&self) -> u32
         ensures value { result ≡ self.now.width }
@@ -80,31 +90,5 @@ impl Pixmap {
         self.bytes[start] = color.r;
         self.bytes[start + 1] = color.g;
         self.bytes[start + 2] = color.b;
-    }
-
-    /// The picture of this size, at most 1,024 pixels wide and high, in one colour.
-    pub fn filled(alloc: Global, width: u32, height: u32, color: Color) -> Result<Self, AllocError>
-        requires width_least { 1 ≤ width }
-        requires width_most { width ≤ most_pixels }
-        requires height_least { 1 ≤ height }
-        requires height_most { height ≤ most_pixels }
-        ensures { IfOk result (λ p. IsPicture width height (λ column row. color) p) }
-    {
-        let mut pixmap = Pixmap {
-            width,
-            height,
-            bytes: vec![in alloc; 0; 3 * (width * height) as usize]?,
-        };
-        pixmap.fill(color);
-        Ok(pixmap)
-    }
-
-    /// Gives each pixel the colour.
-    fn fill(&mut self, color: Color)
-        ensures { IsPicture self.old.width self.old.height (λ column row. color) self.new }
-    {
-        for index in 0..self.area() {
-            self.set(index, color);
-        }
     }
 }

@@ -10,7 +10,7 @@ use crate::place::Place;
 
 /// The first of the so many columns of pixels about a place on one axis.
 #[tactic(auto, unfolding(crate::specs::Square::square_start, crate::specs::Exact::difference, crate::specs::Exact::quotient))]
-fn square_start(size: u8, place: i64) -> i64
+pub(crate) fn square_start(size: u8, place: i64) -> i64
     requires { IsNear place }
     ensures value { result ≡ square_start size place }
     ensures within { nat_abs result ≤ 2 ^ 54 }
@@ -20,7 +20,7 @@ fn square_start(size: u8, place: i64) -> i64
 
 /// The column behind the last.
 #[tactic(auto, unfolding(crate::specs::Exact::plus))]
-fn square_end(start: i64, size: u8) -> i64
+pub(crate) fn square_end(start: i64, size: u8) -> i64
     requires { nat_abs start ≤ 2 ^ 54 }
     ensures { result ≡ plus start (pos size) }
 {

@@ -1,0 +1,148 @@
+-- Which pixels of a row the line along a segment covers.
+use Rattle.std.proofs.Common.{◌≡◌, Bool, true, false, ℕ, ◌+◌, ◌*◌, ◌<◌, ◌||◌, List, [], take, length, get_or, ℤ, pos, ◌+ℤ◌, ◌-ℤ◌, ◌*ℤ◌, neg_ℤ, refl, sym, ap, ◌∙◌, arith}
+use Rattle.std.proofs.lemmas.Int.{ints}
+use Rattle.std.proofs.lemmas.Bool.{and_left}
+use Rattle.std.proofs.lemmas.List.Folds.{list_any_more}
+use Rattle.std.specs.List.{list_any}
+use borrow.Author.Differences.{up, down, sum_is_lem, product_is}
+use Rattle.wf_paint.specs.Exact.{plus, difference, product, opposite, is_less}
+use Rattle.wf_paint.specs.Level.{level, is_in_margin}
+use Rattle.wf_paint.specs.Place.{PlaceValue, centre, turned}
+use Rattle.wf_paint.specs.Coverage.{run, rise, deviation, margin, is_along, is_in_band, is_across, is_on_flat, is_steep, is_on, is_on_any}
+use Rattle.wf_def.specs.declared.color.Color.{Color}
+use Rattle.wf_paint.specs.Canvas.{CanvasValue}
+use Rattle.wf_paint.specs.Shown.{IsColored}
+use Rattle.wf_paint.specs.declared.segment.Segment.{Segment}
+use Rattle.wf_paint.specs.Span.{IsSpanOf}
+use Rattle.wf_paint.specs.declared.span.Span.{Span}
+use Rattle.wf_paint.proofs.ColoredLemmas.{IsColored-none, IsColored-either, IsColored-alike}
+use Rattle.wf_paint.proofs.LevelLemmas.{opposed}
+
+-- ---- whole numbers
+
+pub times_sum : (a b c : ℤ) → (a +ℤ b) *ℤ c ≡ a *ℤ c +ℤ b *ℤ c
+times_sum a b c =
+    let sum = sum_is_lem a b in
+    let ups : (up (a +ℤ b) + down a + down b) * up c ≡ (down (a +ℤ b) + up a + up b) * up c = ap (λ (n : ℕ). n * up c) sum in
+    let downs : (up (a +ℤ b) + down a + down b) * down c ≡ (down (a +ℤ b) + up a + up b) * down c = ap (λ (n : ℕ). n * down c) sum in
+    omega (arith, ints)
+
+-- sixteen times one factor is sixteen times the other
+sixteen : (u e : ℤ) → (pos 16 *ℤ u) *ℤ e ≡ (pos 16 *ℤ e) *ℤ u
+sixteen u e =
+    let left = product_is (pos 16) u in
+    let right = product_is (pos 16) e in
+    let a = ap (λ (n : ℕ). n * up e) left.0 in
+    let b = ap (λ (n : ℕ). n * down e) left.0 in
+    let c = ap (λ (n : ℕ). n * up e) left.1 in
+    let d = ap (λ (n : ℕ). n * down e) left.1 in
+    let f = ap (λ (n : ℕ). n * up u) right.0 in
+    let g = ap (λ (n : ℕ). n * down u) right.0 in
+    let h = ap (λ (n : ℕ). n * up u) right.1 in
+    let i = ap (λ (n : ℕ). n * down u) right.1 in
+    omega (arith, ints)
+
+-- ---- the deviation changes by one step from column to column
+
+split : (u x : ℤ) → (pos 16 *ℤ u +ℤ pos 8) -ℤ x ≡ pos 16 *ℤ u +ℤ ((pos 16 *ℤ pos 0 +ℤ pos 8) -ℤ x)
+split u x = omega (arith, ints)
+
+stepped : (u x e : ℤ) → ((pos 16 *ℤ u +ℤ pos 8) -ℤ x) *ℤ e ≡ (pos 16 *ℤ e) *ℤ u +ℤ ((pos 16 *ℤ pos 0 +ℤ pos 8) -ℤ x) *ℤ e
+stepped u x e = ap (λ (z : ℤ). z *ℤ e) (split u x) ∙ times_sum (pos 16 *ℤ u) ((pos 16 *ℤ pos 0 +ℤ pos 8) -ℤ x) e
+    ∙ ap (λ (z : ℤ). z +ℤ ((pos 16 *ℤ pos 0 +ℤ pos 8) -ℤ x) *ℤ e) (sixteen u e)
+
+taken_off : (p z t w q : ℤ) → z ≡ t +ℤ w → q ≡ neg_ℤ t → p -ℤ z ≡ (p -ℤ w) +ℤ q
+taken_off p z t w q whole turned = omega (arith, ints)
+
+added : (z t w p : ℤ) → z ≡ t +ℤ w → z -ℤ p ≡ (w -ℤ p) +ℤ t
+added z t w p whole = omega (arith, ints)
+
+pub deviation_across : (u : ℕ) (row : ℤ) (a b : PlaceValue) →
+    deviation (centre (pos u) row) a b ≡ level (deviation (centre (pos 0) row) a b) (opposite (product (pos 16) (rise a b))) (pos u)
+unfolding deviation run rise level plus difference product opposite
+deviation_across u row a b =
+    taken_off _ _ (pos 16 *ℤ (b.y -ℤ a.y) *ℤ pos u) (((pos 16 *ℤ pos 0 +ℤ pos 8) -ℤ a.x) *ℤ (b.y -ℤ a.y)) _ (stepped (pos u) a.x (b.y -ℤ a.y)) (opposed (pos 16 *ℤ (b.y -ℤ a.y)) u)
+
+pub deviation_upward : (u : ℕ) (row : ℤ) (a b : PlaceValue) →
+    deviation (turned (centre (pos u) row)) a b ≡ level (deviation (turned (centre (pos 0) row)) a b) (product (pos 16) (run a b)) (pos u)
+unfolding deviation run rise level plus difference product opposite
+deviation_upward u row a b =
+    added _ (pos 16 *ℤ (b.x -ℤ a.x) *ℤ pos u) (((pos 16 *ℤ pos 0 +ℤ pos 8) -ℤ a.y) *ℤ (b.x -ℤ a.x)) _ (stepped (pos u) a.y (b.x -ℤ a.x))
+
+-- ---- the columns of a row within the band
+
+pub band_level : (width : ℕ) (c a b : PlaceValue) → is_in_band width c a b ≡ is_in_margin (margin width a b) (deviation c a b)
+unfolding is_in_band is_in_margin
+band_level width c a b = refl
+
+pub band_across : (width row most : ℕ) (a b : PlaceValue) (span : Span) →
+    IsSpanOf (λ u. is_in_margin (margin width a b) (level (deviation (centre (pos 0) (pos row)) a b) (opposite (product (pos 16) (rise a b))) (pos u))) most span →
+    IsSpanOf (λ u. is_in_band width (centre (pos u) (pos row)) a b) most span
+band_across width row most a b span levels = record {
+  within = levels.within;
+  passed = λ u within. band_level width (centre (pos u) (pos row)) a b ∙ ap (is_in_margin (margin width a b)) (deviation_across u (pos row) a b) ∙ levels.passed u within;
+}
+
+pub band_upward : (width row most : ℕ) (a b : PlaceValue) (span : Span) →
+    IsSpanOf (λ u. is_in_margin (margin width a b) (level (deviation (turned (centre (pos 0) (pos row))) a b) (product (pos 16) (run a b)) (pos u))) most span →
+    IsSpanOf (λ u. is_in_band width (turned (centre (pos u) (pos row))) a b) most span
+band_upward width row most a b span levels = record {
+  within = levels.within;
+  passed = λ u within. band_level width (turned (centre (pos u) (pos row))) a b ∙ ap (is_in_margin (margin width a b)) (deviation_upward u (pos row) a b) ∙ levels.passed u within;
+}
+
+-- ---- a row
+
+-- away from the ends the line covers nothing
+pub across_left : (width : ℕ) (c a b : PlaceValue) → is_along c a b ≡ false → is_across width c a b ≡ false
+unfolding is_across
+across_left width c a b left = and_left (is_along c a b) (is_in_band width c a b) left
+
+pub across_along : (width : ℕ) (c a b : PlaceValue) → is_along c a b ≡ true → is_across width c a b ≡ is_in_band width c a b
+unfolding is_across
+across_along width c a b along = rw along refl
+
+-- with the axes exchanged a row between the ends is covered where the band is
+pub upward_row : (width most row : ℕ) (a b : PlaceValue) (span : Span) → ((u : ℕ) → is_along (turned (centre (pos u) (pos row))) a b ≡ true) →
+    IsSpanOf (λ u. is_in_band width (turned (centre (pos u) (pos row))) a b) most span → IsSpanOf (λ u. is_across width (turned (centre (pos u) (pos row))) a b) most span
+upward_row width most row a b span along band = record {
+  within = band.within;
+  passed = λ u within. across_along width (turned (centre (pos u) (pos row))) a b (along u) ∙ band.passed u within;
+}
+
+-- ---- segments
+
+pub flat_back : (width : ℕ) (c a b : PlaceValue) → is_less b.x a.x ≡ true → is_on_flat width c a b ≡ is_across width c b a
+unfolding is_on_flat
+flat_back width c a b back = rw back refl
+
+pub flat_forth : (width : ℕ) (c a b : PlaceValue) → is_less b.x a.x ≡ false → is_on_flat width c a b ≡ is_across width c a b
+unfolding is_on_flat
+flat_forth width c a b forth = rw forth refl
+
+pub on_steep : (width : ℕ) (c : PlaceValue) (s : Segment) → is_steep s.from s.to ≡ true → is_on width c s ≡ is_on_flat width (turned c) (turned s.from) (turned s.to)
+unfolding is_on
+on_steep width c s steep = rw steep refl
+
+pub on_flat : (width : ℕ) (c : PlaceValue) (s : Segment) → is_steep s.from s.to ≡ false → is_on width c s ≡ is_on_flat width c s.from s.to
+unfolding is_on
+on_flat width c s flat = rw flat refl
+
+-- the pixels that a line along one of the segments covers
+abbrev pub on_any : ℕ → List Segment → ℕ → ℕ → Bool
+on_any width segments column row = is_on_any width (centre (pos column) (pos row)) segments
+
+pub segments_none : (width : ℕ) (color : Color) (a : CanvasValue) → IsColored (on_any width []) color a a
+unfolding is_on_any
+segments_none width color a = IsColored-none (on_any width []) color a (λ column row wide high. refl)
+
+-- one more step of a loop over segments
+pub segments_more : (width : ℕ) (xs : List Segment) (i : ℕ) (x d : Segment) (color : Color) (a b c : CanvasValue) → i < length xs → x ≡ get_or xs i d →
+    IsColored (on_any width (take i xs)) color a b → IsColored (λ column row. is_on width (centre (pos column) (pos row)) x) color b c →
+    IsColored (on_any width (take (i + 1) xs)) color a c
+unfolding is_on_any
+segments_more width xs i x d color a b c within here before next =
+    IsColored-alike (λ column row. on_any width (take i xs) column row || is_on width (centre (pos column) (pos row)) x) (on_any width (take (i + 1) xs)) color a c
+    (λ column row wide high. list_any_more (is_on width (centre (pos column) (pos row))) xs i d within
+    ∙ ap (λ (s : Segment). list_any (is_on width (centre (pos column) (pos row))) (take i xs) || is_on width (centre (pos column) (pos row)) s) (sym here))
+    (IsColored-either (on_any width (take i xs)) (λ column row. is_on width (centre (pos column) (pos row)) x) color a b c before next)

@@ -1,0 +1,188 @@
+-- A canvas as a picture: which index a column of a row has, and what is left of a canvas by its pixels.
+use Rattle.std.proofs.Common.{◌≡◌, ◌≢◌, ℕ, ◌+◌, ◌-◌, ◌*◌, ◌/◌, ◌%◌, ◌<◌, ◌≤◌, inl, inr, Bool, true, false, List, length, replicate, Option, Some, None, is_some, refl, sym, ap, ◌∙◌, arith}
+use Rattle.std.specs.Option.{option_or}
+use Rattle.std.proofs.Math.Nat.{div-lt_iff_lt-mul, div-add-mod, mul_comm}
+use Rattle.std.proofs.lemmas.Nat.{div-mul-add, mod-mul-add}
+use Rattle.std.proofs.lemmas.List.{get_or-replicate}
+use Rattle.std.proofs.lemmas.Bool.{cases_lt, cases_eq}
+use Rattle.std.proofs.lemmas.Bool.Decides.{nat_tests}
+use Rattle.wf_def.specs.declared.color.Color.{Color}
+use Rattle.wf_paint.specs.Pixmap.{column_of, row_of}
+use Rattle.wf_paint.specs.Cells.{IsRangePainted, IsFilled, AreAlike, is_free, painted_in}
+use Rattle.wf_paint.specs.Canvas.{CanvasValue, IsCanvas, IsBlank, IsFull, HasFree, IsAlike, IsFinished, painted_at}
+use Rattle.wf_paint.specs.Shown.{IsColored, is_in_run, color_where}
+use Rattle.wf_paint.proofs.CellsLemmas.{is_free-none, painted_in-free, painted_in-painted, painted_in-same}
+
+-- ---- the index of a pixel
+
+-- a pixel of this row, counted from the bottom, lies so far behind the row's first
+pub index_in_row : (width height row index : ℕ) → 0 < width → row < height → index < width * height → row_of width height index ≡ row →
+    index ≡ (height - 1 - row) * width + column_of width index
+unfolding row_of column_of
+index_in_row width height row index some within inside same =
+    let above : index / width < height = (div-lt_iff_lt-mul some).1 (omega (arith, mul_comm height width)) in
+    let from_top : index / width ≡ height - 1 - row = omega arith in
+    let whole : width * (index / width) + index % width ≡ index = div-add-mod index width in
+    let turned : width * (index / width) ≡ (height - 1 - row) * width = mul_comm width (index / width) ∙ ap (λ (q : ℕ). q * width) from_top in
+    omega arith
+
+-- the row and the column of an index that lies so far behind a row's first
+pub row_of_index : (width height row column : ℕ) → row < height → column < width → row_of width height ((height - 1 - row) * width + column) ≡ row
+unfolding row_of
+row_of_index width height row column within inside =
+    let from_top : ((height - 1 - row) * width + column) / width ≡ height - 1 - row = div-mul-add (height - 1 - row) width column inside in
+    omega arith
+
+pub column_of_index : (width height row column : ℕ) → column < width → column_of width ((height - 1 - row) * width + column) ≡ column
+unfolding column_of
+column_of_index width height row column inside = mod-mul-add (height - 1 - row) width column inside
+
+-- ---- the run of a row
+
+module _ (row from to column r : ℕ) where
+  pub in_run : r ≡ row → from ≤ column → column < to → is_in_run row from to column r ≡ true
+  unfolding is_in_run
+  in_run same later earlier = grind (arith, nat_tests)
+
+  pub beside_run : r ≢ row → is_in_run row from to column r ≡ false
+  unfolding is_in_run
+  beside_run apart = grind (arith, nat_tests)
+
+  pub before_run : column < from → is_in_run row from to column r ≡ false
+  unfolding is_in_run
+  before_run earlier = grind (arith, nat_tests)
+
+  pub after_run : to ≤ column → is_in_run row from to column r ≡ false
+  unfolding is_in_run
+  after_run later = grind (arith, nat_tests)
+
+color_where-true : (shown : Bool) (color : Color) → shown ≡ true → color_where shown color ≡ Some color
+unfolding color_where
+color_where-true shown color is = rw is refl
+
+color_where-false : (shown : Bool) (color : Color) → shown ≡ false → color_where shown color ≡ None
+unfolding color_where
+color_where-false shown color is = rw is refl
+
+pub or_none : (o : Option Color) → option_or o None ≡ o
+or_none None = refl
+or_none (Some color) = refl
+
+-- the same canvas with other pixels
+abbrev pub with_cells : CanvasValue → List ℕ → List ℕ → CanvasValue
+with_cells c skip bytes = record { width = c.width; height = c.height; bytes = bytes; skip = skip }
+
+module _ (c : CanvasValue) (row from to : ℕ) (color : Color) (skip bytes : List ℕ) where
+  -- how many pixels lie in the rows above
+  abbrev left : ℕ
+  left = (c.height - 1 - row) * c.width
+
+  -- a range of indices in one row is a run of its columns
+  pub run_colored : IsCanvas c → row < c.height → to ≤ c.width → IsRangePainted (left + from) (left + to) color c.skip c.bytes skip bytes →
+      IsColored (is_in_run row from to) color c (with_cells c skip bytes)
+  unfolding painted_at
+  run_colored is within inside range =
+      let some : 0 < c.width = omega (arith, is.width_least) in
+      let kept : (i : ℕ) → painted_in skip bytes i ≡ painted_in c.skip c.bytes i → is_in_run row from to (column_of c.width i) (row_of c.width c.height i) ≡ false →
+      painted_in skip bytes i ≡ option_or (painted_in c.skip c.bytes i) (color_where (is_in_run row from to (column_of c.width i) (row_of c.width c.height i)) color) =
+      λ i same outside. same ∙ sym (ap (option_or (painted_in c.skip c.bytes i)) (color_where-false _ color outside) ∙ or_none (painted_in c.skip c.bytes i)) in
+      record {
+        width = refl;
+        height = refl;
+        pixels = λ i area.
+            let column : ℕ = column_of c.width i in
+            elim (cases_eq (row_of c.width c.height i) row) [
+              | inl same ↦
+                  let place : i ≡ left + column = index_in_row c.width c.height row i some within area same in
+                  elim (cases_lt column from) [
+                    | inl earlier ↦ kept i (range.before i (omega arith)) (before_run row from to column _ earlier)
+                    | inr later ↦ elim (cases_lt column to) [
+                      | inl before ↦ range.painted i (omega arith) (omega arith)
+                          ∙ ap (option_or (painted_in c.skip c.bytes i)) (sym (color_where-true _ color (in_run row from to column _ same later before)))
+                      | inr after ↦ kept i (range.after i (omega arith)) (after_run row from to column _ after)
+                    ]
+                  ]
+              | inr apart ↦
+                  let outside : is_in_run row from to column (row_of c.width c.height i) ≡ false = beside_run row from to column _ apart in
+                  elim (cases_lt i (left + from)) [
+                    | inl earlier ↦ kept i (range.before i earlier) outside
+                    | inr later ↦ elim (cases_lt i (left + to)) [
+                      | inl before ↦
+                          let place : left + (i - left) ≡ i = omega arith in
+                          absurd (apart (rw place at (row_of_index c.width c.height row (i - left) within (omega arith))))
+                      | inr after ↦ kept i (range.after i after) outside
+                    ]
+                  ]
+            ];
+      }
+
+  -- no column lies between two that are the wrong way round
+  pub run_empty : to ≤ from → IsColored (is_in_run row from to) color c c
+  run_empty none = record {
+    width = refl;
+    height = refl;
+    pixels = λ i area.
+        let column : ℕ = column_of c.width i in
+        let outside : is_in_run row from to column (row_of c.width c.height i) ≡ false =
+        elim (cases_lt column from) [
+          | inl earlier ↦ before_run row from to column _ earlier
+          | inr later ↦ after_run row from to column _ (omega arith)
+        ] in
+        sym (ap (option_or (painted_at c i)) (color_where-false _ color outside) ∙ or_none (painted_at c i));
+  }
+
+-- ---- the whole canvas
+
+pub blank_pixels : (width height : ℕ) (bytes : List ℕ) → IsBlank width height (record { width = width; height = height; bytes = bytes; skip = replicate (width * height) 0 })
+unfolding painted_at
+blank_pixels width height bytes =
+    let skip : List ℕ = replicate (width * height) 0 in
+    record {
+      wide = refl;
+      high = refl;
+      pixels = λ i area. painted_in-free skip bytes i (is_free-none skip i (get_or-replicate (width * height) i 0 0 area));
+    }
+
+module _ (c : CanvasValue) (skip : List ℕ) (alike : AreAlike c.skip skip) where
+  -- other jumps show nothing else
+  pub canvas_alike : IsAlike c (with_cells c skip c.bytes)
+  unfolding painted_at
+  canvas_alike = record {
+    width = refl;
+    height = refl;
+    pixels = λ i area. painted_in-same c.skip c.bytes skip c.bytes i (alike.free i) refl;
+  }
+
+  pub canvas_rejumped : IsCanvas c → IsCanvas (with_cells c skip c.bytes)
+  canvas_rejumped is = record {
+    width_least = is.width_least;
+    width_most = is.width_most;
+    height_least = is.height_least;
+    height_most = is.height_most;
+    size = alike.size ∙ is.size;
+    cells = record {
+      most = omega (arith, is.cells.most, alike.size);
+      sized = omega (arith, is.cells.sized, alike.size);
+      jumps = alike.jumps;
+    };
+  }
+
+  pub canvas_full : ((i : ℕ) → i < c.width * c.height → is_free skip i ≡ false) → IsFull (with_cells c skip c.bytes)
+  unfolding painted_at
+  canvas_full painted = record {
+    pixels = λ i area. ap (λ (o : Option Color). is_some o) (painted_in-painted skip c.bytes i (painted i area));
+  }
+
+  pub canvas_free : (i : ℕ) → i < c.width * c.height → is_free skip i ≡ true → HasFree (with_cells c skip c.bytes)
+  unfolding painted_at
+  canvas_free i area free = record { free = i; within = area; unpainted = painted_in-free skip c.bytes i free }
+
+-- the background in the free pixels
+pub canvas_finished : (background : Color) (c : CanvasValue) (bytes : List ℕ) → IsCanvas c → IsFilled (length c.skip) background c.skip c.bytes bytes →
+    IsFinished background c (record { width = c.width; height = c.height; bytes = bytes })
+unfolding painted_at
+canvas_finished background c bytes is filled = record {
+  width = refl;
+  height = refl;
+  pixels = λ i area. filled.filled i (omega (arith, is.size));
+}

@@ -1,0 +1,170 @@
+-- Spans of pixels, and pictures coloured row by row.
+use Rattle.std.proofs.Common.{◌≡◌, Bool, true, false, ℕ, ◌+◌, ◌<◌, ◌≤◌, ◌==◌, ◌||◌, ◌&&◌, not, nat_lt, ⊎_elim, pos, sym, ap, ◌∙◌, arith}
+use Rattle.std.proofs.lemmas.Bool.{cases_lt}
+use Rattle.std.proofs.lemmas.Bool.Decides.{nat_tests}
+use Rattle.wf_def.specs.declared.color.Color.{Color}
+use Rattle.wf_paint.specs.Place.{PlaceValue}
+use Rattle.wf_paint.specs.Square.{is_in_span, is_in_square}
+use Rattle.wf_paint.specs.Canvas.{CanvasValue}
+use Rattle.wf_paint.specs.Shown.{IsColored, is_in_run}
+use Rattle.wf_paint.specs.Span.{IsSpanOf, is_within, shared}
+use Rattle.wf_paint.specs.declared.span.Span.{Span}
+use Rattle.wf_paint.proofs.ColoredLemmas.{IsColored-none, IsColored-either, IsColored-alike}
+
+-- ---- spans
+
+before_from : (from to u : ℕ) → u < from → (not (nat_lt u from) && nat_lt u to) ≡ false
+before_from from to u before = grind (arith, nat_tests)
+
+after_to : (from to u : ℕ) → to ≤ u → (not (nat_lt u from) && nat_lt u to) ≡ false
+after_to from to u after = grind (arith, nat_tests)
+
+-- no number below the span passes, and none above it
+pub span_before : (test : ℕ → Bool) (most : ℕ) (span : Span) (u : ℕ) → IsSpanOf test most span → u < most → u < span.from → test u ≡ false
+unfolding is_within
+span_before test most span u is within before = is.passed u within ∙ before_from span.from span.to u before
+
+pub span_after : (test : ℕ → Bool) (most : ℕ) (span : Span) (u : ℕ) → IsSpanOf test most span → u < most → span.to ≤ u → test u ≡ false
+unfolding is_within
+span_after test most span u is within after = is.passed u within ∙ after_to span.from span.to u after
+
+inside_both : (from to u : ℕ) → from ≤ u → u < to → (not (nat_lt u from) && nat_lt u to) ≡ true
+inside_both from to u after before = grind (arith, nat_tests)
+
+-- and each number in it does
+pub span_inside : (test : ℕ → Bool) (most : ℕ) (span : Span) (u : ℕ) → IsSpanOf test most span → u < most → span.from ≤ u → u < span.to → test u ≡ true
+unfolding is_within
+span_inside test most span u is within from to = is.passed u within ∙ inside_both span.from span.to u from to
+
+none_between : (from to u : ℕ) → to ≤ from → (not (nat_lt u from) && nat_lt u to) ≡ false
+none_between from to u empty = grind (arith, nat_tests)
+
+-- where it ends before it begins none passes
+pub span_empty : (test : ℕ → Bool) (most : ℕ) (span : Span) (u : ℕ) → IsSpanOf test most span → span.to ≤ span.from → u < most → test u ≡ false
+unfolding is_within
+span_empty test most span u is empty within = is.passed u within ∙ none_between span.from span.to u empty
+
+-- nor where none passes outside of such a span
+pub nowhere : (test : ℕ → Bool) (most : ℕ) (span : Span) (u : ℕ) →
+    ((u : ℕ) → u < most → u < span.from → test u ≡ false) → ((u : ℕ) → u < most → span.to ≤ u → test u ≡ false) →
+    span.to ≤ span.from → u < most → test u ≡ false
+nowhere test most span u below above empty within = ⊎_elim (λ before. below u within before) (λ after. above u within (omega arith)) (cases_lt u span.from)
+
+-- the tests that tell the ends of a span
+pub IsSpanOf-ends : (low high test : ℕ → Bool) (most : ℕ) (span : Span) → span.to ≤ most →
+    ((u : ℕ) → u < most → low u ≡ nat_lt u span.from) → ((u : ℕ) → u < most → high u ≡ nat_lt u span.to) →
+    ((u : ℕ) → test u ≡ (not (low u) && high u)) → IsSpanOf test most span
+unfolding is_within
+IsSpanOf-ends low high test most span within from to tests = record {
+  within = within;
+  passed = λ u below. tests u ∙ ap (λ (b : Bool). not b && high u) (from u below) ∙ ap (λ (b : Bool). not (nat_lt u span.from) && b) (to u below);
+}
+
+flipped : (a b : Bool) → (not (not b) && not a) ≡ (not a && b)
+flipped true b = grind arith
+flipped false b = grind arith
+
+-- the same of tests that hold from the ends on
+pub IsSpanOf-ends_from : (low high test : ℕ → Bool) (most : ℕ) (span : Span) → span.to ≤ most →
+    ((u : ℕ) → u < most → low u ≡ not (nat_lt u span.to)) → ((u : ℕ) → u < most → high u ≡ not (nat_lt u span.from)) →
+    ((u : ℕ) → test u ≡ (not (low u) && high u)) → IsSpanOf test most span
+unfolding is_within
+IsSpanOf-ends_from low high test most span within to from tests = record {
+  within = within;
+  passed = λ u below. tests u ∙ ap (λ (b : Bool). not b && high u) (to u below) ∙ ap (λ (b : Bool). not (not (nat_lt u span.to)) && b) (from u below)
+      ∙ flipped (nat_lt u span.from) (nat_lt u span.to);
+}
+
+all_in : (most u : ℕ) → u < most → (not (nat_lt u 0) && nat_lt u most) ≡ true
+all_in most u below = grind (arith, nat_tests)
+
+none_in : (u : ℕ) → (not (nat_lt u 0) && nat_lt u 0) ≡ false
+none_in u = grind (arith, nat_tests)
+
+abbrev pub whole : ℕ → Span
+whole most = record { from = 0; to = most }
+
+pub IsSpanOf-all : (test : ℕ → Bool) (most : ℕ) → ((u : ℕ) → test u ≡ true) → IsSpanOf test most (whole most)
+unfolding is_within
+IsSpanOf-all test most all = record { within = omega arith; passed = λ u below. all u ∙ sym (all_in most u below) }
+
+pub IsSpanOf-none : (test : ℕ → Bool) (most : ℕ) → ((u : ℕ) → test u ≡ false) → IsSpanOf test most (whole 0)
+unfolding is_within
+IsSpanOf-none test most none = record { within = omega arith; passed = λ u below. none u ∙ sym (none_in u) }
+
+-- ---- two spans
+
+pub shared_within : (a b : Span) (u : ℕ) → is_within (shared a b) u ≡ (is_within a u && is_within b u)
+unfolding is_within
+shared_within a b u = grind (arith, nat_tests)
+
+-- a number passes both tests where it is in both spans
+pub IsSpanOf-both : (f g : ℕ → Bool) (most : ℕ) (a b : Span) → IsSpanOf f most a → IsSpanOf g most b → IsSpanOf (λ u. f u && g u) most (shared a b)
+IsSpanOf-both f g most a b first second = record {
+  within = omega (arith, first.within);
+  passed = λ u below. let one = first.passed u below in let other = second.passed u below in let each = shared_within a b u in cc;
+}
+
+-- ---- boxes of columns and rows
+
+pub box_before : (columns rows : Span) (column row : ℕ) → row < rows.from → (is_within columns column && is_within rows row) ≡ false
+unfolding is_within
+box_before columns rows column row before = grind (arith, nat_tests)
+
+pub box_after : (columns rows : Span) (column row : ℕ) → rows.to ≤ row → (is_within columns column && is_within rows row) ≡ false
+unfolding is_within
+box_after columns rows column row after = grind (arith, nat_tests)
+
+-- in one of its rows a box is its columns
+pub box_row : (columns rows : Span) (most row : ℕ) → columns.to ≤ most → rows.from ≤ row → row < rows.to →
+    IsSpanOf (λ u. is_within columns u && is_within rows row) most columns
+unfolding is_within
+box_row columns rows most row within from to = record { within = within; passed = λ u below. grind (arith, nat_tests) }
+
+-- a square is the box of its columns and rows
+pub square_same : (size : ℕ) (p : PlaceValue) (width height : ℕ) (columns rows : Span) →
+    IsSpanOf (λ u. is_in_span size p.x (pos u)) width columns → IsSpanOf (λ u. is_in_span size p.y (pos u)) height rows →
+    (column row : ℕ) → column < width → row < height → is_in_square size p (pos column) (pos row) ≡ (is_within columns column && is_within rows row)
+unfolding is_in_square
+square_same size p width height columns rows across up column row wide high =
+    let x = across.passed column wide in
+    let y = up.passed row high in
+    cc
+
+-- ---- row by row
+
+-- what of the test lies in the rows below this one
+unfoldable pub below_row : ℕ → (ℕ → ℕ → Bool) → ℕ → ℕ → Bool
+below_row row f column r = nat_lt r row && f column r
+
+none_below : (shown : Bool) (r row : ℕ) → (r < row → shown ≡ false) → (nat_lt r row && shown) ≡ false
+none_below shown r row none = grind (arith, nat_tests)
+
+all_below : (shown : Bool) (r row : ℕ) → (row ≤ r → shown ≡ false) → (nat_lt r row && shown) ≡ shown
+all_below shown r row none = grind (arith, nat_tests)
+
+-- nothing to show in the rows below the first
+pub rows_start : (f : ℕ → ℕ → Bool) (row : ℕ) (color : Color) (a : CanvasValue) →
+    ((column r : ℕ) → column < a.width → r < a.height → r < row → f column r ≡ false) → IsColored (below_row row f) color a a
+unfolding below_row
+rows_start f row color a none = IsColored-none (below_row row f) color a (λ column r wide high. none_below (f column r) r row (none column r wide high))
+
+-- nothing to show in the rows from the last on
+pub rows_end : (f : ℕ → ℕ → Bool) (row : ℕ) (color : Color) (a b : CanvasValue) →
+    ((column r : ℕ) → column < a.width → r < a.height → row ≤ r → f column r ≡ false) → IsColored (below_row row f) color a b → IsColored f color a b
+unfolding below_row
+rows_end f row color a b none colored = IsColored-alike (below_row row f) f color a b (λ column r wide high. sym (all_below (f column r) r row (none column r wide high))) colored
+
+next_row : (shown span : Bool) (r row : ℕ) → (r ≡ row → shown ≡ span) →
+    ((nat_lt r row && shown) || ((r == row) && span)) ≡ (nat_lt r (row + 1) && shown)
+next_row shown span r row same = grind (arith, nat_tests)
+
+-- one more row, in which the test holds in a span of columns
+pub rows_more : (f : ℕ → ℕ → Bool) (row : ℕ) (span : Span) (color : Color) (a b c : CanvasValue) →
+    IsColored (below_row row f) color a b → IsSpanOf (λ u. f u row) a.width span → IsColored (is_in_run row span.from span.to) color b c →
+    IsColored (below_row (row + 1) f) color a c
+unfolding below_row is_within is_in_run
+rows_more f row span color a b c before here next =
+    IsColored-alike (λ column r. below_row row f column r || is_in_run row span.from span.to column r) (below_row (row + 1) f) color a c
+    (λ column r wide high. sym (next_row (f column r) (is_within span column) r row (λ equal. ap (f column) equal ∙ here.passed column wide)))
+    (IsColored-either (below_row row f) (is_in_run row span.from span.to) color a b c before next)

@@ -1,0 +1,15 @@
+use Rattle.std.proofs.Common.{◌≡◌, arith}
+use Rattle.wf_paint.specs.Canvas.{CanvasValue}
+use Rattle.wf_paint.proofs.CanvasLemmas.{run_colored, run_empty}
+use Rattle.wf_paint.proofs.canvas.Canvas.cover.Goals as goal
+
+pub returns-then-from-to : goal.returns-then-from-to
+returns-then-from-to c =
+    let here : CanvasValue = record { width = c.self.inside.width; height = c.self.inside.height; bytes = c.self.inside.bytes.items; skip = c.self.inside.skip.items } in
+    let same : c.args.self.now ≡ here = cc in
+    let within = rw same at c.requires.row_within in
+    let inside = rw same at c.requires.to_within in
+    rw same (run_colored here c.args.row c.args.from c.args.to c.args.color c.paint_range.new.skip.items c.paint_range.new.bytes.items c.self.invariant within inside c.paint_range.ensures.range)
+
+pub returns-else-from-to : goal.returns-else-from-to
+returns-else-from-to c = run_empty c.args.self.now c.args.row c.args.from c.args.to c.args.color c.args.self.now.skip c.args.self.now.bytes (omega arith)

@@ -1,0 +1,17 @@
+use Rattle.std.proofs.Common.{◌≤ℤ◌, to_z, of_z, w64, sym, arith}
+use Rattle.std.proofs.lemmas.Int.{ints}
+use Rattle.std.proofs.lemmas.List.{take_all}
+use Rattle.std.proofs.lemmas.List.Elements.{All-same}
+use Rattle.wf_paint.specs.declared.segment.Segment.{Segment}
+use Rattle.wf_paint.proofs.InsideLemmas.{ends_above_more}
+use Rattle.wf_paint.proofs.inside.lowest.Goals as goal
+
+pub loop-edge-preserved : goal.loop-edge-preserved
+loop-edge-preserved c =
+    ends_above_more c.args.edges.now c.loop-edge.edge-index c.edge-item.result (to_z w64 c.loop-edge.lowest-bits) (to_z w64 (of_z w64 c.min-lowest.result))
+    (omega arith) c.edge-item.is (omega (arith, ints)) (omega (arith, ints)) (omega (arith, ints)) c.loop-edge.invariant
+
+pub returns : goal.returns
+returns c =
+    All-same (λ (e : Segment). (to_z w64 c.loop-edge.lowest-bits ≤ℤ e.from.y) × (to_z w64 c.loop-edge.lowest-bits ≤ℤ e.to.y)) c.args.edges.now _
+    (sym (take_all c.loop-edge.edge-index c.args.edges.now (omega arith))) c.loop-edge.invariant

@@ -1,0 +1,71 @@
+//! Squares of pixels about a place, drawn row by row.
+ghost use Rattle.std.specs.Prelude.{◌≡◌, ℕ, ◌≤◌, ◌<◌, ◌^◌, ◌&&◌, nat_lt, pos, nat_abs};
+ghost use Rattle.wf_paint.specs.Near.{IsNear};
+ghost use Rattle.wf_paint.specs.Exact.{is_less};
+ghost use Rattle.wf_paint.specs.Operation.{in_color, SquareOf};
+ghost use Rattle.wf_paint.specs.Shown.{IsShown, IsColored};
+ghost use Rattle.wf_paint.specs.Span.{IsSpanOf, is_within};
+ghost use Rattle.wf_paint.specs.Square.{is_in_span, is_in_square};
+
+use crate::canvas::Canvas;
+use crate::place::Place;
+use crate::span::Span;
+use crate::square::{square_end, square_start};
+use wf_def::color::Color;
+
+/// Shows a square of this size in pixels about a place in the colour, and nothing without one.
+pub(crate) fn draw_about(canvas: &mut Canvas, size: u8, place: Place, color: Option<Color>)
+    ensures { IsShown (in_color (SquareOf size place) color) canvas.old canvas.new }
+{
+    match color {
+        Some(color) => draw_square(canvas, size, place, color),
+        None => {}
+    }
+}
+
+/// Shows the square in the colour.
+fn draw_square(canvas: &mut Canvas, size: u8, place: Place, color: Color)
+    ensures { IsColored (λ column row. is_in_square size place (pos column) (pos row)) color canvas.old canvas.new }
+{
+    let columns = span_about(size, place.x(), canvas.width());
+    let rows = span_about(size, place.y(), canvas.height());
+    draw_box(canvas, columns, rows, color);
+}
+
+/// Shows the pixels of these columns and rows in the colour.
+fn draw_box(canvas: &mut Canvas, columns: Span, rows: Span, color: Color)
+    requires columns { columns.to ≤ canvas.old.width }
+    requires rows { rows.to ≤ canvas.old.height }
+    ensures { IsColored (λ column row. is_within columns column && is_within rows row) color canvas.old canvas.new }
+{
+    for row in rows.from..rows.to {
+        canvas.cover(row, columns.from, columns.to, color);
+    }
+}
+
+/// Which of the first `most` columns of pixels are those of a square about a place on one axis.
+fn span_about(size: u8, place: i64, most: u32) -> Span
+    requires { IsNear place }
+    ensures { IsSpanOf (λ u. is_in_span size place (pos u)) most result }
+{
+    let start = square_start(size, place);
+    Span {
+        from: cut(start, most),
+        to: cut(square_end(start, size), most),
+    }
+}
+
+/// How many of the first `most` whole numbers lie below the bound.
+#[tactic(auto, unfolding(crate::specs::Exact::is_less))]
+fn cut(bound: i64, most: u32) -> u32
+    ensures within { result ≤ most }
+    ensures below { (u : ℕ) → u < most → is_less (pos u) bound ≡ nat_lt u result }
+{
+    if bound <= 0 {
+        0
+    } else if bound < i64::from(most) {
+        bound as u32
+    } else {
+        most
+    }
+}

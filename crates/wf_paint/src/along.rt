@@ -1,0 +1,219 @@
+//! Lines of a width along segments, drawn row by row.
+ghost use Rattle.std.specs.Prelude.{◌≡◌, ℕ, ◌*◌, ◌≤◌, ◌<◌, ◌^◌, false, pos, nat_abs};
+ghost use Rattle.wf_paint.specs.Near.{IsNear};
+ghost use Rattle.wf_paint.specs.Exact.{plus, difference, is_less};
+ghost use Rattle.wf_paint.specs.Place.{centre, turned};
+ghost use Rattle.wf_paint.specs.Coverage.{run, rise, is_along, is_in_band, is_across, is_on_flat, is_on, is_on_any};
+ghost use Rattle.wf_paint.specs.Operation.{in_color, LineOf};
+ghost use Rattle.wf_paint.specs.Shown.{IsShown, IsColored};
+ghost use Rattle.wf_paint.specs.Span.{IsSpanOf, shared};
+
+use crate::canvas::Canvas;
+use crate::coverage::{deviation, is_steep, margin, rise, run};
+use crate::exact::{is_less, opposite, product};
+use crate::level::{centres_between, pixels_within};
+use crate::place::Place;
+use crate::segment::Segment;
+use crate::span::Span;
+use crate::steps::centres_below;
+use wf_def::color::Color;
+
+/// Shows a line of this width in pixels along each segment in the colour, and nothing without one.
+pub(crate) fn draw_along(canvas: &mut Canvas, width: u8, segments: &[Segment], color: Option<Color>)
+    ensures { IsShown (in_color (LineOf width segments.now) color) canvas.old canvas.new }
+{
+    match color {
+        Some(color) => draw_segments(canvas, width, segments, color),
+        None => {}
+    }
+}
+
+/// Shows the lines along the segments in the colour.
+fn draw_segments(canvas: &mut Canvas, width: u8, segments: &[Segment], color: Color)
+    ensures { IsColored (λ column row. is_on_any width (centre (pos column) (pos row)) segments.now) color canvas.old canvas.new }
+{
+    for segment in segments {
+        draw_segment(canvas, width, segment, color);
+    }
+}
+
+/// Shows the line along the segment in the colour.
+fn draw_segment(canvas: &mut Canvas, width: u8, segment: &Segment, color: Color)
+    ensures { IsColored (λ column row. is_on width (centre (pos column) (pos row)) segment.now) color canvas.old canvas.new }
+{
+    let (from, to) = (segment.from, segment.to);
+    if is_steep(from, to) {
+        draw_steep(canvas, width, from.turned(), to.turned(), color);
+    } else {
+        draw_flat(canvas, width, from, to, color);
+    }
+}
+
+/// Shows the line between two places, whichever of them is left, where it isn't longer along y than along x.
+fn draw_flat(canvas: &mut Canvas, width: u8, from: Place, to: Place, color: Color)
+    ensures { IsColored (λ column row. is_on_flat width (centre (pos column) (pos row)) from to) color canvas.old canvas.new }
+{
+    if is_less(to.x(), from.x()) {
+        draw_rightward(canvas, width, to, from, color);
+    } else {
+        draw_rightward(canvas, width, from, to, color);
+    }
+}
+
+/// Shows the line from `left` to `right`.
+fn draw_rightward(canvas: &mut Canvas, width: u8, left: Place, right: Place, color: Color)
+    ensures { IsColored (λ column row. is_across width (centre (pos column) (pos row)) left right) color canvas.old canvas.new }
+{
+    let columns = span_along(left, right, canvas.width());
+    if columns.from < columns.to {
+        draw_rows(canvas, width, left, right, columns, color);
+    }
+}
+
+/// The same, where the columns are those between its ends.
+fn draw_rows(canvas: &mut Canvas, width: u8, left: Place, right: Place, columns: Span, color: Color)
+    requires { (v : ℕ) → IsSpanOf (λ u. is_along (centre (pos u) (pos v)) left right) canvas.old.width columns }
+    ensures { IsColored (λ column row. is_across width (centre (pos column) (pos row)) left right) color canvas.old canvas.new }
+{
+    let most = canvas.width();
+    let rows = rows_near(width, left, right, canvas.height());
+    for row in rows.from..rows.to {
+        let span = columns_across(width, left, right, row, columns, most);
+        canvas.cover(row, span.from, span.to, color);
+    }
+}
+
+/// The columns of the first `most` that lie between the ends of the line from `left` to `right`, the same in each row; with the axes
+/// exchanged, the rows.
+fn span_along(left: Place, right: Place, most: u32) -> Span
+    ensures { (v : ℕ) → IsSpanOf (λ u. is_along (centre (pos u) (pos v)) left right) most result }
+{
+    centres_between(left.x(), right.x(), most)
+}
+
+/// Rows of the first `most` outside of which the line from `left` to `right` covers nothing; with the axes exchanged, columns.
+fn rows_near(width: u8, left: Place, right: Place, most: u32) -> Span
+    ensures within { result.to ≤ most }
+    ensures below { (u v : ℕ) → v < most → v < result.from → is_across width (centre (pos u) (pos v)) left right ≡ false }
+    ensures above { (u v : ℕ) → v < most → result.to ≤ v → is_across width (centre (pos u) (pos v)) left right ≡ false }
+{
+    let bottom = lower_border(width, lesser(left.y(), right.y()));
+    let top = upper_border(width, greater(left.y(), right.y()));
+    Span {
+        from: centres_below(bottom, most),
+        to: centres_below(top, most),
+    }
+}
+
+/// The lesser of two places on an axis.
+#[tactic(auto, unfolding(crate::specs::Exact::is_less))]
+fn lesser(a: i64, b: i64) -> i64
+    requires a { IsNear a }
+    requires b { IsNear b }
+    ensures first { is_less a result ≡ false }
+    ensures second { is_less b result ≡ false }
+    ensures within { IsNear result }
+{
+    if a < b { a } else { b }
+}
+
+/// The greater of two places on an axis.
+#[tactic(auto, unfolding(crate::specs::Exact::is_less))]
+fn greater(a: i64, b: i64) -> i64
+    requires a { IsNear a }
+    requires b { IsNear b }
+    ensures first { is_less result a ≡ false }
+    ensures second { is_less result b ≡ false }
+    ensures within { IsNear result }
+{
+    if a < b { b } else { a }
+}
+
+/// Half the width of a line below a place.
+#[tactic(auto, unfolding(crate::specs::Exact::difference))]
+fn lower_border(width: u8, place: i64) -> i64
+    requires { IsNear place }
+    ensures { result ≡ difference place (pos (8 * width)) }
+{
+    place - 8 * i64::from(width)
+}
+
+/// Half the width of a line above a place.
+#[tactic(auto, unfolding(crate::specs::Exact::plus))]
+fn upper_border(width: u8, place: i64) -> i64
+    requires { IsNear place }
+    ensures { result ≡ plus place (pos (8 * width)) }
+{
+    place + 8 * i64::from(width)
+}
+
+/// The columns of the first `most` that the line from `left` to `right` covers in a row, of those between its ends.
+fn columns_across(width: u8, left: Place, right: Place, row: u32, columns: Span, most: u32) -> Span
+    requires { IsSpanOf (λ u. is_along (centre (pos u) (pos row)) left right) most columns }
+    ensures { IsSpanOf (λ u. is_across width (centre (pos u) (pos row)) left right) most result }
+{
+    both(columns, band_across(width, left, right, row, most))
+}
+
+/// The columns of the first `most` in which the pixels of a row lie within half the width of the line.
+fn band_across(width: u8, left: Place, right: Place, row: u32, most: u32) -> Span
+    ensures { IsSpanOf (λ u. is_in_band width (centre (pos u) (pos row)) left right) most result }
+{
+    let start = deviation(Place::centre(0, row), left, right);
+    let step = opposite(product(16, rise(left, right)));
+    pixels_within(start, step, margin(width, left, right), most)
+}
+
+/// Shows the line between two places, whichever of them is lower, where it is longer along y than along x; the places have their
+/// axes exchanged.
+fn draw_steep(canvas: &mut Canvas, width: u8, from: Place, to: Place, color: Color)
+    ensures { IsColored (λ column row. is_on_flat width (turned (centre (pos column) (pos row))) from to) color canvas.old canvas.new }
+{
+    if is_less(to.x(), from.x()) {
+        draw_upward(canvas, width, to, from, color);
+    } else {
+        draw_upward(canvas, width, from, to, color);
+    }
+}
+
+/// Shows the line from `low` up to `high`; the places have their axes exchanged.
+fn draw_upward(canvas: &mut Canvas, width: u8, low: Place, high: Place, color: Color)
+    ensures { IsColored (λ column row. is_across width (turned (centre (pos column) (pos row))) low high) color canvas.old canvas.new }
+{
+    let columns = rows_near(width, low, high, canvas.width());
+    if columns.from < columns.to {
+        draw_rows_upward(canvas, width, low, high, color);
+    }
+}
+
+/// The same, where some column may be near the line.
+fn draw_rows_upward(canvas: &mut Canvas, width: u8, low: Place, high: Place, color: Color)
+    ensures { IsColored (λ column row. is_across width (turned (centre (pos column) (pos row))) low high) color canvas.old canvas.new }
+{
+    let most = canvas.width();
+    let rows = span_along(low, high, canvas.height());
+    for row in rows.from..rows.to {
+        let span = band_upward(width, low, high, row, most);
+        canvas.cover(row, span.from, span.to, color);
+    }
+}
+
+/// The columns of the first `most` in which the pixels of a row lie within half the width of the line; the places have their axes
+/// exchanged.
+fn band_upward(width: u8, low: Place, high: Place, row: u32, most: u32) -> Span
+    ensures { IsSpanOf (λ u. is_in_band width (turned (centre (pos u) (pos row))) low high) most result }
+{
+    let start = deviation(Place::centre(0, row).turned(), low, high);
+    let step = product(16, run(low, high));
+    pixels_within(start, step, margin(width, low, high), most)
+}
+
+/// What two spans have in common.
+fn both(a: Span, b: Span) -> Span
+    ensures { result ≡ shared a b }
+{
+    Span {
+        from: a.from.max(b.from),
+        to: a.to.min(b.to),
+    }
+}

@@ -1,0 +1,212 @@
+//! A picture while it is painted from the last operation to the first.
+ghost use Rattle.std.specs.Prelude.{◌≡◌, ◌≤◌, ◌<◌, ◌*◌, ◌+◌, ◌^◌, ◌↔◌, ℕ, true, false, length, slice_index, IfOk};
+ghost use Rattle.wf_paint.specs.View.{most_pixels};
+ghost use Rattle.wf_paint.specs.Cells.{IsCells, IsJump, AreJumps, AreAlike, IsStep, IsRangePainted, IsWritten, IsFilled, is_free};
+ghost use Rattle.wf_paint.specs.Canvas.{IsCanvas, IsBlank, IsFull, HasFree, IsAlike, IsFinished};
+ghost use Rattle.wf_paint.specs.Shown.{IsColored, is_in_run};
+
+use crate::pixmap::Pixmap;
+use std::alloc::{AllocError, Global};
+use std::marker::Model;
+use wf_def::color::Color;
+
+/// A picture that remembers which pixels are painted. A painted pixel keeps its colour; a free one waits for its own.
+#[derive(Drop)]
+pub(crate) struct Canvas {
+    width: u32,
+    height: u32,
+    bytes: Vec<u8>,
+    /// For each pixel how far a jump from it goes, over painted pixels alone; 0 where it is free.
+    skip: Vec<u32>,
+}
+
+impl Model for Canvas {
+    ghost use Rattle.wf_paint.specs.Canvas.{CanvasValue, IsCanvas};
+
+    ghost Value = { CanvasValue };
+
+    ghost view = { λ c. record { width = c.width; height = c.height; bytes = c.bytes.items; skip = c.skip.items } };
+
+    ghost invariant = { λ c. IsCanvas (record { width = c.width; height = c.height; bytes = c.bytes.items; skip = c.skip.items }) };
+}
+
+impl Canvas {
+    /// The canvas of this size, at most 1,024 pixels wide and high, with each pixel free.
+    pub(crate) fn blank(alloc: Global, width: u32, height: u32) -> Result<Self, AllocError>
+        requires width_least { 1 ≤ width }
+        requires width_most { width ≤ most_pixels }
+        requires height_least { 1 ≤ height }
+        requires height_most { height ≤ most_pixels }
+        ensures { IfOk result (λ c. IsBlank width height c) }
+    {
+        let area = (width * height) as usize;
+        Ok(Canvas {
+            width,
+            height,
+            bytes: vec![in alloc; 0; 3 * area]?,
+            skip: vec![in alloc; 0; area]?,
+        })
+    }
+
+    /// How wide the picture is, in pixels.
+    pub(crate) fn width(&self) -> u32
+        ensures value { result ≡ self.now.width }
+        ensures within { IsCanvas self.now }
+    {
+        self.width
+    }
+
+    /// How high the picture is, in pixels.
+    pub(crate) fn height(&self) -> u32
+        ensures value { result ≡ self.now.height }
+        ensures within { IsCanvas self.now }
+    {
+        self.height
+    }
+
+    /// Gives the free pixels of a row, counted from the bottom, that lie from one column on and before another the colour.
+    pub(crate) fn cover(&mut self, row: u32, from: u32, to: u32, color: Color)
+        requires row_within { row < self.old.height }
+        requires to_within { to ≤ self.old.width }
+        ensures { IsColored (is_in_run row from to) color self.old self.new }
+    {
+        if from < to {
+            let left = (self.height - 1 - row) * self.width;
+            paint_range(
+                &mut self.bytes,
+                &mut self.skip,
+                left + from,
+                left + to,
+                color,
+            );
+        }
+    }
+
+    /// Whether each pixel is painted. What the canvas shows stays as it is.
+    pub(crate) fn is_full(&mut self) -> bool
+        ensures alike { IsAlike self.old self.new }
+        ensures full { result ≡ true → IsFull self.new }
+        ensures free { result ≡ false → HasFree self.new }
+    {
+        find_free(&mut self.skip) == self.width * self.height
+    }
+
+    /// The picture, with the background in the free pixels.
+    pub(crate) fn finish(self, background: Color) -> Pixmap
+        ensures { IsFinished background self result }
+    {
+        let Canvas {
+            width,
+            height,
+            bytes,
+            skip,
+        } = self;
+        let mut bytes = bytes;
+        fill_free(&mut bytes, &skip, background);
+        Pixmap::of(width, height, bytes)
+    }
+}
+
+/// Writes the three bytes of a pixel.
+fn write(bytes: &mut Vec<u8>, index: u32, color: Color)
+    requires room { 3 * index + 2 < length bytes.old.items }
+    ensures { IsWritten index color bytes.old.items bytes.new.items }
+{
+    let start = 3 * index as usize;
+    bytes[start] = color.r;
+    bytes[start + 1] = color.g;
+    bytes[start + 2] = color.b;
+}
+
+/// Gives the free pixels from `start` on and before `end` the colour.
+fn paint_range(bytes: &mut Vec<u8>, skip: &mut Vec<u32>, start: u32, end: u32, color: Color)
+    requires cells { IsCells skip.old.items bytes.old.items }
+    requires order { start ≤ end }
+    requires within { end ≤ length skip.old.items }
+    ensures range { IsRangePainted start end color skip.old.items bytes.old.items skip.new.items bytes.new.items }
+    ensures cells { IsCells skip.new.items bytes.new.items }
+{
+    let mut here = start;
+    while here < end {
+        here = paint_next(bytes, skip, here, end, color);
+    }
+}
+
+/// Paints this pixel where it is free, or else jumps over the painted ones that begin with it, to `end` at most. A later jump from
+/// here goes to `end` at least. The next index.
+fn paint_next(bytes: &mut Vec<u8>, skip: &mut Vec<u32>, here: u32, end: u32, color: Color) -> u32
+    requires order { here < end }
+    requires within { end ≤ length skip.old.items }
+    requires most { length skip.old.items ≤ 2 ^ 20 }
+    requires bytes { length bytes.old.items ≡ 3 * length skip.old.items }
+    requires jump { IsJump skip.old.items here }
+    ensures { IsStep here result end color skip.old.items bytes.old.items skip.new.items bytes.new.items }
+{
+    let jump = skip[here as usize];
+    let rest = end - here;
+    if jump == 0 {
+        write(bytes, here, color);
+        skip[here as usize] = rest;
+        return here + 1;
+    }
+    if jump < rest {
+        skip[here as usize] = rest;
+        return here + jump;
+    }
+    end
+}
+
+/// The index of the first free pixel, or behind the last one where there is none. From now on the jump from the first pixel goes there.
+fn find_free(skip: &mut Vec<u32>) -> u32
+    requires most { length skip.old.items ≤ 2 ^ 20 }
+    requires jumps { AreJumps skip.old.items }
+    ensures within { result ≤ length skip.new.items }
+    ensures painted { (i : ℕ) → i < result → is_free skip.new.items i ≡ false }
+    ensures free { result < length skip.new.items → is_free skip.new.items result ≡ true }
+    ensures alike { AreAlike skip.old.items skip.new.items }
+{
+    let first = first_free(skip);
+    if first == 0 {
+        return 0;
+    }
+    skip[0] = first;
+    first
+}
+
+/// The index of the first free pixel, or behind the last one where there is none.
+fn first_free(skip: &Vec<u32>) -> u32
+    requires most { length skip.now.items ≤ 2 ^ 20 }
+    requires jumps { AreJumps skip.now.items }
+    ensures within { result ≤ length skip.now.items }
+    ensures painted { (i : ℕ) → i < result → is_free skip.now.items i ≡ false }
+    ensures free { result < length skip.now.items → is_free skip.now.items result ≡ true }
+{
+    let end = skip.len() as u32;
+    let mut here = 0;
+    while here < end {
+        let jump = skip[here as usize];
+        if jump == 0 {
+            return here;
+        }
+        here += jump;
+    }
+    here
+}
+
+/// Gives the free pixels the background.
+fn fill_free(bytes: &mut Vec<u8>, skip: &Vec<u32>, background: Color)
+    requires cells { IsCells skip.now.items bytes.old.items }
+    ensures { IsFilled (length skip.now.items) background skip.now.items bytes.old.items bytes.new.items }
+{
+    let end = skip.len() as u32;
+    let mut here = 0;
+    while here < end {
+        let jump = skip[here as usize];
+        if jump == 0 {
+            write(bytes, here, background);
+            here += 1;
+        } else {
+            here += jump;
+        }
+    }
+}

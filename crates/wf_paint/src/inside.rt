@@ -1,0 +1,181 @@
+//! The inside of edges, row by row: between the sorted places at which the edges cross the row.
+ghost use Rattle.std.specs.Prelude.{◌≡◌, ℕ, ◌%◌, ◌<◌, ◌≤◌, ◌==◌, ◌&&◌, nat_lt, true, false, ℤ, pos, ◌≤ℤ◌, OnOk};
+ghost use Rattle.std.specs.List.{All, count_by};
+ghost use Rattle.std.specs.List.Sorted.{IsNonDecreasing};
+ghost use Rattle.wf_paint.specs.Near.{IsNear};
+ghost use Rattle.wf_paint.specs.Exact.{difference, product};
+ghost use Rattle.wf_paint.specs.Place.{middle, centre};
+ghost use Rattle.wf_paint.specs.Coverage.{is_left_of, is_beside, crosses, is_inside};
+ghost use Rattle.wf_paint.specs.Operation.{in_color, FillOf};
+ghost use Rattle.wf_paint.specs.Shown.{IsShown, IsColored};
+
+use crate::canvas::Canvas;
+use crate::exact::{area_difference, difference, is_less, product};
+use crate::place::Place;
+use crate::segment::Segment;
+use crate::steps::{centres_below, steps_below};
+use std::alloc::{AllocError, Global};
+use wf_def::color::Color;
+
+/// Shows the inside of the edges in the colour, and nothing without one. Allocation failure is the only error.
+pub(crate) fn draw_inside(
+    alloc: Global,
+    canvas: &mut Canvas,
+    edges: &[Segment],
+    color: Option<Color>,
+) -> Result<(), AllocError>
+    ensures { OnOk result (IsShown (in_color (FillOf edges.now) color) canvas.old canvas.new) }
+{
+    match color {
+        Some(color) => fill(alloc, canvas, edges, color),
+        None => Ok(()),
+    }
+}
+
+/// Fills the rows that lie between the lowest and the highest end of the edges.
+fn fill(
+    alloc: Global,
+    canvas: &mut Canvas,
+    edges: &[Segment],
+    color: Color,
+) -> Result<(), AllocError>
+    ensures { OnOk result (IsColored (λ column row. is_inside (centre (pos column) (pos row)) edges.now) color canvas.old canvas.new) }
+{
+    let height = canvas.height();
+    let start = centres_below(lowest(edges), height);
+    let end = centres_below(highest(edges), height);
+    let mut reaches = Vec::new(alloc);
+    for row in start..end {
+        fill_row(canvas, edges, row, &mut reaches, color)?;
+    }
+    Ok(())
+}
+
+/// How low the lowest end of the edges is, in sixteenths of a pixel.
+fn lowest(edges: &[Segment]) -> i64
+    ensures { All (λ edge. (result ≤ℤ edge.from.y) × (result ≤ℤ edge.to.y)) edges.now }
+{
+    let mut lowest = i64::MAX;
+    for edge in edges {
+        lowest = lowest.min(edge.from.y()).min(edge.to.y());
+    }
+    lowest
+}
+
+/// How high the highest end of the edges is, in sixteenths of a pixel.
+fn highest(edges: &[Segment]) -> i64
+    ensures { All (λ edge. (edge.from.y ≤ℤ result) × (edge.to.y ≤ℤ result)) edges.now }
+{
+    let mut highest = i64::MIN;
+    for edge in edges {
+        highest = highest.max(edge.from.y()).max(edge.to.y());
+    }
+    highest
+}
+
+/// Fills one row; what the list of reaches holds before is dropped.
+fn fill_row(
+    canvas: &mut Canvas,
+    edges: &[Segment],
+    row: u32,
+    reaches: &mut Vec<u32>,
+    color: Color,
+) -> Result<(), AllocError>
+    requires { row < canvas.old.height }
+    ensures { OnOk result (IsColored (λ column r. (r == row) && is_inside (centre (pos column) (pos row)) edges.now) color canvas.old canvas.new) }
+{
+    find_reaches(edges, row, canvas.width(), reaches)?;
+    reaches.sort_unstable();
+    cover_between(canvas, row, reaches, color);
+    Ok(())
+}
+
+/// How many of the row's columns lie left of each edge that crosses the row, where that is one at least.
+fn find_reaches(
+    edges: &[Segment],
+    row: u32,
+    width: u32,
+    reaches: &mut Vec<u32>,
+) -> Result<(), AllocError>
+    ensures within { OnOk result (All (λ reach. reach ≤ width) reaches.new.items) }
+    ensures count { OnOk result ((u : ℕ) → u < width → count_by (nat_lt u) reaches.new.items ≡ count_by (crosses (centre (pos u) (pos row))) edges.now) }
+{
+    reaches.clear();
+    let level = Place::centre(0, row).y();
+    for edge in edges {
+        let reach = reach(level, width, edge);
+        if reach > 0 {
+            reaches.push(reach)?;
+        }
+    }
+    Ok(())
+}
+
+/// How many of the first columns of the row at this level are such that a ray from there to the right meets the edge.
+fn reach(level: i64, width: u32, edge: &Segment) -> u32
+    requires { IsNear level }
+    ensures within { result ≤ width }
+    ensures crossed { (u : ℕ) → u < width → crosses (record { x = middle (pos u); y = level }) edge.now ≡ nat_lt u result }
+{
+    let (from, to) = (edge.from, edge.to);
+    if is_between(level, from, to) {
+        reach_of_rising(level, width, from, to)
+    } else if is_between(level, to, from) {
+        reach_of_rising(level, width, to, from)
+    } else {
+        0
+    }
+}
+
+/// Whether a level lies between the ends of an edge: the lower end counts, the upper doesn't.
+#[tactic(auto, unfolding(crate::specs::Coverage::is_beside))]
+fn is_between(level: i64, low: Place, high: Place) -> bool
+    ensures { result ≡ is_beside (record { x = pos 0; y = level }) low high }
+{
+    !is_less(level, low.y()) && is_less(level, high.y())
+}
+
+/// How many of the first columns of the row at this level lie left of an edge that goes up from `low` to `high`.
+fn reach_of_rising(level: i64, width: u32, low: Place, high: Place) -> u32
+    requires near { IsNear level }
+    requires rising { is_beside (record { x = pos 0; y = level }) low high ≡ true }
+    ensures within { result ≤ width }
+    ensures left { (u : ℕ) → u < width → is_left_of (record { x = middle (pos u); y = level }) low high ≡ nat_lt u result }
+{
+    steps_below(step(low, high), bound(level, low, high), width)
+}
+
+/// What one column further to the right adds to the distance from the edge, in the products that are compared.
+fn step(low: Place, high: Place) -> i128
+    ensures { result ≡ product (pos 16) (difference high.y low.y) }
+{
+    product(16, difference(high.y(), low.y()))
+}
+
+/// How far the first column at this level lies left of the edge, in the products that are compared.
+fn bound(level: i64, low: Place, high: Place) -> i128
+    requires { IsNear level }
+    ensures { result ≡ difference (product (difference level low.y) (difference high.x low.x)) (product (difference (pos 8) low.x) (difference high.y low.y)) }
+{
+    let risen = product(difference(level, low.y()), difference(high.x(), low.x()));
+    let start = product(difference(8, low.x()), difference(high.y(), low.y()));
+    area_difference(risen, start)
+}
+
+/// Gives a row's free pixels the colour where an odd number of the reaches lies behind them.
+fn cover_between(canvas: &mut Canvas, row: u32, reaches: &[u32], color: Color)
+    requires row { row < canvas.old.height }
+    requires within { All (λ reach. reach ≤ canvas.old.width) reaches.now }
+    requires sorted { IsNonDecreasing reaches.now }
+    ensures { IsColored (λ column r. (r == row) && (count_by (nat_lt column) reaches.now % 2 == 1)) color canvas.old canvas.new }
+{
+    let mut is_covered = reaches.len() % 2 == 1;
+    let mut from = 0;
+    for to in reaches {
+        if is_covered {
+            canvas.cover(row, from, *to, color);
+        }
+        is_covered = !is_covered;
+        from = *to;
+    }
+}
