@@ -1,85 +1,46 @@
--- What drawing labels pixel by pixel leaves of a picture.
-use Rattle.std.proofs.Common.{◌≡◌, ℕ, ◌+◌, ◌*◌, ◌<◌, ◌≤◌, Bool, true, false, List, [], ◌∷◌, Option, Some, None, ℤ, pos, refl, sym, ◌∙◌, arith}
-use Rattle.std.specs.List.{find}
-use Rattle.std.specs.Option.{option_map}
+-- What drawing labels, from the last to the first, leaves of a picture.
+use Rattle.std.proofs.Common.{◌≡◌, ℕ, ◌+◌, ◌-◌, ◌<◌, ◌≤◌, Bool, true, false, cond, List, [], ◌∷◌, drop, length, get_or, ℤ, pos, refl, sym, ap, ◌∙◌, arith}
+use Rattle.std.proofs.lemmas.List.{drop_more}
 use Rattle.wf_def.specs.declared.color.Color.{Color}
-use Rattle.wf_paint.specs.Pixmap.{PixmapValue, IsSet, pixel_at, column_of, row_of}
-use Rattle.wf_label.specs.Ink.{ink_of, inked, IsInked}
+use Rattle.wf_paint.specs.Pixmap.{PixmapValue, pixel_at, column_of, row_of}
+use Rattle.wf_label.specs.Colored.{IsColored}
+use Rattle.wf_label.specs.Ink.{ink_of, inks, inked, IsInked}
 use Rattle.wf_label.specs.Placed.{PlacedValue, placed_value, placed_values}
 use Rattle.wf_label.specs.declared.placed.Placed.{Placed}
-use borrow.Author.Count.{below_more}
 
--- an option of which nothing is made
-pub option_map_same : {X : Type 0} (o : Option X) → option_map (λ (x : X). x) o ≡ o
-option_map_same None = refl
-option_map_same (Some x) = refl
+-- no label
+pub IsInked-none : (p : PixmapValue) → IsInked [] p p
+unfolding inked ink_of
+IsInked-none p = record { width = refl; height = refl; pixels = λ i within. refl }
 
--- the colour of the first label that passes a test, by the labels or by their values
-pub color_of_values : (test : PlacedValue → Bool) (labels : List Placed) →
-    option_map (λ label. label.color) (find (λ label. test (placed_value label)) labels) ≡ option_map (λ value. value.color) (find test (placed_values labels))
-color_of_values test [] = refl
-color_of_values test (label ∷ labels) = by_test (test (placed_value label)) (color_of_values test labels) refl where
-  by_test : (b : Bool) → option_map (λ l. l.color) (find (λ l. test (placed_value l)) labels) ≡ option_map (λ value. value.color) (find test (placed_values labels)) →
-      test (placed_value label) ≡ b →
-      option_map (λ l. l.color) (find (λ l. test (placed_value l)) (label ∷ labels)) ≡ option_map (λ value. value.color) (find test (placed_values (label ∷ labels)))
-  by_test true rest here = rw here refl
-  by_test false rest here = rw here rest
+-- the first label shows where it inks, else those behind it
+inked-first : (label : PlacedValue) (labels : List PlacedValue) (below : Color) (column row : ℤ) →
+    inked (label ∷ labels) below column row ≡ cond (inks label column row) label.color (inked labels below column row)
+unfolding inked ink_of
+inked-first label labels below column row = by_test (inks label column row) refl where
+  by_test : (b : Bool) → inks label column row ≡ b → inked (label ∷ labels) below column row ≡ cond (inks label column row) label.color (inked labels below column row)
+  by_test true here = rw here refl
+  by_test false other = rw other refl
 
--- the colour of a pixel that a label inks, and of one that none does
-inked-some : (labels : List PlacedValue) (color below : Color) (column row : ℤ) → ink_of labels column row ≡ Some color → inked labels below column row ≡ color
-unfolding inked
-inked-some labels color below column row found = rw found refl
+-- one label drawn over those behind it
+IsInked-more : (label : PlacedValue) (labels : List PlacedValue) (a b c : PixmapValue) → IsInked labels a b →
+    IsColored (λ column row. inks label (pos column) (pos row)) label.color b c → IsInked (label ∷ labels) a c
+IsInked-more label labels a b c before drawn = record {
+  width = drawn.width ∙ before.width;
+  height = drawn.height ∙ before.height;
+  pixels = λ i within.
+      let k = pos (column_of a.width i) in
+      let m = pos (row_of a.width a.height i) in
+      let here : pixel_at c.bytes i ≡ cond (inks label k m) label.color (pixel_at b.bytes i) = rw (before.width, before.height) at (drawn.pixels i (rw (before.width, before.height) within)) in
+      here ∙ ap (λ (below : Color). cond (inks label k m) label.color below) (before.pixels i within) ∙ sym (inked-first label labels (pixel_at a.bytes i) k m);
+}
 
-inked-none : (labels : List PlacedValue) (below : Color) (column row : ℤ) → ink_of labels column row ≡ None → inked labels below column row ≡ below
-unfolding inked
-inked-none labels below column row none = rw none refl
-
--- the ink of the pixel in this place of the picture
-abbrev pub ink_at : List PlacedValue → PixmapValue → ℕ → Option Color
-ink_at labels p i = ink_of labels (pos (column_of p.width i)) (pos (row_of p.width p.height i))
-
--- the pixel in this place has the colour that the labels give it over the old one
-abbrev HasInk : List PlacedValue → PixmapValue → PixmapValue → ℕ → Type 0
-HasInk labels old new i = i < old.width * old.height →
-    pixel_at new.bytes i ≡ inked labels (pixel_at old.bytes i) (pos (column_of old.width i)) (pos (row_of old.width old.height i))
-
--- the labels were drawn over the first pixels, up to this place: the others are as they were
-pub record IsInkedUpTo (end : ℕ) (labels : List PlacedValue) (old new : PixmapValue) : Type 0 where
-  pub width : new.width ≡ old.width
-  pub height : new.height ≡ old.height
-  pub drawn : (i : ℕ) → i < end → i < old.width * old.height →
-      pixel_at new.bytes i ≡ inked labels (pixel_at old.bytes i) (pos (column_of old.width i)) (pos (row_of old.width old.height i))
-  pub left : (i : ℕ) → end ≤ i → i < old.width * old.height → pixel_at new.bytes i ≡ pixel_at old.bytes i
-
-pub IsInkedUpTo-none : (labels : List PlacedValue) (p : PixmapValue) → IsInkedUpTo 0 labels p p
-IsInkedUpTo-none labels p = record { width = refl; height = refl; drawn = λ i before within. absurd (omega arith); left = λ i later within. refl }
-
-pub IsInked-all : (end : ℕ) (labels : List PlacedValue) (a b : PixmapValue) → IsInkedUpTo end labels a b → a.width * a.height ≤ end → IsInked labels a b
-IsInked-all end labels a b done all = record { width = done.width; height = done.height; pixels = λ i within. done.drawn i (omega arith) within }
-
-module _ (labels : List PlacedValue) (i : ℕ) (a b c : PixmapValue) (before : IsInkedUpTo i labels a b) where
-  -- no label inks the next pixel
-  pub ink_next-none : ink_at labels b i ≡ None → IsInkedUpTo (i + 1) labels a b
-  ink_next-none none =
-      let same : ink_at labels a i ≡ None = rw (before.width, before.height) at none in
-      record {
-        width = before.width;
-        height = before.height;
-        drawn = below_more (HasInk labels a b) i (λ j earlier within. before.drawn j earlier within)
-            (λ within. before.left i (omega arith) within ∙ sym (inked-none labels (pixel_at a.bytes i) _ _ same));
-        left = λ j later within. before.left j (omega arith) within;
-      }
-
-  -- a label inks it, and it has the label's colour
-  pub ink_next-some : (color : Color) → i < a.width * a.height → ink_at labels b i ≡ Some color → IsSet i color b c → IsInkedUpTo (i + 1) labels a c
-  ink_next-some color here found set_here =
-      let same : ink_at labels a i ≡ Some color = rw (before.width, before.height) at found in
-      let inside : (j : ℕ) → j < a.width * a.height → j < b.width * b.height = λ j within. rw (before.width, before.height) within in
-      record {
-        width = set_here.width ∙ before.width;
-        height = set_here.height ∙ before.height;
-        drawn = below_more (HasInk labels a c) i
-            (λ j earlier within. set_here.others j (inside j within) (omega arith) ∙ before.drawn j earlier within)
-            (λ within. set_here.changed ∙ sym (inked-some labels color (pixel_at a.bytes i) _ _ same));
-        left = λ j later within. set_here.others j (inside j within) (omega arith) ∙ before.left j (omega arith) within;
-      }
+-- the same by the code's labels, of which the one before this place is drawn
+pub label_drawn : (labels : List Placed) (place : ℕ) (d : Placed) (a b c : PixmapValue) → 0 < place → place ≤ length labels → IsInked (placed_values (drop place labels)) a b →
+    IsColored (λ column row. inks (placed_value (get_or labels (place - 1) d)) (pos column) (pos row)) (get_or labels (place - 1) d).color b c →
+    IsInked (placed_values (drop (place - 1) labels)) a c
+label_drawn labels place d a b c some within before drawn =
+    let next : place - 1 + 1 ≡ place = omega arith in
+    let here : drop (place - 1) labels ≡ get_or labels (place - 1) d ∷ drop place labels =
+    drop_more labels (place - 1) d (omega arith) ∙ ap (λ (n : ℕ). get_or labels (place - 1) d ∷ drop n labels) next in
+    rw here (IsInked-more (placed_value (get_or labels (place - 1) d)) (placed_values (drop place labels)) a b c before drawn)

@@ -1,82 +1,181 @@
--- Labels gathered layer by layer and priority by priority.
-use Rattle.std.proofs.Common.{◌≡◌, ℕ, zero, suc, ◌+◌, ◌-◌, ◌<◌, ◌≤◌, List, [], ◌∷◌, ◌++◌, take, drop, length, get_or, reverse, Option, Some, None, refl, sym, ap, ◌∙◌, arith}
+-- Labels gathered layer by layer, and chosen priority by priority.
+use Rattle.std.proofs.Common.{◌≡◌, ℕ, zero, suc, ◌+◌, ◌-◌, ◌<◌, ◌≤◌, ◌==◌, Bool, true, false, List, [], ◌∷◌, ◌++◌, map, take, drop, length, get_or, reverse, Option, Some, None, slice_get, refl, sym, ap, ◌∙◌, arith}
+use Rattle.std.specs.Prelude.{if◌then◌else◌}
+use Rattle.std.proofs.lemmas.Bool.{eq-eqb, ne_eqb}
 use Rattle.std.proofs.lemmas.List.{append-nil, append_assoc, drop_more, map_push, reverse-append, take_more}
 use Rattle.std.proofs.lemmas.List.Elements.{filter_map-append}
 use Rattle.std.proofs.lemmas.Grind.{flat_map-append}
 use Rattle.std.specs.List.{cons_option, filter_map, flat_map}
-use Rattle.wf_def.specs.Definition.{Definition, LabelDefinition}
+use Rattle.wf_def.specs.Attribute.{class_of}
+use Rattle.wf_def.specs.Definition.{Definition, LayerDefinition, LabelDefinition, FeatureDefinition}
+use Rattle.wf_paint.specs.Operation.{class_at}
 use Rattle.wf_paint.specs.View.{ViewValue}
-use Rattle.wf_label.specs.Label.{at_anchor, labelled, labels_of, labels_up_to}
+use Rattle.wf_label.specs.Anchor.{anchor_of}
+use Rattle.wf_label.specs.Label.{at_anchor, class_label, entry_labels, feature_label, label_of, labelled, labels_of, labels_up_to, layer_labels, of_priority, text_of}
 use Rattle.wf_label.specs.Placed.{PlacedValue, placed_value, placed_values}
+use Rattle.wf_label.specs.Walk.{CandidateValue, candidate_of, candidate_value, candidate_values, chosen, entry_candidates, if_of_priority, layer_candidates, walk, with_priority}
 use Rattle.wf_label.specs.declared.anchor.Anchor.{Anchor}
+use Rattle.wf_label.specs.declared.candidate.Candidate.{Candidate}
 use Rattle.wf_label.specs.declared.placed.Placed.{Placed}
 
 -- ---- one feature
 
 -- a text that isn't empty, at an anchor, is a label
-pub labelled-some : (label : LabelDefinition) (text : List ℕ) (anchor : Anchor) → 0 < length text → labelled (Some label) text (Some anchor) ≡ Some (at_anchor label text anchor)
-labelled-some label [] anchor some = absurd (omega arith)
-labelled-some label (b ∷ text) anchor some = refl
+pub with_priority-some : (label : LabelDefinition) (text : List ℕ) (anchor : Anchor) → 0 < length text →
+    with_priority (Some label) text (Some anchor) ≡ Some (record { priority = label.priority; label = at_anchor label text anchor })
+with_priority-some label [] anchor some = absurd (omega arith)
+with_priority-some label (b ∷ text) anchor some = refl
 
 -- the same, told in parts
-pub labelled_at : (found : Option LabelDefinition) (label : LabelDefinition) (text : List ℕ) (somewhere : Option Anchor) (anchor : Anchor) (placed : PlacedValue) →
-    found ≡ Some label → somewhere ≡ Some anchor → 0 < length text → placed ≡ at_anchor label text anchor → Some placed ≡ labelled found text somewhere
-labelled_at found label text somewhere anchor placed has there some is = rw (has, there, is) (sym (labelled-some label text anchor some))
+pub with_priority-at : (found : Option LabelDefinition) (label : LabelDefinition) (text : List ℕ) (somewhere : Option Anchor) (anchor : Anchor) (priority : ℕ) (placed : PlacedValue) →
+    found ≡ Some label → somewhere ≡ Some anchor → 0 < length text → priority ≡ label.priority → placed ≡ at_anchor label text anchor →
+    Some (record { priority = priority; label = placed }) ≡ with_priority found text somewhere
+with_priority-at found label text somewhere anchor priority placed has there some same is = rw (has, there, same, is) (sym (with_priority-some label text anchor some))
 
-pub labelled-nowhere : (label : LabelDefinition) (text : List ℕ) → labelled (Some label) text None ≡ None
-labelled-nowhere label [] = refl
-labelled-nowhere label (b ∷ text) = refl
+pub with_priority-nowhere : (label : LabelDefinition) (text : List ℕ) → with_priority (Some label) text None ≡ None
+with_priority-nowhere label [] = refl
+with_priority-nowhere label (b ∷ text) = refl
 
-pub labelled-empty : (label : LabelDefinition) (text : List ℕ) (anchor : Option Anchor) → length text ≡ 0 → labelled (Some label) text anchor ≡ None
-labelled-empty label [] anchor none = refl
-labelled-empty label (b ∷ text) anchor none = absurd (omega (arith, none))
+pub with_priority-empty : (label : LabelDefinition) (text : List ℕ) (anchor : Option Anchor) → length text ≡ 0 → with_priority (Some label) text anchor ≡ None
+with_priority-empty label [] anchor none = refl
+with_priority-empty label (b ∷ text) anchor none = absurd (omega (arith, none))
 
--- ---- one layer
+-- ---- one list, item by item
 
-module _ {X : Type 0} (label_at : X → Option PlacedValue) (xs : List X) (i : ℕ) (x d : X) (within : i < length xs) (here : x ≡ get_or xs i d) where
-  -- the labels of one feature more
-  filter_map-more : filter_map label_at (take (i + 1) xs) ≡ filter_map label_at (take i xs) ++ cons_option (label_at x) []
+module _ {X W Y : Type 0} (value : W → Y) (at_item : X → Option Y) (xs : List X) (i : ℕ) (x d : X) (within : i < length xs) (here : x ≡ get_or xs i d) where
+  -- what one item more gives
+  filter_map-more : filter_map at_item (take (i + 1) xs) ≡ filter_map at_item (take i xs) ++ cons_option (at_item x) []
   filter_map-more =
-      ap (filter_map label_at) (take_more xs i d within) ∙ filter_map-append label_at (take i xs) (get_or xs i d ∷ [])
-      ∙ ap (λ (y : X). filter_map label_at (take i xs) ++ cons_option (label_at y) []) (sym here)
+      ap (filter_map at_item) (take_more xs i d within) ∙ filter_map-append at_item (take i xs) (get_or xs i d ∷ [])
+      ∙ ap (λ (y : X). filter_map at_item (take i xs) ++ cons_option (at_item y) []) (sym here)
 
-  module _ (old : List PlacedValue) (labels : List Placed) (so_far : placed_values labels ≡ old ++ filter_map label_at (take i xs)) where
-    -- the feature has none
-    pub label_skipped : label_at x ≡ None → placed_values labels ≡ old ++ filter_map label_at (take (i + 1) xs)
-    label_skipped none =
-        let same : filter_map label_at (take (i + 1) xs) ≡ filter_map label_at (take i xs) =
-        filter_map-more ∙ ap (λ (found : Option PlacedValue). filter_map label_at (take i xs) ++ cons_option found []) none ∙ append-nil (filter_map label_at (take i xs)) in
-        so_far ∙ ap (λ (rest : List PlacedValue). old ++ rest) (sym same)
+  module _ (old : List Y) (found : List W) (so_far : map value found ≡ old ++ filter_map at_item (take i xs)) where
+    -- the item gives nothing
+    pub item_skipped : at_item x ≡ None → map value found ≡ old ++ filter_map at_item (take (i + 1) xs)
+    item_skipped none =
+        let same : filter_map at_item (take (i + 1) xs) ≡ filter_map at_item (take i xs) =
+        filter_map-more ∙ ap (λ (o : Option Y). filter_map at_item (take i xs) ++ cons_option o []) none ∙ append-nil (filter_map at_item (take i xs)) in
+        so_far ∙ ap (λ (rest : List Y). old ++ rest) (sym same)
 
-    -- the feature has one, which is pushed
-    pub label_pushed : (label : Placed) → label_at x ≡ Some (placed_value label) → placed_values (labels ++ label ∷ []) ≡ old ++ filter_map label_at (take (i + 1) xs)
-    label_pushed label found =
-        let more : filter_map label_at (take (i + 1) xs) ≡ filter_map label_at (take i xs) ++ placed_value label ∷ [] =
-        filter_map-more ∙ ap (λ (found : Option PlacedValue). filter_map label_at (take i xs) ++ cons_option found []) found in
-        map_push placed_value labels label ∙ ap (λ (front : List PlacedValue). front ++ placed_value label ∷ []) so_far
-        ∙ append_assoc old (filter_map label_at (take i xs)) (placed_value label ∷ [])
-        ∙ ap (λ (rest : List PlacedValue). old ++ rest) (sym more)
+    -- the item gives something, which is pushed
+    pub item_pushed : (w : W) → at_item x ≡ Some (value w) → map value (found ++ w ∷ []) ≡ old ++ filter_map at_item (take (i + 1) xs)
+    item_pushed w some =
+        let more : filter_map at_item (take (i + 1) xs) ≡ filter_map at_item (take i xs) ++ value w ∷ [] =
+        filter_map-more ∙ ap (λ (o : Option Y). filter_map at_item (take i xs) ++ cons_option o []) some in
+        map_push value found w ∙ ap (λ (front : List Y). front ++ value w ∷ []) so_far
+        ∙ append_assoc old (filter_map at_item (take i xs)) (value w ∷ [])
+        ∙ ap (λ (rest : List Y). old ++ rest) (sym more)
 
--- ---- one priority: the layers from the last to the first
+-- ---- the layers from the last to the first
 
-layers_more : (labels_at : ℕ → List PlacedValue) (layers : List ℕ) (place d : ℕ) → 0 < place → place ≤ length layers →
+layers_more : {Y : Type 0} (labels_at : ℕ → List Y) (layers : List ℕ) (place d : ℕ) → 0 < place → place ≤ length layers →
     flat_map labels_at (reverse (drop (place - 1) layers)) ≡ flat_map labels_at (reverse (drop place layers)) ++ labels_at (get_or layers (place - 1) d)
-layers_more labels_at layers place d some within =
+layers_more {Y} labels_at layers place d some within =
     let next : place - 1 + 1 ≡ place = omega arith in
     let here : drop (place - 1) layers ≡ get_or layers (place - 1) d ∷ drop place layers =
     drop_more layers (place - 1) d (omega arith) ∙ ap (λ (n : ℕ). get_or layers (place - 1) d ∷ drop n layers) next in
     ap (λ (l : List ℕ). flat_map labels_at (reverse l)) here
     ∙ ap (flat_map labels_at) (reverse-append (get_or layers (place - 1) d ∷ []) (drop place layers))
     ∙ flat_map-append labels_at (reverse (drop place layers)) (get_or layers (place - 1) d ∷ [])
-    ∙ ap (λ (l : List PlacedValue). flat_map labels_at (reverse (drop place layers)) ++ l) (append-nil (labels_at (get_or layers (place - 1) d)))
+    ∙ ap (λ (l : List Y). flat_map labels_at (reverse (drop place layers)) ++ l) (append-nil (labels_at (get_or layers (place - 1) d)))
 
-pub layer_pushed : (labels_at : ℕ → List PlacedValue) (layers : List ℕ) (place d : ℕ) (old so_far after : List PlacedValue) → 0 < place → place ≤ length layers →
+pub layer_pushed : {Y : Type 0} (labels_at : ℕ → List Y) (layers : List ℕ) (place d : ℕ) (old so_far after : List Y) → 0 < place → place ≤ length layers →
     so_far ≡ old ++ flat_map labels_at (reverse (drop place layers)) → after ≡ so_far ++ labels_at (get_or layers (place - 1) d) →
     after ≡ old ++ flat_map labels_at (reverse (drop (place - 1) layers))
-layer_pushed labels_at layers place d old so_far after some within before pushed =
-    pushed ∙ ap (λ (l : List PlacedValue). l ++ labels_at (get_or layers (place - 1) d)) before
+layer_pushed {Y} labels_at layers place d old so_far after some within before pushed =
+    pushed ∙ ap (λ (l : List Y). l ++ labels_at (get_or layers (place - 1) d)) before
     ∙ append_assoc old (flat_map labels_at (reverse (drop place layers))) (labels_at (get_or layers (place - 1) d))
-    ∙ ap (λ (l : List PlacedValue). old ++ l) (sym (layers_more labels_at layers place d some within))
+    ∙ ap (λ (l : List Y). old ++ l) (sym (layers_more labels_at layers place d some within))
+
+-- ---- one priority of what the walk met
+
+abbrev if_some : ℕ → Option CandidateValue → Option PlacedValue
+if_some priority None = None
+if_some priority (Some candidate) = if_of_priority priority candidate
+
+labelled-empty : (b : Bool) (label : LabelDefinition) (anchor : Option Anchor) → labelled (if b then Some label else None) [] anchor ≡ None
+labelled-empty true label anchor = refl
+labelled-empty false label anchor = refl
+
+labelled-nowhere : (b : Bool) (label : LabelDefinition) (c : ℕ) (text : List ℕ) → labelled (if b then Some label else None) (c ∷ text) None ≡ None
+labelled-nowhere true label c text = refl
+labelled-nowhere false label c text = refl
+
+labelled-some : (b : Bool) (label : LabelDefinition) (c : ℕ) (text : List ℕ) (anchor : Anchor) →
+    labelled (if b then Some label else None) (c ∷ text) (Some anchor) ≡ (if b then Some (at_anchor label (c ∷ text) anchor) else None)
+labelled-some true label c text anchor = refl
+labelled-some false label c text anchor = refl
+
+-- what a label of a priority says is what a label of whatever priority says, if it is of that one
+same_label : (priority : ℕ) (found : Option LabelDefinition) (text : List ℕ) (anchor : Option Anchor) →
+    labelled (of_priority priority found) text anchor ≡ if_some priority (with_priority found text anchor)
+same_label priority None text anchor = refl
+same_label priority (Some label) [] anchor = labelled-empty (label.priority == priority) label anchor
+same_label priority (Some label) (c ∷ text) None = labelled-nowhere (label.priority == priority) label c text
+same_label priority (Some label) (c ∷ text) (Some anchor) = labelled-some (label.priority == priority) label c text anchor
+
+feature_chosen : (view : ViewValue) (priority : ℕ) (layer : LayerDefinition) (feature : FeatureDefinition) →
+    feature_label view priority layer feature ≡ if_some priority (candidate_of view layer feature)
+unfolding feature_label label_of candidate_of
+feature_chosen view priority layer feature =
+    same_label priority (class_label (class_at layer (class_of layer feature))) (text_of layer feature) (anchor_of view feature.parts)
+
+chosen-first : (priority : ℕ) (found : Option CandidateValue) (rest : List CandidateValue) →
+    cons_option (if_some priority found) (chosen priority rest) ≡ chosen priority (cons_option found rest)
+unfolding chosen
+chosen-first priority None rest = refl
+chosen-first priority (Some candidate) rest = refl
+
+features_chosen : (view : ViewValue) (priority : ℕ) (layer : LayerDefinition) (features : List FeatureDefinition) →
+    filter_map (feature_label view priority layer) features ≡ chosen priority (filter_map (candidate_of view layer) features)
+unfolding chosen
+features_chosen view priority layer [] = refl
+features_chosen view priority layer (feature ∷ features) =
+    let rest = features_chosen view priority layer features in
+    ap (λ (o : Option PlacedValue). cons_option o (filter_map (feature_label view priority layer) features)) (feature_chosen view priority layer feature)
+    ∙ ap (cons_option (if_some priority (candidate_of view layer feature))) rest
+    ∙ chosen-first priority (candidate_of view layer feature) (filter_map (candidate_of view layer) features)
+
+entry_chosen : (view : ViewValue) (priority : ℕ) (entry : Option (List ℕ × LayerDefinition)) → entry_labels view priority entry ≡ chosen priority (entry_candidates view entry)
+unfolding chosen layer_labels layer_candidates
+entry_chosen view priority None = refl
+entry_chosen view priority (Some entry) = features_chosen view priority entry.1 entry.1.features
+
+entries_chosen : (map : Definition) (view : ViewValue) (priority : ℕ) (layers : List ℕ) →
+    flat_map (λ i. entry_labels view priority (slice_get map.layers i)) layers ≡ chosen priority (flat_map (λ i. entry_candidates view (slice_get map.layers i)) layers)
+unfolding chosen
+entries_chosen map view priority [] = refl
+entries_chosen map view priority (i ∷ layers) =
+    let here = entry_chosen view priority (slice_get map.layers i) in
+    let rest = entries_chosen map view priority layers in
+    ap (λ (l : List PlacedValue). l ++ flat_map (λ k. entry_labels view priority (slice_get map.layers k)) layers) here
+    ∙ ap (λ (l : List PlacedValue). chosen priority (entry_candidates view (slice_get map.layers i)) ++ l) rest
+    ∙ sym (filter_map-append (if_of_priority priority) (entry_candidates view (slice_get map.layers i)) (flat_map (λ k. entry_candidates view (slice_get map.layers k)) layers))
+
+-- the labels of a priority are those of it that the walk met
+pub priority_chosen : (map : Definition) (layers : List ℕ) (view : ViewValue) (priority : ℕ) → labels_of map layers view priority ≡ chosen priority (walk map layers view)
+unfolding labels_of walk
+priority_chosen map layers view priority = entries_chosen map view priority (reverse layers)
+
+-- the same by the code's candidates
+pub chosen_values : (priority : ℕ) (candidates : List Candidate) → chosen priority (candidate_values candidates) ≡ filter_map (λ c. if_of_priority priority (candidate_value c)) candidates
+unfolding chosen
+chosen_values priority [] = refl
+chosen_values priority (c ∷ candidates) = ap (cons_option (if_of_priority priority (candidate_value c))) (chosen_values priority candidates)
+
+-- one candidate more, of the priority or of another
+module _ (priority : ℕ) (walked : List Candidate) (i : ℕ) (d : Candidate) (old : List PlacedValue) (labels : List Placed) (within : i < length walked)
+    (so_far : placed_values labels ≡ old ++ filter_map (λ c. if_of_priority priority (candidate_value c)) (take i walked)) where
+  pub candidate_pushed : (get_or walked i d).priority ≡ priority →
+      placed_values (labels ++ (get_or walked i d).label ∷ []) ≡ old ++ filter_map (λ c. if_of_priority priority (candidate_value c)) (take (i + 1) walked)
+  candidate_pushed same =
+      let here : if_of_priority priority (candidate_value (get_or walked i d)) ≡ Some (placed_value (get_or walked i d).label) = rw (eq-eqb (get_or walked i d).priority priority same) refl in
+      item_pushed placed_value (λ c. if_of_priority priority (candidate_value c)) walked i (get_or walked i d) d within refl old labels so_far (get_or walked i d).label here
+
+  pub candidate_skipped : ((get_or walked i d).priority ≡ priority → ⊥) → placed_values labels ≡ old ++ filter_map (λ c. if_of_priority priority (candidate_value c)) (take (i + 1) walked)
+  candidate_skipped other =
+      let none : if_of_priority priority (candidate_value (get_or walked i d)) ≡ None = rw (ne_eqb (get_or walked i d).priority priority other) refl in
+      item_skipped placed_value (λ c. if_of_priority priority (candidate_value c)) walked i (get_or walked i d) d within refl old labels so_far none
 
 -- ---- all priorities, from the highest to the lowest
 

@@ -2,4 +2,8 @@ pub mod AnchorLemmas
 pub mod TextLemmas
 pub mod LabelLemmas
 pub mod PlacingLemmas
+pub mod ColoredLemmas
+pub mod BitLemmas
 pub mod InkLemmas
+pub mod TakenLemmas
+pub mod SaidLemmas

@@ -1,17 +1,12 @@
 -- The placed set: how it grows with the labels, that there is one, and that there is no other.
-use Rattle.std.proofs.Common.{◌≡◌, ℕ, zero, suc, ◌+◌, ◌<◌, ◌≤◌, Bool, true, false, ◌||◌, List, [], ◌∷◌, ◌++◌, take, length, get_or, pos, if◌then◌else◌, inl, inr, refl, sym, ap, subst, ◌∙◌, arith}
+use Rattle.std.proofs.Common.{◌≡◌, ℕ, zero, suc, ◌+◌, ◌<◌, ◌≤◌, Bool, true, false, List, [], ◌∷◌, ◌++◌, take, length, get_or, pos, if◌then◌else◌, inl, inr, refl, sym, ap, subst, ◌∙◌, arith}
 use Rattle.std.proofs.lemmas.Bool.{cases_eq}
 use Rattle.std.proofs.lemmas.List.{append-nil, append_assoc, get_or_append_left, get_or_push, length_push, map_push, take-append-le, take_at, take_all, take_more, take_more_same}
-use Rattle.std.specs.List.{list_any, items_where_true}
+use Rattle.std.specs.List.{items_where_true}
 use Rattle.wf_paint.specs.View.{ViewValue}
 use Rattle.wf_label.specs.Placed.{PlacedValue, placed_value, placed_values}
 use Rattle.wf_label.specs.Placing.{stands, IsPlacedSet, IsPlacing, EachListHasOnePlacedSet, EachListHasOnePlacing, PlacedIsThePlacing, placed_after, placed_of}
 use Rattle.wf_label.specs.declared.placed.Placed.{Placed}
-
--- a test of the labels' values is the test of the labels by their values
-pub any_of_values : (test : PlacedValue → Bool) (labels : List Placed) → list_any (λ label. test (placed_value label)) labels ≡ list_any test (placed_values labels)
-any_of_values test [] = refl
-any_of_values test (label ∷ labels) = ap (λ (rest : Bool). test (placed_value label) || rest) (any_of_values test labels)
 
 -- ---- one label more
 
@@ -99,18 +94,10 @@ module _ (view : ViewValue) (labels placed : List PlacedValue) (label : PlacedVa
     by_test false left_out = rw left_out (IsPlacing-left left_out)
 
 -- the same by the code's labels, of which the next is judged
-module _ (view : ViewValue) (labels placed : List Placed) (i : ℕ) (d : Placed) (within : i < length labels)
-    (placing : IsPlacing view (placed_values (take i labels)) (placed_values placed)) where
-  pub placed_next : stands view (placed_values placed) (placed_value (get_or labels i d)) ≡ true →
-      IsPlacing view (placed_values (take (i + 1) labels)) (placed_values (placed ++ get_or labels i d ∷ []))
-  placed_next stays =
-      rw (one_more labels i (get_or labels i d) d within refl, map_push placed_value placed (get_or labels i d))
-      (IsPlacing-placed view (placed_values (take i labels)) (placed_values placed) (placed_value (get_or labels i d)) placing stays)
-
-  pub left_next : stands view (placed_values placed) (placed_value (get_or labels i d)) ≡ false → IsPlacing view (placed_values (take (i + 1) labels)) (placed_values placed)
-  left_next goes =
-      rw (one_more labels i (get_or labels i d) d within refl)
-      (IsPlacing-left view (placed_values (take i labels)) (placed_values placed) (placed_value (get_or labels i d)) placing goes)
+pub placing_next : (view : ViewValue) (labels : List Placed) (i : ℕ) (d : Placed) (placed after : List PlacedValue) → i < length labels → IsPlacing view (placed_values (take i labels)) placed →
+    after ≡ (if stands view placed (placed_value (get_or labels i d)) then placed ++ placed_value (get_or labels i d) ∷ [] else placed) → IsPlacing view (placed_values (take (i + 1) labels)) after
+placing_next view labels i d placed after within placing is =
+    rw (is, one_more labels i (get_or labels i d) d within refl) (IsPlacing-next view (placed_values (take i labels)) placed (placed_value (get_or labels i d)) placing)
 
 -- ---- there is one
 

@@ -5,3 +5,6 @@ pub mod Anchor
 pub mod Label
 pub mod Placing
 pub mod Ink
+pub mod Colored
+pub mod Walk
+pub mod Taken

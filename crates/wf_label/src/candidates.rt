@@ -2,10 +2,14 @@
 ghost use Rattle.std.specs.Prelude.{◌≡◌, ◌++◌, ◌<◌, length, IfOk, OnOk};
 ghost use Rattle.std.specs.List.{All};
 ghost use Rattle.std.specs.Option.{option_map};
-ghost use Rattle.wf_label.specs.Label.{candidates, feature_label, label_of, labels_of, layer_labels, of_priority};
-ghost use Rattle.wf_label.specs.Placed.{placed_value, placed_values};
+ghost use Rattle.wf_def.specs.Attribute.{class_of};
+ghost use Rattle.wf_paint.specs.Operation.{class_at};
+ghost use Rattle.wf_label.specs.Label.{candidates, class_label};
+ghost use Rattle.wf_label.specs.Placed.{placed_values};
+ghost use Rattle.wf_label.specs.Walk.{candidate_of, candidate_value, candidate_values, chosen, layer_candidates, walk};
 
 use crate::anchoring::anchor_of;
+use crate::candidate::Candidate;
 use crate::placed::Placed;
 use crate::position::at_anchor;
 use crate::text::text_of;
@@ -19,7 +23,7 @@ use wf_paint::view::View;
 
 /// The labels of the layers in these places of the map, placed or not, in the order in which they are placed (MapServer mapfile
 /// reference, LABEL PRIORITY): the higher priority first; of one priority the layer that is listed later, and of one layer the
-/// features in their order. Where each stands is in pixels of the view. Want of memory is the only error.
+/// features in their order. Where each stands is in pixels of the view. Allocation failure is the only error.
 #[tactic(auto, unfolding(crate::specs::Label::candidates))]
 pub fn candidates<'a>(
     alloc: Global,
@@ -30,87 +34,90 @@ pub fn candidates<'a>(
     requires { All (λ i. i < length map.now.layers) layers.now }
     ensures { IfOk result (λ labels. placed_values labels.items ≡ candidates map.now layers.now view.now) }
 {
+    let walked = walk(alloc, map, layers, view)?;
     let mut labels = Vec::new(alloc);
     for lower in (0..MOST_PRIORITY).rev() {
-        push_priority(&mut labels, map, layers, view, lower + 1)?;
+        push_priority(&mut labels, &walked, lower + 1)?;
     }
     Ok(labels)
 }
 
-/// Adds the labels of a priority.
-#[tactic(auto, unfolding(crate::specs::Label::labels_of))]
+/// Adds the labels of a priority, in their order.
+#[tactic(auto, unfolding(crate::specs::Walk::chosen))]
 fn push_priority<'a>(
     labels: &mut Vec<Placed<'a>>,
-    map: &'a MapDef,
-    layers: &[usize],
-    view: &View,
+    walked: &[Candidate<'a>],
     priority: u8,
 ) -> Result<(), AllocError>
-    requires { All (λ i. i < length map.now.layers) layers.now }
-    ensures { OnOk result (placed_values labels.new.items ≡ placed_values labels.old.items ++ labels_of map.now layers.now view.now priority) }
+    ensures { OnOk result (placed_values labels.new.items ≡ placed_values labels.old.items ++ chosen priority (candidate_values walked.now)) }
 {
-    for place in (0..layers.len()).rev() {
-        let (_, layer) = map.layer(layers[place]);
-        push_layer(labels, view, priority, layer)?;
+    for candidate in walked {
+        if candidate.priority == priority {
+            labels.push(candidate.label)?;
+        }
     }
     Ok(())
 }
 
-/// Adds a layer's labels of a priority.
-#[tactic(auto, unfolding(crate::specs::Label::layer_labels))]
-fn push_layer<'a>(
-    labels: &mut Vec<Placed<'a>>,
+/// The labels in the order in which one walk meets them: the layer that is listed later first, and of one layer the features in their
+/// order.
+#[tactic(auto, unfolding(crate::specs::Walk::walk))]
+fn walk<'a>(
+    alloc: Global,
+    map: &'a MapDef,
+    layers: &[usize],
     view: &View,
-    priority: u8,
+) -> Result<Vec<Candidate<'a>>, AllocError>
+    requires { All (λ i. i < length map.now.layers) layers.now }
+    ensures { IfOk result (λ walked. candidate_values walked.items ≡ walk map.now layers.now view.now) }
+{
+    let mut walked = Vec::new(alloc);
+    for place in (0..layers.len()).rev() {
+        let (_, layer) = map.layer(layers[place]);
+        push_layer(&mut walked, view, layer)?;
+    }
+    Ok(walked)
+}
+
+/// Adds a layer's labels.
+#[tactic(auto, unfolding(crate::specs::Walk::layer_candidates))]
+fn push_layer<'a>(
+    walked: &mut Vec<Candidate<'a>>,
+    view: &View,
     layer: &'a Layer,
 ) -> Result<(), AllocError>
-    ensures { OnOk result (placed_values labels.new.items ≡ placed_values labels.old.items ++ layer_labels view.now priority layer.now) }
+    ensures { OnOk result (candidate_values walked.new.items ≡ candidate_values walked.old.items ++ layer_candidates view.now layer.now) }
 {
     for feature in layer.features() {
-        match feature_label(view, priority, layer, feature) {
-            Some(label) => labels.push(label)?,
+        match candidate_of(view, layer, feature) {
+            Some(candidate) => walked.push(candidate)?,
             None => {}
         }
     }
     Ok(())
 }
 
-/// The label of this priority that a feature has.
-#[tactic(auto, unfolding(crate::specs::Label::feature_label))]
-fn feature_label<'a>(
-    view: &View,
-    priority: u8,
-    layer: &Layer,
-    feature: &'a Feature,
-) -> Option<Placed<'a>>
-    ensures { option_map placed_value result ≡ feature_label view.now priority layer.now feature.now }
+/// The label that a feature has.
+#[tactic(auto, unfolding(crate::specs::Walk::candidate_of))]
+fn candidate_of<'a>(view: &View, layer: &Layer, feature: &'a Feature) -> Option<Candidate<'a>>
+    ensures { option_map candidate_value result ≡ candidate_of view.now layer.now feature.now }
 {
-    let label = label_of(priority, layer, feature)?;
+    let label = label_of(layer, feature)?;
     let text = text_of(layer, feature);
     if text.is_empty() {
         return None;
     }
     let anchor = anchor_of(view, feature.parts())?;
-    Some(at_anchor(&label, text, anchor))
+    Some(Candidate {
+        priority: label.priority.get(),
+        label: at_anchor(&label, text, anchor),
+    })
 }
 
-/// What the feature's class says of its label, if that is of the priority.
-#[tactic(auto, unfolding(crate::specs::Label::label_of))]
-fn label_of(priority: u8, layer: &Layer, feature: &Feature) -> Option<Label>
-    ensures { result ≡ label_of priority layer.now feature.now }
+/// What the feature's class says of its label.
+fn label_of(layer: &Layer, feature: &Feature) -> Option<Label>
+    ensures { result ≡ class_label (class_at layer.now (class_of layer.now feature.now)) }
 {
     let class = layer.class_of(feature)?;
-    of_priority(priority, layer.classes()[class].label())
-}
-
-/// The label, if it is of the priority.
-fn of_priority(priority: u8, label: Option<Label>) -> Option<Label>
-    ensures { result ≡ of_priority priority label }
-{
-    let label = label?;
-    if label.priority.get() == priority {
-        Some(label)
-    } else {
-        None
-    }
+    layer.classes()[class].label()
 }

@@ -1,20 +1,80 @@
 //! Labels drawn over a picture.
-ghost use Rattle.wf_label.specs.Ink.{IsInked};
-ghost use Rattle.wf_label.specs.Placed.{placed_values};
+ghost use Rattle.std.specs.Prelude.{◌≡◌, ◌≤◌, ◌<◌, ◌*◌, ◌^◌, pos};
+ghost use Rattle.wf_label.specs.Colored.{IsColored, bit_frame, character_bits, is_in_bits, one_bit, row_bits};
+ghost use Rattle.wf_label.specs.Frame.{IsFrame};
+ghost use Rattle.wf_label.specs.Ink.{IsInked, inks};
+ghost use Rattle.wf_label.specs.Placed.{placed_value, placed_values};
 
-use crate::ink::ink_of;
+use crate::fill::fill;
+use crate::frame::Frame;
+use crate::glyph::glyph;
+use crate::ink::{has_bit, row_up};
+use crate::overlap::plus;
 use crate::placed::Placed;
+use crate::scale::scale_of;
 use wf_paint::pixmap::Pixmap;
 
 /// Draws the letters of the labels over the picture of their view: each pixel that a letter inks gets the colour of the first label
-/// that inks it, and no other pixel changes. It takes no memory.
+/// that inks it, and no other pixel changes. It allocates nothing.
 pub fn draw_labels(pixmap: &mut Pixmap, labels: &[Placed])
     ensures { IsInked (placed_values labels.now) pixmap.old pixmap.new }
 {
-    for index in 0..pixmap.area() {
-        match ink_of(labels, pixmap.pixel(index)) {
-            Some(color) => pixmap.set(index, color),
-            None => {}
+    for place in (0..labels.len()).rev() {
+        draw_label(pixmap, &labels[place]);
+    }
+}
+
+/// Gives the pixels that the label's letters ink its colour.
+fn draw_label(pixmap: &mut Pixmap, label: &Placed)
+    ensures { IsColored (λ column row. inks (placed_value label.now) (pos column) (pos row)) label.now.color pixmap.old pixmap.new }
+{
+    for (place, character) in label.text.chars().enumerate() {
+        draw_character(pixmap, label, place, character);
+    }
+}
+
+/// Draws one character of the label, which has this place in its text.
+fn draw_character(pixmap: &mut Pixmap, label: &Placed, place: usize, character: char)
+    ensures { IsColored (is_in_bits (placed_value label.now) (character_bits place character)) label.now.color pixmap.old pixmap.new }
+{
+    let rows = glyph(character);
+    for up in 1..6 {
+        draw_row(pixmap, label, place, up, row_up(rows, up));
+    }
+}
+
+/// Draws one row of a character, so many rows of bits up in its cell.
+fn draw_row(pixmap: &mut Pixmap, label: &Placed, place: usize, up: u8, row: u8)
+    ensures { IsColored (is_in_bits (placed_value label.now) (row_bits place up row)) label.now.color pixmap.old pixmap.new }
+{
+    for column in 0..3 {
+        if has_bit(row, column) {
+            draw_bit(pixmap, label, 4 * place as u128 + u128::from(column), up);
         }
+    }
+}
+
+/// Draws one bit, which is so many bits to the right in the label's box, and so many up.
+fn draw_bit(pixmap: &mut Pixmap, label: &Placed, across: u128, up: u8)
+    requires { across ≤ 2 ^ 70 }
+    ensures { IsColored (is_in_bits (placed_value label.now) (one_bit across up)) label.now.color pixmap.old pixmap.new }
+{
+    fill(pixmap, &bit_frame(label, across, up), label.color);
+}
+
+/// The box of that bit.
+#[tactic(auto, unfolding(crate::specs::Colored::bit_frame))]
+fn bit_frame(label: &Placed, across: u128, up: u8) -> Frame
+    requires { across ≤ 2 ^ 70 }
+    ensures { result ≡ bit_frame (placed_value label.now) across up }
+{
+    let bit = u128::from(scale_of(label.scale));
+    let left = plus(i128::from(label.left), bit * across);
+    let bottom = plus(i128::from(label.bottom), bit * u128::from(up));
+    Frame {
+        left,
+        right: plus(left, bit),
+        bottom,
+        top: plus(bottom, bit),
     }
 }

@@ -51,7 +51,7 @@ const GLYPHS: [(char, u16); 39] = [
 const FILLED: u16 = 0o77777;
 
 /// The five rows of a character's glyph from the top, each three bits, the highest on the left. `a` to `z` look as `A` to `Z`; a
-/// character without a glyph is filled. It takes no memory.
+/// character without a glyph is filled. It allocates nothing.
 #[tactic(auto, unfolding(crate::specs::Glyph::glyph))]
 pub fn glyph(c: char) -> [u8; 5]
     ensures { result ≡ glyph c }

@@ -7,15 +7,17 @@
 //!
 //! It promises that `candidates` are all labels in their order, that `place` gives the placed set in that order, that `glyph` gives
 //! the rows of the table, and that `draw_labels` changes exactly the pixels that a letter inks: where letters of two labels overlap,
-//! the label that comes first shows. Labels are placed in the whole view, never in a part of it. Want of memory is the only error. It
+//! the label that comes first shows. Labels are placed in the whole view, never in a part of it. Allocation failure is the only error. It
 //! knows one alphabet of capitals, digits and three marks, draws every other character as a filled cell, and turns no text.
 #![tactic(auto)]
 
 pub mod anchor;
 mod anchoring;
 pub mod bounds;
+mod candidate;
 pub mod candidates;
 pub mod draw;
+mod fill;
 pub mod frame;
 pub mod glyph;
 mod ink;
@@ -25,4 +27,5 @@ pub mod placed;
 pub mod placement;
 mod position;
 mod scale;
+mod taken;
 mod text;

@@ -1,8 +1,9 @@
-//! Boxes of labels: whether they lie in the view, and whether they have a pixel in common.
-ghost use Rattle.std.specs.Prelude.{◌≡◌, ◌≤◌, ◌+◌, ◌^◌, pos, nat_abs};
+//! Boxes of labels: where they are, and whether they lie in the view.
+ghost use Rattle.std.specs.Prelude.{◌≡◌, ◌≤◌, ◌+◌, ◌^◌, ◌<◌, length, pos, nat_abs};
 ghost use Rattle.wf_paint.specs.Exact.{plus, difference, is_less};
-ghost use Rattle.wf_label.specs.Frame.{IsFrame, frame_of, is_whole_in, overlap, spans_overlap, widened};
+ghost use Rattle.wf_label.specs.Frame.{IsFrame, frame_of, is_whole_in, widened};
 ghost use Rattle.wf_label.specs.Placed.{placed_value};
+ghost use Rattle.wf_label.specs.Taken.{IsSolid};
 
 use crate::frame::Frame;
 use crate::placed::Placed;
@@ -14,6 +15,7 @@ use wf_paint::view::View;
 pub(crate) fn frame_of(label: &Placed) -> Frame
     ensures value { result ≡ frame_of (placed_value label.now) }
     ensures within { IsFrame result }
+    ensures solid { 0 < length label.now.text.now → IsSolid result }
 {
     let left = i128::from(label.left);
     let bottom = i128::from(label.bottom);
@@ -27,7 +29,7 @@ pub(crate) fn frame_of(label: &Placed) -> Frame
 
 /// A side moved by so many pixels to the right or upward.
 #[tactic(auto, unfolding(wf_paint::specs::Exact::plus))]
-fn plus(side: i128, by: u128) -> i128
+pub(crate) fn plus(side: i128, by: u128) -> i128
     requires side { nat_abs side ≤ 2 ^ 100 }
     requires by { by ≤ 2 ^ 80 }
     ensures value { result ≡ plus side (pos by) }
@@ -57,23 +59,6 @@ pub(crate) fn widened(by: u8, frame: &Frame) -> Frame
         bottom: minus(frame.bottom, by),
         top: plus(frame.top, u128::from(by)),
     }
-}
-
-/// Whether the boxes have a pixel in common.
-#[tactic(auto, unfolding(crate::specs::Frame::overlap))]
-pub(crate) fn overlap(first: &Frame, second: &Frame) -> bool
-    ensures { result ≡ overlap first.now second.now }
-{
-    spans_overlap(first.left, first.right, second.left, second.right)
-        && spans_overlap(first.bottom, first.top, second.bottom, second.top)
-}
-
-/// Whether, on one axis, what goes from `a` to before `b` and what goes from `c` to before `d` have a pixel in common.
-#[tactic(auto, unfolding(crate::specs::Frame::spans_overlap))]
-fn spans_overlap(a: i128, b: i128, c: i128, d: i128) -> bool
-    ensures { result ≡ spans_overlap a b c d }
-{
-    is_less(a, d) && is_less(c, b)
 }
 
 /// Whether the box lies whole in the view.

@@ -1,22 +1,24 @@
 //! The labels that are placed.
-ghost use Rattle.std.specs.Prelude.{◌≡◌, ◌<◌, length, IfOk};
+ghost use Rattle.std.specs.Prelude.{◌≡◌, ◌<◌, ◌++◌, ◌∷◌, [], true, length, IfOk, OnOk, if◌then◌else◌};
 ghost use Rattle.std.specs.List.{All, list_any};
 ghost use Rattle.wf_label.specs.Frame.{overlap, frame_of};
 ghost use Rattle.wf_label.specs.Label.{candidates};
 ghost use Rattle.wf_label.specs.Placed.{placed_value, placed_values};
 ghost use Rattle.wf_label.specs.Placing.{IsPlacing, stands};
+ghost use Rattle.wf_label.specs.Taken.{IsShown, IsSolid, IsTaken};
 
 use crate::candidates::candidates;
 use crate::frame::Frame;
-use crate::overlap::{frame_of, is_whole_in, overlap, widened};
+use crate::overlap::{frame_of, is_whole_in, widened};
 use crate::placed::Placed;
+use crate::taken::{mark, meets_marked};
 use std::alloc::{AllocError, Global};
 use wf_def::map::MapDef;
 use wf_paint::view::View;
 
 /// The labels of the layers in these places of the map that are placed in the view, in label order (MapServer mapfile reference, LABEL
 /// FORCE, BUFFER): those whose box lies whole in the view and that are forced, or whose box with its free space around it has no pixel
-/// in common with the box of a label placed before. Want of memory is the only error.
+/// in common with the box of a label placed before. Allocation failure is the only error.
 pub fn place<'a>(
     alloc: Global,
     map: &'a MapDef,
@@ -30,35 +32,91 @@ pub fn place<'a>(
     placed_among(alloc, &labels, view)
 }
 
+/// The labels placed so far, and which pixels of the view their boxes take.
+#[derive(Drop)]
+struct Placing<'a> {
+    placed: Vec<Placed<'a>>,
+    marks: Vec<u8>,
+}
+
 /// The placed ones of labels that stand in label order.
 fn placed_among<'a>(
     alloc: Global,
     labels: &[Placed<'a>],
     view: &View,
 ) -> Result<Vec<Placed<'a>>, AllocError>
+    requires { All (λ label. 0 < length label.text) (placed_values labels.now) }
     ensures { IfOk result (λ placed. IsPlacing view.now (placed_values labels.now) (placed_values placed.items)) }
 {
-    let mut placed = Vec::new(alloc);
+    let mut placing = none_placed(alloc, view)?;
     for label in labels {
-        if stands(view, &placed, label) {
-            placed.push(*label)?;
-        }
+        place_label(&mut placing, view, label)?;
     }
+    let Placing { placed, marks } = placing;
+    drop(marks);
     Ok(placed)
+}
+
+/// No labels, which take no pixel.
+fn none_placed<'a>(alloc: Global, view: &View) -> Result<Placing<'a>, AllocError>
+    ensures none { IfOk result (λ placing. placing.placed.items ≡ []) }
+    ensures taken { IfOk result (λ placing. IsTaken view.now [] placing.marks.items) }
+{
+    let marks = vec![in alloc; 0; (view.width() * view.height()) as usize]?;
+    Ok(Placing {
+        placed: Vec::new(alloc),
+        marks,
+    })
+}
+
+/// Places the label, if it may stand.
+fn place_label<'a>(
+    placing: &mut Placing<'a>,
+    view: &View,
+    label: &Placed<'a>,
+) -> Result<(), AllocError>
+    requires text { 0 < length label.now.text.now }
+    requires taken { IsTaken view.now (placed_values placing.old.placed.items) placing.old.marks.items }
+    ensures placed { OnOk result (placed_values placing.new.placed.items
+        ≡ (if stands view.now (placed_values placing.old.placed.items) (placed_value label.now) then placed_values placing.old.placed.items ++ placed_value label.now ∷ [] else placed_values placing.old.placed.items)) }
+    ensures taken { OnOk result (IsTaken view.now (placed_values placing.new.placed.items) placing.new.marks.items) }
+{
+    if stands(placing, view, label) {
+        add(placing, view, label)?;
+    }
+    Ok(())
+}
+
+/// Places the label.
+fn add<'a>(placing: &mut Placing<'a>, view: &View, label: &Placed<'a>) -> Result<(), AllocError>
+    requires shown { IsShown view.now (placed_value label.now) }
+    requires taken { IsTaken view.now (placed_values placing.old.placed.items) placing.old.marks.items }
+    ensures placed { OnOk result (placed_values placing.new.placed.items ≡ placed_values placing.old.placed.items ++ placed_value label.now ∷ []) }
+    ensures taken { OnOk result (IsTaken view.now (placed_values placing.new.placed.items) placing.new.marks.items) }
+{
+    placing.placed.push(*label)?;
+    mark(&mut placing.marks, view, &frame_of(label));
+    Ok(())
 }
 
 /// Whether the label may stand where those before it are placed.
 #[tactic(auto, unfolding(crate::specs::Placing::stands, crate::specs::Frame::meets))]
-fn stands(view: &View, before: &[Placed], label: &Placed) -> bool
-    ensures { result ≡ stands view.now (placed_values before.now) (placed_value label.now) }
+fn stands(placing: &Placing, view: &View, label: &Placed) -> bool
+    requires text { 0 < length label.now.text.now }
+    requires taken { IsTaken view.now (placed_values placing.now.placed.items) placing.now.marks.items }
+    ensures value { result ≡ stands view.now (placed_values placing.now.placed.items) (placed_value label.now) }
+    ensures shown { result ≡ true → IsShown view.now (placed_value label.now) }
 {
     let frame = frame_of(label);
-    is_whole_in(view, &frame) && (label.force || !meets_any(&widened(label.buffer, &frame), before))
+    is_whole_in(view, &frame)
+        && (label.force || !meets_any(placing, view, &widened(label.buffer, &frame)))
 }
 
-/// Whether the box has a pixel in common with the box of one of the labels.
-fn meets_any(frame: &Frame, labels: &[Placed]) -> bool
-    ensures { result ≡ list_any (λ other. overlap frame.now (frame_of other)) (placed_values labels.now) }
+/// Whether the box has a pixel in common with the box of one of the labels placed so far.
+fn meets_any(placing: &Placing, view: &View, frame: &Frame) -> bool
+    requires solid { IsSolid frame.now }
+    requires taken { IsTaken view.now (placed_values placing.now.placed.items) placing.now.marks.items }
+    ensures { result ≡ list_any (λ other. overlap frame.now (frame_of other)) (placed_values placing.now.placed.items) }
 {
-    labels.iter().any(|other| overlap(frame, &frame_of(other)))
+    meets_marked(&placing.marks, view, frame)
 }

@@ -1,9 +1,9 @@
-use Rattle.std.proofs.Common.{◌≡◌, ◌++◌, drop, reverse, slice_get}
-use Rattle.std.specs.List.{flat_map}
-use Rattle.wf_label.specs.Label.{entry_labels}
+use Rattle.std.proofs.Common.{◌≡◌, ◌++◌, take}
+use Rattle.std.specs.List.{filter_map}
 use Rattle.wf_label.specs.Placed.{placed_values}
+use Rattle.wf_label.specs.Walk.{candidate_value, if_of_priority}
 use Rattle.wf_label.proofs.candidates.push_priority.Given as goal
 
-abbrev pub invariant-loop-place : goal.invariant-loop-place
-invariant-loop-place l = placed_values l.labels.items
-    ≡ placed_values l.initial.labels.items ++ flat_map (λ i. entry_labels l.view l.priority (slice_get l.map.layers i)) (reverse (drop l.place l.layers))
+abbrev pub invariant-loop-candidate : goal.invariant-loop-candidate
+invariant-loop-candidate l = placed_values l.labels.items
+    ≡ placed_values l.initial.labels.items ++ filter_map (λ c. if_of_priority l.priority (candidate_value c)) (take l.candidate-index l.walked)

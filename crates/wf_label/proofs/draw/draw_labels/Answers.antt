@@ -1,17 +1,14 @@
-use Rattle.std.proofs.Common.{◌≡◌, pos, sym, ap, ◌∙◌, arith}
-use Rattle.wf_paint.specs.declared.operation.Pixel.{Pixel}
-use Rattle.wf_label.specs.Ink.{ink_of}
-use Rattle.wf_label.specs.Placed.{placed_values}
-use Rattle.wf_label.proofs.InkLemmas.{ink_at, ink_next-some, ink_next-none}
+use Rattle.std.proofs.Common.{◌≡◌, [], drop, length, arith}
+use Rattle.std.proofs.lemmas.List.{drop_all}
+use Rattle.wf_label.proofs.InkLemmas.{IsInked-none, label_drawn}
 use Rattle.wf_label.proofs.draw.draw_labels.Goals as goal
-use Rattle.wf_label.proofs.draw.draw_labels.Goals.{in-Some, in-None}
 
-pub loop-index-preserved : goal.loop-index-preserved
-loop-index-preserved c =
-    let labels = placed_values c.args.labels.now in
-    let judged : c.ink_of.result ≡ ink_at labels c.loop-index.pixmap c.loop-index.index =
-    c.ink_of.ensures ∙ ap (λ (p : Pixel). ink_of labels (pos p.column) (pos p.row)) c.pixel.ensures in
-    elim c.match-ink_of.branch [
-      | in-Some w ↦ rw w.pixmap-is (ink_next-some labels c.loop-index.index c.args.pixmap.now c.loop-index.pixmap _ c.loop-index.invariant w.in-Some.color (omega arith) (sym judged ∙ w.in-Some.is) w.set.ensures)
-      | in-None w ↦ rw w.pixmap-is (ink_next-none labels c.loop-index.index c.args.pixmap.now c.loop-index.pixmap c.loop-index.pixmap c.loop-index.invariant (sym judged ∙ w.in-None.is))
-    ]
+pub loop-place-init : goal.loop-place-init
+loop-place-init c =
+    let p = c.args.pixmap.now in
+    let none : drop (length c.args.labels.now) c.args.labels.now ≡ [] = drop_all (length c.args.labels.now) c.args.labels.now (omega arith) in
+    rw none (IsInked-none p)
+
+pub loop-place-preserved : goal.loop-place-preserved
+loop-place-preserved c =
+    label_drawn c.args.labels.now c.loop-place.place _ c.args.pixmap.now c.loop-place.pixmap c.draw_label.new.pixmap (omega arith) (omega arith) c.loop-place.invariant c.draw_label.ensures

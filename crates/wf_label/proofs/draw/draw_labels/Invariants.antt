@@ -1,6 +1,8 @@
+use Rattle.std.proofs.Common.{drop}
+use Rattle.wf_label.specs.Ink.{IsInked}
 use Rattle.wf_label.specs.Placed.{placed_values}
-use Rattle.wf_label.proofs.InkLemmas.{IsInkedUpTo}
 use Rattle.wf_label.proofs.draw.draw_labels.Given as goal
 
-abbrev pub invariant-loop-index : goal.invariant-loop-index
-invariant-loop-index l = IsInkedUpTo l.index (placed_values l.labels) l.initial.pixmap l.pixmap
+-- the labels from this one on are drawn
+abbrev pub invariant-loop-place : goal.invariant-loop-place
+invariant-loop-place l = IsInked (placed_values (drop l.place l.labels)) l.initial.pixmap l.pixmap

@@ -1,0 +1,23 @@
+use Rattle.std.proofs.Common.{◌≡◌, ◌+◌, ◌*◌, ◌||◌, Bool, max, sym, ap, ◌∙◌, arith}
+use Rattle.wf_label.specs.Taken.{is_marked}
+use Rattle.wf_label.proofs.TakenLemmas.{row_marked, rows_are_in}
+use Rattle.wf_label.proofs.taken.mark.Goals as goal
+
+pub loop-row-preserved : goal.loop-row-preserved
+loop-row-preserved c = λ k m wide high.
+    let f = c.args.frame.now in
+    let w = c.args.view.now.width in
+    let block = c.block_of-block in
+    row_marked f block.result.left block.result.right block.result.bottom block.result.top w c.args.view.now.height block.ensures.left block.ensures.right block.ensures.wide
+    c.loop-row.row k m (is_marked c.mark_run.new.marks (m * w + k)) (is_marked c.loop-row.marks (m * w + k)) (is_marked c.args.marks.now (m * w + k)) (omega arith) wide
+    (c.loop-row.invariant k m wide high) (rw c.width-width.ensures.value at (c.mark_run.ensures (m * w + k)))
+
+pub returns : goal.returns
+returns c = λ k m wide high.
+    let f = c.args.frame.now in
+    let w = c.args.view.now.width in
+    let block = c.block_of-block in
+    let last : c.loop-row.row ≡ max block.result.top block.result.bottom = omega arith in
+    c.loop-row.invariant k m wide high
+    ∙ ap (λ (t : Bool). t || is_marked c.args.marks.now (m * w + k))
+    (sym (rows_are_in f block.result.bottom block.result.top w c.args.view.now.height block.ensures.bottom block.ensures.top c.loop-row.row k m last high))

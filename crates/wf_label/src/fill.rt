@@ -1,0 +1,48 @@
+//! Boxes of pixels filled with a colour.
+ghost use Rattle.std.specs.Prelude.{◌≡◌, ◌≤◌, ◌<◌, ℕ, pos, nat_lt};
+ghost use Rattle.wf_paint.specs.Exact.{is_less};
+ghost use Rattle.wf_label.specs.Colored.{IsColored, IsCut, is_in, is_in_row};
+
+use crate::frame::Frame;
+use wf_def::color::Color;
+use wf_paint::pixmap::Pixmap;
+
+/// Gives the pixels in the box the colour, as far as the picture goes.
+pub(crate) fn fill(pixmap: &mut Pixmap, frame: &Frame, color: Color)
+    ensures { IsColored (is_in frame.now) color pixmap.old pixmap.new }
+{
+    let left = cut(frame.left, pixmap.width());
+    let right = cut(frame.right, pixmap.width());
+    let bottom = cut(frame.bottom, pixmap.height());
+    let top = cut(frame.top, pixmap.height());
+    for row in bottom..top.max(bottom) {
+        fill_row(pixmap, row, left, right, color);
+    }
+}
+
+/// Where a side of a box is in a picture that has so many pixels on that axis.
+#[tactic(auto, unfolding(wf_paint::specs::Exact::is_less))]
+pub(crate) fn cut(side: i128, most: u32) -> u32
+    ensures most { result ≤ most }
+    ensures value { IsCut most result side }
+{
+    if side <= 0 {
+        0
+    } else if side < i128::from(most) {
+        side as u32
+    } else {
+        most
+    }
+}
+
+/// Gives the pixels of a row from a column to before another the colour.
+fn fill_row(pixmap: &mut Pixmap, row: u32, left: u32, right: u32, color: Color)
+    requires row { row < pixmap.old.height }
+    requires right { right ≤ pixmap.old.width }
+    ensures { IsColored (is_in_row row left right) color pixmap.old pixmap.new }
+{
+    let start = (pixmap.height() - 1 - row) * pixmap.width();
+    for column in left..right.max(left) {
+        pixmap.set(start + column, color);
+    }
+}

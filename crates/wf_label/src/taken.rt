@@ -1,0 +1,96 @@
+//! Which pixels of a view are taken by the boxes of placed labels.
+ghost use Rattle.std.specs.Prelude.{◌≡◌, ◌≤◌, ◌<◌, ◌*◌, ◌+◌, ℕ, ◌&&◌, ◌||◌, false, true, length, nat_le, nat_lt};
+ghost use Rattle.wf_label.specs.Colored.{IsCut, is_in};
+ghost use Rattle.wf_paint.specs.View.{IsView};
+ghost use Rattle.wf_label.specs.Taken.{IsMarkedWithin, IsMet, is_marked};
+
+use crate::fill::cut;
+use crate::frame::Frame;
+use wf_paint::view::View;
+
+/// The columns and rows of a view that a box holds: from the first to before the last.
+#[derive(Clone, Copy)]
+struct Block {
+    left: usize,
+    right: usize,
+    bottom: usize,
+    top: usize,
+}
+
+/// What of the box is in the view.
+fn block_of(view: &View, frame: &Frame) -> Block
+    ensures left { IsCut view.now.width result.left frame.now.left }
+    ensures right { IsCut view.now.width result.right frame.now.right }
+    ensures bottom { IsCut view.now.height result.bottom frame.now.bottom }
+    ensures top { IsCut view.now.height result.top frame.now.top }
+    ensures wide { result.right ≤ view.now.width }
+    ensures tall { result.top ≤ view.now.height }
+    ensures begins { result.left ≤ view.now.width }
+    ensures within { IsView view.now }
+{
+    let left = cut(frame.left, view.width());
+    let right = cut(frame.right, view.width());
+    let bottom = cut(frame.bottom, view.height());
+    let top = cut(frame.top, view.height());
+    Block {
+        left: left as usize,
+        right: right as usize,
+        bottom: bottom as usize,
+        top: top as usize,
+    }
+}
+
+/// Marks the pixels of the view that lie in the box. There is a byte a pixel, row by row from the bottom; those that are marked are
+/// not 0.
+pub(crate) fn mark(marks: &mut [u8], view: &View, frame: &Frame)
+    requires { length marks.old ≡ view.now.width * view.now.height }
+    ensures { (column row : ℕ) → column < view.now.width → row < view.now.height →
+        is_marked marks.new (row * view.now.width + column) ≡ (is_in frame.now column row || is_marked marks.old (row * view.now.width + column)) }
+{
+    let width = view.width() as usize;
+    let block = block_of(view, frame);
+    for row in block.bottom..block.top.max(block.bottom) {
+        mark_run(marks, row * width + block.left, row * width + block.right);
+    }
+}
+
+/// Marks the places from one to before another.
+fn mark_run(marks: &mut [u8], start: usize, end: usize)
+    requires { end ≤ length marks.old }
+    ensures { (place : ℕ) → is_marked marks.new place ≡ ((nat_le start place && nat_lt place end) || is_marked marks.old place) }
+{
+    for place in start..end.max(start) {
+        marks[place] = 1;
+    }
+}
+
+/// Whether a marked pixel of the view lies in the box.
+pub(crate) fn meets_marked(marks: &[u8], view: &View, frame: &Frame) -> bool
+    requires { length marks.now ≡ view.now.width * view.now.height }
+    ensures free { result ≡ false → (column row : ℕ) → column < view.now.width → row < view.now.height → is_in frame.now column row ≡ true →
+        is_marked marks.now (row * view.now.width + column) ≡ false }
+    ensures met { result ≡ true → IsMet view.now frame.now marks.now }
+{
+    let width = view.width() as usize;
+    let block = block_of(view, frame);
+    for row in block.bottom..block.top.max(block.bottom) {
+        if greatest(marks, row * width + block.left, row * width + block.right) > 0 {
+            return true;
+        }
+    }
+    false
+}
+
+/// The greatest of the bytes from one place to before another; 0 where there is none. It looks at each of them, which a processor does
+/// for many at once.
+fn greatest(marks: &[u8], start: usize, end: usize) -> u8
+    requires { end ≤ length marks.now }
+    ensures none { result ≡ 0 → (place : ℕ) → start ≤ place → place < end → is_marked marks.now place ≡ false }
+    ensures some { 0 < result → IsMarkedWithin marks.now start end }
+{
+    let mut most = 0;
+    for place in start..end.max(start) {
+        most = marks[place].max(most);
+    }
+    most
+}
