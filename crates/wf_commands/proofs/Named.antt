@@ -1,24 +1,27 @@
 -- From the words that the parser found to the line that they ask for.
-use Rattle.std.proofs.Common.{◌≡◌, ◌∙◌, List, true, sym, ap, refl, codes}
+use Rattle.std.proofs.Common.{◌≡◌, ◌∙◌, ◌≤◌, ℕ, List, true, sym, ap, subst, refl, codes, arith}
 use Rattle.std.specs.Prelude.{Box, Option, Some, None, option_map, IfNone}
 use Rattle.std.specs.Box.{box_value}
 use Rattle.std.specs.Str.{bytes_eq}
 use Rattle.std.proofs.lemmas.Bool.{false≢true}
+use Rattle.clap.proofs.OnLiterals.{clap_on_literals}
 use Rattle.clap.proofs.WalkLemmas.{first_value-rows}
 use Rattle.clap.specs.Matches.{first_value}
-use Rattle.clap.specs.Simple.{App, subcommand_rows}
+use Rattle.clap.specs.Simple.{App, HasMatchesOf, is_simple, subcommand_of, subcommand_rows, subcommand_rows_of}
 use Rattle.clap.specs.Takes.{takes}
 use Rattle.clap.specs.Values.{kind_of}
 use Rattle.clap.specs.Walk.{Row, Text, first_of, rows_of}
 use Rattle.clap.specs.declared.error.Error.{Error}
 use Rattle.clap.specs.declared.error.kind.ErrorKind.TheVariants.{OutOfMemory}
 use Rattle.clap.specs.declared.parser.matches.ArgMatches.TheViews.{out-SubCommand}
+use Rattle.clap.specs.declared.parser.matches.ArgMatches.{ArgMatches}
 use Rattle.clap.specs.declared.parser.matches.Found.{Found}
 use Rattle.clap.specs.declared.parser.matches.SubCommand.{SubCommand}
-use Rattle.wf_commands.specs.CommandLine.{Asks, IsCapsOf, IsServeOf, IsServiceOf, program}
+use Rattle.wf_commands.specs.CommandLine.{Asks, IsCacheOf, IsCapsOf, IsServeOf, IsServiceOf, program}
 use Rattle.wf_commands.specs.Line.{IsInRange}
 use Rattle.wf_commands.specs.declared.line.Line.{Line}
 use Rattle.wf_serve.specs.Service.{IsService}
+use Rattle.wf_wms.specs.Kept.{most_kept}
 use Rattle.wf_serve.specs.declared.service.Service.{Service}
 use Rattle.wf_commands.specs.declared.line.Line.TheVariants as lines
 
@@ -52,8 +55,14 @@ none_served None None rows has named none = λ l asks. asks
 none_served None (Some p) rows has named none = serve_asks_of p rows (let is : p.1 ≡ rows = cc in is) (let is : p.0 ≡ codes "serve" = cc in is) none
 
 -- the numbers of what is asked for are within their ranges
+cache_in_range : (word : Option Text) (kept : ℕ) → IsCacheOf word kept → (1 ≤ kept) × (kept ≤ most_kept)
+cache_in_range None kept is = (omega (arith, is), omega (arith, is))
+cache_in_range (Some word) kept is = (is.low, is.high)
+
 service_in_range : (rows : List Row) (service : Service) → IsServiceOf rows service → IsService service
-service_in_range rows service is = record { some = is.nodes.2.low; nodes = is.nodes.2.high; port = is.port.2.high; requests = is.requests.2.high }
+service_in_range rows service is =
+    let cache = cache_in_range (first_of (codes "cache") rows) service.cache is.cache in
+    record { some = is.nodes.2.low; nodes = is.nodes.2.high; port = is.port.2.high; requests = is.requests.2.high; cache = cache.0; cache_most = cache.1 }
 
 pub asked_in_range : (met : Option (Text × List Row)) (line : Line) → Asks met line → IsInRange line
 asked_in_range None line asks = absurd asks
@@ -68,7 +77,24 @@ none_asked (Some line) met rows has named none = tt
 none_asked None None rows has named none = λ l asks. asks
 none_asked None (Some p) rows has named none = asks_of p rows (let is : p.1 ≡ rows = cc in is) (let is : p.0 ≡ codes "caps" = cc in is) none
 
--- what the parser takes it refuses for want of memory alone
+-- what the parser takes it rejects for allocation failure alone
 pub passes_on : (app : App) (words : List Text) (error : Error) → app ≡ program → (takes app words ≡ true → kind_of error ≡ OutOfMemory)
     → takes program words ≡ true → kind_of error ≡ OutOfMemory
 passes_on app words error is passes taken = passes (ap (λ a. takes a words) is ∙ taken)
+
+-- ---- what the parser met is what the program's own rules say
+
+simple_program : is_simple program ≡ true
+unfolding clap_on_literals
+simple_program = refl
+
+met_is : (app : App) (words : List Text) (m : ArgMatches) → app ≡ program → HasMatchesOf app words m → subcommand_rows_of m ≡ subcommand_of program words
+met_is app words m is has = (has (ap is_simple is ∙ simple_program)).1 ∙ ap (λ (a : App). subcommand_of a words) is
+
+pub asked_of_program : (app : App) (words : List Text) (m : ArgMatches) (line : Line) → app ≡ program → HasMatchesOf app words m → Asks (subcommand_rows_of m) line →
+    Asks (subcommand_of program words) line
+asked_of_program app words m line is has asks = subst (λ (rows : Option (Text × List Row)). Asks rows line) (met_is app words m is has) asks
+
+pub none_of_program : (app : App) (words : List Text) (m : ArgMatches) → app ≡ program → HasMatchesOf app words m → ((line : Line) → ¬ (Asks (subcommand_rows_of m) line)) →
+    (line : Line) → ¬ (Asks (subcommand_of program words) line)
+none_of_program app words m is has none line asks = none line (subst (λ (rows : Option (Text × List Row)). Asks rows line) (sym (met_is app words m is has)) asks)

@@ -12,6 +12,7 @@ use Rattle.wf_commands.specs.declared.line.Line.{Line}
 use Rattle.wf_serve.specs.Service.{last_port, most_nodes, most_requests}
 use Rattle.wf_serve.specs.declared.service.Service.{Service}
 use Rattle.wf_commands.specs.declared.line.Line.TheVariants as lines
+use Rattle.wf_wms.specs.Kept.{most_kept}
 
 -- ---- what the program can be given
 
@@ -64,13 +65,17 @@ requests_rule = record (new_rule (codes "requests")) {
   required = true;
 }
 
+-- `--cache C`: a number within its range
+abbrev pub cache_rule : Rule
+cache_rule = record (new_rule (codes "cache")) { long = Some (codes "cache"); value_names = 1; parser = Some (Signed (pos 1) (pos most_kept)) }
+
 -- `--state DIR`: a text
 abbrev pub state_rule : Rule
 state_rule = record (new_rule (codes "state")) { long = Some (codes "state"); value_names = 1 }
 
 -- `serve`
 abbrev pub serve_shape : Shape
-serve_shape = record (new_shape (codes "serve")) { rules = nodes_rule ∷ port_rule ∷ requests_rule ∷ state_rule ∷ [] }
+serve_shape = record (new_shape (codes "serve")) { rules = nodes_rule ∷ port_rule ∷ requests_rule ∷ cache_rule ∷ state_rule ∷ [] }
 
 -- The program is given one of the four commands, or asked for its version or for help. What its parser reads of it:
 abbrev pub program : App
@@ -102,11 +107,21 @@ IsCapsOf rows line = (word query : Text) × (first_of (codes "SEQ") rows ≡ Som
 abbrev pub IsNumberOf : List Row → Text → ℕ → ℕ → ℕ → Type 0
 IsNumberOf rows id least most number = (word : Text) × (first_of id rows ≡ Some word) × IsNumber word least most number
 
+-- how many pictures are kept for each node, where the words don't say
+abbrev pub default_cache : ℕ
+default_cache = 16
+
+-- so many pictures are kept by the word that was found, if one was
+abbrev pub IsCacheOf : Option Text → ℕ → Type 0
+IsCacheOf None kept = kept ≡ default_cache
+IsCacheOf (Some word) kept = IsNumber word 1 most_kept kept
+
 -- What is served is what the words say that were found.
 pub record IsServiceOf (rows : List Row) (service : Service) : Type 0 where
   pub nodes : IsNumberOf rows (codes "nodes") 1 most_nodes service.nodes
   pub port : IsNumberOf rows (codes "port") 0 last_port service.port
   pub requests : IsNumberOf rows (codes "requests") 0 most_requests service.requests
+  pub cache : IsCacheOf (first_of (codes "cache") rows) service.cache
   pub state : option_map (λ s. s.now) service.state ≡ first_of (codes "state") rows
 
 -- The line is `serve`, and what is served is what the words say.
@@ -124,7 +139,7 @@ Asks (Some named) lines.Canon = named.0 ≡ codes "canon"
 Asks (Some named) lines.Run = named.0 ≡ codes "run"
 Asks (Some named) (lines.Serve service) = (named.0 ≡ codes "serve") × IsServeOf named.1 (lines.Serve service)
 
--- why words are refused: where the parser takes them and they ask for a line, memory ran out
+-- why words are rejected: where the parser takes them and they ask for a line, memory ran out
 abbrev pub IsWhyRefused : List Text → ErrorKind → Type 0
 IsWhyRefused words kind = takes program words ≡ true → (line : Line) → Asks (subcommand_of program words) line → kind ≡ OutOfMemory
 

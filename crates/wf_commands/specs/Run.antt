@@ -50,7 +50,7 @@ IsInputFault (faults.Script fault) = ⊥
 IsInputFault faults.Write = ⊥
 IsInputFault faults.Serve = ⊥
 
--- why bytes give no definition: other than for want of memory, they mean none
+-- why bytes give no definition: other than for allocation failure, they mean none
 abbrev pub IsMapFault : List ℕ → RunFault → Type 0
 IsMapFault bytes (faults.Map fault) = is_memory fault ≡ false → MeansNothing bytes
 IsMapFault bytes faults.Read = ⊥
@@ -59,7 +59,7 @@ IsMapFault bytes (faults.Script fault) = ⊥
 IsMapFault bytes faults.Write = ⊥
 IsMapFault bytes faults.Serve = ⊥
 
--- why an input gives no definition: other than for want of memory, a map fault comes only where it means none
+-- why an input gives no definition: other than for allocation failure, a map fault comes only where it means none
 abbrev pub IsReadingFault : Option (List ℕ) → RunFault → Type 0
 IsReadingFault input (faults.Map fault) = is_memory fault ≡ false → IfSome input MeansNothing
 IsReadingFault input faults.Read = Unit {0}
@@ -94,7 +94,7 @@ IsOutcome output refuses input old new (Err faults.Read) = Keeps old new
 IsOutcome output refuses input old new (Err (faults.Script fault)) = ⊥
 IsOutcome output refuses input old new (Err faults.Serve) = ⊥
 
--- What is written of a script: nothing where it can't be read or isn't one. A fault of the script, want of memory aside, is the input's own,
+-- What is written of a script: nothing where it can't be read or isn't one. A fault of the script, allocation failure aside, is the input's own,
 -- with its line. Where it is played to its end, or to a failed write, the whole input was read: where that is known, it is a script. Where it
 -- is played to its end, each of its orders was performed in turn on a new farm, and what they write was written.
 abbrev pub IsPlayed : Option (List ℕ) → Option (List ℕ) → Option (List ℕ) → Result (Unit {0}) RunFault → Type 0
@@ -115,7 +115,7 @@ IsOutcomeOf (lines.Serve service) input old new result = ⊥
 
 -- ---- the counts of failures
 
--- A read fault comes only where a read has failed, and a run whose reads have failed ends with that fault or for want of memory.
+-- A read fault comes only where a read has failed, and a run whose reads have failed ends with that fault or for allocation failure.
 abbrev pub CountsReads : {T : Type 0} → Result T RunFault → ℕ → ℕ → Type 0
 CountsReads (Ok x) old new = new ≡ old
 CountsReads (Err faults.Read) old new = Rises old new

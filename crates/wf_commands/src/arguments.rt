@@ -1,11 +1,11 @@
 //! Reading the command line.
-ghost use Rattle.std.specs.Prelude.{◌≡◌, ◌∷◌, [], ℕ, IfErr, IfNone, IfOk, IfSome, false, map};
+ghost use Rattle.std.specs.Prelude.{◌≡◌, ◌∷◌, [], ℕ, IfErr, IfNone, IfOk, IfSome, codes, false, map};
 ghost use Rattle.clap.specs.Matches.{found_of};
 ghost use Rattle.clap.specs.Simple.{app_of, shape_of, subcommand_of, subcommand_rows_of};
 ghost use Rattle.clap.specs.Values.{kind_of};
-ghost use Rattle.clap.specs.Walk.{rows_of, rule_of};
+ghost use Rattle.clap.specs.Walk.{first_of, rows_of, rule_of};
 ghost use Rattle.clap.specs.declared.builder.command.Command.TheViews.{out-Command};
-ghost use Rattle.wf_commands.specs.CommandLine.{Asks, IsCapsOf, IsNumberOf, IsServeOf, IsServiceOf, IsWhyRefused, PlainCanonIsAsked, PlainCapsIsAsked, PlainRunIsAsked, program, caps_shape, canon_shape, run_shape, serve_shape, sequence_rule, query_rule, nodes_rule, port_rule, requests_rule, state_rule};
+ghost use Rattle.wf_commands.specs.CommandLine.{Asks, IsCacheOf, IsCapsOf, IsNumberOf, IsServeOf, IsServiceOf, IsWhyRefused, PlainCanonIsAsked, PlainCapsIsAsked, PlainRunIsAsked, program, caps_shape, canon_shape, run_shape, serve_shape, sequence_rule, query_rule, nodes_rule, port_rule, requests_rule, cache_rule, state_rule};
 ghost use Rattle.wf_commands.specs.Line.{IsInRange, IsNumber, IsSequence};
 ghost use Rattle.wf_commands.specs.declared.line.Line.{Line};
 ghost use Rattle.wf_serve.specs.declared.service.Service.{Service};
@@ -33,11 +33,18 @@ published, sent, proposal I, definition I S, same, get I QUERY, equal I J QUERY
 Limits: the script has at most 1,048,576 bytes, 10,000 lines and 64 maps
 Faults: script fault S1 to S4 with the line, read fault";
 
+/// The most pictures that may be kept for each node.
+const MOST_CACHE: i64 = 64;
+
+/// How many pictures are kept for each node, where the command line doesn't say.
+const DEFAULT_CACHE: u32 = 16;
+
 const SERVE_HELP: &str =
     "Paths: GET /wms?QUERY, POST /publish with a mapfile as its body, GET /status
 Connection c, counted from 0, is served by node c mod N; P is 0 for any free port
+C pictures are kept for each node, of 3 MB each; where C isn't given, 16
 With DIR, which must be there, the nodes' tapes are its files node-0.tape and so on; else they are lost
-Limits: N from 1 to 64, K at most 1,000,000
+Limits: N and C from 1 to 64, K at most 1,000,000
 Faults: serve fault";
 
 static NO_WORDS: [&str; 0] = [];
@@ -133,6 +140,18 @@ fn requests_argument<'a>(alloc: Global) -> Arg<'a>
         .help("How many connections are served before it ends")
 }
 
+// `--cache C`.
+fn cache_argument<'a>(alloc: Global) -> Arg<'a>
+    ensures rule { rule_of result ≡ cache_rule }
+    ensures local { result.global ≡ false }
+{
+    Arg::new(alloc, "cache")
+        .long("cache")
+        .value_name("C from 1 to 64")
+        .value_parser(clap::value_parser!(u8).range(1..=MOST_CACHE))
+        .help("How many pictures are kept for each node")
+}
+
 // `--state DIR`.
 fn state_argument<'a>(alloc: Global) -> Arg<'a>
     ensures rule { rule_of result ≡ state_rule }
@@ -144,7 +163,7 @@ fn state_argument<'a>(alloc: Global) -> Arg<'a>
         .help("The folder with the nodes' tapes")
 }
 
-// `serve`, without its folder.
+// `serve`, without what may be left out.
 fn farm_command<'a>(alloc: Global) -> Result<Command<'a>, AllocError>
     ensures { IfOk result (λ command. (shape_of command ≡ record serve_shape { rules = nodes_rule ∷ port_rule ∷ requests_rule ∷ [] }) × ((out-Command command).has_globals ≡ false)) }
 {
@@ -156,11 +175,13 @@ fn farm_command<'a>(alloc: Global) -> Result<Command<'a>, AllocError>
         .arg(requests_argument(alloc))
 }
 
-// `serve --nodes N --port P --requests K --state DIR`.
+// `serve --nodes N --port P --requests K --cache C --state DIR`.
 fn serve_command<'a>(alloc: Global) -> Result<Command<'a>, AllocError>
     ensures { IfOk result (λ command. (shape_of command ≡ serve_shape) × ((out-Command command).has_globals ≡ false)) }
 {
-    farm_command(alloc)?.arg(state_argument(alloc))
+    farm_command(alloc)?
+        .arg(cache_argument(alloc))?
+        .arg(state_argument(alloc))
 }
 
 // The commands about a mapfile.
@@ -250,6 +271,18 @@ fn number_of<'a>(found: &ArgMatches<'a>, id: &str, least: u32, most: u32) -> Opt
     number(word, least, most)
 }
 
+// How many pictures are kept by the words that were found.
+#[tactic(auto, using(crate::proofs::Named::word_in_row))]
+fn cache<'a>(found: &ArgMatches<'a>) -> Option<u32>
+    ensures some { IfSome result (IsCacheOf (first_of (codes "cache") (rows_of (found_of found.now)))) }
+    ensures none { IfNone result ((kept : ℕ) → ¬ (IsCacheOf (first_of (codes "cache") (rows_of (found_of found.now))) kept)) }
+{
+    match found.get_str("cache") {
+        Some(word) => number(word, 1, 64),
+        None => Some(DEFAULT_CACHE),
+    }
+}
+
 // What is served by the words that were found.
 #[tactic(auto, using(crate::proofs::Named::word_in_row))]
 fn service<'a>(found: &ArgMatches<'a>) -> Option<Service<'a>>
@@ -259,10 +292,12 @@ fn service<'a>(found: &ArgMatches<'a>) -> Option<Service<'a>>
     let nodes = number_of(found, "nodes", 1, 64)?;
     let port = number_of(found, "port", 0, 65_535)?;
     let requests = number_of(found, "requests", 0, 1_000_000)?;
+    let cache = cache(found)?;
     Some(Service {
         nodes: nodes as u8,
         port: port as u16,
         requests,
+        cache: cache as u8,
         state: found.get_str("state"),
     })
 }
@@ -298,7 +333,7 @@ fn asked<'a>(matches: &ArgMatches<'a>) -> Option<Line<'a>>
 pub fn line<'a, S: AsStr>(alloc: Global, words: &'a [S]) -> Result<Line<'a>, Error>
     ensures range { IfOk result IsInRange }
     ensures asked { IfOk result (Asks (subcommand_of program (map S.text words.entry.now))) }
-    // Words that ask for a line are refused for want of memory alone.
+    // Words that ask for a line are rejected for allocation failure alone.
     ensures refused { IfErr result (λ error. IsWhyRefused (map S.text words.entry.now) (kind_of error)) }
 {
     let matches = command(alloc)?.try_get_matches_from(words)?;

@@ -16,9 +16,9 @@
 //! that nothing is written where the input is no script; and that where a script is played to its end, the
 //! whole input is within the limits of scripts. Of [`arguments::line`] it promises
 //! the line that the words ask for, by the rules of the kit's parser of command lines, and that words
-//! that ask for one are refused for want of memory alone. Of [`serve::run_serve`] it promises why it fails,
+//! that ask for one are rejected for allocation failure alone. Of [`serve::run_serve`] it promises why it fails,
 //! and the line that it writes with its port; what it serves is `wf_serve`'s contract. What standard input holds, what became of the
-//! bytes behind standard output, and what text is printed for a refused command line, no contract says.
+//! bytes behind standard output, and what text is printed for a rejected command line, no contract says.
 #![tactic(auto)]
 
 pub mod arguments;

@@ -77,7 +77,7 @@ pub fault_at_end : (start old new : Option (List ℕ)) (before after : List ℕ)
 fault_at_end start old new before after why first (piece, size, second, is) end here =
     at_end start new after (λ input. IsHeadFault input why) (rw is (consumes_more start old new before piece first second)) end here
 
--- the head was refused, whatever bytes follow
+-- the head was rejected, whatever bytes follow
 pub fault_of_refusal : (start old new : Option (List ℕ)) (before after : List ℕ) (count : ℕ) (r : Refusal) → Consumes start old before
     → ReadsPiece count old new before after → 0 < count → ((more : List ℕ) → IsHeadRefusal (after ++ more) r)
     → IfSome start (λ input. IsHeadFault input (fault.Refused r))

@@ -102,7 +102,7 @@ module _ {T A : Type 0} (honest : Type 0) (content : T → List ℕ) (images : T
   fault_outcome input old new fault.ReadFailed node sent said asks quiet written =
       subst (λ o. IsOutcome honest content images failures input old new node sent node o) (sym written.0) (record { same = refl; quiet = quiet }, written.1)
 
-  -- where there is no request, its refusal is the outcome, or nothing
+  -- where there is no request, its rejection is the outcome, or nothing
   pub unheard_outcome : (input old new : Option (List ℕ)) (node : Node T) (sent : Vec Message A) (said : Outcome) → IsUnheard input old new said
       → sent.items ≡ [] → IsOutcome honest content images failures input old new node sent node said
   unheard_outcome input old new node sent said unheard quiet =

@@ -1,11 +1,12 @@
 -- How much of the bytes is written, piece by piece.
-use Rattle.std.proofs.Common.{◌≡◌, ◌∙◌, ◌+◌, ◌-◌, ◌≤◌, ◌^◌, ℕ, true, false, min, List, [], ◌++◌, length, take, refl, sym, ap, subst, arith}
-use Rattle.std.specs.Prelude.{Option, codes, decimal}
+use Rattle.std.proofs.Common.{◌≡◌, ◌∙◌, ◌+◌, ◌-◌, ◌≤◌, ◌^◌, ℕ, Bool, true, false, min, List, [], ◌++◌, length, take, refl, sym, ap, subst, arith}
+use Rattle.std.specs.Prelude.{Option, Some, codes, decimal}
 use Rattle.std.specs.Io.KnownBytes.{Appends}
 use Rattle.std.proofs.lemmas.List.{append_assoc, take-append-le, length-append}
 use Rattle.std.proofs.Math.Seq.{take-append-add}
 use Rattle.http.specs.StatusCode.{code_digits}
-use Rattle.wf_edge.specs.Response.{Response, line, reason, allow_line, head_bytes, IsProgress}
+use Rattle.wf_edge.specs.Response.{Response, line, reason, allow_line, head_bytes, IsProgress, CountsProgress}
+use Rattle.wf_edge.specs.declared.response.Progress.{Progress}
 use Rattle.wf_stream.specs.KnownLaws.{appends_none, appends_more}
 
 -- a piece was written
@@ -77,6 +78,19 @@ pieces_are_lines s r m l w =
 -- before the first piece
 pub no_progress : (now : Option (List ℕ)) → IsProgress now [] now 0 false
 no_progress now = (appends_none now, refl)
+
+pub from_start : (now : Option (List ℕ)) (progress : Progress) → progress ≡ record { written = 0; failed = false } → IsProgress now [] now progress.written progress.failed
+from_start now progress start = subst (λ (p : Progress). IsProgress now [] now p.written p.failed) (sym start) (no_progress now)
+
+pub calm_start : (now : ℕ) (progress : Progress) → progress ≡ record { written = 0; failed = false } → CountsProgress now now progress.failed
+calm_start now progress start = subst (λ (p : Progress). CountsProgress now now p.failed) (sym start) refl
+
+-- what was gathered from the start on, all of it, are the bytes
+pub gathered_is : (before bytes gathered : List ℕ) (count : ℕ) (failed : Bool) → before ≡ [] → failed ≡ false → IsProgress (Some before) bytes (Some gathered) count failed →
+    gathered ≡ bytes
+gathered_is before bytes gathered count failed none whole is =
+    let done = subst (λ (f : Bool). IsProgress (Some before) bytes (Some gathered) count f) whole is in
+    done.0 ∙ ap (λ (b : List ℕ). b ++ bytes) none
 
 -- the pieces that are written are the lines of a response
 pub lines_are_head : (response : Response) (s r m l w : List ℕ) → s ≡ code_digits response.status → r ≡ reason response.status → m ≡ response.media

@@ -1,4 +1,4 @@
--- What the head of a request asks for: the checks on it in their order, and the refusal of the first that fails.
+-- What the head of a request asks for: the checks on it in their order, and the rejection of the first that fails.
 use Rattle.std.specs.Prelude.{ℕ, ◌==◌, Bool, ◌&&◌, nat_lt, List, [], ◌∷◌, bytes_eq, codes, Option, Some, None, Result, Ok, Err, if◌then◌else◌}
 use Rattle.std.specs.List.{list_all}
 use Rattle.wf_edge.specs.Head.{Head}
@@ -15,7 +15,7 @@ use Rattle.wf_edge.specs.declared.resource.Asked.TheVariants as asked
 abbrev pub most_body_bytes : ℕ
 most_body_bytes = 65536
 
--- the refusal of the first check that fails
+-- the rejection of the first check that fails
 abbrev pub first_failing : List (Option Refusal) → Option Refusal
 first_failing [] = None
 first_failing (None ∷ checks) = first_failing checks

@@ -1,5 +1,6 @@
 pub mod Checks
 pub mod Fields
+pub mod Growth
 pub mod Head
 pub mod Hearing
 pub mod Notice

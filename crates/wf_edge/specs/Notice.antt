@@ -1,4 +1,4 @@
--- What is told in one line of plain text: a notice takes no memory (RFC 9110, section 15; RFC 6585, section 5).
+-- What is told in one line of plain text: a notice allocates nothing (RFC 9110, section 15; RFC 6585, section 5).
 use Rattle.std.specs.Prelude.{◌≡◌, ℕ, List, ◌++◌, codes, Option, Some, None, Result, Ok, Err}
 use Rattle.wf_node.specs.declared.fault.NodeFault.{NodeFault}
 use Rattle.wf_node.specs.declared.fault.NodeFault.TheVariants as node
@@ -19,7 +19,7 @@ plain = codes "text/plain"
 abbrev pub text_line : List ℕ → List ℕ
 text_line text = text ++ codes "\n"
 
--- ---- a refusal is told by its status alone
+-- ---- a rejection is told by its status alone
 
 abbrev pub refusal_status : Refusal → ℕ
 refusal_status refusal.BadRequest = 400
@@ -102,7 +102,7 @@ abbrev pub response_of : Result Response Notice → Response
 response_of (Ok page) = page
 response_of (Err n) = notice_response n
 
--- the page is that response; it may only be missing for want of memory
+-- the page is that response; it may only be missing for allocation failure
 abbrev pub IsGiven : Response → Result Response Notice → Type 0
 IsGiven response (Ok page) = page ≡ response
 IsGiven response (Err n) = n ≡ notice.Unavailable

@@ -29,7 +29,7 @@ pub record IsServicePage (history : List Definition) (query : List ℕ) (page : 
   pub is_answer : IsAnswerOf (length history) history query answer
   pub is_page : page ≡ service_page answer
 
--- that page is given; it may only be missing for want of memory
+-- that page is given; it may only be missing for allocation failure
 abbrev pub IsServiceGiven : List Definition → List ℕ → Result Response Notice → Type 0
 IsServiceGiven history query (Ok page) = IsServicePage history query page
 IsServiceGiven history query (Err n) = n ≡ notice.Unavailable
@@ -81,6 +81,6 @@ fault_words (map.Repeated place) = at_place (codes "M10") place
 fault_words map.TooMany = codes "M11"
 fault_words (map.Trailing place) = at_place (codes "M12") place
 
--- the page of a body that is no map: 503 is told for want of memory, never M1
+-- the page of a body that is no map: 503 is told for allocation failure, never M1
 abbrev pub bad_map_page : MapFault → Response
 bad_map_page fault = line_page 400 (fault_words fault)

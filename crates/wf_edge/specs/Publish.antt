@@ -39,7 +39,7 @@ unwritten canonical.NotCanonical = fault.Memory
 unwritten canonical.Memory = fault.Memory
 
 module _ {T A : Type 0} (honest : Type 0) (content : T → List ℕ) (images : T → List ℕ → Type 0) (failures : T → ℕ) where
-  -- the step Propose of the definition; a halted node refuses it, and stays as it is
+  -- the step Propose of the definition; a halted node rejects it, and stays as it is
   pub record IsProposed (before : Node T) (d : Definition) (result : Result (Vec Message A) NodeFault) (after : Node T) : Type 0 where
     pub refused : before.halted ≡ true → (result ≡ Err Halted) × (after ≡ before)
     pub steps : before.halted ≡ false → IsStep honest content images failures before (Propose d) result after
@@ -54,7 +54,7 @@ module _ {T A : Type 0} (honest : Type 0) (content : T → List ℕ) (images : T
   IsPublished body before (Err fault.TooBig) after = IsWhyNoMap body fault.TooBig × (after ≡ before)
   IsPublished body before (Err fault.Memory) after = after ≡ before
 
--- How a fault is told: 400 for a body that is no map, or none with a canonical text; 409 where the step table refuses now; 503 for want of
+-- How a fault is told: 400 for a body that is no map, or none with a canonical text; 409 where the step table rejects now; 503 for want of
 -- memory, also of the page, and for a node that is halted or whose tape fails.
 abbrev pub TellsFault : PublishFault → Result Response Notice → Type 0
 TellsFault (fault.Map why) answer = IsGiven (bad_map_page why) answer

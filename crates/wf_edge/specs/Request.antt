@@ -45,7 +45,7 @@ IsUnfinished bytes = 0 < length bytes → HasNoRequest bytes
 abbrev pub TakesMore : Option (List ℕ) → Option (List ℕ) → List ℕ → List ℕ → Type 0
 TakesMore old new before after = (piece : List ℕ) × (0 < length piece) × Consumes old new piece × (after ≡ before ++ piece)
 
--- why a head is refused: 400 where none stands at the front of the input, 431 where none within the limits does
+-- why a head is rejected: 400 where none stands at the front of the input, 431 where none within the limits does
 abbrev pub IsHeadRefusal : List ℕ → Refusal → Type 0
 IsHeadRefusal input refusal.BadRequest = HasNoRequest input
 IsHeadRefusal input refusal.HeadTooLarge = HasNoSmallRequest input
@@ -55,7 +55,7 @@ IsHeadRefusal input refusal.LengthRequired = ⊥
 IsHeadRefusal input refusal.ContentTooLarge = ⊥
 IsHeadRefusal input refusal.NotImplemented = ⊥
 
--- why no head is read: the input is empty, or its head is refused
+-- why no head is read: the input is empty, or its head is rejected
 abbrev pub IsHeadFault : List ℕ → RequestFault → Type 0
 IsHeadFault input fault.NoRequest = input ≡ []
 IsHeadFault input (fault.Refused r) = (input ≢ []) × IsHeadRefusal input r
@@ -114,7 +114,7 @@ pub record EndsInBody (input : List ℕ) (r : Refusal) : Type 0 where
   pub short : length rest < body_bytes asked
   pub is : r ≡ refusal.BadRequest
 
--- why an input is refused
+-- why an input is rejected
 pub data IsRefused (input : List ℕ) (r : Refusal) : Type 0 where
   by_head : input ≢ [] → IsHeadRefusal input r → IsRefused input r
   by_check : FailsCheck input r → IsRefused input r
@@ -127,7 +127,7 @@ IsRequestFault input (fault.Refused r) = IsRefused input r
 IsRequestFault input fault.ReadFailed = Unit {0}
 IsRequestFault input fault.Memory = Unit {0}
 
--- a failed read is told only where one has failed, and a run whose reads have failed ends with that fault or for want of memory
+-- a failed read is told only where one has failed, and a run whose reads have failed ends with that fault or for allocation failure
 abbrev pub CountsReads : {T : Type 0} → Result T RequestFault → ℕ → ℕ → Type 0
 CountsReads (Ok x) old new = new ≡ old
 CountsReads (Err fault.ReadFailed) old new = Rises old new

@@ -18,7 +18,7 @@ IsSaid response old new (outcome.WriteFailed status count) = WritesPart (respons
 IsSaid response old new outcome.ReadFailed = ⊥
 IsSaid response old new outcome.NoRequest = ⊥
 
--- what is written where there is no request: a refusal, or nothing
+-- what is written where there is no request: a rejection, or nothing
 abbrev pub IsFaultSaid : RequestFault → Option (List ℕ) → Option (List ℕ) → Outcome → Type 0
 IsFaultSaid (fault.Refused r) old new said = IsSaid (notice_response (notice.Refused r)) old new said
 IsFaultSaid fault.Memory old new said = IsSaid (notice_response notice.Unavailable) old new said

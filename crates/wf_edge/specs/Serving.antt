@@ -41,7 +41,7 @@ abbrev pub TellsPublish : {A : Type 0} → Result (Response × Vec Message A) Pu
 TellsPublish (Ok done) answer sent = (answer ≡ Ok done.0) × (sent ≡ done.1)
 TellsPublish (Err why) answer sent = TellsFault why answer × (sent.items ≡ [])
 
--- exactly the messages of a step are handed out; none where it was refused or failed
+-- exactly the messages of a step are handed out; none where it was rejected or failed
 abbrev pub HandsOut : {A : Type 0} → Result (Vec Message A) NodeFault → Vec Message A → Type 0
 HandsOut (Ok messages) sent = sent ≡ messages
 HandsOut (Err why) sent = sent.items ≡ []
@@ -60,7 +60,7 @@ module _ {T A : Type 0} (honest : Type 0) (content : T → List ℕ) (images : T
   GivesTo asked.Status request before answer sent after = IsGiven (status_page before) answer × IsUnmoved before sent after
   GivesTo (asked.Publish bytes) request before answer sent after = GivesPublish request.body before answer sent after
 
-  -- what is given to what was read: a refusal and want of memory are told, and leave the node as it was
+  -- what is given to what was read: a rejection and allocation failure are told, and leave the node as it was
   abbrev pub Gives : Result Request RequestFault → Node T → Result Response Notice → Vec Message A → Node T → Type 0
   Gives (Ok request) before answer sent after = GivesTo request.asked request before answer sent after
   Gives (Err (fault.Refused r)) before answer sent after = (answer ≡ Err (notice.Refused r)) × IsUnmoved before sent after

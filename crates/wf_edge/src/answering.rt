@@ -3,6 +3,7 @@ ghost use Rattle.std.specs.Prelude.{◌≡◌, length, IfOk};
 ghost use Rattle.wf_edge.specs.Notice.{IsGiven};
 ghost use Rattle.wf_edge.specs.Page.{service_page, IsServiceGiven, status_page, accepted_page, bad_map_page};
 ghost use Rattle.wf_wms.specs.Answer.{IsAnswerOf};
+ghost use Rattle.wf_wms.specs.Kept.{AllKept};
 
 use crate::line::{accepted_line, fault_line, status_line};
 use crate::notice::Notice;
@@ -15,7 +16,8 @@ use wf_mapfile::fault::MapFault;
 use wf_node::Node;
 use wf_tape::Tape;
 use wf_wms::Answer;
-use wf_wms::service::answer;
+use wf_wms::cache::Cache;
+use wf_wms::service::{answer, answer_cached};
 
 // What the map service answers to a query at the last published sequence.
 fn answer_at<T: Tape>(alloc: Global, node: &Node<T>, query: &[u8]) -> Result<Answer, AllocError>
@@ -23,6 +25,22 @@ fn answer_at<T: Tape>(alloc: Global, node: &Node<T>, query: &[u8]) -> Result<Ans
 {
     let history = node.history();
     answer(alloc, history.published().number(), history, query)
+}
+
+// The same, by a cache of pictures of the node's maps.
+fn answer_by<T: Tape>(
+    alloc: Global,
+    node: &Node<T>,
+    cache: &mut Cache,
+    query: &[u8],
+) -> Result<Answer, AllocError>
+    requires { AllKept node.now.parts.history cache.old }
+    ensures answer { IfOk result (λ answer. IsAnswerOf (length node.now.parts.history) node.now.parts.history query.now answer) }
+    ensures kept { AllKept node.now.parts.history cache.new }
+    ensures capacity { cache.new.cap ≡ cache.old.cap }
+{
+    let history = node.history();
+    answer_cached(alloc, cache, history.published().number(), history, query)
 }
 
 // The page of an answer of the map service.
@@ -42,6 +60,24 @@ pub(crate) fn answer_query<T: Tape>(
     ensures { IsServiceGiven node.now.parts.history query.now result }
 {
     match answer_at(alloc, node, query) {
+        Ok(answer) => Ok(service_page(answer)),
+        Err(_) => Err(Notice::Unavailable),
+    }
+}
+
+/// The same page, by a cache of pictures of the node's maps.
+pub(crate) fn answer_query_by<T: Tape>(
+    alloc: Global,
+    node: &Node<T>,
+    cache: &mut Cache,
+    query: &[u8],
+) -> Result<Page, Notice>
+    requires { AllKept node.now.parts.history cache.old }
+    ensures given { IsServiceGiven node.now.parts.history query.now result }
+    ensures kept { AllKept node.now.parts.history cache.new }
+    ensures capacity { cache.new.cap ≡ cache.old.cap }
+{
+    match answer_by(alloc, node, cache, query) {
         Ok(answer) => Ok(service_page(answer)),
         Err(_) => Err(Notice::Unavailable),
     }

@@ -46,7 +46,7 @@ fn read_missing<S: Source>(
 }
 
 /// Reads a body of so many bytes, of which these came behind the head. A byte behind the body may be among them, and isn't looked at.
-/// A body of no bytes takes no memory and reads nothing.
+/// A body of no bytes allocates nothing and reads nothing.
 pub fn read_body<S: Source>(
     alloc: Global,
     source: &mut S,

@@ -56,7 +56,7 @@ fn check_method_of(resource: Resource, method: &[u8]) -> Option<Refusal>
     }
 }
 
-// The refusal of the first check on any head that fails.
+// The rejection of the first check on any head that fails.
 fn refuse_head(found: Option<Resource>, target: &[u8], method: &[u8]) -> Option<Refusal>
     ensures { result ≡ first_failing (head_checks found target.now method.now) }
 {
@@ -131,7 +131,7 @@ fn check_size(first: Option<&[u8]>) -> Option<Refusal>
     }
 }
 
-// The refusal of the first check on a body that fails.
+// The rejection of the first check on a body that fails.
 #[tactic(auto, using(crate::proofs::CheckLaw::first_of_four))]
 fn refuse_body(fields: &Fields<'_>) -> Option<Refusal>
     ensures { result ≡ first_failing (body_checks (codings_of fields.now) (lengths_of fields.now)) }
@@ -178,7 +178,7 @@ fn asked_at(found: Option<Resource>, fields: &Fields<'_>) -> Result<Asked, Refus
     }
 }
 
-/// What a head asks for, or the refusal of the first check that fails: of the target (400), its path (404), its method (405), and of
+/// What a head asks for, or the rejection of the first check that fails: of the target (400), its path (404), its method (405), and of
 /// a publish the body's coding (501), whether its length is told (411), is one whole number (400) and is within the limit (413).
 #[tactic(auto, unfolding(crate::specs::Checks::judged))]
 pub fn judge(method: &[u8], target: &[u8], fields: &Fields<'_>) -> Result<Asked, Refusal>

@@ -2,7 +2,7 @@
 
 use crate::refusal::Refusal;
 
-/// Why there is no request to answer, or only a refusal.
+/// Why there is no request to answer, or only a rejection.
 #[derive(Clone, Copy, PartialEq, Eq)]
 pub enum RequestFault {
     /// The input is empty.
@@ -11,6 +11,6 @@ pub enum RequestFault {
     ReadFailed,
     /// Memory ran out.
     Memory,
-    /// What was read is refused.
+    /// What was read is rejected.
     Refused(Refusal),
 }

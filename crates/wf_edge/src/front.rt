@@ -162,7 +162,7 @@ impl Front {
         Fields::new(&self.bytes, self.parts.fields.split_at(count).0)
     }
 
-    /// What the head asks for, or the refusal of the first check that fails.
+    /// What the head asks for, or the rejection of the first check that fails.
     pub fn judge(&self) -> Result<Asked, Refusal>
         ensures { result ≡ judged self.now.head }
     {

@@ -1,4 +1,4 @@
-//! A request is heard: read, or refused at once.
+//! A request is heard: read, or rejected at once.
 ghost use Rattle.std.specs.Prelude.{◌≡◌, Ok, IfOk, IfErr, OnOk, IfSome};
 ghost use Rattle.wf_edge.specs.Checks.{judged};
 ghost use Rattle.wf_edge.specs.Request.{BeginsWith};
@@ -11,7 +11,7 @@ use crate::saying::say_fault;
 use std::alloc::Global;
 use wf_stream::{Sink, Source};
 
-/// Reads the request at the front of the input. Where there is none to answer, its refusal is written, or 503 where memory ran out, and
+/// Reads the request at the front of the input. Where there is none to answer, its rejection is written, or 503 where memory ran out, and
 /// this is the outcome; nothing is written where the input is empty or a read failed.
 #[tactic(auto, using(crate::proofs::HearingLaw::unheard, crate::proofs::HearingLaw::fault_reads))]
 pub fn hear<S: Source, K: Sink>(

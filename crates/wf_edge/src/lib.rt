@@ -5,22 +5,23 @@
 //! [`body::read_body`] reads a body, and [`request::Request`] is all of these. [`response::Response`] is what is written, and
 //! [`saying::say`] tells its [`outcome::Outcome`]. A [`notice::Notice`] is told in one line, and [`saying::say_fault`] answers where
 //! a request can't be read. [`hearing::hear`] is both: it reads a request, or answers why there is none. [`serve::serve_one`] is the
-//! whole: it hears a request, answers it by a node, and writes the answer.
+//! whole: it hears a request, answers it by a node, and writes the answer; [`serve::serve_one_cached`] is the same by a cache of
+//! pictures of the node's maps.
 //!
 //! Its model: a request is its head, what that asks for, and its body (`specs/Request.antt`); a response is its status, media type,
 //! the allowed method and its body (`specs/Response.antt`). What is answered to a request, and which step of the node that is, says
 //! `specs/Serving.antt`, with the pages in `specs/Page.antt` and a publish in `specs/Publish.antt`.
 //!
-//! It promises, of [`request::Request::read`], that the request is the one at the front of the input, that a refusal is for its head,
+//! It promises, of [`request::Request::read`], that the request is the one at the front of the input, that a rejection is for its head,
 //! for the first check that fails or for a body that is cut short, and that a failed read is told only where one has failed. Of
 //! [`response::Response::write`] it promises that exactly the bytes of the response are written, or a beginning of them where the
 //! writer failed; of [`hearing::hear`], that the request is the one at the front of the input and nothing is written yet, or that the
 //! response of a reason why there is none is (`specs/Notice.antt`), and nothing where the input is empty or a read failed. Of
 //! [`serve::serve_one`] it promises that a response to the input is written, or a beginning of it, and how much of it; and, also of
 //! readers and writers that tell no bytes, that the node is as it was or made one step Propose, whose messages are handed out whatever
-//! became of the writing.
+//! became of the writing. With a cache it promises the same, and that the cache's pictures are still those of the node's maps.
 //!
-//! Where the text of a map is at fault, any fault of a mapfile but want of memory may be told: which one is left to `wf_mapfile`. It
+//! Where the text of a map is at fault, any fault of a mapfile but allocation failure may be told: which one is left to `wf_mapfile`. It
 //! doesn't promise that a reader ever gives its next byte, that memory is found, or that a message arrives.
 #![tactic(auto)]
 
@@ -30,6 +31,7 @@ pub mod check;
 pub mod fault;
 pub mod fields;
 pub mod front;
+mod gathered;
 pub mod hearing;
 mod line;
 pub mod notice;

@@ -2,10 +2,10 @@
 
 use crate::refusal::Refusal;
 
-/// What is told in one line of plain text, and takes no memory. Each has its status.
+/// What is told in one line of plain text, and allocates nothing. Each has its status.
 #[derive(Clone, Copy, PartialEq, Eq)]
 pub enum Notice {
-    /// The request is refused: the line is the status.
+    /// The request is rejected: the line is the status.
     Refused(Refusal),
     /// 400 `K1`: the canonical text of the map is over 32,768 bytes.
     TooBig,

@@ -1,4 +1,4 @@
-//! Why a request is refused.
+//! Why a request is rejected.
 
 /// The methods that a resource may have (RFC 9110, section 9.3).
 #[derive(Clone, Copy, PartialEq, Eq)]
@@ -7,7 +7,7 @@ pub enum Allowed {
     Post,
 }
 
-/// Why a request is refused, each with its status (RFC 9110, section 15; RFC 6585, section 5).
+/// Why a request is rejected, each with its status (RFC 9110, section 15; RFC 6585, section 5).
 #[derive(Clone, Copy, PartialEq, Eq)]
 pub enum Refusal {
     /// 400: no head can be read or it isn't whole, the target doesn't begin with `/`, the body's length isn't one whole number, or

@@ -1,7 +1,9 @@
 //! What is answered to a request.
+ghost use Rattle.std.specs.Prelude.{◌≡◌};
 ghost use Rattle.wf_edge.specs.Serving.{GivesPublish, GivesTo};
+ghost use Rattle.wf_wms.specs.Kept.{AllKept};
 
-use crate::answering::{answer_query, tell_status};
+use crate::answering::{answer_query, answer_query_by, tell_status};
 use crate::notice::Notice;
 use crate::page::Page;
 use crate::publish::{publish, tell_publish_fault};
@@ -11,6 +13,7 @@ use std::alloc::Global;
 use wf_codec::Message;
 use wf_node::Node;
 use wf_tape::Tape;
+use wf_wms::cache::Cache;
 
 /// A page or a notice in its place, and the messages that the node sends.
 #[derive(Drop)]
@@ -55,5 +58,27 @@ pub(crate) fn reply_to<T: Tape>(
             messages: Vec::new(alloc),
         },
         Asked::Publish(_) => reply_to_publish(alloc, node, request.body()),
+    }
+}
+
+/// The same reply, by a cache of pictures of the node's maps.
+pub(crate) fn reply_by<T: Tape>(
+    alloc: Global,
+    node: &mut Node<T>,
+    cache: &mut Cache,
+    asked: Asked,
+    request: &Request,
+) -> Reply
+    requires { AllKept node.old.parts.history cache.old }
+    ensures gives { GivesTo T.honest T.content T.images T.failed asked request.now node.old result.answer result.messages node.new }
+    ensures kept { AllKept node.old.parts.history cache.new }
+    ensures capacity { cache.new.cap ≡ cache.old.cap }
+{
+    match asked {
+        Asked::Wms => Reply {
+            answer: answer_query_by(alloc, node, cache, request.query()),
+            messages: Vec::new(alloc),
+        },
+        Asked::Status | Asked::Publish(_) => reply_to(alloc, node, asked, request),
     }
 }

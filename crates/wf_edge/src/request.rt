@@ -40,7 +40,7 @@ fn body_bytes(asked: Asked) -> usize
 }
 
 impl Request {
-    /// Reads a request: its head, the checks on that, and its body. What comes behind isn't looked at. A refusal is that of the first
+    /// Reads a request: its head, the checks on that, and its body. What comes behind isn't looked at. A rejection is that of the first
     /// check that fails.
     #[tactic(auto, using(crate::proofs::RequestLaw::head_failed, crate::proofs::RequestLaw::check_failed, crate::proofs::RequestLaw::body_failed, crate::proofs::RequestLaw::request_read))]
     pub fn read<S: Source>(alloc: Global, source: &mut S) -> Result<Self, RequestFault>

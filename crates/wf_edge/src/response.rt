@@ -1,9 +1,10 @@
 //! What is answered, and how it is written.
-ghost use Rattle.std.specs.Prelude.{◌≡◌, ◌≤◌, ◌++◌, ℕ, List, [], Option, length, take, IfOk, IfErr, OnOk, OnErr};
+ghost use Rattle.std.specs.Prelude.{◌≡◌, ◌≤◌, ◌++◌, ℕ, false, List, [], Option, length, take, IfOk, IfErr, OnOk, OnErr};
 ghost use Rattle.std.specs.Io.KnownBytes.{Appends};
 ghost use Rattle.wf_stream.specs.Reading.{Rises};
 ghost use Rattle.wf_edge.specs.Response.{reason, allow_line, head_bytes, response_bytes, IsCount, WritesPart, IsProgress, CountsProgress};
 
+use crate::gathered::Gathered;
 use crate::refusal::Allowed;
 use http::StatusCode;
 use itoa::Buffer;
@@ -23,6 +24,18 @@ struct Progress {
     written: u64,
     // the writer has failed, and nothing more is written
     failed: bool,
+}
+
+impl Progress {
+    // Nothing is written yet.
+    fn start() -> Self
+        ensures { result ≡ record { written = 0; failed = false } }
+    {
+        Progress {
+            written: 0,
+            failed: false,
+        }
+    }
 }
 
 // Writes a further piece, unless the writer has failed.
@@ -124,8 +137,25 @@ impl<'b> Response<'b> {
         put(sink, progress, b"Connection: close\r\n\r\n");
     }
 
-    /// Writes the response, piece by piece and without memory, and tells how many bytes it has. Where the writer fails, a beginning
-    /// of it is written.
+    // Writes the lines before the body, in one piece where the buffer has room for them.
+    fn put_head<K: Sink>(&self, sink: &mut K, progress: &mut Progress)
+        ensures written { (start : Option (List ℕ)) → IsProgress start [] (K.written sink.old) progress.old.written progress.old.failed
+            → IsProgress start (head_bytes self.now) (K.written sink.new) progress.new.written progress.new.failed }
+        ensures failures { (first : ℕ) → CountsProgress first (K.failures sink.old) progress.old.failed
+            → CountsProgress first (K.failures sink.new) progress.new.failed }
+    {
+        let mut head = Gathered::new();
+        let mut gathering = Progress::start();
+        self.put_lines(&mut head, &mut gathering);
+        if gathering.failed {
+            self.put_lines(sink, progress);
+            return;
+        }
+        put(sink, progress, head.bytes());
+    }
+
+    /// Writes the response without memory, its head in one piece and its body in another, and tells how many bytes it has. Where the
+    /// writer fails, a beginning of it is written.
     pub fn write<K: Sink>(&self, sink: &mut K) -> Result<u64, CutShort>
         ensures whole { OnOk result (Appends (K.written sink.old) (K.written sink.new) (response_bytes self.now)) }
         ensures count { IfOk result (IsCount (length (response_bytes self.now))) }
@@ -133,11 +163,8 @@ impl<'b> Response<'b> {
         ensures calm { OnOk result (K.failures sink.new ≡ K.failures sink.old) }
         ensures cause { OnErr result (Rises (K.failures sink.old) (K.failures sink.new)) }
     {
-        let mut progress = Progress {
-            written: 0,
-            failed: false,
-        };
-        self.put_lines(sink, &mut progress);
+        let mut progress = Progress::start();
+        self.put_head(sink, &mut progress);
         put(sink, &mut progress, self.body);
         if progress.failed {
             Err(CutShort {

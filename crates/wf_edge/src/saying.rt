@@ -19,8 +19,8 @@ pub fn say<K: Sink>(sink: &mut K, response: &Response<'_>) -> Outcome
     }
 }
 
-/// Where there is no request: writes the refusal, or 503 where memory ran out. Nothing is written where the input is empty or a read
-/// failed. It takes no memory.
+/// Where there is no request: writes the rejection, or 503 where memory ran out. Nothing is written where the input is empty or a read
+/// failed. It allocates nothing.
 #[tactic(auto, using(wf_stream::specs::KnownLaws::keeps_same))]
 pub fn say_fault<K: Sink>(sink: &mut K, fault: RequestFault) -> Outcome
     ensures said { IsFaultSaid fault (K.written sink.old) (K.written sink.new) result }

@@ -1,14 +1,16 @@
 //! One request is served.
+ghost use Rattle.std.specs.Prelude.{◌≡◌};
 ghost use Rattle.wf_edge.specs.Hearing.{CountsHearing};
 ghost use Rattle.wf_edge.specs.Notice.{response_of};
 ghost use Rattle.wf_edge.specs.Saying.{IsSaid, CountsSaying};
 ghost use Rattle.wf_edge.specs.Serving.{IsServed, IsOutcome, MovesOnce};
+ghost use Rattle.wf_wms.specs.Kept.{AllKept};
 
 use crate::hearing::hear;
 use crate::notice::Notice;
 use crate::outcome::Outcome;
 use crate::page::Page;
-use crate::reply::{Reply, reply_to};
+use crate::reply::{Reply, reply_by, reply_to};
 use crate::request::Request;
 use crate::saying::say;
 use crate::telling::told;
@@ -17,6 +19,8 @@ use wf_codec::Message;
 use wf_node::Node;
 use wf_stream::{Sink, Source};
 use wf_tape::Tape;
+use wf_wms::cache::Cache;
+use wf_wms::law::kept_pictures_outlast_growth;
 
 /// What became of one request, and the messages that the node hands out.
 #[derive(Drop)]
@@ -57,7 +61,7 @@ fn serve_request<K: Sink, T: Tape>(
 /// Serves one request: reads it, answers it by the node, and writes the response. What is written is a beginning of the response, all of
 /// it where `Sent`; where the reader failed or the input is empty, nothing is written. POST /publish whose checks pass, whose body is a
 /// map with a canonical text, and for whose answer there is memory, is the node's step Propose, and its messages are handed out whatever
-/// became of the write; anything else leaves the node as it was. Want of memory is answered with 503; after the step of a publish no
+/// became of the write; anything else leaves the node as it was. Allocation failure is answered with 503; after the step of a publish no
 /// memory is asked for.
 #[tactic(auto, using(crate::proofs::ServingLaw::served_outcome, crate::proofs::ServingLaw::unheard_outcome, crate::proofs::ServingLaw::served_reads, crate::proofs::ServingLaw::unheard_moves))]
 pub fn serve_one<S: Source, K: Sink, T: Tape>(
@@ -74,6 +78,62 @@ pub fn serve_one<S: Source, K: Sink, T: Tape>(
     match hear(alloc, source, sink) {
         Ok(request) => {
             let served = serve_request(alloc, sink, node, &request);
+            drop(request);
+            served
+        }
+        Err(outcome) => Served {
+            outcome,
+            messages: Vec::new(alloc),
+        },
+    }
+}
+
+// Answers a request by a cache of pictures of the node's maps, and writes the answer.
+#[tactic(auto, using(crate::proofs::ServingLaw::request_served))]
+fn serve_request_by<K: Sink, T: Tape>(
+    alloc: Global,
+    sink: &mut K,
+    node: &mut Node<T>,
+    cache: &mut Cache,
+    request: &Request,
+) -> Served
+    requires { AllKept node.old.parts.history cache.old }
+    ensures served { IsServed T.honest T.content T.images T.failed request.now (K.written sink.old) (K.written sink.new) node.old result.messages node.new result.outcome }
+    ensures writes { CountsSaying result.outcome (K.failures sink.old) (K.failures sink.new) }
+    ensures kept { AllKept node.old.parts.history cache.new }
+    ensures capacity { cache.new.cap ≡ cache.old.cap }
+{
+    let Reply { answer, messages } = reply_by(alloc, node, cache, request.asked(), request);
+    let said = say_answer(sink, &answer);
+    drop(answer);
+    Served {
+        outcome: said,
+        messages,
+    }
+}
+
+/// The same as [`serve_one`], by a cache of pictures of the node's maps, which are so still when the request is served: a publish only
+/// adds to the node's history.
+#[tactic(auto, using(crate::proofs::ServingLaw::served_outcome, crate::proofs::ServingLaw::unheard_outcome, crate::proofs::ServingLaw::served_reads, crate::proofs::ServingLaw::unheard_moves))]
+pub fn serve_one_cached<S: Source, K: Sink, T: Tape>(
+    alloc: Global,
+    source: &mut S,
+    sink: &mut K,
+    node: &mut Node<T>,
+    cache: &mut Cache,
+) -> Served
+    requires { AllKept node.old.parts.history cache.old }
+    ensures outcome { IsOutcome T.honest T.content T.images T.failed (S.left source.old) (K.written sink.old) (K.written sink.new) node.old result.messages node.new result.outcome }
+    ensures moves { MovesOnce T.honest T.content T.images T.failed node.old result.messages node.new }
+    ensures reads { CountsHearing result.outcome (S.failures source.old) (S.failures source.new) }
+    ensures writes { CountsSaying result.outcome (K.failures sink.old) (K.failures sink.new) }
+    ensures kept { AllKept node.new.parts.history cache.new }
+    ensures capacity { cache.new.cap ≡ cache.old.cap }
+{
+    kept_pictures_outlast_growth();
+    match hear(alloc, source, sink) {
+        Ok(request) => {
+            let served = serve_request_by(alloc, sink, node, cache, &request);
             drop(request);
             served
         }

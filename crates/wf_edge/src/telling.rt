@@ -91,7 +91,7 @@ fn allowed_method(notice: Notice) -> Option<Allowed>
     }
 }
 
-/// The response that tells a notice: its status, and one line of plain text. It takes no memory.
+/// The response that tells a notice: its status, and one line of plain text. It allocates nothing.
 pub fn told(notice: Notice) -> Response<'static>
     ensures { result ≡ notice_response notice }
 {

@@ -18,6 +18,7 @@ use Rattle.wf_model.specs.Table.{Input, Refusal, most_told, store}
 use Rattle.wf_model.specs.World as world
 use Rattle.wf_model.specs.World.{World, Event, Turn, Deliver, Torn, Before, After, Kept, input_of, turn_of, turn, stored_after, kept_part, after_turn, after_torn, happens, steps}
 use Rattle.wf_node.specs.Fault as fault
+use Rattle.wf_node.specs.Growth.{IsGrown, grown_itself, row_grown, same_grown}
 use Rattle.wf_node.specs.Images.{EachStandsFor}
 use Rattle.wf_node.specs.Node.{Node, stored_of, working_of}
 use Rattle.wf_node.specs.Step.{row_of, refusal_at, IsRow, IsSameNode}
@@ -29,7 +30,7 @@ use Rattle.wf_farm.specs.Delivering.{AnyPart, StandFor, IsNodeBy, IsNode, AreNod
 use Rattle.wf_farm.specs.Progress.{next}
 use Rattle.wf_farm.specs.Pump.{most_deliveries}
 use Rattle.wf_farm.specs.Turn.{node_after, messages_of, node_torn}
-use Rattle.wf_farm.specs.DeliveringLaws.{keeps_turn}
+use Rattle.wf_farm.specs.DeliveringLaws.{keeps_turn, keeps_turn_itself, keeps_turn_twice}
 use Rattle.wf_farm.specs.PlaceLaws.{get_set_same, get_set_other, set_there}
 use Rattle.wf_farm.proofs.Events.{sent_message}
 use Rattle.wf_farm.proofs.Runs.{steps_more}
@@ -77,7 +78,7 @@ not_true false never = refl
 runs_by : {A : Type 0} (result : Result A NodeFault) (halted : Bool) → says_halted result ≡ false → (halted ≡ true → result ≡ Err fault_case.Halted) → halted ≡ false
 runs_by result halted other answers = not_true halted (λ is. false≢true (sym other ∙ ap says_halted (answers is)))
 
--- a fault that is neither want of memory nor a failure of the tape
+-- a fault that is neither allocation failure nor a failure of the tape
 neither : (f : NodeFault) → is_want f ≡ false → is_failure f ≡ false → (f ≢ fault_case.Memory) × (f ≢ fault_case.TapeFailed)
 neither f want failure = (λ is. false≢true (sym want ∙ ap is_want is), λ is. false≢true (sym failure ∙ ap is_failure is))
 
@@ -305,11 +306,12 @@ module _ {T : Type 0} (honest : Type 0) (images : T → List ℕ → Type 0) (no
   stays_halted (delivering.Steps runs goes is) halted = absurd (both_ways node.halted runs halted)
   stays_halted (delivering.Fails runs goes halts same each quiet) halted = absurd (both_ways node.halted runs halted)
 
-  stays_itself : Takes honest images input node after said → (after.id ≡ node.id) × (after.n ≡ node.n)
-  stays_itself (delivering.Keeps same quiet) = (ap (λ (y : Node T). y.id) same, ap (λ (y : Node T). y.n) same)
-  stays_itself (delivering.Spares runs runs_after same quiet) = (ap (λ (y : Node T). y.id) same, ap (λ (y : Node T). y.n) same)
-  stays_itself (delivering.Steps runs goes is) = (is.id, is.n)
-  stays_itself (delivering.Fails runs goes halts same each quiet) = (ap (λ (y : Node T). y.id) same, ap (λ (y : Node T). y.n) same)
+  stays_itself : Takes honest images input node after said → (after.id ≡ node.id) × (after.n ≡ node.n) × IsGrown node.parts.history after.parts.history
+  stays_itself (delivering.Keeps same quiet) =
+      (ap (λ (y : Node T). y.id) same, ap (λ (y : Node T). y.n) same, subst (λ (y : Node T). IsGrown node.parts.history y.parts.history) (sym same) (grown_itself node.parts.history))
+  stays_itself (delivering.Spares runs runs_after same quiet) = (ap (λ (y : Node T). y.id) same, ap (λ (y : Node T). y.n) same, same_grown node after same)
+  stays_itself (delivering.Steps runs goes is) = (is.id, is.n, row_grown node after (row_of node input) said is)
+  stays_itself (delivering.Fails runs goes halts same each quiet) = (ap (λ (y : Node T). y.id) same, ap (λ (y : Node T). y.n) same, same_grown node after same)
 
 module _ {T : Type 0} (nodes : List (Node T)) (i : ℕ) (node after : Node T) (at : slice_get nodes i ≡ Some node) where
   keeps_halted : (node.halted ≡ true → after ≡ node) → KeepHalted nodes (slice_set nodes i after)
@@ -345,7 +347,7 @@ no_delivery honest images nodes sent = record {
   any = λ w shows. inl shows;
   on_tape = λ h left may w shows. inl shows;
   halted = λ i node at halted. at;
-  turn = record { as_many = refl; in_turn = λ turns. turns };
+  turn = keeps_turn_itself nodes;
 }
 
 -- ---- many deliveries
@@ -388,9 +390,6 @@ left_before : {T : Type 0} (images : T → List ℕ → Type 0) (nodes after : L
 unfolding MayLeave KeepHalted
 left_before images nodes after left keeps may = λ i node at halted. may i node (keeps i node at halted) halted
 
-turn_twice : {T : Type 0} (nodes middle after : List (Node T)) → KeepTurn nodes middle → KeepTurn middle after → KeepTurn nodes after
-turn_twice nodes middle after first second = record { as_many = second.as_many ∙ first.as_many; in_turn = λ turns. second.in_turn (first.in_turn turns) }
-
 -- how far the deliveries are after one more, where a round is whole by it or isn't
 abbrev next_by : Bool → Progress → Progress
 next_by whole p = if whole then record { whole = p.whole + 1; some = 0; done = p.done + 1 } else record { whole = p.whole; some = p.some + 1; done = p.done + 1 }
@@ -415,7 +414,7 @@ module _ {T : Type 0} (honest : Type 0) (images : T → List ℕ → Type 0) (no
   come_start some = record {
     any = leads_nowhere AnyPart nodes messages;
     on_tape = λ h left may. leads_nowhere (StandFor left) nodes messages;
-    turn = record { as_many = refl; in_turn = λ turns. turns };
+    turn = keeps_turn_itself nodes;
     part = some;
     most = omega arith;
   }
@@ -428,7 +427,7 @@ module _ {T : Type 0} (honest : Type 0) (images : T → List ℕ → Type 0) (no
       on_tape = λ h left left_after.
           subst (λ d. Lead (StandFor left) d nodes messages after more) (sym (done_on (length nodes) p))
           (leads_on (StandFor left) p.done nodes middle after messages said more (come.on_tape h left (left_before images middle after left one.halted left_after)) (one.on_tape h left left_after));
-      turn = turn_twice nodes middle after come.turn one.turn;
+      turn = keeps_turn_twice nodes middle after come.turn one.turn;
       part = part_on (length nodes) p come.part;
       most = omega (arith, done_on (length nodes) p, may);
     }
@@ -446,6 +445,6 @@ module _ {T : Type 0} (honest : Type 0) (images : T → List ℕ → Type 0) (no
   none_delivered = record {
     any = record { sent = messages; lead = leads_nowhere AnyPart nodes messages };
     on_tape = λ h left may. record { sent = messages; lead = leads_nowhere (StandFor left) nodes messages };
-    turn = record { as_many = refl; in_turn = λ turns. turns };
+    turn = keeps_turn_itself nodes;
     most = omega arith;
   }

@@ -116,7 +116,7 @@ module _ (places : List Place) (sent : List Message) (i : ℕ) where
           stepped.refusal here.0 here.2 ∙ sym (ap told (refused_is w i here.0 action input here.1 (given_in w shows)));
     }
 
-    -- A torn step likewise: nothing is said.
+    -- A crash within a step likewise: nothing is said.
     pub place_tears : (kept : world.Kept) → IsTornAt kept (length places) i input place after number → IsTorn i action kept number places sent (slice_set places i after) sent
     place_tears kept torn = record {
       leads = λ w shows.
@@ -145,14 +145,14 @@ module _ (places : List Place) (sent : List Message) (i : ℕ) where
     unfolding Steps
     step_acts said done = place_acts place after said action input None at given (done (length places) i (member_at places i place members at))
 
-    -- A refused step says nothing.
+    -- A rejected step says nothing.
     pub refused_acts : (f : NodeFault) (number : ℕ) → DeniesStep input place after f → number_in f ≡ Some number → IsActed i action (Some number) places sent (slice_set places i after) sent
     unfolding DeniesStep
     refused_acts f number denied is =
         subst (λ ms. IsActed i action (Some number) places sent (slice_set places i after) ms) (append-nil sent)
         (place_acts place after [] action input (Some number) at given ((denied (length places) i (member_at places i place members at)).refused number is))
 
-    -- what is answered of a refusal
+    -- what is answered of a rejection
     pub answered_acts : {E : Type 0} (result : Result (Option ℕ) E) (f : NodeFault) → IfOk result (λ number. number ≡ number_in f) → IfOk result IsSome → DeniesStep input place after f →
         IfOk result (λ number. IsActed i action number places sent (slice_set places i after) sent)
     answered_acts (Ok None) f is some denied = absurd (false≢true some)
@@ -174,7 +174,7 @@ module _ (places : List Place) (sent : List Message) (i : ℕ) where
     answered_tears kept (Ok (Some number)) f is some denied = refused_tears kept f number denied (sym is)
     answered_tears kept (Err e) f is some denied = tt
 
-    -- A torn step that changes nothing at its place changes nothing.
+    -- A crash within a step that changes nothing at its place changes nothing.
     pub keeps_torn : (kept : world.Kept) (number : Option ℕ) → ((n j : ℕ) → IsMember n j place → IsTornAt kept n j input place place number) → IsTorn i action kept number places sent places sent
     keeps_torn kept number torn =
         subst (λ ps. IsTorn i action kept number places sent ps sent) (set_same places i place at)
@@ -274,7 +274,7 @@ pub unsent_message : (sent : List Message) (k : ℕ) → slice_get sent k ≡ No
 unfolding input_of delivered
 unsent_message sent k e = ap delivered (slice_get-map message.view sent k ∙ ap (λ x. option_map message.view x) e)
 
--- ---- steps and torn steps are events
+-- ---- steps and crashes within a step are events
 
 module _ (i : ℕ) (number : Option ℕ) (places after : List Place) (sent more : List Message) where
   pub proposes : (d : Definition) → IsActed i (table.Propose d) number places sent after more → Happens (world.Propose i d) number places sent after more

@@ -1,4 +1,4 @@
--- Where a step has no effect: no node runs there, or the step is refused.
+-- Where a step has no effect: no node runs there, or the step is rejected.
 use Rattle.std.proofs.Common.{◌≡◌, ℕ, Bool, false, is_some, List, [], map, slice_get, slice_set, length, Option, Some, None, refl, sym, subst, ◌∙◌}
 use Rattle.std.proofs.lemmas.Bool.{false≢true}
 use Rattle.std.proofs.lemmas.List.{append-nil}
@@ -52,7 +52,7 @@ module _ (places : List Place) (sent : List Message) (i : ℕ) (action : Action 
   pub idle_torn : (runs : Bool) → runs ≡ is_some (running_in (slice_get places i)) → runs ≡ false → IsTorn i action After None places sent places sent
   idle_torn runs is not = torn_at (slice_get places i) (input_of (map message.view sent) action) refl refl (sym is ∙ not)
 
-  -- A refused step changes nothing, and the refusal is told.
+  -- A rejected step changes nothing, and the rejection is told.
   pub denied_acts : (place : Place) (input : Input Definition) (f : NodeFault) → slice_get places i ≡ Some place → input_of (map message.view sent) action ≡ Some input → TellsWhyNot place action (Some f) →
       IsActed i action (number_in f) places sent places sent
   unfolding TellsWhyNot

@@ -125,7 +125,7 @@ number_why fault_case.Halted number e = absurd (none-some number e)
 number_why fault_case.TapeFailed number e = absurd (none-some number e)
 number_why fault_case.Nothing number e = (table.NothingToRetry, refl, same_Some 7 number e)
 
--- the table's refusals are neither want of memory nor a failure of the tape
+-- the table's rejections are neither allocation failure nor a failure of the tape
 unchanged_by : (f : NodeFault) (why : Refusal) → fault.refusal_of f ≡ Some why → (f ≢ fault_case.Memory) × (f ≢ fault_case.TapeFailed)
 unchanged_by f why e = (
   λ is. none-some why (ap fault.refusal_of (sym is) ∙ e),
@@ -155,7 +155,7 @@ module _ (node after : Node tape.Kept) (same : IsSameNode node after) where
   denied_member fault_case.TapeFailed runs fails halted unchanged = absurd (never_fails (fails refl))
   denied_member fault_case.Nothing runs fails halted unchanged = unchanged_member fault_case.Nothing table.NothingToRetry refl unchanged
 
--- A step that a fault ends: the node is as it was, and the table's refusal is that of the farm's model.
+-- A step that a fault ends: the node is as it was, and the table's rejection is that of the farm's model.
 pub step_denied : (n i : ℕ) (node after : Node tape.Kept) (input : Input Definition) (f : NodeFault) → IsMember n i (Running node) → fault.refusal_of f ≡ refusal_at node input →
     IsSameNode node after → (f ≢ fault_case.Memory → f ≢ fault_case.TapeFailed → after ≡ node) → IsDenied n i input (Running node) (Running after) f
 step_denied n i node after input f member refused same unchanged = record {
@@ -281,7 +281,7 @@ pub opened_empty : IsReadAsNone → (node : Node tape.Kept) → IsFoldOf (stored
 opened_empty none node fold_of idle =
     node_eq _ _ _ _ (same_Some nothing_stored (stored_of node) (sym fold_none ∙ ap fold (sym (none fold_of.records (fold_of.rest, fold_of.tape.reads))) ∙ fold_of.folds)) (ap Some (sym idle))
 
--- ---- torn steps
+-- ---- crashes within a step
 
 none_told : (why : Refusal) → None ≡ told (Some why) → ⊥
 none_told why e = none-some (number_of why) e
@@ -332,7 +332,7 @@ torn_before n i input before after free stopped = record {
   refusal = free;
 }
 
--- A refused step that is torn changes nothing, whatever would be kept.
+-- A rejected step that is torn changes nothing, whatever would be kept.
 torn_refused : (kept : world.Kept) (n i : ℕ) (input : Input Definition) (before after : Place) (number : ℕ) → IsStepped n i input before after [] (Some number) → Stays before after →
     ((x : world.Node Definition) → IsNode before x → turn_at n i input x ≡ None) → IsTornAt kept n i input before after (Some number)
 unfolding node_torn Stays
@@ -341,7 +341,7 @@ torn_refused kept n i input before after number stepped stays none = record {
   refusal = stepped.refusal;
 }
 
--- where a refusal is told, there is no turn
+-- where a rejection is told, there is no turn
 no_turn_running : (n i : ℕ) (input : Input Definition) (stored : Stored Definition) (working : Working Definition) (why : Option Refusal) (number : ℕ) → refusal stored working input ≡ why → Some number ≡ told why →
     turn_at n i input (node_of stored (Some working)) ≡ None
 no_turn_running n i input stored working None number e is = absurd (none-some number (sym is))
@@ -373,7 +373,7 @@ some_told : (why : Option Refusal) → (why ≡ None → ⊥) → (number : ℕ)
 some_told None not_none = absurd (not_none refl)
 some_told (Some why) not_none = (number_of why, refl)
 
--- A step that would be refused is torn: nothing has changed, and the refusal is told.
+-- A step that would be rejected is torn: nothing has changed, and the rejection is told.
 pub refused_before : (kept : world.Kept) (n i : ℕ) (input : Input Definition) (place : Place) (f : NodeFault) →
     ((x : world.Node Definition) → IsNode place x → fault.IsWhyNot (refusal_of (Some x) (Some input)) (Some f)) → IsTornAt kept n i input place place (number_in f)
 unfolding node_torn
@@ -392,7 +392,7 @@ why_running node x input result is why =
     subst (λ y. fault.IsWhyNot (refusal_of (Some y) (Some input)) result) (sym is)
     (subst (λ r. fault.IsWhyNot r result) (sym (running_refusal (stored_of node) (working_of node) input)) why)
 
--- the table's refusal of an action by its kind: a delivery and a question have none
+-- the table's rejection of an action by its kind: a delivery and a question have none
 abbrev WhyNotAt : Stored Definition → Working Definition → table.Action Definition ℕ → Option NodeFault → Type 0
 WhyNotAt stored working (table.Propose d) result = fault.IsWhyNot (refuse_proposal stored working) result
 WhyNotAt stored working table.Retry result = fault.IsWhyNot (refuse_retry stored working) result
@@ -409,7 +409,7 @@ why_delivered None stored working input result given none = absurd (none-some in
 why_delivered (Some message) stored working input result given none =
     subst (λ y. fault.IsWhyNot (refusal stored working y) result) (same_Some (table.Deliver message) input given) (free_of_none None result refl none)
 
--- A proposal and a second try: the table asks for nothing of the definition. A question and a delivery are never refused.
+-- A proposal and a second try: the table asks for nothing of the definition. A question and a delivery are never rejected.
 pub why_not_running : (node : Node tape.Kept) (x : world.Node Definition) (sent : List (model.Message Definition)) (action : table.Action Definition ℕ) (input : Input Definition) (result : Option NodeFault) →
     IsNode (Running node) x → input_of sent action ≡ Some input → WhyNotAt (stored_of node) (working_of node) action result → fault.IsWhyNot (refusal_of (Some x) (Some input)) result
 unfolding input_of refusal
@@ -424,7 +424,7 @@ why_not_running node x sent (table.Deliver k) input result is given why = why_ru
 pub why_not_stopped : (kept : tape.Kept) (x : world.Node Definition) (input : Input Definition) → IsNode (Stopped kept) x → fault.IsWhyNot (refusal_of (Some x) (Some input)) None
 why_not_stopped kept x input is = stopped_refusal x input is.0
 
--- ---- torn steps, whichever node stands there
+-- ---- crashes within a step, whichever node stands there
 
 -- A step, and then a stop.
 pub step_stops : (input : Input Definition) (before middle after : Place) (said : List (model.Message Definition)) → Steps input before middle said → KeepsMember before middle → Stops middle after →
@@ -436,7 +436,7 @@ pub denied_tears : (kept : world.Kept) (input : Input Definition) (before after 
 unfolding DeniesStep DeniesTear
 denied_tears kept input before after f denies = λ n i member. torn_denied kept n i input before after f (denies n i member)
 
--- A stop alone, where the table has no refusal.
+-- A stop alone, where the table has no rejection.
 pub stops_before : (action : table.Action Definition ℕ) (sent : List (model.Message Definition)) (input : Input Definition) (before after : Place) → TellsWhyNot before action None →
     input_of sent action ≡ Some input → Stops before after → Tears world.Before input before after
 unfolding TellsWhyNot Stops Tears
@@ -459,7 +459,7 @@ pub tells_stopped : (kept : tape.Kept) (action : table.Action Definition ℕ) �
 unfolding TellsWhyNot
 tells_stopped kept action = λ n i x sent input member is given. why_not_stopped kept x input is
 
--- A question and a delivery are never refused.
+-- A question and a delivery are never rejected.
 pub tells_no_question : (place : Place) → TellsWhyNot place table.CatchUp None
 tells_no_question (Running node) = tells_running node table.CatchUp None (λ runs. refl)
 tells_no_question (Stopped kept) = tells_stopped kept table.CatchUp
@@ -468,7 +468,7 @@ pub tells_no_delivery : (place : Place) (k : ℕ) → TellsWhyNot place (table.D
 tells_no_delivery (Running node) k = tells_running node (table.Deliver k) None (λ runs. refl)
 tells_no_delivery (Stopped kept) k = tells_stopped kept (table.Deliver k)
 
--- A step that is refused changes nothing.
+-- A step that is rejected changes nothing.
 pub refused_step : (n i : ℕ) (input : Input Definition) (place : Place) (f : NodeFault) →
     ((x : world.Node Definition) → IsNode place x → fault.IsWhyNot (refusal_of (Some x) (Some input)) (Some f)) → IsStepped n i input place place [] (number_in f)
 unfolding node_after messages_of

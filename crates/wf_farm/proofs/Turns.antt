@@ -62,7 +62,7 @@ module _ {V : Type 0} (same : V → V → Bool) where
       ap (λ x. turn_of same (length w.nodes) i (slice_get w.nodes i) x) none ∙ turn_no_input (length w.nodes) i (slice_get w.nodes i)
 
 module _ {V : Type 0} where
-  -- ---- why a step is refused
+  -- ---- why a step is rejected
 
   pub running_refusal : (stored : Stored V) (working : Working V) (input : Input V) →
       refusal_of (Some (record { stored = stored; working = Some working })) (Some input) ≡ refusal stored working input

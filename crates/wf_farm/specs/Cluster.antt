@@ -45,11 +45,11 @@ StayShown places sent places_after sent_after = Turns (λ w. w) places sent plac
 unfoldable pub Moves : List (Event Definition) → List Place → List Message → List Place → List Message → Type 0
 Moves events places sent places_after sent_after = Turns (λ w. steps definition_eq w events) places sent places_after sent_after
 
--- what is told of an action or an event is why it is refused in the world before
+-- what is told of an action or an event is why it is rejected in the world before
 abbrev pub TellsWhy : (World Definition → Option Refusal) → Option ℕ → List Place → List Message → Type 0
 TellsWhy why number places sent = (w : World Definition) → Shows places sent w → number ≡ told (why w)
 
--- a step, a torn step and any event, done whole
+-- a step, a crash within a step and any event, done whole
 pub record IsActed (i : ℕ) (action : Action Definition ℕ) (number : Option ℕ) (places : List Place) (sent : List Message) (places_after : List Place) (sent_after : List Message) : Type 0 where
   pub leads : Turns (λ w. after_turn w i (turn definition_eq w i action)) places sent places_after sent_after
   pub why : TellsWhy (λ w. refused_at w i action) number places sent
@@ -62,7 +62,7 @@ pub record Happens (event : Event Definition) (number : Option ℕ) (places : Li
   pub leads : Turns (λ w. happens definition_eq w event) places sent places_after sent_after
   pub why : TellsWhy (λ w. refused w event) number places sent
 
--- why the last of the events is refused, None where there is none
+-- why the last of the events is rejected, None where there is none
 unfoldable pub last_refused : World Definition → List (Event Definition) → Option Refusal
 last_refused w [] = None
 last_refused w (event ∷ []) = refused w event

@@ -10,6 +10,7 @@ use Rattle.wf_model.specs.Table as table
 use Rattle.wf_model.specs.Table.{Action, Input, store}
 use Rattle.wf_model.specs.World as world
 use Rattle.wf_model.specs.World.{World, Event, happens, steps}
+use Rattle.wf_node.specs.Growth.{IsGrown}
 use Rattle.wf_node.specs.Images.{StandsFor, EachStandsFor}
 use Rattle.wf_node.specs.Node.{Node, stored_of, working_of}
 use Rattle.wf_node.specs.Step.{row_of, refusal_at, IsRow, IsSameNode}
@@ -98,7 +99,7 @@ pub record AreDelivered {T : Type 0} (stands : ℕ → Stored Definition → Typ
 -- ---- for the crate's own contracts: one node, and one delivery
 
 module _ {T : Type 0} (honest : Type 0) (images : T → List ℕ → Type 0) where
-  -- What a node does that is handed an input. It is lost: the node is halted, and as it was. It is lost for want of memory: the node is as it was
+  -- What a node does that is handed an input. It is lost: the node is halted, and as it was. It is lost for allocation failure: the node is as it was
   -- but for its tape. It steps. Or its tape fails within the step, nothing is said, and each image stands for what was stored before or after.
   pub data Takes (input : Input Definition) (before after : Node T) (said : List Message) : Type 0 where
     Keeps : after ≡ before → said ≡ [] → Takes input before after said
@@ -116,10 +117,16 @@ TakeOne stands nodes sent nodes_after sent_after = (w : World Definition) → Sh
 unfoldable pub KeepHalted : {T : Type 0} → List (Node T) → List (Node T) → Type 0
 KeepHalted {T} before after = (i : ℕ) (node : Node T) → slice_get before i ≡ Some node → node.halted ≡ true → slice_get after i ≡ Some node
 
--- The nodes are as many as before, and stand in turn still.
+-- Each node's list of published maps is there still, and may have grown.
+unfoldable pub EachGrows : {T : Type 0} → List (Node T) → List (Node T) → Type 0
+EachGrows {T} before after = (i : ℕ) (node : Node T) → slice_get before i ≡ Some node →
+    (next : Node T) × (slice_get after i ≡ Some next) × IsGrown node.parts.history next.parts.history
+
+-- The nodes are as many as before, and stand in turn still; what they published they have still.
 pub record KeepTurn {T : Type 0} (before after : List (Node T)) : Type 0 where
   pub as_many : length after ≡ length before
   pub in_turn : StandInTurn before → StandInTurn after
+  pub lists : EachGrows before after
 
 module _ {T : Type 0} (honest : Type 0) (images : T → List ℕ → Type 0) where
   -- one delivery to one of the nodes, or none

@@ -1,11 +1,51 @@
--- A node that stays itself keeps its turn among the others.
-use Rattle.std.proofs.Common.{◌≡◌, ℕ, List, slice_get, slice_set, Some, length-set, sym, ap, subst, ◌∙◌, inl, inr}
+-- A node that stays itself keeps its turn among the others, and each list of published maps is there still.
+use Rattle.std.proofs.Common.{◌≡◌, ℕ, List, slice_get, slice_set, Some, length-set, refl, sym, ap, subst, ◌∙◌, inl, inr}
 use Rattle.std.proofs.lemmas.Bool.{cases_eq}
+use Rattle.std.proofs.lemmas.Option.{same_Some}
+use Rattle.wf_node.specs.Growth.{IsGrown, grown_itself, grown_twice}
 use Rattle.wf_node.specs.Node.{Node}
-use Rattle.wf_farm.specs.Delivering.{StandAmong, KeepTurn}
-use Rattle.wf_farm.specs.PlaceLaws.{get_set_same, get_set_other}
+use Rattle.wf_farm.specs.Delivering.{EachGrows, StandAmong, KeepTurn}
+use Rattle.wf_farm.specs.PlaceLaws.{get_set_same, get_set_other, set_there}
 
-pub keeps_turn : {T : Type 0} (nodes : List (Node T)) (i : ℕ) (node after : Node T) → slice_get nodes i ≡ Some node → (after.id ≡ node.id) × (after.n ≡ node.n) → KeepTurn nodes (slice_set nodes i after)
+-- ---- the lists
+
+pub each_grows_itself : {T : Type 0} (nodes : List (Node T)) → EachGrows nodes nodes
+unfolding EachGrows
+each_grows_itself nodes = λ i node at. (node, at, grown_itself node.parts.history)
+
+pub each_grows_twice : {T : Type 0} (nodes middle after : List (Node T)) → EachGrows nodes middle → EachGrows middle after → EachGrows nodes after
+unfolding EachGrows
+each_grows_twice nodes middle after first second = λ i node at.
+    let here = first i node at in
+    let next = second i here.0 here.1 in
+    (next.0, next.1, grown_twice node.parts.history here.0.parts.history next.0.parts.history here.2 next.2)
+
+one_grows : {T : Type 0} (nodes : List (Node T)) (i : ℕ) (node after : Node T) → slice_get nodes i ≡ Some node → IsGrown node.parts.history after.parts.history →
+    EachGrows nodes (slice_set nodes i after)
+unfolding EachGrows
+one_grows nodes i node after at grown = λ j other there. elim (cases_eq j i) [
+  | inl same ↦
+      let it : node ≡ other = same_Some node other (sym at ∙ subst (λ k. slice_get nodes k ≡ Some other) same there) in (
+        after,
+        subst (λ k. slice_get (slice_set nodes i after) k ≡ Some after) (sym same) (set_there nodes i after node at),
+        subst (λ n. IsGrown n.parts.history after.parts.history) it grown,
+      )
+  | inr differs ↦ (other, get_set_other nodes i j after differs ∙ there, grown_itself other.parts.history)
+]
+
+-- ---- the turn
+
+pub keeps_turn_itself : {T : Type 0} (nodes : List (Node T)) → KeepTurn nodes nodes
+keeps_turn_itself nodes = record { as_many = refl; in_turn = λ turns. turns; lists = each_grows_itself nodes }
+
+pub keeps_turn_twice : {T : Type 0} (nodes middle after : List (Node T)) → KeepTurn nodes middle → KeepTurn middle after → KeepTurn nodes after
+keeps_turn_twice nodes middle after first second = record {
+  as_many = second.as_many ∙ first.as_many;
+  in_turn = λ turns. second.in_turn (first.in_turn turns);
+  lists = each_grows_twice nodes middle after first.lists second.lists;
+}
+
+pub keeps_turn : {T : Type 0} (nodes : List (Node T)) (i : ℕ) (node after : Node T) → slice_get nodes i ≡ Some node → (after.id ≡ node.id) × (after.n ≡ node.n) × IsGrown node.parts.history after.parts.history → KeepTurn nodes (slice_set nodes i after)
 unfolding StandAmong
 keeps_turn {T} nodes i node after at stays = record {
   as_many = length-set nodes i after;
@@ -17,4 +57,5 @@ keeps_turn {T} nodes i node after at stays = record {
         let there = turns j n (sym (get_set_other nodes i j after differs) ∙ e) in
         (there.0, there.1 ∙ sym (length-set nodes i after))
   ];
+  lists = one_grows nodes i node after at stays.2;
 }

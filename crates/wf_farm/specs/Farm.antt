@@ -14,7 +14,7 @@ use Rattle.wf_farm.specs.Cluster as cluster
 use Rattle.wf_farm.specs.Cluster.{AreMembers, Moves}
 
 -- Its nodes' places and all messages ever sent; from which message on they count as not pumped yet; and the number of
--- the refusal of the last run's last event, if that was refused.
+-- the rejection of the last run's last event, if that was rejected.
 pub record Farm : Type 0 where
   pub places : List Place
   pub sent : List Message
@@ -57,6 +57,6 @@ abbrev pub RunsPart : FarmFault → List (Event Definition) → Farm → Farm �
 RunsPart (Memory done) events before after = (done < length events) × Runs (take done events) before after
 RunsPart NoNode events before after = ⊥
 
--- the fault is want of memory before anything was done
+-- the fault is allocation failure before anything was done
 abbrev pub IsAtOnce : FarmFault → Type 0
 IsAtOnce fault = fault ≡ Memory 0

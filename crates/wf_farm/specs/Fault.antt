@@ -1,4 +1,4 @@
--- The step table's refusals by their numbers.
+-- The step table's rejections by their numbers.
 use Rattle.std.specs.Prelude.{ℕ, Option, option_map}
 use Rattle.wf_model.specs.Table.{Refusal, Busy, SequenceFull, RoundsFull, NothingToRetry}
 
@@ -9,6 +9,6 @@ number_of SequenceFull = 3
 number_of RoundsFull = 4
 number_of NothingToRetry = 7
 
--- what a farm tells of a refusal
+-- what a farm tells of a rejection
 abbrev pub told : Option Refusal → Option ℕ
 told refusal = option_map number_of refusal

@@ -50,22 +50,22 @@ Restarts before after = IsChanged node_restarted before after
 abbrev pub turn_at : ℕ → ℕ → Input Definition → world.Node Definition → Option (Turn Definition)
 turn_at n i input node = turn_of definition_eq n i (Some node) (Some input)
 
--- A step of node i of n: the node after its turn, the turn's messages, and the number of its refusal, if it is refused.
+-- A step of node i of n: the node after its turn, the turn's messages, and the number of its rejection, if it is rejected.
 pub record IsStepped (n i : ℕ) (input : Input Definition) (before after : Place) (said : List (model.Message Definition)) (refused : Option ℕ) : Type 0 where
   pub node : IsChanged (λ node. node_after (turn_at n i input node) node) before after
   pub messages : (node : world.Node Definition) → IsNode before node → said ≡ messages_of (turn_at n i input node)
   pub refusal : (node : world.Node Definition) → IsNode before node → refused ≡ told (refusal_of (Some node) (Some input))
 
--- A torn step of node i of n, of which this was kept.
+-- A crash within a step of node i of n, of which this was kept.
 pub record IsTornAt (kept : world.Kept) (n i : ℕ) (input : Input Definition) (before after : Place) (refused : Option ℕ) : Type 0 where
   pub node : IsChanged (λ node. node_torn kept (turn_at n i input node) node) before after
   pub refusal : (node : world.Node Definition) → IsNode before node → refused ≡ told (refusal_of (Some node) (Some input))
 
--- The number of the table's refusal that a fault is; none where a growth was refused.
+-- The number of the table's rejection that a fault is; none where a growth was rejected.
 abbrev pub number_in : NodeFault → Option ℕ
 number_in f = told (fault.refusal_of f)
 
--- A step that a fault ends leaves the node as it was. Where it is the table's refusal, that is the step.
+-- A step that a fault ends leaves the node as it was. Where it is the table's rejection, that is the step.
 pub record IsDenied (n i : ℕ) (input : Input Definition) (before after : Place) (f : NodeFault) : Type 0 where
   pub stays : Stays before after
   pub refused : (number : ℕ) → number_in f ≡ Some number → IsStepped n i input before after [] (Some number)
@@ -87,7 +87,7 @@ Tears kept input before after = (n i : ℕ) → IsMember n i before → IsTornAt
 unfoldable pub DeniesTear : world.Kept → Input Definition → Place → Place → NodeFault → Type 0
 DeniesTear kept input before after f = (n i : ℕ) → IsMember n i before → IsDeniedTorn kept n i input before after f
 
--- Why the node there wouldn't take an action's step: the fault of the table's refusal, None where there is none.
+-- Why the node there wouldn't take an action's step: the fault of the table's rejection, None where there is none.
 unfoldable pub TellsWhyNot : Place → Action Definition ℕ → Option NodeFault → Type 0
 TellsWhyNot place action why = (n i : ℕ) (node : world.Node Definition) (sent : List (model.Message Definition)) (input : Input Definition) → IsMember n i place → IsNode place node →
     input_of sent action ≡ Some input → fault.IsWhyNot (refusal_of (Some node) (Some input)) why

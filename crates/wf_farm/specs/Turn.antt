@@ -14,7 +14,7 @@ unfoldable pub messages_of : {V : Type 0} → Option (Turn V) → List (Message 
 messages_of None = []
 messages_of (Some turn) = turn.row.messages
 
--- the node after a torn step
+-- the node after a crash within a step
 unfoldable pub node_torn : {V : Type 0} → Kept → Option (Turn V) → Node V → Node V
 node_torn kept None node = node
 node_torn kept (Some turn) node = record { stored = kept_part kept turn; working = None }

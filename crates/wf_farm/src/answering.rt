@@ -11,7 +11,7 @@ use wf_wms::Answer;
 
 impl Farm {
     /// The answer of the node of that number to the query of a request to the web map service (OGC 06-042), at the last
-    /// sequence that the node published. F2 where no node of that number runs, and F1 with 0 where a growth was refused.
+    /// sequence that the node published. F2 where no node of that number runs, and F1 with 0 where a growth was rejected.
     #[tactic(auto, using(crate::proofs::Answered::none_runs, crate::proofs::Answered::memory_wanted))]
     pub fn answer(&self, alloc: Global, number: usize, query: &[u8]) -> Result<Answer, FarmFault>
         ensures answer { IfOk result (λ answer. Answers self.now number (sequence_at self.now number) query.now answer) }

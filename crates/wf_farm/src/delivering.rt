@@ -4,7 +4,7 @@ ghost use Rattle.std.specs.Prelude.{◌≡◌, ◌<◌, ◌≤◌, ℕ, List, []
 ghost use Rattle.wf_codec.specs.Message.{view as view_message};
 ghost use Rattle.wf_model.specs.Table.{most_told, Deliver};
 ghost use Rattle.wf_node.specs.Input.{view};
-ghost use Rattle.wf_farm.specs.Delivering.{AnyPart, AreDelivered, IsDelivered, IsOne, MayLeave, StandFor, StandInTurn, Takes};
+ghost use Rattle.wf_farm.specs.Delivering.{AnyPart, AreDelivered, EachGrows, IsDelivered, IsOne, MayLeave, StandFor, StandInTurn, Takes};
 ghost use Rattle.wf_farm.specs.Pump.{most_deliveries};
 
 use crate::happening::{MOST_SAID, send};
@@ -28,18 +28,20 @@ pub struct Pumped {
 
 /// Each message goes to each node, once, ascending, and so does each message that a node hands out meanwhile, until none is
 /// left. It stops early after 100,000 deliveries, or where its own list of messages finds no memory. A delivery that a node
-/// refuses, or for which there is no memory, is lost, as the network may lose it; a node whose tape fails is halted, and
+/// rejects, or for which there is no memory, is lost, as the network may lose it; a node whose tape fails is halted, and
 /// takes none from then on.
 ///
 /// Node i of the slice is node i of as many as the slice has; there may be none. Whatever world of the model the nodes and
 /// the messages were, they are one that at most so many deliveries lead to: one at which a tape failed is torn. That holds
-/// over tapes of any kind; over an honest one also for whatever bytes a crash leaves of the tapes that failed.
+/// over tapes of any kind; over an honest one also for whatever bytes a crash leaves of the tapes that failed. What a node has
+/// published it has still.
 pub fn deliver_all<T: Tape>(alloc: Global, nodes: &mut [Node<T>], messages: Vec<Message>) -> Pumped
     requires in_turn { StandInTurn nodes.old }
     ensures delivered { AreDelivered AnyPart result.deliveries nodes.old messages.items nodes.new }
     ensures on_tape { T.honest → (left : ℕ → List ℕ) → MayLeave T.images nodes.new left → AreDelivered (StandFor left) result.deliveries nodes.old messages.items nodes.new }
     ensures in_turn { StandInTurn nodes.new }
     ensures size { length nodes.new ≡ length nodes.old }
+    ensures lists { EachGrows nodes.old nodes.new }
     ensures most { result.deliveries ≤ most_deliveries }
 {
     if nodes.is_empty() {
@@ -130,7 +132,7 @@ fn hand<T: Tape>(alloc: Global, node: &mut Node<T>, message: &Message) -> Vec<Me
     }
 }
 
-/// What a node says to an input; nothing where it refuses.
+/// What a node says to an input; nothing where it rejects.
 fn hear<T: Tape>(alloc: Global, node: &mut Node<T>, input: Input) -> Vec<Message>
     ensures takes { Takes T.honest T.images (view input) node.old node.new result.items }
     ensures few { length result.items ≤ most_told }

@@ -2,7 +2,7 @@ use wf_canon::Canon;
 
 /// What may happen to a farm, to the node of that number. It has no effect where there is no such node, where the
 /// message isn't sent, where the node is stopped (a restart excepted), where a running node is restarted, and where the
-/// node refuses.
+/// node rejects.
 #[derive(Drop)]
 pub enum Event {
     /// The node begins a proposal of the definition.
@@ -35,7 +35,7 @@ pub enum Action {
     Deliver(usize),
 }
 
-/// What a torn step leaves on the tape.
+/// What a crash within a step leaves on the tape.
 #[derive(Clone, Copy, Debug, PartialEq, Eq)]
 pub enum Kept {
     /// What was stored before the step.

@@ -18,7 +18,7 @@ pub struct Farm {
     pub(crate) cluster: Cluster,
     // The first message that doesn't count as pumped.
     pub(crate) pumped: usize,
-    // The number of the last event's refusal.
+    // The number of the last event's rejection.
     pub(crate) refused: Option<u8>,
 }
 
@@ -52,7 +52,7 @@ impl Farm {
     ghost use Rattle.wf_farm.specs.Farm.{IsAtOnce, Runs, RunsPart, Shows, running_in, size};
 
     /// A farm of n nodes, all of which run, with all parts empty: the model's start. F1 with 0 where a growth was
-    /// refused.
+    /// rejected.
     #[tactic(auto, using(crate::proofs::Worlds::farm_started))]
     pub fn new(alloc: Global, n: u8) -> Result<Farm, FarmFault>
         requires some { 1 ≤ n }
@@ -73,7 +73,7 @@ impl Farm {
     }
 
     /// The events happen, one after the other: what world the farm was, it is the model's world after them. F1 names how
-    /// many events were done where a growth was refused, and the farm is the world after these. Either way no node's
+    /// many events were done where a growth was rejected, and the farm is the world after these. Either way no node's
     /// published list goes back: it begins the one afterwards.
     #[tactic(auto, using(crate::proofs::Worlds::farm_moved))]
     pub fn run(&mut self, alloc: Global, events: &[Event]) -> Result<(), FarmFault>
@@ -102,7 +102,7 @@ impl Farm {
         }
     }
 
-    /// The number of the fault by which the last event of the last run was refused: 2, 3, 4 or 7. None where it wasn't.
+    /// The number of the fault by which the last event of the last run was rejected: 2, 3, 4 or 7. None where it wasn't.
     pub fn refused(&self) -> Option<u8>
         ensures { result ≡ self.now.refused }
     {

@@ -1,4 +1,4 @@
-//! Why a farm doesn't do what it is asked, and which refusals of a node it tells.
+//! Why a farm doesn't do what it is asked, and which rejections of a node it tells.
 
 ghost use Rattle.std.specs.Prelude.{◌≡◌};
 ghost use Rattle.wf_farm.specs.Place.{number_in};
@@ -9,7 +9,7 @@ use wf_node::NodeFault;
 /// Why a farm doesn't do what it is asked.
 #[derive(Clone, Copy, Debug, PartialEq, Eq, Error)]
 pub enum FarmFault {
-    /// F1: a growth was refused. So many events are done, or so many deliveries of a pump.
+    /// F1: a growth was rejected. So many events are done, or so many deliveries of a pump.
     #[error("F1: out of memory after {0}")]
     Memory(usize),
     /// F2: the node is absent or stopped.
@@ -17,7 +17,7 @@ pub enum FarmFault {
     NoNode,
 }
 
-/// The number of a refusal, 2, 3, 4 or 7; None for a fault that isn't the step table's.
+/// The number of a rejection, 2, 3, 4 or 7; None for a fault that isn't the step table's.
 pub(crate) fn refusal_number(fault: NodeFault) -> Option<u8>
     ensures { result ≡ number_in fault }
 {

@@ -25,7 +25,7 @@ use wf_node::{Input, NodeFault};
 pub(crate) const MOST_SAID: usize = 8;
 
 impl Cluster {
-    /// The event happens whole, and the number of its refusal is answered, if its node refuses; or memory is wanted,
+    /// The event happens whole, and the number of its rejection is answered, if its node rejects; or memory is wanted,
     /// and the world is as it was.
     #[tactic(auto, using(crate::proofs::Events::same_members))]
     pub(crate) fn happen(&mut self, alloc: Global, event: &Event) -> Result<Option<u8>, AllocError>
@@ -50,7 +50,7 @@ impl Cluster {
         }
     }
 
-    /// A node begins a proposal, if it is there and runs. Whether it refuses is asked before memory is.
+    /// A node begins a proposal, if it is there and runs. Whether it rejects is asked before memory is.
     #[tactic(auto, using(crate::proofs::Events::same_members))]
     fn propose(
         &mut self,
@@ -76,7 +76,7 @@ impl Cluster {
         }
     }
 
-    /// A node's running proposal begins anew, if the node is there and runs. Whether it refuses is asked before memory
+    /// A node's running proposal begins anew, if the node is there and runs. Whether it rejects is asked before memory
     /// is.
     #[tactic(auto, using(crate::proofs::Events::same_members))]
     fn retry(&mut self, alloc: Global, node: usize) -> Result<Option<u8>, AllocError>
@@ -205,7 +205,7 @@ impl Cluster {
     }
 
     /// A step of a node, if it is there and runs, that is torn before its record is stored: nothing is done of it, and
-    /// the node stops, unless it would refuse. It takes no memory.
+    /// the node stops, unless it would refuse. It allocates nothing.
     #[tactic(auto, using(crate::proofs::Events::same_members))]
     fn tear_before(&mut self, alloc: Global, node: usize, action: &Action) -> Option<u8>
         requires members { AreMembers self.old.places.items }
@@ -255,7 +255,7 @@ impl Cluster {
         }
     }
 
-    /// The same of a step that isn't refused: it is done, its messages are lost, and the node stops.
+    /// The same of a step that isn't rejected: it is done, its messages are lost, and the node stops.
     #[tactic(auto, using(crate::proofs::Events::same_members))]
     fn tear_done(
         &mut self,
@@ -347,7 +347,7 @@ pub(crate) fn send(sent: &mut Vec<Message>, mut said: Vec<Message>)
     };
 }
 
-/// The number of the table's refusal; else memory was wanted, since the tape of a node here doesn't fail.
+/// The number of the table's rejection; else memory was wanted, since the tape of a node here doesn't fail.
 fn answer(fault: NodeFault) -> Result<Option<u8>, AllocError>
     ensures number { IfOk result (λ number. number ≡ number_in fault) }
     ensures some { IfOk result IsSome }

@@ -17,7 +17,7 @@
 //! Nodes that a caller holds itself, over tapes of any kind, hear one another by [`deliver_all`]: whatever world of the
 //! model they and their messages were, they are one that at most so many deliveries lead to (`specs/Delivering.antt`).
 //!
-//! It doesn't know time, nor whether anything is ever published, nor that a refusal for memory was needed.
+//! It doesn't know time, nor whether anything is ever published, nor that a rejection for memory was needed.
 #![tactic(auto)]
 
 mod answering;

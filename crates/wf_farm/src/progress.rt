@@ -19,7 +19,7 @@ pub enum End {
     Done,
     /// As many deliveries are done as a pump does, and some are left.
     Stopped,
-    /// A growth was refused.
+    /// A growth was rejected.
     NoMemory,
 }
 

@@ -24,7 +24,7 @@ impl Farm {
     /// Each message that isn't pumped yet, by its number, new ones too, goes to each node that is named, once, ascending;
     /// to each node, where none is named. A delivery without effect counts too, also one at an absent node. A message
     /// counts as pumped from its first delivery on. True: it stopped after 100,000 deliveries, and some were left. F1
-    /// names how many deliveries were done where a growth was refused, and the farm is the world after these. No node's
+    /// names how many deliveries were done where a growth was rejected, and the farm is the world after these. No node's
     /// published list goes back: it begins the one afterwards.
     pub fn pump(&mut self, alloc: Global, nodes: &[usize]) -> Result<bool, FarmFault>
         ensures done { IfOk result (IsPumped nodes.now self.old self.new) }

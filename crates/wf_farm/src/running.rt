@@ -9,7 +9,7 @@ use crate::event::Event;
 use std::alloc::Global;
 
 impl Cluster {
-    /// The events happen in turn, and the number of the last one's refusal is answered, if it is refused. Where memory
+    /// The events happen in turn, and the number of the last one's rejection is answered, if it is rejected. Where memory
     /// is wanted, so many of them have happened, and no other.
     #[tactic(auto, using(crate::proofs::Events::same_members))]
     pub(crate) fn run(&mut self, alloc: Global, events: &[Event]) -> Result<Option<u8>, usize>

@@ -67,7 +67,7 @@ fn first_node(alloc: Global, id: NodeId, n: u8) -> Result<Place, AllocError>
     records_are_read_one_way();
     match Node::open(alloc, MemoryTape::new(Vec::new(alloc)), id, n) {
         Ok(node) => Ok(Place::Running(node)),
-        // An empty tape is refused for want of memory alone.
+        // An empty tape is rejected for allocation failure alone.
         Err((tape, _)) => {
             drop(tape);
             Err(AllocError)

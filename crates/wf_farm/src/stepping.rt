@@ -56,7 +56,7 @@ impl Place {
         }
     }
 
-    /// A stopped node opens with its tape, as node `id` of n. A running node stays as it is. Want of memory leaves the
+    /// A stopped node opens with its tape, as node `id` of n. A running node stays as it is. Allocation failure leaves the
     /// node stopped, with what it had stored.
     pub(crate) fn restart(&mut self, alloc: Global, id: NodeId, n: u8) -> Result<(), AllocError>
         requires nodes { n ≤ 64 }
@@ -95,13 +95,13 @@ impl Place {
             Place::Running(node) => Ok(Place::Running(node)),
             Place::Stopped(tape) => match Node::open(alloc, tape, id, n) {
                 Ok(node) => Ok(Place::Running(node)),
-                // A tape in memory that a node left is refused for want of memory alone.
+                // A tape in memory that a node left is rejected for allocation failure alone.
                 Err((tape, _)) => Err(Place::Stopped(tape)),
             },
         }
     }
 
-    /// What stands in a place while its node is moved: a tape without a byte. It takes no memory.
+    /// What stands in a place while its node is moved: a tape without a byte. It allocates nothing.
     fn blank(alloc: Global) -> Place {
         Place::Stopped(MemoryTape::new(Vec::new(alloc)))
     }

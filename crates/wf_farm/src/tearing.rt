@@ -32,7 +32,7 @@ impl Place {
         }
     }
 
-    /// Why a step wouldn't be done now; None where it would, and where the node is stopped. It takes no memory.
+    /// Why a step wouldn't be done now; None where it would, and where the node is stopped. It allocates nothing.
     #[tactic(auto, using(crate::proofs::Steps::tells_no_question, crate::proofs::Steps::tells_no_delivery))]
     pub(crate) fn refusal(&self, action: &Action) -> Option<NodeFault>
         ensures { TellsWhyNot self.now (view_action action.now) result }
@@ -45,7 +45,7 @@ impl Place {
         }
     }
 
-    /// Why no proposal would begin now; None where one would, and where the node is stopped. It takes no memory.
+    /// Why no proposal would begin now; None where one would, and where the node is stopped. It allocates nothing.
     #[tactic(auto, using(crate::proofs::Steps::tells_running, crate::proofs::Steps::tells_stopped))]
     pub(crate) fn proposal_refusal(&self) -> Option<NodeFault>
         ensures { (d : Definition) → TellsWhyNot self.now (Propose d) result }

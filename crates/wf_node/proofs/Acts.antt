@@ -60,7 +60,7 @@ module _ {T : Type 0} (honest : Type 0) (content : T → List ℕ) (images : T �
       subst (λ why. IsRefusedOr honest content images failures why hears (row_at parts proposer input) journal parts proposer result journal parts proposer) (sym none)
       (says_changes honest content images failures hears (row_at parts proposer input) messages journal parts proposer result running is reply)
 
-  -- an input that the table refuses
+  -- an input that the table rejects
   pub act_refused : {A : Type 0} (input : Input Definition) (why : Refusal) (journal : Journal T) (parts : Parts) (proposer : Proposer)
       (result : Result (Vec Message A) NodeFault) → refusal (stored_of parts) (working_of proposer) input ≡ Some why → refused_by result ≡ Some why →
       IsAct honest content images failures input journal parts proposer result journal parts proposer
@@ -79,7 +79,7 @@ module _ {T : Type 0} (honest : Type 0) (content : T → List ℕ) (images : T �
       subst (λ why. IsRefusedOr honest content images failures why hears (row_at parts proposer input) journal parts proposer result journal parts_after proposer) (sym none)
       (memory_changes honest content images failures hears (row_at parts proposer input) journal parts parts_after proposer result short running same takes)
 
--- a message is never refused, and its row is the message's
+-- a message is never rejected, and its row is the message's
 pub delivered : (stored : Stored Definition) (working : Working Definition) (message : model.Message Definition) → refusal stored working (Deliver message) ≡ None
 unfolding refusal
 delivered stored working message = refl
@@ -137,7 +137,7 @@ module _ {T : Type 0} (honest : Type 0) (content : T → List ℕ) (images : T �
   proposer_refuses A input held_case.Memory journal parts proposer is running takes =
       act_short honest content images failures input journal parts parts proposer _ (sym is) running refl refl (takes refl)
 
-  -- what the proposer refused is refused, or memory was wanted
+  -- what the proposer rejected is rejected, or memory was wanted
   pub act_proposer_refuses : (A : Type 0) (input : Input Definition) (why : held.Refusal) (fault : NodeFault) (journal : Journal T) (parts : Parts) (proposer : Proposer) →
       fault ≡ fault_of why → refusal_of why ≡ refusal (stored_of parts) (working_of proposer) input → journal.halted ≡ false →
       (why ≡ held_case.Memory → TakesMemory (row_at parts proposer input) (hears_input proposer.nodes (working_of proposer) input)) →
@@ -159,7 +159,7 @@ module _ {T : Type 0} (honest : Type 0) (content : T → List ℕ) (images : T �
       act_short honest content images failures input journal parts parts proposer (Err fault) none running
       (ap Err (same ∙ ap fault_of (ap (error_or held_case.Memory) heard.1))) refl (ByHearing heard.0)
 
--- ---- rows and refusals of the other inputs
+-- ---- rows and rejections of the other inputs
 
 pub catch_up_unrefused : (stored : Stored Definition) (working : Working Definition) → refusal stored working CatchUp ≡ None
 unfolding refusal

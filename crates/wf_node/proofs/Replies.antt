@@ -68,7 +68,7 @@ module _ {T : Type 0} (honest : Type 0) (content : T → List ℕ) (images : T �
       subst (λ r. IsChange honest content images failures hears r journal parts proposer result journal parts proposer) (sym is)
       (reply_changes hears (says (working_of proposer) messages) journal parts proposer result running refl refl reply)
 
-  -- Want of memory leaves the parts as they were.
+  -- Allocation failure leaves the parts as they were.
   pub memory_changes : {A : Type 0} (hears : Bool) (the_row : Row Definition) (journal : Journal T) (parts parts_after : Parts) (proposer : Proposer) (result : Result (Vec Message A) NodeFault) →
       result ≡ Err Memory → journal.halted ≡ false → parts_after ≡ parts → TakesMemory the_row hears →
       IsChange honest content images failures hears the_row journal parts proposer result journal parts_after proposer

@@ -200,7 +200,7 @@ pub next_fits : (stored : Stored Definition) (s : ℕ) (d : Definition) → s �
 unfolding fits next_sequence published
 next_fits stored s d is = eq-eqb s (length stored.history + 1) is
 
--- ---- a proposal that the table refuses
+-- ---- a proposal that the table rejects
 
 pub busy : (stored : Stored Definition) (working : Working Definition) → runs working ≡ true → refuse_proposal stored working ≡ Some Busy
 unfolding refuse_proposal

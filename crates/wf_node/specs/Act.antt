@@ -31,7 +31,7 @@ pub record IsReady {T : Type 0} (journal : Journal T) (kept : Kept) (proposer : 
   pub for_next : IsForNext (keeping.stored_of kept) (working_of proposer)
   pub fits : RecordsFit Definition
 
--- The messages, or want of memory for them: where there are some.
+-- The messages, or allocation failure for them: where there are some.
 abbrev pub IsReply : {A : Type 0} → List (model.Message Definition) → Result (Vec Message A) NodeFault → Type 0
 IsReply messages (Ok given) = map message.view given.items ≡ messages
 IsReply messages (Err Memory) = messages ≡ [] → ⊥
@@ -98,7 +98,7 @@ module _ {T : Type 0} (honest : Type 0) (content : T → List ℕ) (images : T �
   IsChange hears the_row journal parts proposer (Err Nothing) journal_after parts_after proposer_after = ⊥
   IsChange hears the_row journal parts proposer (Err Halted) journal_after parts_after proposer_after = ⊥
 
-  -- Where the table refuses, that refusal is answered, and the parts are as they were; else the row is done or fails.
+  -- Where the table rejects, that rejection is answered, and the parts are as they were; else the row is done or fails.
   abbrev pub IsRefusedOr : {A : Type 0} → Option Refusal → Bool → Row Definition → Journal T → Parts → Proposer → Result (Vec Message A) NodeFault → Journal T → Parts → Proposer → Type 0
   IsRefusedOr None hears the_row journal parts proposer result journal_after parts_after proposer_after =
       IsChange hears the_row journal parts proposer result journal_after parts_after proposer_after

@@ -24,7 +24,7 @@ pub record Kept : Type 0 where
 abbrev pub stored_of : Kept → Stored Definition
 stored_of kept = parts.stored_of kept.parts
 
--- There is room for the record: to apply it takes no memory. That is so of a tried round, of a promise and a vote that
+-- There is room for the record: to apply it allocates nothing. That is so of a tried round, of a promise and a vote that
 -- is set aside, and of a published definition where there is room for one more.
 abbrev pub IsRoomFor : Option Record → Bool → Record → Type 0
 IsRoomFor prepared has_room (Tried round) = ⊤

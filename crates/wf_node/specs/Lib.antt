@@ -11,3 +11,4 @@ pub mod Memory
 pub mod Act
 pub mod Step
 pub mod Opening
+pub mod Growth

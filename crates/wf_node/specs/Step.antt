@@ -13,7 +13,7 @@ use Rattle.wf_node.specs.Images.{AllStandFor, EachStandsFor}
 use Rattle.wf_node.specs.Memory as memory
 use Rattle.wf_node.specs.Node.{Node, stored_of, working_of}
 
--- the table's row of the input at this node, and the table's refusal
+-- the table's row of the input at this node, and the table's rejection
 abbrev pub row_of : {T : Type 0} → Node T → Input Definition → Row Definition
 row_of node input = row definition_eq node.n node.id (stored_of node) (working_of node) input
 

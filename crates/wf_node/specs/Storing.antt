@@ -24,7 +24,7 @@ module _ {T : Type 0} (honest : Type 0) (content : T → List ℕ) (images : T �
     pub running : new.halted ≡ false
     pub stored : honest → IsStoredBy entry (images old.tape) (images new.tape)
 
-  -- a growth was refused: the tape is as it was
+  -- a growth was rejected: the tape is as it was
   pub record IsSpared (old new : Journal T) : Type 0 where
     pub running : new.halted ≡ false
     pub same : honest → IsUnchanged (content old.tape) (content new.tape) (images old.tape) (images new.tape)

@@ -11,7 +11,7 @@ use wf_proposer::Refusal;
 /// Why a step isn't done.
 #[derive(Clone, Copy, Debug, PartialEq, Eq, Error)]
 pub enum NodeFault {
-    /// N1: a growth was refused. Nothing has changed, the tape neither.
+    /// N1: a growth was rejected. Nothing has changed, the tape neither.
     #[error("N1: out of memory")]
     Memory,
     /// N2: a proposal was asked for while one runs.
@@ -56,7 +56,7 @@ impl<T: Drop> From<AllocFailed<T>> for NodeFault {
     }
 }
 
-/// The node's fault for what its proposer refuses.
+/// The node's fault for what its proposer rejects.
 pub(crate) fn fault_of(refusal: Refusal) -> NodeFault
     ensures { result ≡ fault_of refusal }
 {

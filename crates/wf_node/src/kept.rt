@@ -142,7 +142,7 @@ impl Kept {
         }
     }
 
-    /// Applies a record that fits, as the fold does. It takes no memory where there is room for the record; an
+    /// Applies a record that fits, as the fold does. It allocates nothing where there is room for the record; an
     /// error changes nothing.
     pub(crate) fn apply(&mut self, entry: Record) -> Result<(), AllocError>
         requires { fits (stored_of self.old) (view entry) ≡ true }

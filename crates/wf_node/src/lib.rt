@@ -8,8 +8,8 @@
 //! It promises, of an honest tape: a node opens as the fold of its records, with no proposal; a step is the row of
 //! the farm's table at this node, with exactly its messages; the row's record is on the tape, and every image stands
 //! for the new stored part, before a message is handed out; and where the tape fails, no message is, and each
-//! image stands for the stored part from before or the row's. Of every tape: a step is refused exactly where the
-//! table refuses it, and changes nothing then; want of memory changes nothing; a node whose tape failed is halted,
+//! image stands for the stored part from before or the row's. Of every tape: a step is rejected exactly where the
+//! table rejects it, and changes nothing then; allocation failure changes nothing; a node whose tape failed is halted,
 //! and steps no more.
 //!
 //! It doesn't know whether a message was sent, nor what other nodes do. A file's honesty is a premise.

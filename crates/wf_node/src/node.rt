@@ -70,8 +70,8 @@ impl<T: Tape> Node<T> {
         self.machine.kept.history().get(seq)
     }
 
-    /// Why the node wouldn't propose anything now: N5 where it is halted, else what a step would be refused by. None
-    /// where a proposal would begin. It takes no memory and changes nothing.
+    /// Why the node wouldn't propose anything now: N5 where it is halted, else what a step would be rejected by. None
+    /// where a proposal would begin. It allocates nothing and changes nothing.
     pub fn proposal_refusal(&self) -> Option<NodeFault>
         ensures halted { self.now.halted ≡ true → result ≡ Some NodeFault.Halted }
         ensures refusal { self.now.halted ≡ false → IsWhyNot (refuse_proposal (stored_of self.now) (working_of self.now)) result }
@@ -82,8 +82,8 @@ impl<T: Tape> Node<T> {
         self.machine.proposal_refusal()
     }
 
-    /// Why the node wouldn't begin its proposal anew now: N5 where it is halted, else what a step would be refused by.
-    /// None where it would. It takes no memory and changes nothing.
+    /// Why the node wouldn't begin its proposal anew now: N5 where it is halted, else what a step would be rejected by.
+    /// None where it would. It allocates nothing and changes nothing.
     pub fn retry_refusal(&self) -> Option<NodeFault>
         ensures halted { self.now.halted ≡ true → result ≡ Some NodeFault.Halted }
         ensures refusal { self.now.halted ≡ false → IsWhyNot (refuse_retry (stored_of self.now) (working_of self.now)) result }

@@ -23,9 +23,9 @@ use wf_tape::{Found, Journal, OpenFault, Record, Tape};
 
 impl<T: Tape> Node<T> {
     /// Node `id` of `n` nodes, with what its tape stands for and no proposal. A torn record behind the whole ones is
-    /// removed, and what is kept is synced. A refusal hands the tape back, as it was but for a failure of the tape
+    /// removed, and what is kept is synced. A rejection hands the tape back, as it was but for a failure of the tape
     /// itself: P1 where the tape failed, P2 at the place where behind the whole records stands what is no record, or
-    /// where a published definition stands that isn't the next one, P3 where a growth was refused. Each record is
+    /// where a published definition stands that isn't the next one, P3 where a growth was rejected. Each record is
     /// moved once, so opening takes as long as the tape is.
     #[tactic(auto, using(crate::proofs::Opened::fold_of, crate::proofs::Opened::stands_all, crate::proofs::Opened::bad_read, crate::proofs::Opened::bad_fold, crate::proofs::Opened::bad_settle, crate::proofs::Opened::same_before, crate::proofs::Opened::follows_before, crate::proofs::Opened::unchanged_before, crate::proofs::Opened::why_failed_before))]
     pub fn open(alloc: Global, tape: T, id: NodeId, n: u8) -> Result<Node<T>, (T, OpenFault)>

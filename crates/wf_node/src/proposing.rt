@@ -114,7 +114,7 @@ impl<T: Tape> Machine<T> {
         }
     }
 
-    /// A node refused, and named what it promised.
+    /// A node rejected, and named what it promised.
     pub(crate) fn on_nack(
         &mut self,
         alloc: Global,

@@ -20,9 +20,9 @@ impl<T: Tape> Node<T> {
     ghost use Rattle.wf_tape.specs.Tape.{HasRisen, IsUnchanged};
 
     /// One step: the row of the farm's table for the input, whose messages are handed out once its record is on the
-    /// tape. A halted node answers N5. A step that the table refuses changes nothing: N2 where a proposal is asked for
+    /// tape. A halted node answers N5. A step that the table rejects changes nothing: N2 where a proposal is asked for
     /// while one runs, N7 where a second try is while none does, then N3 where the last sequence is published, then N4
-    /// where there is no higher round. Then N1 where a growth was refused, which changes nothing either, and N6 where
+    /// where there is no higher round. Then N1 where a growth was rejected, which changes nothing either, and N6 where
     /// the tape failed, which halts the node: its record is on the tape or not, and no message is handed out.
     pub fn step(&mut self, alloc: Global, input: Input) -> Result<Vec<Message>, NodeFault>
         ensures halted { self.old.halted ≡ true → result ≡ Err NodeFault.Halted }

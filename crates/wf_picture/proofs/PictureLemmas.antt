@@ -13,7 +13,9 @@ use Rattle.wf_label.specs.Label.{candidates}
 use Rattle.wf_label.specs.Placed.{PlacedValue}
 use Rattle.wf_label.specs.Placing.{IsPlacing, EachListHasOnePlacing, PlacedIsThePlacing, placed_of}
 use Rattle.wf_picture.specs.Image.{image}
-use Rattle.wf_picture.specs.Picture.{placed, labelled, corner_of, crop, picture, IsImageOf}
+use Rattle.wf_picture.specs.Picture.{placed, labelled, corner_of, crop, picture, IsImageOf, IsViewFor}
+use Rattle.wf_picture.specs.Request.{RequestValue}
+use Rattle.wf_picture.specs.declared.size.Size.{Size}
 
 -- labels over a picture make the picture of their colours over its own
 inked_over : (labels : List PlacedValue) (width height : ℕ) (below : ℤ → ℤ → Color) (old new : PixmapValue) → IsPicture width height below old → IsInked labels old new →
@@ -50,16 +52,18 @@ ok_gives (Ok x) follows known = follows x known
 ok_gives (Err e) follows known = tt
 
 -- the file of the part at the view's corner is the request's image
-pub image_drawn : (map : Definition) (layers : List ℕ) (box : ExtentValue) (width height : ℕ) (background : Color) (view : ViewValue) (p : PixmapValue) (corner : Corner) (bytes : List ℕ) →
-    IsViewOf map.extent box width height view → IsPicture view.width view.height (labelled map layers view background) p → corner ≡ corner_of view →
-    ((whole : ℤ → ℤ → Color) → IsPicture p.width p.height whole p → bytes ≡ image width height (crop corner whole)) →
-    IsImageOf map layers box width height background bytes
+pub image_drawn : (map : Definition) (request : RequestValue) (size : Size) (view : ViewValue) (p : PixmapValue) (corner : Corner) (bytes : List ℕ) →
+    request.size ≡ size → IsViewFor map.extent request view → IsPicture view.width view.height (labelled map request.layers view request.background) p →
+    corner ≡ corner_of view → ((whole : ℤ → ℤ → Color) → IsPicture p.width p.height whole p → bytes ≡ image size.width size.height (crop corner whole)) →
+    IsImageOf map request bytes
 unfolding picture
-image_drawn map layers box width height background view p corner bytes is shows at written =
-    let own : IsPicture p.width p.height (labelled map layers view background) p =
-    subst₂ (λ (w h : ℕ). IsPicture w h (labelled map layers view background) p) (sym shows.wide) (sym shows.high) shows in
+image_drawn map request size view p corner bytes sized is shows at written =
+    let whole = labelled map request.layers view request.background in
+    let own : IsPicture p.width p.height whole p = subst₂ (λ (w h : ℕ). IsPicture w h whole p) (sym shows.wide) (sym shows.high) shows in
     record {
       view = view;
       is = is;
-      file = written (labelled map layers view background) own ∙ ap (λ (c : Corner). image width height (crop c (labelled map layers view background))) at;
+      file = written whole own
+          ∙ ap (λ (c : Corner). image size.width size.height (crop c whole)) at
+          ∙ ap (λ (s : Size). image s.width s.height (crop (corner_of view) whole)) (sym sized);
     }

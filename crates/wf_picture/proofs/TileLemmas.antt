@@ -116,11 +116,13 @@ one_picture part map layers background cell other share = shared map layers back
 
 pub crops : IsPartOfTheDrawing → TilesAreCropsOfOnePicture
 unfolding picture
-crops part map layers background cell other share box width height found bytes image_of =
-    let size = tile_size map.extent box width height other found in
-    let whole = labelled map layers (tile_view map.extent other) background in
+crops part map request cell other share found bytes image_of =
+    let width = request.size.width in
+    let height = request.size.height in
+    let size = tile_size map.extent request.bbox width height other found in
+    let whole = labelled map request.layers (tile_view map.extent other) request.background in
     image_of.file
-    ∙ ap (λ (view : ViewValue). image width height (picture map layers view background)) (image_of.is.tile other found)
+    ∙ ap (λ (view : ViewValue). image width height (picture map request.layers view request.background)) (image_of.is.tile other found)
     ∙ ap (λ (w : ℕ). image w height (crop (tile_corner other) whole)) size.0
     ∙ ap (λ (h : ℕ). image tile_pixels h (crop (tile_corner other) whole)) size.1
-    ∙ ap (λ (p : ℤ → ℤ → Color). image tile_pixels tile_pixels (crop (tile_corner other) p)) (sym (one_picture part map layers background cell other share))
+    ∙ ap (λ (p : ℤ → ℤ → Color). image tile_pixels tile_pixels (crop (tile_corner other) p)) (sym (one_picture part map request.layers request.background cell other share))

@@ -83,15 +83,17 @@ same_view a b twice =
     λ i. record { width = width i; height = height i; x = x i; y = y i; corner = corner i }
 
 pub one_view : EachRequestHasOneView
-one_view e box width height view other is also =
-    same_view other view (either e box width height (other ≡ view)
+one_view e request view other is also =
+    let width = request.size.width in
+    let height = request.size.height in
+    same_view other view (either e request.bbox width height (other ≡ view)
     (λ cell found. also.tile cell found ∙ sym (is.tile cell found))
     (λ none. also.plain none ∙ sym (is.plain none)))
 
 pub one_image : EachRequestHasOneImage
-one_image map layers box width height background bytes others is also =
-    let same : also.view ≡ is.view = one_view map.extent box width height is.view also.view is.is also.is in
-    also.file ∙ ap (λ (view : ViewValue). image width height (picture map layers view background)) same ∙ sym is.file
+one_image map request bytes others is also =
+    let same : also.view ≡ is.view = one_view map.extent request is.view also.view is.is also.is in
+    also.file ∙ ap (λ (view : ViewValue). image request.size.width request.size.height (picture map request.layers view request.background)) same ∙ sym is.file
 
 -- ---- where the picture lies in it
 

@@ -1,3 +1,4 @@
 pub mod Image
 pub mod Picture
+pub mod Request
 pub mod Tiles

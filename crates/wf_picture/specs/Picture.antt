@@ -1,5 +1,5 @@
 -- The picture of a map that a request is answered with: what is painted and labelled in its view, cut to its part of it.
-use Rattle.std.specs.Prelude.{◌≡◌, ℕ, List, ℤ, pos}
+use Rattle.std.specs.Prelude.{◌≡◌, ◌≤◌, ◌+◌, ℕ, List, ℤ, pos}
 use Rattle.std.specs.Option.{unwrap_or}
 use Rattle.wf_def.specs.Definition.{Definition}
 use Rattle.wf_def.specs.Extent.{ExtentValue}
@@ -14,6 +14,8 @@ use Rattle.wf_label.specs.Label.{candidates}
 use Rattle.wf_label.specs.Placed.{PlacedValue}
 use Rattle.wf_label.specs.Placing.{placed_of}
 use Rattle.wf_picture.specs.Image.{image}
+use Rattle.wf_picture.specs.Request.{RequestValue}
+use Rattle.wf_picture.specs.declared.size.Size.{Size}
 
 -- the labels that are placed in the view, in label order
 unfoldable pub placed : Definition → List ℕ → ViewValue → List PlacedValue
@@ -29,6 +31,11 @@ labelled map layers view background column row =
 abbrev pub corner_of : ViewValue → Corner
 corner_of view = unwrap_or view.corner (record { column = 0; row = 0 })
 
+-- a picture of this size that begins there is a part of the view
+pub record LiesIn (size : Size) (view : ViewValue) : Type 0 where
+  pub columns : (corner_of view).column + size.width ≤ view.width
+  pub rows : (corner_of view).row + size.height ≤ view.height
+
 -- the part of a picture whose lower left pixel is the corner
 unfoldable pub crop : Corner → (ℤ → ℤ → Color) → ℤ → ℤ → Color
 crop corner whole column row = whole (plus column (pos corner.column)) (plus row (pos corner.row))
@@ -37,18 +44,22 @@ crop corner whole column row = whole (plus column (pos corner.column)) (plus row
 unfoldable pub picture : Definition → List ℕ → ViewValue → Color → ℤ → ℤ → Color
 picture map layers view background = crop (corner_of view) (labelled map layers view background)
 
--- the bytes are the file of the picture of the layers in this box, in this size, over this background
-pub record IsImageOf (map : Definition) (layers : List ℕ) (box : ExtentValue) (width height : ℕ) (background : Color) (bytes : List ℕ) : Type 0 where
+-- the view is the one that the request has in the map with this extent
+abbrev pub IsViewFor : ExtentValue → RequestValue → ViewValue → Type 0
+IsViewFor extent request view = IsViewOf extent request.bbox request.size.width request.size.height view
+
+-- the bytes are the file of the picture of the request's layers in its box, in its size, over its background
+pub record IsImageOf (map : Definition) (request : RequestValue) (bytes : List ℕ) : Type 0 where
   pub view : ViewValue
-  pub is : IsViewOf map.extent box width height view
-  pub file : bytes ≡ image width height (picture map layers view background)
+  pub is : IsViewFor map.extent request view
+  pub file : bytes ≡ image request.size.width request.size.height (picture map request.layers view request.background)
 
 -- a request has one view at most
 abbrev pub EachRequestHasOneView : Type 0
-EachRequestHasOneView = (extent box : ExtentValue) (width height : ℕ) (view other : ViewValue) →
-    IsViewOf extent box width height view → IsViewOf extent box width height other → other ≡ view
+EachRequestHasOneView = (extent : ExtentValue) (request : RequestValue) (view other : ViewValue) →
+    IsViewFor extent request view → IsViewFor extent request other → other ≡ view
 
 -- so it has one image at most
 abbrev pub EachRequestHasOneImage : Type 0
-EachRequestHasOneImage = (map : Definition) (layers : List ℕ) (box : ExtentValue) (width height : ℕ) (background : Color) (bytes others : List ℕ) →
-    IsImageOf map layers box width height background bytes → IsImageOf map layers box width height background others → others ≡ bytes
+EachRequestHasOneImage = (map : Definition) (request : RequestValue) (bytes others : List ℕ) →
+    IsImageOf map request bytes → IsImageOf map request others → others ≡ bytes

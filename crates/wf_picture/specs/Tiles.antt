@@ -1,7 +1,6 @@
 -- Tiles: which of them are drawn in one view, and that each is a part of one picture.
 use Rattle.std.specs.Prelude.{◌≡◌, ℕ, true, List, pos}
 use Rattle.wf_def.specs.Definition.{Definition}
-use Rattle.wf_def.specs.Extent.{ExtentValue}
 use Rattle.wf_def.specs.declared.color.Color.{Color}
 use Rattle.wf_paint.specs.Exact.{quotient}
 use Rattle.wf_paint.specs.Grid.{fits, tile_pixels}
@@ -10,6 +9,7 @@ use Rattle.wf_paint.specs.declared.cell.GridCell.{GridCell}
 use Rattle.wf_paint.specs.declared.corner.Corner.{Corner}
 use Rattle.wf_picture.specs.Image.{image}
 use Rattle.wf_picture.specs.Picture.{labelled, crop, IsImageOf}
+use Rattle.wf_picture.specs.Request.{RequestValue}
 
 -- two cells of one level are among the same four columns and the same four rows
 pub record ShareAView (cell other : GridCell) : Type 0 where
@@ -28,7 +28,6 @@ tile_corner cell = record { column = tile_start cell.col; row = tile_start cell.
 
 -- and each of their tiles is the part of it that lies there
 abbrev pub TilesAreCropsOfOnePicture : Type 0
-TilesAreCropsOfOnePicture = (map : Definition) (layers : List ℕ) (background : Color) (cell other : GridCell) → ShareAView cell other →
-    (box : ExtentValue) (width height : ℕ) → fits map.extent box width height other ≡ true →
-    (bytes : List ℕ) → IsImageOf map layers box width height background bytes →
-    bytes ≡ image tile_pixels tile_pixels (crop (tile_corner other) (labelled map layers (tile_view map.extent cell) background))
+TilesAreCropsOfOnePicture = (map : Definition) (request : RequestValue) (cell other : GridCell) → ShareAView cell other →
+    fits map.extent request.bbox request.size.width request.size.height other ≡ true → (bytes : List ℕ) → IsImageOf map request bytes →
+    bytes ≡ image tile_pixels tile_pixels (crop (tile_corner other) (labelled map request.layers (tile_view map.extent cell) request.background))

@@ -23,10 +23,32 @@ pub(crate) fn image(
     requires rows { corner.row + height ≤ pixmap.now.height }
     ensures { IfOk result (λ file. (whole : ℤ → ℤ → Pixel) → IsPicture pixmap.now.width pixmap.now.height whole pixmap.now → file.items ≡ image width height (crop corner whole)) }
 {
-    let mut file = Vec::new(alloc);
+    let mut file = Vec::with_capacity(alloc, file_size(pixmap, width, height))?;
     push_header(&mut file, width, height)?;
     push_rows(&mut file, pixmap, corner, width, height)?;
     Ok(file)
+}
+
+/// How many bytes the file of a part of the picture has, in this size.
+fn file_size(pixmap: &Pixmap, width: u32, height: u32) -> usize
+    requires columns { width ≤ pixmap.now.width }
+    requires rows { height ≤ pixmap.now.height }
+{
+    // The picture tells that its sides are within their limit.
+    let _ = pixmap.area();
+    "P6\n \n255\n".len() + digits(width) + digits(height) + 3 * (width * height) as usize
+}
+
+/// How many digits a side of a picture has.
+fn digits(side: u32) -> usize
+    ensures { result ≤ 4 }
+{
+    match side {
+        0..=9 => 1,
+        10..=99 => 2,
+        100..=999 => 3,
+        _ => 4,
+    }
 }
 
 /// Adds the header: the form of the file, its width and height in pixels, and the greatest value of a byte.

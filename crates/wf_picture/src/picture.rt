@@ -1,15 +1,16 @@
 //! Pictures of a map.
-ghost use Rattle.std.specs.Prelude.{◌≡◌, ◌≤◌, ◌<◌, ◌+ℤ◌, ◌≤ℤ◌, pos, length, IfOk};
+ghost use Rattle.std.specs.Prelude.{◌≡◌, ◌<◌, length, IfOk};
 ghost use Rattle.std.specs.List.{All};
-ghost use Rattle.wf_paint.specs.Grid.{least_cell};
+ghost use Rattle.wf_def.specs.Definition.{Definition};
 ghost use Rattle.wf_paint.specs.Pixmap.{IsPicture};
-ghost use Rattle.wf_paint.specs.View.{most_pixels};
-ghost use Rattle.wf_picture.specs.Picture.{corner_of, labelled, IsImageOf};
+ghost use Rattle.wf_picture.specs.Picture.{corner_of, labelled, IsImageOf, IsViewFor, LiesIn};
+ghost use Rattle.wf_picture.specs.Request.{RequestValue};
 
 use crate::image::image;
+use crate::request::PictureRequest;
+use crate::size::Size;
 use std::alloc::{AllocError, Global};
 use wf_def::color::Color;
-use wf_def::extent::Extent;
 use wf_def::map::MapDef;
 use wf_label::draw::draw_labels;
 use wf_label::law::there_is_one_placed_set;
@@ -19,42 +20,30 @@ use wf_paint::painter::paint;
 use wf_paint::pixmap::Pixmap;
 use wf_paint::view::View;
 
-/// The picture of the layers in these places of the map, from the lowest to the uppermost, with their labels over them: the file of a
-/// pixmap that shows the box in `width` by `height` pixels, 1 to 1,024 each, over the background's colour (OGC 06-042, 7.3.3). The
-/// box has sides of at least a thousandth of a unit. Where box and size are those of a tile of the map's grid, the tile is cut out of
-/// the picture that sixteen tiles share, so that shapes and labels go on across neighbouring tiles. Want of memory is the only error.
-pub fn draw(
-    alloc: Global,
-    map: &MapDef,
-    layers: &[usize],
-    bbox: &Extent,
-    width: u32,
-    height: u32,
-    background: Color,
-) -> Result<Vec<u8>, AllocError>
-    requires layers { All (λ i. i < length map.now.layers) layers.now }
-    requires width_least { 1 ≤ width }
-    requires width_most { width ≤ most_pixels }
-    requires height_least { 1 ≤ height }
-    requires height_most { height ≤ most_pixels }
-    requires wide { (bbox.now.minx +ℤ pos least_cell) ≤ℤ bbox.now.maxx }
-    requires tall { (bbox.now.miny +ℤ pos least_cell) ≤ℤ bbox.now.maxy }
-    ensures { IfOk result (λ file. IsImageOf map.now layers.now bbox.now width height background file.items) }
+/// The picture of a request, as a file: its layers, which are the map's, from the lowest to the uppermost, with their labels over them,
+/// over the background (OGC 06-042, 7.3.3). Where box and size are those of a tile of the map's grid, the tile is cut out of the picture
+/// that sixteen tiles share, so that shapes and labels go on across neighbouring tiles. Allocation failure is the only error.
+pub fn draw(alloc: Global, map: &MapDef, request: &PictureRequest) -> Result<Vec<u8>, AllocError>
+    requires { All (λ i. i < length map.now.layers) request.now.layers }
+    ensures { IfOk result (λ file. IsImageOf map.now request.now file.items) }
 {
-    let view = View::of(map, bbox, width, height);
-    let pixmap = labelled(alloc, map, layers, &view, background)?;
-    image(alloc, &pixmap, corner_of(&view), width, height)
+    let view = view_of(map, request);
+    let pixmap = labelled(alloc, map, request.layers(), &view, request.background())?;
+    cut(alloc, &pixmap, &view, request.size())
 }
 
-/// The pixel of the view that is the lower left one of the picture.
-fn corner_of(view: &View) -> Corner
-    ensures { result ≡ corner_of view.now }
+/// The view that a request has: for a tile of the map's grid the one that sixteen tiles share. The picture of the request lies within it.
+pub fn view_of(map: &MapDef, request: &PictureRequest) -> View
+    ensures is { IsViewFor map.now.extent request.now result }
+    ensures within { LiesIn request.now.size result }
 {
-    view.corner().unwrap_or(Corner { column: 0, row: 0 })
+    let size = request.size();
+    View::of(map, &request.bbox(), size.width, size.height)
 }
 
-/// What is painted and labelled in the whole view.
-fn labelled(
+/// The picture of the whole view: the layers in these places of the map, from the lowest to the uppermost, with their labels over them,
+/// over the background's colour. The pictures of all requests that have the view are parts of it. Allocation failure is the only error.
+pub fn labelled(
     alloc: Global,
     map: &MapDef,
     layers: &[usize],
@@ -69,4 +58,23 @@ fn labelled(
     let mut pixmap = paint(alloc, map, layers, view, background)?;
     draw_labels(&mut pixmap, &labels);
     Ok(pixmap)
+}
+
+/// The picture of a request of this size, cut out of the picture of its view, as a file. Of whichever map and request the view's picture
+/// is, the file is the request's image. Allocation failure is the only error.
+pub fn cut(alloc: Global, pixmap: &Pixmap, view: &View, size: Size) -> Result<Vec<u8>, AllocError>
+    requires within { LiesIn size view.now }
+    requires wide { pixmap.now.width ≡ view.now.width }
+    requires high { pixmap.now.height ≡ view.now.height }
+    ensures { IfOk result (λ file. (map : Definition) (request : RequestValue) → request.size ≡ size → IsViewFor map.extent request view.now
+        → IsPicture view.now.width view.now.height (labelled map request.layers view.now request.background) pixmap.now → IsImageOf map request file.items) }
+{
+    image(alloc, pixmap, corner_of(view), size.width, size.height)
+}
+
+/// The pixel of the view that is the lower left one of the picture.
+fn corner_of(view: &View) -> Corner
+    ensures { result ≡ corner_of view.now }
+{
+    view.corner().unwrap_or(Corner { column: 0, row: 0 })
 }

@@ -45,7 +45,7 @@ pub on_ok : {T E P : Type 0} → (result : Result T E) → P → OnOk result P
 on_ok (Ok x) done = done
 on_ok (Err e) done = tt
 
--- an order's fault is want of memory
+-- an order's fault is allocation failure
 pub fault_is_memory : (there : Option Numbered) (fault : ScriptFault) → fault_at there ≡ Some fault → IsMemory fault
 fault_is_memory None fault is = absurd (cc)
 fault_is_memory (Some n) fault is = subst IsMemory (same_Some (Memory n.line) fault is) refl

@@ -56,7 +56,7 @@ KeepsQuiet old new (play.Script fault) = is_memory fault ≡ false → Keeps old
 KeepsQuiet old new play.Read = Keeps old new
 KeepsQuiet old new play.Write = ⊤
 
--- A read fault comes only where a read has failed, and a run whose reads have failed ends with that fault or for want of memory.
+-- A read fault comes only where a read has failed, and a run whose reads have failed ends with that fault or for allocation failure.
 abbrev pub CountsReads : {T : Type 0} → Result T PlayFault → ℕ → ℕ → Type 0
 CountsReads (Ok x) old new = new ≡ old
 CountsReads (Err (play.Script fault)) old new = is_memory fault ≡ false → new ≡ old

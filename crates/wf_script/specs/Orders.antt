@@ -42,7 +42,7 @@ unfoldable pub some_numbers : List (List ℕ) → Result (List ℕ) Wrong
 some_numbers [] = Err BadLine
 some_numbers (word ∷ rest) = numbers (word ∷ rest)
 
--- what of a torn step is kept
+-- what of a crash within a step is kept
 abbrev pub kept_of : List ℕ → Result Kept Wrong
 kept_of word = if bytes_eq word (codes "before") then Ok kept.Before else if bytes_eq word (codes "after") then Ok kept.After else Err BadLine
 

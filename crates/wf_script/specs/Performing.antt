@@ -30,7 +30,7 @@ event_of i table.Retry = world.Retry i
 event_of i table.CatchUp = world.CatchUp i
 event_of i (table.Deliver k) = world.Deliver i k
 
--- Just these events have happened: the farm tells why the last one was refused, if it was, and as many messages count as pumped as before.
+-- Just these events have happened: the farm tells why the last one was rejected, if it was, and as many messages count as pumped as before.
 pub record Happens (events : List (Event Definition)) (before after : Farm) : Type 0 where
   pub runs : Runs events before after
   pub refused : TellsWhy (λ w. last_refused w events) after.refused before.places before.sent
@@ -64,6 +64,6 @@ unfoldable pub PerformsAt : List Definition → Option Numbered → Farm → Far
 PerformsAt maps None before after = after ≡ before
 PerformsAt maps (Some numbered) before after = Performs maps numbered.order before after
 
--- want of memory at the line of that order; there is none where there is no order
+-- allocation failure at the line of that order; there is none where there is no order
 abbrev pub fault_at : Option Numbered → Option ScriptFault
 fault_at numbered = option_map (λ n. fault.Memory n.line) numbered

@@ -23,7 +23,7 @@ wants_memory wrongs.BadLine = false
 wants_memory wrongs.OverLimit = false
 wants_memory wrongs.BadMap = false
 
--- What was read, seen by view, is what is meant; whatever is told to be wrong, but want of memory, is wrong.
+-- What was read, seen by view, is what is meant; whatever is told to be wrong, but allocation failure, is wrong.
 abbrev pub Gives : {X Y : Type 0} → (X → Y) → Result X Wrong → Result Y Wrong → Type 0
 Gives view (Ok x) meant = meant ≡ Ok (view x)
 Gives view (Err wrong) meant = wants_memory wrong ≡ false → meant ≡ Err wrong
@@ -33,7 +33,7 @@ abbrev pub Tells : {X Y : Type 0} → (X → Y) → Result X ScriptFault → Res
 Tells view (Ok x) meant = meant ≡ Ok (view x)
 Tells view (Err fault) meant = is_memory fault ≡ false → meant ≡ Err fault
 
--- What is meant from here on is what is meant from there on; whatever is told to be wrong, but want of memory, is wrong at the line of
+-- What is meant from here on is what is meant from there on; whatever is told to be wrong, but allocation failure, is wrong at the line of
 -- this number.
 abbrev pub GoesOn : {X Y : Type 0} → ℕ → Result X Wrong → Result Y ScriptFault → Result Y ScriptFault → Type 0
 GoesOn n (Ok x) here there = here ≡ there

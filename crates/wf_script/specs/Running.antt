@@ -20,7 +20,7 @@ pub record IsScriptText (text : List ℕ) : Type 0 where
   pub bytes : length text ≤ most_script_bytes
   pub lines : line_feeds text ≤ most_lines
 
--- a fault, want of memory aside, is the one for which the input, where it is known, is no script
+-- a fault, allocation failure aside, is the one for which the input, where it is known, is no script
 abbrev pub IsFaultOf : Option (List ℕ) → ScriptFault → Type 0
 IsFaultOf input fault = is_memory fault ≡ false → IfSome input (λ text. script_of text ≡ Err fault)
 

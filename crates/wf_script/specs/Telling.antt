@@ -29,7 +29,7 @@ use Rattle.wf_script.specs.Script.{Numbered, Script}
 use Rattle.wf_script.specs.declared.order.Question.{Question}
 use Rattle.wf_script.specs.declared.order.Question.TheVariants as question
 
--- the line about a refused event, by the number of its refusal; none where it wasn't refused
+-- the line about a rejected event, by the number of its rejection; none where it wasn't rejected
 abbrev pub refusal_line : Option ℕ → List ℕ
 refusal_line None = []
 refusal_line (Some n) = codes "refused N" ++ decimal n ++ codes "\n"
@@ -146,7 +146,7 @@ abbrev pub step_text : {A : Type 0} → Option A → Option ℕ → List ℕ
 step_text None refused = []
 step_text (Some action) refused = refusal_line refused
 
--- What an order writes. Of events it is whether the last one was refused.
+-- What an order writes. Of events it is whether the last one was rejected.
 abbrev pub Writes : Script → Order → Farm → Farm → List ℕ → Type 0
 Writes script (order.Step i s) before after text = text ≡ step_text (action_of script.maps s) after.refused
 Writes script (order.Deliver i messages) before after text = text ≡ refusal_line after.refused

@@ -11,7 +11,7 @@ use thiserror::Error;
 /// those of maps too.
 #[derive(Clone, Copy, Debug, PartialEq, Eq, Error)]
 pub enum ScriptFault {
-    /// S1: a growth was refused.
+    /// S1: a growth was rejected.
     #[error("S1 line {0}")]
     Memory(usize),
     /// S2: the line isn't one of a script.

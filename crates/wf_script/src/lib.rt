@@ -26,10 +26,10 @@
 //! Its model: of a script, how many nodes it has, its maps' names and what they mean, and its orders with their lines; of a
 //! session, its script and its farm.
 //!
-//! It promises of each order that the farm is what that order does: a step, a stop, a restart or a torn step is one event of
+//! It promises of each order that the farm is what that order does: a step, a stop, a restart or a crash within a step is one event of
 //! the model, deliveries are theirs in turn, a pump is the farm's own, `skip` and questions leave the world as it is; and
 //! where memory was wanted, that is told at exactly the order's line ([`Session::perform`]). It promises what each order writes,
-//! too (`Writes` of `specs/Telling.antt`): of an event its refusal, of a question its answer. Whatever an order is, the farm
+//! too (`Writes` of `specs/Telling.antt`): of an event its rejection, of a question its answer. Whatever an order is, the farm
 //! has gone on by some events of the model, no node's list lost a map, and the farm's nodes agree, with the laws beneath
 //! that: ballots belong to their nodes, promises are kept, and each Accept has a majority of promises behind it. So two
 //! running nodes never publish different maps ([`Session::differ`]), and two that stand at one sequence, or that are asked
@@ -37,7 +37,7 @@
 //!
 //! Of a script it promises that what is read is exactly the script that the text is, or the fault for which it is none, with its
 //! line, unless memory is wanted (`script_of` of `specs/Text.antt`, on [`Script::read`]): its nodes, each of its maps by its name
-//! and what it means, and each of its orders with its line. Want of memory is told at a line that there is, too, and never hides
+//! and what it means, and each of its orders with its line. Allocation failure is told at a line that there is, too, and never hides
 //! that a text is over a limit. Of a run it promises that a fault of the reader or the writer comes for that cause, that nothing
 //! is written where the input is no script, which is told by the input's own fault, and that where the run succeeds, the whole
 //! input is a script, each of its orders was performed in turn on a new farm, and exactly what they write was written

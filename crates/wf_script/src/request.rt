@@ -48,7 +48,7 @@ impl<'s> Session<'s> {
     /// Do the two nodes answer the query of a request (OGC 06-042) with the same bytes, of one kind and one media type?
     /// They do where both stand at one sequence, and where it asks both for one map, whatever was played: this is what
     /// [`wf_farm::Farm::answers_agree`] says of the farm. F2 where one of them is absent or stopped, and F1 with 0 where a
-    /// growth was refused.
+    /// growth was rejected.
     pub fn equal(
         &self,
         alloc: Global,
@@ -190,7 +190,7 @@ fn tell_exception(
     writeln!(out, "get {number} exception E{code} {size}")
 }
 
-/// That there is no such node; want of memory is no answer.
+/// That there is no such node; allocation failure is no answer.
 fn tell_no_answer(fault: FarmFault, out: &mut String) -> Result<(), AllocError>
     ensures { OnOk result (IsToldAbsent fault (string_bytes out.old) (string_bytes out.new)) }
 {

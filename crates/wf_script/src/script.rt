@@ -72,7 +72,7 @@ impl Script {
 
     /// Reads a script. A byte or a line over the limit is judged first (S3), then the lines in order, a map at the line
     /// where it begins; on one line S2 comes before S3 before S4. A script without a line that isn't skipped is S2 at line 1.
-    /// Want of memory is S1, at the line that wants it, whatever the text is otherwise. Each fault is at a line of the bytes, or
+    /// Allocation failure is S1, at the line that wants it, whatever the text is otherwise. Each fault is at a line of the bytes, or
     /// at line 1 where they have none.
     #[tactic(auto, using(crate::proofs::Counting::over_at, crate::proofs::Counting::bytes_fit, crate::proofs::Counting::lines_fit))]
     pub fn read(alloc: Global, bytes: &[u8]) -> Result<Script, ScriptFault>

@@ -50,7 +50,7 @@ impl<'s> Session<'s> {
     ghost use Rattle.wf_script.specs.Session.{Plays};
     ghost use Rattle.wf_script.specs.Telling.{Adds, TellsPump, Writes, WritesAt, refusal_line, step_text};
 
-    /// The farm before the script's first order: the model's start. S1 at line 1 where a growth was refused.
+    /// The farm before the script's first order: the model's start. S1 at line 1 where a growth was rejected.
     pub fn new(alloc: Global, script: &'s Script) -> Result<Session<'s>, ScriptFault>
         ensures script { IfOk result (λ session. session.script ≡ script.now) }
         ensures start { IfOk result (λ session. Shows session.farm (start script.now.nodes)) }
@@ -73,7 +73,7 @@ impl<'s> Session<'s> {
 
     /// Performs the order of that number, counted from 0, and appends what it writes; nothing where there is no such
     /// order. Whatever it is, the farm has gone on by some events, and the laws hold of it as it is then. S1 at the order's
-    /// line where a growth was refused: then a part of it may have happened, or be written.
+    /// line where a growth was rejected: then a part of it may have happened, or be written.
     pub fn perform(
         &mut self,
         alloc: Global,
@@ -155,7 +155,7 @@ impl<'s> Session<'s> {
         }
     }
 
-    /// The events happen in turn; that the last one is refused is told.
+    /// The events happen in turn; that the last one is rejected is told.
     #[tactic(auto, using(crate::proofs::Playing::run_played, crate::proofs::Playing::part_played))]
     fn run(&mut self, alloc: Global, events: &[Event], out: &mut String) -> Result<(), AllocError>
         ensures script { self.new.script ≡ self.old.script }

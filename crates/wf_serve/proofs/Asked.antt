@@ -6,6 +6,7 @@ use Rattle.wf_codec.specs.declared.message.Message.{Message}
 use Rattle.wf_def.specs.Definition.{Definition}
 use Rattle.wf_model.specs.Table.{Input, store}
 use Rattle.wf_node.specs.Fault.{refused_by}
+use Rattle.wf_node.specs.Growth.{IsGrown, grown_itself, step_grown}
 use Rattle.wf_node.specs.Images.{AllStandFor, EachStandsFor}
 use Rattle.wf_node.specs.Node.{Node, stored_of}
 use Rattle.wf_node.specs.Step.{IsRow, IsSameNode, IsStep, TakesMemory, row_of, refusal_at}
@@ -74,3 +75,10 @@ module _ {T : Type 0} (honest : Type 0) (content : T → List ℕ) (images : T �
 
   pub answered_n : (answer : Result (Vec Message Global) NodeFault) → IsAnswer honest content images failures input before answer after → after.n ≡ before.n
   answered_n answer answers = (same_by before.halted refl answer answers).1
+
+  grown_by : (halted : Bool) → before.halted ≡ halted → (answer : Result (Vec Message Global) NodeFault) → IsAnswer honest content images failures input before answer after → IsGrown before.parts.history after.parts.history
+  grown_by true is answer answers = subst (IsGrown before.parts.history) (sym (ap (λ (x : Node T). x.parts.history) (answers.refused is).1)) (grown_itself before.parts.history)
+  grown_by false is answer answers = step_grown before after honest content images failures input answer (answers.steps is)
+
+  pub answered_grown : (answer : Result (Vec Message Global) NodeFault) → IsAnswer honest content images failures input before answer after → IsGrown before.parts.history after.parts.history
+  answered_grown answer answers = grown_by before.halted refl answer answers

@@ -1,2 +1,3 @@
 mod Asked
+mod Caches
 mod Opened

@@ -6,7 +6,7 @@ use Rattle.wf_def.specs.Definition.{Definition}
 use Rattle.wf_model.specs.Table as table
 use Rattle.wf_edge.specs.Publish.{IsProposed}
 use Rattle.wf_edge.specs.Serving.{MovesOnce, Stays, Proposes}
-use Rattle.wf_farm.specs.Delivering.{KeepTurn, StandAmong, StandInTurn}
+use Rattle.wf_farm.specs.Delivering.{StandAmong, StandInTurn}
 use Rattle.wf_node.specs.Node.{Node}
 use Rattle.wf_node.specs.Step.{IsStep}
 use Rattle.wf_node.specs.declared.fault.NodeFault.{NodeFault}
@@ -57,11 +57,3 @@ module _ {T A : Type 0} (honest : Type 0) (content : T → List ℕ) (images : T
 
   pub moved_n : (sent : Vec Message A) → MovesOnce honest content images failures before sent after → after.n ≡ before.n
   moved_n sent moves = (moved_same sent moves).1
-
--- ---- the nodes stand in turn
-
-pub keeps_itself : {T : Type 0} (nodes : List (Node T)) → KeepTurn nodes nodes
-keeps_itself nodes = record { as_many = refl; in_turn = λ turns. turns }
-
-pub keeps_twice : {T : Type 0} (nodes middle after : List (Node T)) → KeepTurn nodes middle → KeepTurn middle after → KeepTurn nodes after
-keeps_twice nodes middle after first second = record { as_many = second.as_many ∙ first.as_many; in_turn = λ turns. second.in_turn (first.in_turn turns) }

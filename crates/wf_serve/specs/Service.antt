@@ -1,5 +1,6 @@
 -- What is to be served.
 use Rattle.std.specs.Prelude.{◌≤◌, ℕ}
+use Rattle.wf_wms.specs.Kept.{most_kept}
 use Rattle.wf_serve.specs.declared.service.Service.{Service}
 
 -- how many nodes are served, at which port and to how many connections, at most
@@ -18,3 +19,5 @@ pub record IsService (service : Service) : Type 0 where
   pub nodes : service.nodes ≤ most_nodes
   pub port : service.port ≤ last_port
   pub requests : service.requests ≤ most_requests
+  pub cache : 1 ≤ service.cache
+  pub cache_most : service.cache ≤ most_kept

@@ -47,12 +47,12 @@ module _ {T : Type 0} (honest : Type 0) (content : T → List ℕ) (images : T �
     -- also where the input isn't known
     pub moves : MovesOnce honest content images failures before said after
 
-  -- What a node answers that is asked for a step. A halted one refuses it, and stays as it is.
+  -- What a node answers that is asked for a step. A halted one rejects it, and stays as it is.
   pub record IsAnswer (input : Input Definition) (before : Node T) (answer : Result (Vec Message Global) NodeFault) (after : Node T) : Type 0 where
     pub refused : before.halted ≡ true → (answer ≡ Err Halted) × (after ≡ before)
     pub steps : before.halted ≡ false → IsStep honest content images failures before input answer after
 
-  -- What it says then: exactly the step's messages, none where that was refused or failed.
+  -- What it says then: exactly the step's messages, none where that was rejected or failed.
   pub record IsAsked (input : Input Definition) (before : Node T) (said : Vec Message Global) (after : Node T) : Type 0 where
     pub answer : Result (Vec Message Global) NodeFault
     pub answers : IsAnswer input before answer after

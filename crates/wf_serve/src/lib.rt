@@ -1,11 +1,12 @@
 //! Nodes are served over HTTP, one connection after the other.
 //!
-//! A [`Service`] says how many nodes there are, at which port, to how many connections, and in which folder their tapes are.
+//! A [`Service`] says how many nodes there are, at which port, to how many connections, how many pictures are kept for each node,
+//! and in which folder their tapes are.
 //! [`serve`] opens the nodes, lets them hear one another, and serves; [`serve_connection`] is one connection, over any reader
 //! and writer.
 //!
-//! It promises of a connection that the node at its place serves the request, as `wf_edge`'s `serve_one` says, while each
-//! other node stays as it is; that then the nodes are what `wf_farm`'s `deliver_all` leaves of exactly the messages that
+//! It promises of a connection that the node at its place serves the request by its cache, as `wf_edge`'s `serve_one_cached` says,
+//! while each other node stays as it is, and that each cache's pictures are of its node's maps throughout (`specs/Caching.antt`); that then the nodes are what `wf_farm`'s `deliver_all` leaves of exactly the messages that
 //! the node handed out; and that a proposal of that node which still runs is asked to begin anew, once, what it says then
 //! being delivered likewise, while nothing happens where none runs (`specs/Serving.antt`). Node i of n stands at place i
 //! throughout. Of the port it promises that the line which is written names it, the one that was asked for where that isn't
@@ -16,6 +17,7 @@
 //! proposal is published: sockets have no model. That is shown by hand, with the built program, and by tests.
 #![tactic(auto)]
 
+mod caching;
 mod fault;
 mod listening;
 mod opening;

@@ -2,10 +2,12 @@
 ghost use Rattle.std.specs.Prelude.{◌≡◌, ◌<◌, length, IfSome};
 ghost use Rattle.std.specs.String.{string_bytes};
 ghost use Rattle.wf_farm.specs.Delivering.{StandInTurn};
+ghost use Rattle.wf_serve.specs.Caching.{AreKept};
 ghost use Rattle.wf_serve.specs.Fault.{CountsWrites};
 ghost use Rattle.wf_serve.specs.Listening.{IsPortFor, IsTold, IsWriting, port_line};
 ghost use Rattle.wf_serve.specs.Service.{IsService};
 
+use crate::caching::caches_for;
 use crate::fault::ServeFault;
 use crate::opening::{in_files, in_memory};
 use crate::service::Service;
@@ -16,11 +18,13 @@ use std::rt::Files;
 use wf_node::Node;
 use wf_stream::{Sink, write_all};
 use wf_tape::Tape;
+use wf_wms::cache::Cache;
 
 /// Serves nodes at a port of 127.0.0.1, to as many connections as the service says, one after the other: connection c, counted
 /// from 0, by node c mod N. The line `listening P` with the port is written before the first; before that the nodes open, with
 /// what their tapes stand for, each asks for what it missed, and they hear one another. After each connection the nodes hear
-/// what its node has said; where its proposal still runs, it begins that anew, once.
+/// what its node has said; where its proposal still runs, it begins that anew, once. For each node so many pictures are kept as
+/// the service says.
 ///
 /// `Start` where a tape doesn't open, the port can't be had or memory ran out: nothing of the line is written then. `Write`
 /// where the line can't be written: a beginning of it may be. The port is the service's; where that is 0, one that the system
@@ -79,6 +83,7 @@ fn serve_opened<
     K: Sink,
     T: Tape + Drop,
 >(rt: &R, service: Service<'_>, mut nodes: Vec<Node<T>>, sink: &mut K) -> Result<(), ServeFault>
+    requires service { IsService service }
     requires some { 0 < length nodes.items }
     requires in_turn { StandInTurn nodes.items }
     ensures told { IsTold service.entry.port (K.written sink.old) (K.written sink.new) result }
@@ -96,19 +101,42 @@ fn serve_nodes<R: Net<Listener = TcpListener, Stream = TcpStream> + AllocGlobal,
     nodes: &mut [Node<T>],
     sink: &mut K,
 ) -> Result<(), ServeFault>
+    requires service { IsService service }
     requires some { 0 < length nodes.old }
     requires in_turn { StandInTurn nodes.old }
     ensures told { IsTold service.entry.port (K.written sink.old) (K.written sink.new) result }
     ensures writes { CountsWrites result (K.failures sink.old) (K.failures sink.new) }
 {
     catch_up(rt.alloc(), nodes);
+    let Ok(mut caches) = caches_for(rt.alloc(), nodes, service.cache) else {
+        return Err(ServeFault::Start);
+    };
+    let outcome = serve_kept(rt, service, nodes, caches.as_mut_slice(), sink);
+    drop(caches);
+    outcome
+}
+
+/// The same with the nodes' caches.
+fn serve_kept<R: Net<Listener = TcpListener, Stream = TcpStream> + AllocGlobal, K: Sink, T: Tape>(
+    rt: &R,
+    service: Service<'_>,
+    nodes: &mut [Node<T>],
+    caches: &mut [Cache],
+    sink: &mut K,
+) -> Result<(), ServeFault>
+    requires some { 0 < length nodes.old }
+    requires in_turn { StandInTurn nodes.old }
+    requires kept { AreKept nodes.old caches.old }
+    ensures told { IsTold service.entry.port (K.written sink.old) (K.written sink.new) result }
+    ensures writes { CountsWrites result (K.failures sink.old) (K.failures sink.new) }
+{
     let address = SocketAddr::from((Ipv4Addr::LOCALHOST, service.port));
     let Ok(listener) = TcpListener::bind(rt, address) else {
         return Err(ServeFault::Start);
     };
     let outcome = tell_port(rt.alloc(), &listener, service.port, sink);
     if outcome.is_ok() {
-        serve_connections(rt.alloc(), &listener, nodes, service.requests);
+        serve_connections(rt.alloc(), &listener, nodes, caches, service.requests);
     }
     drop(listener);
     outcome

@@ -7,6 +7,8 @@ pub struct Service<'a> {
     pub port: u16,
     /// How many connections are served, one after the other: at most 1,000,000.
     pub requests: u32,
+    /// How many pictures are kept for each node: 1 to 64.
+    pub cache: u8,
     /// The folder with the nodes' tapes; without one they are in memory.
     pub state: Option<&'a str>,
 }

@@ -4,7 +4,9 @@ ghost use Rattle.wf_edge.specs.Hearing.{CountsHearing};
 ghost use Rattle.wf_edge.specs.Page.{standing_at};
 ghost use Rattle.wf_edge.specs.Saying.{CountsSaying};
 ghost use Rattle.wf_farm.specs.Delivering.{KeepTurn, StandInTurn};
+ghost use Rattle.wf_node.specs.Growth.{IsGrown};
 ghost use Rattle.wf_node.specs.Input.{view};
+ghost use Rattle.wf_serve.specs.Caching.{AreKept};
 ghost use Rattle.wf_serve.specs.Serving.{AreHeard, IsAnswer, IsAsked, IsAskedAt, IsConnection, IsRetried, IsServedAt};
 
 use std::alloc::Global;
@@ -12,25 +14,27 @@ use std::net::{Shutdown, TcpListener, TcpStream};
 use std::time::Duration;
 use wf_codec::Message;
 use wf_edge::outcome::Outcome;
-use wf_edge::serve::{Served, serve_one};
+use wf_edge::serve::{Served, serve_one_cached};
 use wf_farm::deliver_all;
 use wf_node::{Input, Node, NodeFault};
 use wf_proposer::Standing;
 use wf_stream::{Sink, Source, Stream};
 use wf_tape::Tape;
+use wf_wms::cache::Cache;
+use wf_wms::law::kept_pictures_outlast_growth;
 
 /// How long a peer that neither sends nor takes anything keeps the others waiting, in seconds.
 const PEER_SECONDS: u64 = 10;
 
-/// The same of a peer whose request was refused, which may still be sending it.
+/// The same of a peer whose request was rejected, which may still be sending it.
 const REFUSED_PEER_SECONDS: u64 = 1;
 
-/// How often more of a refused request is read, and how much at once, in bytes.
+/// How often more of a rejected request is read, and how much at once, in bytes.
 const MOST_PIECES: u32 = 128;
 
 const PIECE_BYTES: usize = 8_192;
 
-/// The least status of a refusal.
+/// The least status of a rejection.
 const LEAST_REFUSAL: u16 = 400;
 
 /// Each node asks for what it missed, and the nodes hear one another.
@@ -56,27 +60,37 @@ fn questions<T: Tape>(alloc: Global, nodes: &mut [Node<T>]) -> Vec<Message>
     asked
 }
 
-/// Serves connections, one after the other, by the nodes in turn.
+/// Serves connections, one after the other, by the nodes in turn, each with its cache.
 pub(crate) fn serve_connections<T: Tape>(
     alloc: Global,
     listener: &TcpListener,
     nodes: &mut [Node<T>],
+    caches: &mut [Cache],
     requests: u32,
 )
     requires some { 0 < length nodes.old }
     requires in_turn { StandInTurn nodes.old }
+    requires kept { AreKept nodes.old caches.old }
 {
     let count = nodes.len();
     for connection in 0..requests {
-        accept(alloc, listener, nodes, connection as usize % count);
+        accept(alloc, listener, nodes, caches, connection as usize % count);
     }
 }
 
 /// Serves the next connection by the node at a place.
-fn accept<T: Tape>(alloc: Global, listener: &TcpListener, nodes: &mut [Node<T>], place: usize)
+fn accept<T: Tape>(
+    alloc: Global,
+    listener: &TcpListener,
+    nodes: &mut [Node<T>],
+    caches: &mut [Cache],
+    place: usize,
+)
     requires within { place < length nodes.old }
     requires in_turn { StandInTurn nodes.old }
-    ensures { KeepTurn nodes.old nodes.new }
+    requires kept { AreKept nodes.old caches.old }
+    ensures turn { KeepTurn nodes.old nodes.new }
+    ensures kept { AreKept nodes.new caches.new }
 {
     let Ok((stream, _)) = listener.accept() else {
         return;
@@ -90,6 +104,7 @@ fn accept<T: Tape>(alloc: Global, listener: &TcpListener, nodes: &mut [Node<T>],
         &mut Stream::new(&stream),
         &mut Stream::new(&stream),
         nodes,
+        caches,
         place,
     );
     if is_refusal(outcome) {
@@ -98,7 +113,7 @@ fn accept<T: Tape>(alloc: Global, listener: &TcpListener, nodes: &mut [Node<T>],
     drop(stream);
 }
 
-/// Was a request refused? It may not be read to its end then.
+/// Was a request rejected? It may not be read to its end then.
 fn is_refusal(outcome: Outcome) -> bool {
     match outcome {
         Outcome::Sent(status, _) => LEAST_REFUSAL <= status,
@@ -106,7 +121,7 @@ fn is_refusal(outcome: Outcome) -> bool {
     }
 }
 
-/// Reads more of a refused request, until the peer has closed or is silent: were the connection closed over unread bytes,
+/// Reads more of a rejected request, until the peer has closed or is silent: were the connection closed over unread bytes,
 /// the system would take back the answer.
 fn read_away(stream: &TcpStream) {
     let limit = Some(Duration::from_secs(REFUSED_PEER_SECONDS));
@@ -127,25 +142,29 @@ fn drop_all<S: Source>(source: &mut S) {
     }
 }
 
-/// Serves one connection, over any reader and writer, by the node at a place, as `serve_one` of `wf_edge` says. Then the
-/// nodes hear what that node has said, whatever became of the answer; and where its proposal still runs, it is asked to begin
-/// that anew, once, and the nodes hear what it says then. A step that the node refuses, or for which there is no memory, is
+/// Serves one connection, over any reader and writer, by the node at a place and its cache, as `serve_one_cached` of `wf_edge` says.
+/// Then the nodes hear what that node has said, whatever became of the answer; and where its proposal still runs, it is asked to begin
+/// that anew, once, and the nodes hear what it says then. A step that the node rejects, or for which there is no memory, is
 /// left out.
 pub fn serve_connection<S: Source, K: Sink, T: Tape>(
     alloc: Global,
     source: &mut S,
     sink: &mut K,
     nodes: &mut [Node<T>],
+    caches: &mut [Cache],
     place: usize,
 ) -> Outcome
     requires within { place < length nodes.old }
     requires in_turn { StandInTurn nodes.old }
+    requires kept { AreKept nodes.old caches.old }
     ensures connection { IsConnection T.honest T.content T.images T.failed place (S.left source.old) (K.written sink.old) (K.written sink.new) nodes.old result nodes.new }
     ensures reads { CountsHearing result (S.failures source.old) (S.failures source.new) }
     ensures writes { CountsSaying result (K.failures sink.old) (K.failures sink.new) }
     ensures turn { KeepTurn nodes.old nodes.new }
+    ensures kept { AreKept nodes.new caches.new }
 {
-    let Served { outcome, messages } = served_at(alloc, source, sink, nodes, place);
+    kept_pictures_outlast_growth();
+    let Served { outcome, messages } = served_at(alloc, source, sink, nodes, caches, place);
     hear(alloc, nodes, messages);
     retry(alloc, nodes, place);
     outcome
@@ -157,16 +176,19 @@ fn served_at<S: Source, K: Sink, T: Tape>(
     source: &mut S,
     sink: &mut K,
     nodes: &mut [Node<T>],
+    caches: &mut [Cache],
     place: usize,
 ) -> Served
     requires within { place < length nodes.old }
     requires in_turn { StandInTurn nodes.old }
+    requires kept { AreKept nodes.old caches.old }
     ensures served { IsServedAt T.honest T.content T.images T.failed place (S.left source.old) (K.written sink.old) (K.written sink.new) nodes.old result.messages nodes.new result.outcome }
     ensures reads { CountsHearing result.outcome (S.failures source.old) (S.failures source.new) }
     ensures writes { CountsSaying result.outcome (K.failures sink.old) (K.failures sink.new) }
     ensures turn { KeepTurn nodes.old nodes.new }
+    ensures kept { AreKept nodes.new caches.new }
 {
-    serve_one(alloc, source, sink, &mut nodes[place])
+    serve_one_cached(alloc, source, sink, &mut nodes[place], &mut caches[place])
 }
 
 /// The nodes hear messages, and what they say to them.
@@ -218,11 +240,12 @@ fn said_at<T: Tape>(
     said(alloc, &mut nodes[place], input)
 }
 
-/// What a node says to an input; nothing where it refuses.
+/// What a node says to an input; nothing where it rejects.
 fn said<T: Tape>(alloc: Global, node: &mut Node<T>, input: Input) -> Vec<Message>
     ensures asked { IsAsked T.honest T.content T.images T.failed (view input) node.old result node.new }
     ensures id { node.new.id ≡ node.old.id }
     ensures n { node.new.n ≡ node.old.n }
+    ensures list { IsGrown node.old.parts.history node.new.parts.history }
 {
     match answer(alloc, node, input) {
         Ok(said) => said,

@@ -1,10 +1,10 @@
 -- Where a layer of a name stands among a map's.
-use Rattle.std.proofs.Common.{◌≡◌, ◌∙◌, ap, ℕ, ◌+◌, ◌<◌, Bool, true, false, List, [], ◌∷◌, length, get_or, refl, arith, below_more, bytes_eq}
-use Rattle.std.specs.Prelude.{Option, Some, None, IfSome, option_map}
+use Rattle.std.proofs.Common.{◌≡◌, ◌∙◌, ap, sym, ℕ, ◌+◌, ◌<◌, Bool, true, false, List, [], ◌∷◌, ◌++◌, length, get_or, take, refl, arith, below_more, bytes_eq}
+use Rattle.std.specs.Prelude.{Option, Some, None, IfSome, is_none, option_map}
 use Rattle.std.specs.List.{All, cons_option, filter_map, position, position_or_len, slice_get}
 use Rattle.std.proofs.lemmas.Bool.Decides.{nat_tests}
-use Rattle.std.proofs.lemmas.List.{length-map}
-use Rattle.std.proofs.lemmas.List.Elements.{All-cons, All-nil}
+use Rattle.std.proofs.lemmas.List.{length-map, take_more}
+use Rattle.std.proofs.lemmas.List.Elements.{All-cons, All-nil, filter_map-append}
 use Rattle.std.proofs.lemmas.List.Sums.{position_or_len_is}
 use Rattle.std.proofs.lemmas.Option.{IfSome_then, slice_get-map, slice_get_within, get_or_from_slice_get}
 use Rattle.wf_def.specs.Definition.{Definition, LayerDefinition}
@@ -13,13 +13,13 @@ use Rattle.wf_wms.specs.MapRequest.{layer_of}
 use Rattle.wf_wms.proofs.EntriesLaw.{found_within}
 
 -- the first that passes, and none that does
-found_at : (p : List ℕ → Bool) (names : List (List ℕ)) (i : ℕ) → i < length names → ((k : ℕ) → k < i → p (get_or names k []) ≡ false) →
+pub found_at : (p : List ℕ → Bool) (names : List (List ℕ)) (i : ℕ) → i < length names → ((k : ℕ) → k < i → p (get_or names k []) ≡ false) →
     p (get_or names i []) ≡ true → position p names ≡ Some i
 found_at p names i within before here =
     let at : position_or_len p names ≡ i = position_or_len_is p names i [] (omega arith) before (λ _. here) in
     rw at (grind (arith, nat_tests))
 
-found_nowhere : (p : List ℕ → Bool) (names : List (List ℕ)) → ((k : ℕ) → k < length names → p (get_or names k []) ≡ false) →
+pub found_nowhere : (p : List ℕ → Bool) (names : List (List ℕ)) → ((k : ℕ) → k < length names → p (get_or names k []) ≡ false) →
     position p names ≡ None
 found_nowhere p names before =
     let at : position_or_len p names ≡ length names = position_or_len_is p names (length names) [] (omega arith) before (λ past. absurd (omega arith)) in
@@ -66,3 +66,25 @@ pub layers_within : (d : Definition) (names : List (List ℕ)) → All (λ place
 layers_within d [] = All-nil (λ place. place < length d.layers)
 layers_within d (name ∷ names) =
     one_more_within (length d.layers) (layer_of d name) (filter_map (layer_of d) names) (layer_within d name) (layers_within d names)
+
+-- the next name is that of a layer
+pub one_more_place : (d : Definition) (names : List (List ℕ)) (n place : ℕ) (name : List ℕ) (old new : List ℕ) → n < length names → get_or names n [] ≡ name →
+    layer_of d name ≡ Some place → old ≡ filter_map (layer_of d) (take n names) → new ≡ old ++ place ∷ [] → new ≡ filter_map (layer_of d) (take (n + 1) names)
+one_more_place d names n place name old new within is found so_far written =
+    let one : filter_map (layer_of d) (get_or names n [] ∷ []) ≡ place ∷ [] = ap (λ (o : Option ℕ). cons_option o []) (ap (layer_of d) is ∙ found) in
+    written
+    ∙ ap (λ (l : List ℕ). l ++ place ∷ []) so_far
+    ∙ ap (λ (l : List ℕ). filter_map (layer_of d) (take n names) ++ l) (sym one)
+    ∙ sym (filter_map-append (layer_of d) (take n names) (get_or names n [] ∷ []))
+    ∙ ap (filter_map (layer_of d)) (sym (take_more names n [] within))
+
+-- and none of the names up to it is unknown
+pub one_more_known : (d : Definition) (names : List (List ℕ)) (n place : ℕ) (name : List ℕ) → get_or names n [] ≡ name → layer_of d name ≡ Some place →
+    ((k : ℕ) → k < n → is_none (layer_of d (get_or names k [])) ≡ false) → (k : ℕ) → k < n + 1 → is_none (layer_of d (get_or names k [])) ≡ false
+one_more_known d names n place name is found before = below_more _ _ before (ap (λ (o : Option ℕ). is_none o) (ap (layer_of d) is ∙ found))
+
+-- the next name is that of no layer
+pub unknown_at : (d : Definition) (names : List (List ℕ)) (n : ℕ) (name : List ℕ) → n < length names → get_or names n [] ≡ name → layer_of d name ≡ None →
+    ((k : ℕ) → k < n → is_none (layer_of d (get_or names k [])) ≡ false) → position (λ name. is_none (layer_of d name)) names ≡ Some n
+unknown_at d names n name within is unknown before =
+    found_at (λ name. is_none (layer_of d name)) names n within before (ap (λ (o : Option ℕ). is_none o) (ap (layer_of d) is ∙ unknown))

@@ -1,5 +1,7 @@
 pub mod EntriesLaw
 pub mod HistoryLaw
+pub mod JudgedLaw
+pub mod KeptLaw
 pub mod LayerLines
 pub mod LayersLaw
 pub mod ServiceLaw

@@ -7,7 +7,8 @@ use Rattle.wf_def.specs.Definition.{Definition}
 use Rattle.wf_learner.specs.History.{map_at}
 use Rattle.wf_picture.specs.Picture.{EachRequestHasOneImage}
 use Rattle.wf_wms.specs.Answer.{AnswerValue, EachQueryHasOneAnswer, IsAnswerOf, IsAnswerOn, IsMapAnswer, IsAnswerTo, IsPictureOf, metadata_answer, operation_of, or_own, refusal, subject}
-use Rattle.wf_wms.specs.MapRequest.{Picture, map_request, map_sequence, picture_in}
+use Rattle.wf_picture.specs.Request.{RequestValue}
+use Rattle.wf_wms.specs.MapRequest.{map_request, map_sequence, picture_in}
 use Rattle.wf_wms.specs.Query.{pairs_of, parameter}
 use Rattle.wf_wms.specs.declared.exception.Exception.{Exception}
 use Rattle.wf_wms.specs.declared.operation.Operation.{Operation}
@@ -19,7 +20,7 @@ pub get_some : (history : List Definition) (s : ℕ) (found : Option (Bor Defini
 get_some history s None is within = let there = map_there history s within in let both : None ≡ Some there.0 = is ∙ there.1 in cc
 get_some history s (Some x) is within = refl
 
--- a request of a map whose VERSION or MAPSEQ is refused
+-- a request of a map whose VERSION or MAPSEQ is rejected
 pub map_refused : (s : ℕ) (history : List Definition) (pairs : List (List ℕ × List ℕ)) (e : Exception) (answer : AnswerValue) → s ≤ length history →
     map_sequence s pairs ≡ Err e → answer ≡ refusal e → IsAnswerOn (Ok Map) s history pairs answer
 unfolding map_request
@@ -91,19 +92,18 @@ answer_drawn s history query pairs answer read asked is =
     let P : List (List ℕ × List ℕ) → Type 0 = λ p. IsAnswerOn (Ok Map) s history p answer in
     drawn (operation_of (parameter (codes "REQUEST") (pairs_of query))) s history (pairs_of query) answer asked (subst P read is)
 
-one_picture : (map : Definition) (picture : Picture) (answer another : AnswerValue) → EachRequestHasOneImage →
-    IsPictureOf map picture answer → IsPictureOf map picture another → another ≡ answer
-one_picture map picture answer another images is other =
-    let bytes : another.bytes ≡ answer.bytes
-    = images map picture.layers picture.canvas.bbox picture.canvas.width picture.canvas.height picture.canvas.background answer.bytes another.bytes is.image other.image in
+one_picture : (map : Definition) (request : RequestValue) (answer another : AnswerValue) → EachRequestHasOneImage →
+    IsPictureOf map request answer → IsPictureOf map request another → another ≡ answer
+one_picture map request answer another images is other =
+    let bytes : another.bytes ≡ answer.bytes = images map request answer.bytes another.bytes is.image other.image in
     let of_kind : another.kind ≡ answer.kind = other.of_kind ∙ sym is.of_kind in
     let of_media : another.media ≡ answer.media = other.of_media ∙ sym is.of_media in
     λ i. record { kind = of_kind i; media = of_media i; bytes = bytes i }
 
-one_map_answer : (map : Definition) (asked : Result Picture Exception) (answer another : AnswerValue) → EachRequestHasOneImage →
+one_map_answer : (map : Definition) (asked : Result RequestValue Exception) (answer another : AnswerValue) → EachRequestHasOneImage →
     IsMapAnswer map asked answer → IsMapAnswer map asked another → another ≡ answer
 one_map_answer map (Err e) answer another images is other = other ∙ sym is
-one_map_answer map (Ok picture) answer another images is other = one_picture map picture answer another images is other
+one_map_answer map (Ok request) answer another images is other = one_picture map request answer another images is other
 
 -- one answer to an operation at one map
 one_to : (operation : Result Operation Exception) (s : ℕ) (map : Definition) (pairs : List (List ℕ × List ℕ)) (answer another : AnswerValue) →

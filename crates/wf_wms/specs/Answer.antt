@@ -3,7 +3,8 @@ use Rattle.std.specs.Prelude.{◌≡◌, ℕ, List, [], ◌∷◌, bytes_eq, cod
 use Rattle.wf_def.specs.Definition.{Definition}
 use Rattle.wf_learner.specs.History.{map_at}
 use Rattle.wf_picture.specs.Picture.{IsImageOf}
-use Rattle.wf_wms.specs.MapRequest.{Picture, map_request, map_sequence}
+use Rattle.wf_picture.specs.Request.{RequestValue}
+use Rattle.wf_wms.specs.MapRequest.{map_request, map_sequence}
 use Rattle.wf_wms.specs.Query.{pairs_of, parameter}
 use Rattle.wf_wms.specs.UpdateSequence.{sequence_rule}
 use Rattle.wf_wms.specs.Exception.{exception_report}
@@ -28,7 +29,7 @@ pub record AnswerValue : Type 0 where
 abbrev pub xml : List ℕ
 xml = codes "text/xml"
 
--- the answer that refuses a request
+-- the answer that rejects a request
 abbrev pub refusal : Exception → AnswerValue
 refusal e = record { kind = kind.Exception e; media = xml; bytes = exception_report e }
 
@@ -90,16 +91,20 @@ description s d query = description_to (operation_of (parameter (codes "REQUEST"
 abbrev pub pixmap : List ℕ
 pixmap = codes "image/x-portable-pixmap"
 
+-- the answer with the file of a picture
+abbrev pub picture_answer : List ℕ → AnswerValue
+picture_answer file = record { kind = kind.Map; media = pixmap; bytes = file }
+
 -- the answer is the picture that is asked for of a map
-pub record IsPictureOf (d : Definition) (picture : Picture) (answer : AnswerValue) : Type 0 where
+pub record IsPictureOf (d : Definition) (request : RequestValue) (answer : AnswerValue) : Type 0 where
   pub of_kind : answer.kind ≡ kind.Map
   pub of_media : answer.media ≡ pixmap
-  pub image : IsImageOf d picture.layers picture.canvas.bbox picture.canvas.width picture.canvas.height picture.canvas.background answer.bytes
+  pub image : IsImageOf d request answer.bytes
 
 -- the picture, or the exception of the first check that fails
-abbrev pub IsMapAnswer : Definition → Result Picture Exception → AnswerValue → Type 0
+abbrev pub IsMapAnswer : Definition → Result RequestValue Exception → AnswerValue → Type 0
 IsMapAnswer d (Err e) answer = answer ≡ refusal e
-IsMapAnswer d (Ok picture) answer = IsPictureOf d picture answer
+IsMapAnswer d (Ok request) answer = IsPictureOf d request answer
 
 -- the answer to an operation
 abbrev pub IsAnswerTo : Result Operation Exception → ℕ → Definition → List (List ℕ × List ℕ) → AnswerValue → Type 0

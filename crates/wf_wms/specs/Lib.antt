@@ -3,6 +3,8 @@ pub mod Background
 pub mod Capabilities
 pub mod Digits
 pub mod Exception
+pub mod Judged
+pub mod Kept
 pub mod MapRequest
 pub mod Query
 pub mod UpdateSequence

@@ -1,8 +1,8 @@
 -- The request of a map: OGC 06-042, 7.3.2 and 7.3.3. MAPSEQ is this profile's own, and so is that STYLES may be absent.
 --
 -- Each parameter is judged by a function of its value, which gives its part of the request, or the exception; `MapRequest` puts them
--- in order, and the first that refuses answers.
-use Rattle.std.specs.Prelude.{ℕ, ◌≤◌, ◌≤ℤ◌, ◌+◌, ◌==◌, ◌&&◌, Bool, true, false, not, nat_le, nat_lt, List, [], ◌∷◌, length, bytes_eq, codes, filter_map, position, is_none, Option, Some, None, ok_or, Result, Ok, Err, ℤ, pos, ◌+ℤ◌, int_le, ⊤, if◌then◌else◌}
+-- in order, and the first that rejects answers.
+use Rattle.std.specs.Prelude.{ℕ, ◌+◌, ◌==◌, ◌&&◌, Bool, true, false, not, nat_le, nat_lt, List, [], ◌∷◌, length, bytes_eq, codes, filter_map, position, is_none, Option, Some, None, ok_or, Result, Ok, Err, ℤ, pos, ◌+ℤ◌, int_le, ⊤, if◌then◌else◌}
 use Rattle.std.specs.Char.{is_ascii_digit}
 use Rattle.std.specs.List.{list_all, slice_split}
 use Rattle.wf_def.specs.declared.choice.Projection.{Projection}
@@ -12,12 +12,13 @@ use Rattle.wf_def.specs.Definition.{Definition}
 use Rattle.wf_def.specs.Extent.{ExtentValue}
 use Rattle.wf_def.specs.Limits.{layer_names}
 use Rattle.wf_def.specs.Number.{number}
+use Rattle.wf_picture.specs.Request.{RequestValue}
+use Rattle.wf_picture.specs.declared.size.Size.{Size}
 use Rattle.wf_wms.specs.Background.{background_in}
 use Rattle.wf_wms.specs.Digits.{number_of_digits}
 use Rattle.wf_wms.specs.Query.{parameter}
 use Rattle.wf_wms.specs.declared.axes.Axes.{Axes}
 use Rattle.wf_wms.specs.declared.axes.Axes.TheVariants.{EastFirst, NorthFirst}
-use Rattle.wf_wms.specs.declared.canvas.Canvas.{Canvas}
 use Rattle.wf_wms.specs.declared.exception.Exception.{Exception}
 use Rattle.wf_wms.specs.declared.exception.Exception.TheVariants as exception
 use Rattle.wf_wms.specs.declared.exception.Parameter.{Parameter}
@@ -134,11 +135,6 @@ abbrev pub box_in : Axes → Option (List ℕ) → Result ExtentValue Exception
 box_in axes None = Err (exception.MissingParameter parameters.Bbox)
 box_in axes (Some text) = box_of axes (four_of (entries text))
 
--- a box of which both sides are long enough
-pub record IsLargeEnough (box : ExtentValue) : Type 0 where
-  pub wide : (box.minx +ℤ pos least_side) ≤ℤ box.maxx
-  pub tall : (box.miny +ℤ pos least_side) ≤ℤ box.maxy
-
 -- the most pixels of a picture's width and of its height, as the service metadata says (MaxWidth, MaxHeight)
 abbrev pub most_pixels : ℕ
 most_pixels = 1_024
@@ -152,38 +148,52 @@ abbrev pub size_in : Parameter → Option (List ℕ) → Result ℕ Exception
 size_in name None = Err (exception.MissingParameter name)
 size_in name (Some text) = if is_size text then Ok (number_of_digits text) else Err (exception.BadValue name)
 
--- what a picture shows and how large it is
-unfoldable pub canvas_in : Projection → List (List ℕ × List ℕ) → Result Canvas Exception
-canvas_in projection pairs = do
-  axes ← axes_in projection (parameter (codes "CRS") pairs)
-  box ← box_in axes (parameter (codes "BBOX") pairs)
+-- WIDTH, then HEIGHT
+unfoldable pub picture_size : List (List ℕ × List ℕ) → Result Size Exception
+picture_size pairs = do
   width ← size_in parameters.Width (parameter (codes "WIDTH") pairs)
   height ← size_in parameters.Height (parameter (codes "HEIGHT") pairs)
+  Ok (record { width = width; height = height })
+
+-- the request of these layers: the parameters behind STYLES
+unfoldable pub request_in : List ℕ → Projection → List (List ℕ × List ℕ) → Result RequestValue Exception
+request_in layers projection pairs = do
+  axes ← axes_in projection (parameter (codes "CRS") pairs)
+  box ← box_in axes (parameter (codes "BBOX") pairs)
+  size ← picture_size pairs
   background ← background_in (parameter (codes "BGCOLOR") pairs)
-  Ok (record { bbox = box; width = width; height = height; background = background })
+  Ok (record { layers = layers; bbox = box; size = size; background = background })
 
--- what each canvas keeps: both sizes within their limit, in pixels, and both sides of the box long enough
-pub record IsCanvas (c : Canvas) : Type 0 where
-  pub width_least : 1 ≤ c.width
-  pub width_most : c.width ≤ most_pixels
-  pub height_least : 1 ≤ c.height
-  pub height_most : c.height ≤ most_pixels
-  pub box : IsLargeEnough c.bbox
+-- LAYERS by the places of its layers among the map's, the lowest in the picture first
+unfoldable pub named_layers : Definition → List (List ℕ) → Result (List ℕ) Exception
+named_layers d names = do
+  _ ← check_layers d names
+  Ok (filter_map (layer_of d) names)
 
--- a picture that is asked for: the layers by their places among the map's, the lowest in the picture first
-pub record Picture : Type 0 where
-  pub layers : List ℕ
-  pub canvas : Canvas
+-- the same, where STYLES has an entry for each
+unfoldable pub styled_layers : Definition → List (List ℕ) → Option (List ℕ) → Result (List ℕ) Exception
+styled_layers d names styles = do
+  layers ← named_layers d names
+  _ ← check_styles (length names) styles
+  Ok layers
+
+-- the names that LAYERS lists, behind FORMAT
+unfoldable pub listed_names : List (List ℕ × List ℕ) → Result (List ℕ) Exception
+listed_names pairs = do
+  _ ← check_format (parameter (codes "FORMAT") pairs)
+  ok_or (parameter (codes "LAYERS") pairs) (exception.MissingParameter parameters.Layers)
+
+-- the layers that are asked for: the parameters up to STYLES
+unfoldable pub layers_in : Definition → List (List ℕ × List ℕ) → Result (List ℕ) Exception
+layers_in d pairs = do
+  names ← listed_names pairs
+  styled_layers d (entries names) (parameter (codes "STYLES") pairs)
 
 -- the picture that a query asks for of a map
-unfoldable pub picture_in : Definition → List (List ℕ × List ℕ) → Result Picture Exception
+unfoldable pub picture_in : Definition → List (List ℕ × List ℕ) → Result RequestValue Exception
 picture_in d pairs = do
-  _ ← check_format (parameter (codes "FORMAT") pairs)
-  layers ← ok_or (parameter (codes "LAYERS") pairs) (exception.MissingParameter parameters.Layers)
-  _ ← check_layers d (entries layers)
-  _ ← check_styles (length (entries layers)) (parameter (codes "STYLES") pairs)
-  canvas ← canvas_in d.projection pairs
-  Ok (record { layers = filter_map (layer_of d) (entries layers); canvas = canvas })
+  layers ← layers_in d pairs
+  request_in layers d.projection pairs
 
 -- the sequence whose map a query asks for, at a server of the sequence s
 unfoldable pub map_sequence : ℕ → List (List ℕ × List ℕ) → Result ℕ Exception
@@ -192,7 +202,7 @@ map_sequence s pairs = do
   sequence_in s (parameter (codes "MAPSEQ") pairs)
 
 -- the whole request, where d is the map of that sequence: the first check that fails answers
-unfoldable pub map_request : ℕ → Definition → List (List ℕ × List ℕ) → Result Picture Exception
+unfoldable pub map_request : ℕ → Definition → List (List ℕ × List ℕ) → Result RequestValue Exception
 map_request s d pairs = do
   _ ← map_sequence s pairs
   picture_in d pairs

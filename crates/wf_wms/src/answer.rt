@@ -1,9 +1,7 @@
 //! Answers.
-ghost use Rattle.std.specs.Prelude.{◌≡◌, ◌<◌, All, IfOk, length};
-ghost use Rattle.wf_wms.specs.Answer.{refusal, metadata, IsPictureOf};
-ghost use Rattle.wf_wms.specs.MapRequest.{IsCanvas};
+ghost use Rattle.std.specs.Prelude.{◌≡◌, IfOk};
+ghost use Rattle.wf_wms.specs.Answer.{refusal, metadata, picture_answer};
 
-use crate::canvas::Canvas;
 use crate::capabilities::capabilities;
 use crate::exception::Exception;
 use crate::kind::Kind;
@@ -11,7 +9,6 @@ use crate::report::report;
 use std::alloc::{AllocError, Global};
 use std::marker::Model;
 use wf_def::map::MapDef;
-use wf_picture::picture::draw;
 
 /// The media type of both XML documents.
 const XML: &str = "text/xml";
@@ -37,7 +34,7 @@ impl Model for Answer {
 }
 
 impl Answer {
-    /// The answer that refuses a request.
+    /// The answer that rejects a request.
     pub(crate) fn refusal(alloc: Global, exception: Exception) -> Result<Self, AllocError>
         ensures { IfOk result (λ answer. answer ≡ refusal exception) }
     {
@@ -59,30 +56,14 @@ impl Answer {
         })
     }
 
-    /// The answer with a picture of the layers in these places among the map's, the lowest first.
-    pub(crate) fn picture(
-        alloc: Global,
-        map: &MapDef,
-        layers: &[usize],
-        canvas: Canvas,
-    ) -> Result<Self, AllocError>
-        requires layers { All (λ place. place < length map.now.layers) layers.now }
-        requires canvas { IsCanvas canvas }
-        ensures { IfOk result (λ answer. IsPictureOf map.now (record { layers = layers.now; canvas = canvas }) answer) }
+    /// The answer with the file of a picture.
+    pub(crate) fn picture(file: Vec<u8>) -> Self
+        ensures { result ≡ picture_answer file.items }
     {
-        let bytes = draw(
-            alloc,
-            map,
-            layers,
-            &canvas.bbox,
-            canvas.width,
-            canvas.height,
-            canvas.background,
-        )?;
-        Ok(Answer {
+        Answer {
             kind: Kind::Map,
             media: PIXMAP,
-            bytes,
-        })
+            bytes: file,
+        }
     }
 }

@@ -1,7 +1,8 @@
 //! The parameter BBOX (OGC 06-042, 7.3.3.6).
 ghost use Rattle.std.specs.Prelude.{◌≡◌, IfOk, option_map};
 ghost use Rattle.wf_def.specs.Number.{number};
-ghost use Rattle.wf_wms.specs.MapRequest.{box_along, box_in, box_of, coordinate_of, four_of, is_side, large_enough, IsLargeEnough};
+ghost use Rattle.wf_picture.specs.Request.{IsLargeEnough};
+ghost use Rattle.wf_wms.specs.MapRequest.{box_along, box_in, box_of, coordinate_of, four_of, is_side, large_enough};
 
 use crate::axes::Axes;
 use crate::entries::four_entries;

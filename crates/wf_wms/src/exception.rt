@@ -1,4 +1,4 @@
-//! Why a request is refused.
+//! Why a request is rejected.
 
 /// The parameters that an exception can name.
 #[derive(Clone, Copy, PartialEq, Eq)]

@@ -1,5 +1,6 @@
 //! The laws of answers.
 ghost use Rattle.wf_wms.specs.Answer.{EachQueryHasOneAnswer};
+ghost use Rattle.wf_wms.specs.Kept.{GrowthKeepsAll};
 
 /// A query has one answer, and no other, wherever the map that it asks for is the same: the answer is a function of the update
 /// sequence, the query and that map, and of nothing else in the history. A law: the call does nothing.
@@ -8,3 +9,8 @@ pub fn each_query_has_one_answer()
 {
     wf_picture::law::there_is_one_image();
 }
+
+/// Pictures that are kept for a history are those of a history that goes on from it: lists only grow. A law: the call does nothing.
+pub fn kept_pictures_outlast_growth()
+    ensures { GrowthKeepsAll }
+{}

@@ -1,6 +1,7 @@
 //! The parameter LAYERS (OGC 06-042, 7.3.3.3).
-ghost use Rattle.std.specs.Prelude.{◌≡◌, ◌<◌, ◌≤◌, All, IfOk, IfSome, filter_map, is_none, length, position};
-ghost use Rattle.wf_wms.specs.MapRequest.{check_layers, entries, layer_of, most_entries};
+ghost use Rattle.std.specs.Prelude.{◌≡◌, ◌<◌, ◌≤◌, All, IfOk, IfErr, IfSome, MatchResult, Some, None, filter_map, is_none, length, position};
+ghost use Rattle.std.specs.Result.{result_map_both};
+ghost use Rattle.wf_wms.specs.MapRequest.{check_layers, entries, layer_of, most_entries, named_layers};
 
 use crate::entries::count_entries;
 use crate::exception::{Exception, Parameter};
@@ -10,29 +11,49 @@ use wf_def::map::MapDef;
 /// The most layers of a request, as the service metadata says (LayerLimit).
 const MOST_ENTRIES: usize = 64;
 
-/// The list names at most 64 layers, each a layer of the map. A name may stand twice.
-#[tactic(auto, unfolding(crate::specs::MapRequest::check_layers))]
-pub(crate) fn check_layers(map: &MapDef, names: &str) -> Result<(), Exception>
-    ensures { result ≡ check_layers map.now (entries names.now) }
+/// The layers that the list names, by their places among the map's, in its order: at most 64, each a layer of the map. A name may stand
+/// twice.
+#[tactic(auto, unfolding(crate::specs::MapRequest::named_layers, crate::specs::MapRequest::check_layers))]
+pub(crate) fn named_layers(
+    alloc: Global,
+    map: &MapDef,
+    names: &str,
+) -> Result<Result<Vec<usize>, Exception>, AllocError>
+    ensures value { IfOk result (λ found. result_map_both (λ layers. layers.items) (λ e. e) found ≡ named_layers map.now (entries names.now)) }
+    ensures count { IfOk result (λ found. IfOk found (λ layers. length layers.items ≡ length (entries names.now))) }
+    ensures within { IfOk result (λ found. IfOk found (λ layers. All (λ place. place < length map.now.layers) layers.items)) }
 {
     if count_entries(names) > MOST_ENTRIES {
-        return Err(Exception::BadValue(Parameter::Layers));
+        return Ok(Err(Exception::BadValue(Parameter::Layers)));
     }
-    match first_unknown(map, names) {
-        None => Ok(()),
-        Some(index) => Err(Exception::LayerNotDefined(index + 1)),
+    match layer_places(alloc, map, names)? {
+        Ok(places) => Ok(Ok(places)),
+        Err(index) => Ok(Err(Exception::LayerNotDefined(index + 1))),
     }
 }
 
-/// The index of the first name that is no layer's.
-fn first_unknown(map: &MapDef, names: &str) -> Option<usize>
-    ensures index { result ≡ position (λ name. is_none (layer_of map.now name)) (entries names.now) }
-    ensures within { IfSome result (λ index. index < length (entries names.now)) }
+/// The places of the named layers among the map's, in the order of the list; or the index of the first name that is no layer's.
+fn layer_places(
+    alloc: Global,
+    map: &MapDef,
+    names: &str,
+) -> Result<Result<Vec<usize>, usize>, AllocError>
+    requires { length (entries names.now) ≤ most_entries }
+    ensures places { IfOk result (λ found. IfOk found (λ places. places.items ≡ filter_map (layer_of map.now) (entries names.now))) }
+    ensures known { IfOk result (λ found. IfOk found (λ places. position (λ name. is_none (layer_of map.now name)) (entries names.now) ≡ None)) }
+    ensures count { IfOk result (λ found. IfOk found (λ places. length places.items ≡ length (entries names.now))) }
+    ensures within { IfOk result (λ found. IfOk found (λ places. All (λ place. place < length map.now.layers) places.items)) }
+    ensures unknown { IfOk result (λ found. IfErr found (λ index. position (λ name. is_none (layer_of map.now name)) (entries names.now) ≡ Some index)) }
+    ensures index { IfOk result (λ found. IfErr found (λ index. index < most_entries)) }
 {
-    names
-        .as_bytes()
-        .split(|byte| *byte == b',')
-        .position(|name| layer_of(map, name).is_none())
+    let mut places = Vec::new(alloc);
+    for name in names.as_bytes().split(|byte| *byte == b',') {
+        match layer_of(map, name) {
+            Some(place) => places.push(place)?,
+            None => return Ok(Err(places.len())),
+        }
+    }
+    Ok(Ok(places))
 }
 
 /// The place of the layer of this name among the map's.
@@ -47,20 +68,4 @@ fn layer_of(map: &MapDef, name: &[u8]) -> Option<usize>
         }
     }
     None
-}
-
-/// The places of the named layers among the map's, in the order of the list.
-pub(crate) fn layer_places(
-    alloc: Global,
-    map: &MapDef,
-    names: &str,
-) -> Result<Vec<usize>, AllocError>
-    ensures places { IfOk result (λ places. places.items ≡ filter_map (layer_of map.now) (entries names.now)) }
-    ensures within { IfOk result (λ places. All (λ place. place < length map.now.layers) places.items) }
-{
-    names
-        .as_bytes()
-        .split(|byte| *byte == b',')
-        .filter_map(|name| layer_of(map, name))
-        .collect(alloc)
 }

@@ -9,22 +9,30 @@
 //! It promises that [`service::answer`] gives the defined answer at an update sequence and a history, and
 //! [`describe`] that about one map definition, where GetMap is an operation that isn't supported, want of
 //! memory aside. A query has one such answer, which depends on the history only through the map that it
-//! describes or draws ([`law::each_query_has_one_answer`]). It says nothing of how a query or an answer
-//! travels, and keeps no picture.
+//! describes or draws ([`law::each_query_has_one_answer`]). [`service::answer_cached`] gives the same answer
+//! by a [`cache::Cache`] of pictures, of which it is told that each is its key's in this history
+//! (`specs/Kept.antt`); they are so afterwards, and for any history that goes on from this one
+//! ([`law::kept_pictures_outlast_growth`]). It says nothing of how a query or an answer travels, nor which
+//! pictures are kept.
 #![tactic(auto)]
 
 mod answer;
+mod asked;
 mod axes;
 mod background;
 mod bounding_box;
-mod canvas;
+pub mod cache;
 mod capabilities;
 mod crs;
 mod description;
 mod digits;
+mod drawing;
 mod entries;
 mod exception;
 mod format;
+mod history;
+mod judging;
+mod key;
 mod kind;
 pub mod law;
 mod layers;

@@ -1,42 +1,61 @@
 //! The request of a map (OGC 06-042, 7.3.2 and 7.3.3): the parameters behind MAPSEQ.
-ghost use Rattle.std.specs.Prelude.{◌≡◌, IfOk, filter_map, ok_or, option_map};
+ghost use Rattle.std.specs.Prelude.{◌≡◌, ◌<◌, All, IfOk, length, ok_or, option_map};
 ghost use Rattle.std.specs.Result.{result_map_both};
-ghost use Rattle.wf_wms.specs.MapRequest.{canvas_in, entries, layer_of, picture_in, IsCanvas};
+ghost use Rattle.wf_wms.specs.MapRequest.{entries, layers_in, listed_names, picture_in, request_in, styled_layers};
 
 use crate::background::background;
 use crate::bounding_box::bounding_box;
-use crate::canvas::Canvas;
 use crate::crs::axes;
-use crate::entries::count_entries;
 use crate::exception::{Exception, Parameter};
 use crate::format::check_format;
-use crate::layers::check_layers;
+use crate::layers::named_layers;
 use crate::query::Query;
-use crate::size::size;
+use crate::size::picture_size;
 use crate::styles::check_styles;
+use std::alloc::{AllocError, Global};
 use wf_def::choice::Projection;
 use wf_def::map::MapDef;
-
-/// A request of a map that passed its checks.
-#[derive(Clone, Copy)]
-pub(crate) struct MapRequest<'q> {
-    /// The names of the layers, between commas, the lowest in the picture first.
-    pub layers: &'q str,
-    pub canvas: Canvas,
-}
+use wf_picture::request::PictureRequest;
 
 /// The picture that a query asks for of a map, or the exception of the first check that fails.
 #[tactic(auto, unfolding(crate::specs::MapRequest::picture_in))]
-pub(crate) fn map_request<'q>(map: &MapDef, query: &'q Query) -> Result<MapRequest<'q>, Exception>
-    ensures value { result_map_both (λ request. record { layers = filter_map (layer_of map.now) (entries request.layers.now); canvas = request.canvas }) (λ e. e) result ≡ picture_in map.now query.now }
-    ensures within { IfOk result (λ request. IsCanvas request.canvas) }
+pub(crate) fn map_request(
+    alloc: Global,
+    map: &MapDef,
+    query: &Query,
+) -> Result<Result<PictureRequest, Exception>, AllocError>
+    ensures value { IfOk result (λ asked. asked ≡ picture_in map.now query.now) }
+    ensures within { IfOk result (λ asked. IfOk asked (λ request. All (λ place. place < length map.now.layers) request.layers)) }
+{
+    match layers(alloc, map, query)? {
+        Ok(layers) => Ok(request_of(layers, map.projection(), query)),
+        Err(exception) => Ok(Err(exception)),
+    }
+}
+
+/// The layers that are asked for, by their places among the map's, the lowest in the picture first: what the parameters up to STYLES say.
+#[tactic(auto, unfolding(crate::specs::MapRequest::layers_in))]
+fn layers(
+    alloc: Global,
+    map: &MapDef,
+    query: &Query,
+) -> Result<Result<Vec<usize>, Exception>, AllocError>
+    ensures value { IfOk result (λ asked. result_map_both (λ layers. layers.items) (λ e. e) asked ≡ layers_in map.now query.now) }
+    ensures within { IfOk result (λ asked. IfOk asked (λ layers. All (λ place. place < length map.now.layers) layers.items)) }
+{
+    match listed_names(query) {
+        Ok(names) => styled_layers(alloc, map, names, query.parameter("STYLES")),
+        Err(exception) => Ok(Err(exception)),
+    }
+}
+
+/// The value of LAYERS; FORMAT is judged before it.
+#[tactic(auto, unfolding(crate::specs::MapRequest::listed_names))]
+fn listed_names(query: &Query) -> Result<&str, Exception>
+    ensures { result_map_both (λ names. names.now) (λ e. e) result ≡ listed_names query.now }
 {
     check_format(query.parameter("FORMAT"))?;
-    let layers = layer_list(query.parameter("LAYERS"))?;
-    check_layers(map, layers)?;
-    check_styles(count_entries(layers), query.parameter("STYLES"))?;
-    let canvas = canvas(map.projection(), query)?;
-    Ok(MapRequest { layers, canvas })
+    layer_list(query.parameter("LAYERS"))
 }
 
 fn layer_list(value: Option<&str>) -> Result<&str, Exception>
@@ -45,21 +64,39 @@ fn layer_list(value: Option<&str>) -> Result<&str, Exception>
     value.ok_or(Exception::MissingParameter(Parameter::Layers))
 }
 
-/// What the picture shows and how large it is.
-#[tactic(auto, unfolding(crate::specs::MapRequest::canvas_in))]
-fn canvas(projection: Projection, query: &Query) -> Result<Canvas, Exception>
-    ensures value { result ≡ canvas_in projection query.now }
-    ensures within { IfOk result IsCanvas }
+/// The layers of these names, where STYLES has an entry for each.
+#[tactic(auto, unfolding(crate::specs::MapRequest::styled_layers))]
+fn styled_layers(
+    alloc: Global,
+    map: &MapDef,
+    names: &str,
+    styles: Option<&str>,
+) -> Result<Result<Vec<usize>, Exception>, AllocError>
+    ensures value { IfOk result (λ asked. result_map_both (λ layers. layers.items) (λ e. e) asked ≡ styled_layers map.now (entries names.now) (option_map (λ text. text.now) styles.entry)) }
+    ensures within { IfOk result (λ asked. IfOk asked (λ layers. All (λ place. place < length map.now.layers) layers.items)) }
+{
+    match named_layers(alloc, map, names)? {
+        Ok(layers) => match check_styles(layers.len(), styles) {
+            Ok(()) => Ok(Ok(layers)),
+            Err(exception) => Ok(Err(exception)),
+        },
+        Err(exception) => Ok(Err(exception)),
+    }
+}
+
+/// The request of these layers: what the parameters behind STYLES say.
+#[tactic(auto, unfolding(crate::specs::MapRequest::request_in))]
+fn request_of(
+    layers: Vec<usize>,
+    projection: Projection,
+    query: &Query,
+) -> Result<PictureRequest, Exception>
+    ensures value { result ≡ request_in layers.items projection query.now }
+    ensures layers { IfOk result (λ request. request.layers ≡ layers.items) }
 {
     let axes = axes(projection, query.parameter("CRS"))?;
     let bbox = bounding_box(axes, query.parameter("BBOX"))?;
-    let width = size(Parameter::Width, query.parameter("WIDTH"))?;
-    let height = size(Parameter::Height, query.parameter("HEIGHT"))?;
+    let size = picture_size(query)?;
     let background = background(query.parameter("BGCOLOR"))?;
-    Ok(Canvas {
-        bbox,
-        width,
-        height,
-        background,
-    })
+    Ok(PictureRequest::new(layers, bbox, size, background))
 }

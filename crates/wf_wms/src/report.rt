@@ -108,7 +108,7 @@ const REPORT_CLOSING: &str = "</ServiceException>
 ";
 
 /// The report of one exception, as bytes of an XML document (OGC 06-042, 7.3.3.11 and annex E.2): what a request that fails
-/// a check is answered with. An error comes for want of memory alone.
+/// a check is answered with. An error comes for allocation failure alone.
 pub fn report(alloc: Global, exception: Exception) -> Result<Vec<u8>, AllocError>
     ensures { IfOk result (λ document. document.items ≡ exception_report exception) }
 {

@@ -1,15 +1,29 @@
 //! The parameters WIDTH and HEIGHT (OGC 06-042, 7.3.3.8).
 ghost use Rattle.std.specs.Prelude.{◌≡◌, ◌≤◌, IfOk, option_map};
-ghost use Rattle.wf_wms.specs.MapRequest.{most_pixels, size_in};
+ghost use Rattle.wf_picture.specs.Request.{IsSize};
+ghost use Rattle.wf_wms.specs.MapRequest.{most_pixels, picture_size, size_in};
 
 use crate::digits::{is_all_digits, number_of};
 use crate::exception::{Exception, Parameter};
+use crate::query::Query;
+use wf_picture::size::Size;
 
 /// The greatest width and height of a picture, in pixels.
 const MOST_PIXELS: u64 = 1024;
 
+/// The size that WIDTH and HEIGHT give.
+#[tactic(auto, unfolding(crate::specs::MapRequest::picture_size))]
+pub(crate) fn picture_size(query: &Query) -> Result<Size, Exception>
+    ensures value { result ≡ picture_size query.now }
+    ensures within { IfOk result IsSize }
+{
+    let width = size(Parameter::Width, query.parameter("WIDTH"))?;
+    let height = size(Parameter::Height, query.parameter("HEIGHT"))?;
+    Ok(Size { width, height })
+}
+
 /// The pixels that the parameter of this name gives.
-pub(crate) fn size(name: Parameter, value: Option<&str>) -> Result<u32, Exception>
+fn size(name: Parameter, value: Option<&str>) -> Result<u32, Exception>
     ensures value { result ≡ size_in name (option_map (λ text. text.now) value.entry) }
     ensures least { IfOk result (λ size. 1 ≤ size) }
     ensures most { IfOk result (λ size. size ≤ most_pixels) }

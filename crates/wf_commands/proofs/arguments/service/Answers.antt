@@ -14,3 +14,6 @@ returns-in_err-port-clause-none c = held c.from_residual-in_err-port.result (λ 
 
 pub returns-in_err-requests-clause-none : goal.returns-in_err-requests-clause-none
 returns-in_err-requests-clause-none c = held c.from_residual-in_err-requests.result (λ s is. c.in_err-requests.ensures.none s.requests is.requests)
+
+pub returns-in_err-cache-clause-none : goal.returns-in_err-cache-clause-none
+returns-in_err-cache-clause-none c = held c.from_residual-in_err-cache.result (λ s is. c.in_err-cache.ensures.none s.cache is.cache)

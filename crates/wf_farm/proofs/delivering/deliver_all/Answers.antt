@@ -1,5 +1,6 @@
 -- To no node nothing is delivered.
 use Rattle.wf_farm.specs.Delivering.{AnyPart, StandFor}
+use Rattle.wf_farm.specs.DeliveringLaws.{each_grows_itself}
 use Rattle.wf_farm.proofs.Deliveries.{leads_nowhere}
 use Rattle.wf_farm.proofs.delivering.deliver_all.Goals as goal
 
@@ -8,6 +9,9 @@ returns-then-is_empty-clause-delivered g c = record { sent = c.args.messages.ite
 
 pub returns-then-is_empty-clause-on_tape : goal.returns-then-is_empty-clause-on_tape
 returns-then-is_empty-clause-on_tape g c = λ h left may. record { sent = c.args.messages.items; lead = leads_nowhere (StandFor left) c.args.nodes.now c.args.messages.items }
+
+pub returns-then-is_empty-clause-lists : goal.returns-then-is_empty-clause-lists
+returns-then-is_empty-clause-lists g c = each_grows_itself c.args.nodes.now
 
 -- To some it is what the deliveries say.
 pub returns-clause-delivered : goal.returns-clause-delivered
@@ -21,6 +25,9 @@ returns-clause-in_turn g c = c.deliver_each.ensures.turn.in_turn c.requires.in_t
 
 pub returns-clause-size : goal.returns-clause-size
 returns-clause-size g c = c.deliver_each.ensures.turn.as_many
+
+pub returns-clause-lists : goal.returns-clause-lists
+returns-clause-lists g c = c.deliver_each.ensures.turn.lists
 
 pub returns-clause-most : goal.returns-clause-most
 returns-clause-most g c = c.deliver_each.ensures.most

@@ -10,10 +10,10 @@ returns-clause-heard g c = record {
   delivered = record {
     any = c.deliver_all.ensures.delivered;
     on_tape = c.deliver_all.ensures.on_tape;
-    turn = record { as_many = c.deliver_all.ensures.size; in_turn = λ turns. c.deliver_all.ensures.in_turn };
+    turn = record { as_many = c.deliver_all.ensures.size; in_turn = λ turns. c.deliver_all.ensures.in_turn; lists = c.deliver_all.ensures.lists };
     most = c.deliver_all.ensures.most;
   };
 }
 
 pub returns-clause-turn : goal.returns-clause-turn
-returns-clause-turn g c = record { as_many = c.deliver_all.ensures.size; in_turn = λ turns. c.deliver_all.ensures.in_turn }
+returns-clause-turn g c = record { as_many = c.deliver_all.ensures.size; in_turn = λ turns. c.deliver_all.ensures.in_turn; lists = c.deliver_all.ensures.lists }

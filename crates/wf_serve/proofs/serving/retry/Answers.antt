@@ -3,7 +3,7 @@ use Rattle.std.proofs.Common.{◌≡◌, ◌≢◌, length, refl, sym, subst, in
 use Rattle.std.proofs.lemmas.Option.{slice_get_read}
 use Rattle.wf_edge.specs.Page.{standing_at}
 use Rattle.wf_proposer.specs.declared.standing.Standing.TheVariants.{Running}
-use Rattle.wf_serve.proofs.Opened.{keeps_itself, keeps_twice}
+use Rattle.wf_farm.specs.DeliveringLaws.{keeps_turn_itself, keeps_turn_twice}
 use Rattle.wf_serve.proofs.serving.retry.Goals as goal
 
 pub returns-then-not-runs-clause-retried : goal.returns-then-not-runs-clause-retried
@@ -17,7 +17,7 @@ returns-then-not-runs-clause-retried g c = inr (
 )
 
 pub returns-then-not-runs-clause-turn : goal.returns-then-not-runs-clause-turn
-returns-then-not-runs-clause-turn g c = keeps_itself c.args.nodes.now
+returns-then-not-runs-clause-turn g c = keeps_turn_itself c.args.nodes.now
 
 pub hear-requires : goal.hear-requires
 hear-requires g c = c.said_at-said.ensures.turn.in_turn c.requires.in_turn
@@ -38,4 +38,4 @@ returns-clause-retried g c = inl (
     )
 
 pub returns-clause-turn : goal.returns-clause-turn
-returns-clause-turn g c = keeps_twice c.args.nodes.now c.said_at-said.new.nodes c.hear.new.nodes c.said_at-said.ensures.turn c.hear.ensures.turn
+returns-clause-turn g c = keeps_turn_twice c.args.nodes.now c.said_at-said.new.nodes c.hear.new.nodes c.said_at-said.ensures.turn c.hear.ensures.turn

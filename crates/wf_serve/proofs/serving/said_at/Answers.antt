@@ -2,6 +2,7 @@
 use Rattle.std.proofs.Common.{length, refl, sym, ap, subst, ◌∙◌}
 use Rattle.std.proofs.lemmas.Option.{slice_get_read}
 use Rattle.wf_farm.specs.DeliveringLaws.{keeps_turn}
+use Rattle.wf_node.specs.Growth.{IsGrown}
 use Rattle.wf_node.specs.Input.{view}
 use Rattle.wf_node.specs.Node.{Node}
 use Rattle.wf_serve.specs.Serving.{IsAsked}
@@ -21,4 +22,8 @@ returns-clause-asked g c = record {
 pub returns-clause-turn : goal.returns-clause-turn
 returns-clause-turn g c =
     let at = slice_get_read c.args.nodes.now (length c.args.nodes.now) c.args.place c.index-nodes-place.result refl c.requires.within c.index-nodes-place.is in
-    keeps_turn c.args.nodes.now c.args.place c.index-nodes-place.result c.said.new.node at (c.said.ensures.id ∙ ap (λ (x : Node _). x.id) (sym c.index-nodes-place.is), c.said.ensures.n ∙ ap (λ (x : Node _). x.n) (sym c.index-nodes-place.is))
+    keeps_turn c.args.nodes.now c.args.place c.index-nodes-place.result c.said.new.node at (
+      c.said.ensures.id ∙ ap (λ (x : Node _). x.id) (sym c.index-nodes-place.is),
+      c.said.ensures.n ∙ ap (λ (x : Node _). x.n) (sym c.index-nodes-place.is),
+      subst (λ (x : Node _). IsGrown x.parts.history c.said.new.node.parts.history) (sym c.index-nodes-place.is) c.said.ensures.list,
+    )

@@ -1,6 +1,7 @@
 -- The request, the deliveries and the second try come one after the other; the nodes stand in turn still.
 use Rattle.std.proofs.Common.{arith}
-use Rattle.wf_serve.proofs.Opened.{keeps_twice}
+use Rattle.wf_farm.specs.DeliveringLaws.{keeps_turn_twice}
+use Rattle.wf_serve.proofs.Caches.{kept_grown}
 use Rattle.wf_serve.proofs.serving.serve_connection.Goals as goal
 
 pub hear-requires : goal.hear-requires
@@ -24,5 +25,10 @@ returns-clause-connection g c = record {
 
 pub returns-clause-turn : goal.returns-clause-turn
 returns-clause-turn g c =
-    keeps_twice c.args.nodes.now c.served_at-outcome.new.nodes c.retry.new.nodes c.served_at-outcome.ensures.turn
-    (keeps_twice c.served_at-outcome.new.nodes c.hear.new.nodes c.retry.new.nodes c.hear.ensures.turn c.retry.ensures.turn)
+    keeps_turn_twice c.args.nodes.now c.served_at-outcome.new.nodes c.retry.new.nodes c.served_at-outcome.ensures.turn
+    (keeps_turn_twice c.served_at-outcome.new.nodes c.hear.new.nodes c.retry.new.nodes c.hear.ensures.turn c.retry.ensures.turn)
+
+pub returns-clause-kept : goal.returns-clause-kept
+returns-clause-kept g c =
+    let after = keeps_turn_twice c.served_at-outcome.new.nodes c.hear.new.nodes c.retry.new.nodes c.hear.ensures.turn c.retry.ensures.turn in
+    kept_grown c.kept_pictures_outlast_growth.ensures c.served_at-outcome.new.nodes c.retry.new.nodes c.served_at-outcome.new.caches after.as_many after.lists c.served_at-outcome.ensures.kept

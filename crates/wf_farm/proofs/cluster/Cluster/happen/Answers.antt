@@ -1,4 +1,4 @@
--- Each event is the step, the stop, the restart or the torn step that it names.
+-- Each event is the step, the stop, the restart or the crash within a step that it names.
 use Rattle.std.proofs.Common.{IfOk, sym, subst}
 use Rattle.wf_model.specs.Table as table
 use Rattle.wf_model.specs.World as world

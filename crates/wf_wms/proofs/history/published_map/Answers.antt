@@ -1,6 +1,6 @@
 use Rattle.std.proofs.Common.{◌≡◌, arith}
 use Rattle.wf_wms.proofs.ServiceLaw.{get_some}
-use Rattle.wf_wms.proofs.service.published_map.Goals as goal
+use Rattle.wf_wms.proofs.history.published_map.Goals as goal
 
 pub unwrap-requires : goal.unwrap-requires
 unwrap-requires c =

@@ -1,0 +1,18 @@
+use Rattle.wf_edge.specs.Growth.{kept_on, moved_grown}
+use Rattle.wf_edge.proofs.ServingLaw.{served_moves}
+use Rattle.wf_edge.proofs.serve.serve_one_cached.Goals as goal
+
+pub returns-in-Ok-clause-moves : goal.returns-in-Ok-clause-moves
+returns-in-Ok-clause-moves g c =
+    served_moves g.T.Tape.honest g.T.Tape.content g.T.Tape.images g.T.Tape.failed c.in-Ok.request (g.K.Sink.written c.hear.new.sink)
+    (g.K.Sink.written c.serve_request_by-served.new.sink) c.args.node.now c.serve_request_by-served.new.node c.serve_request_by-served.result.messages
+    c.serve_request_by-served.result.outcome c.serve_request_by-served.ensures.served
+
+pub returns-in-Ok-clause-kept : goal.returns-in-Ok-clause-kept
+returns-in-Ok-clause-kept g c =
+    let moves = served_moves g.T.Tape.honest g.T.Tape.content g.T.Tape.images g.T.Tape.failed c.in-Ok.request (g.K.Sink.written c.hear.new.sink)
+    (g.K.Sink.written c.serve_request_by-served.new.sink) c.args.node.now c.serve_request_by-served.new.node c.serve_request_by-served.result.messages
+    c.serve_request_by-served.result.outcome c.serve_request_by-served.ensures.served in
+    kept_on c.kept_pictures_outlast_growth.ensures c.args.node.now.parts.history c.serve_request_by-served.new.node.parts.history c.serve_request_by-served.new.cache
+    (moved_grown g.T.Tape.honest g.T.Tape.content g.T.Tape.images g.T.Tape.failed c.args.node.now c.serve_request_by-served.new.node c.serve_request_by-served.result.messages moves)
+    c.serve_request_by-served.ensures.kept

@@ -1,0 +1,65 @@
+-- A node's list of published maps only grows, whatever the node does.
+use Rattle.std.proofs.Common.{◌≡◌, ◌∙◌, ℕ, nat_lt, Bool, true, false, List, [], ◌∷◌, ◌++◌, Option, Some, None, Vec, refl, sym, ap, subst, append-nil, append_assoc}
+use Rattle.std.specs.Prelude.{Result, Ok, Err}
+use Rattle.wf_ballot.specs.Ballot.{Ballot}
+use Rattle.wf_codec.specs.declared.message.Message.{Message}
+use Rattle.wf_def.specs.Definition.{Definition}
+use Rattle.wf_model.specs.Stored.{Stored, Record, Tried, Promised, Accepted, Published, published, with_record}
+use Rattle.wf_model.specs.Table.{Input, Row, store}
+use Rattle.wf_node.specs.Node.{Node, stored_of}
+use Rattle.wf_node.specs.Step.{IsRow, IsSameNode, IsStep}
+use Rattle.wf_node.specs.declared.fault.NodeFault.{NodeFault}
+
+-- the list is there still, and there may be more behind it
+pub record IsGrown (old new : List Definition) : Type 0 where
+  pub more : List Definition
+  pub is : old ++ more ≡ new
+
+pub grown_itself : (xs : List Definition) → IsGrown xs xs
+grown_itself xs = record { more = []; is = append-nil xs }
+
+pub grown_twice : (xs ys zs : List Definition) → IsGrown xs ys → IsGrown ys zs → IsGrown xs zs
+grown_twice xs ys zs first second = record {
+  more = first.more ++ second.more;
+  is = sym (append_assoc xs first.more second.more) ∙ ap (λ (k : List Definition). k ++ second.more) first.is ∙ second.is;
+}
+
+-- ---- a record
+
+module _ (stored : Stored Definition) where
+  promised_grown : (s : ℕ) (b : Ballot) (is_open : Bool) → nat_lt (published stored) s ≡ is_open → IsGrown stored.history (with_record stored (Promised s b)).history
+  unfolding with_record
+  promised_grown s b true e = rw e (grown_itself stored.history)
+  promised_grown s b false e = rw e (grown_itself stored.history)
+
+  accepted_grown : (s : ℕ) (b : Ballot) (d : Definition) (is_open : Bool) → nat_lt (published stored) s ≡ is_open → IsGrown stored.history (with_record stored (Accepted s b d)).history
+  unfolding with_record
+  accepted_grown s b d true e = rw e (grown_itself stored.history)
+  accepted_grown s b d false e = rw e (grown_itself stored.history)
+
+  record_grown : (r : Record Definition) → IsGrown stored.history (with_record stored r).history
+  unfolding with_record
+  record_grown (Tried r) = grown_itself stored.history
+  record_grown (Promised s b) = promised_grown s b (nat_lt (published stored) s) refl
+  record_grown (Accepted s b d) = accepted_grown s b d (nat_lt (published stored) s) refl
+  record_grown (Published s d) = record { more = d ∷ []; is = refl }
+
+  store_grown : (entry : Option (Record Definition)) → IsGrown stored.history (store stored entry).history
+  unfolding store
+  store_grown None = grown_itself stored.history
+  store_grown (Some r) = record_grown r
+
+-- ---- a node
+
+module _ {T : Type 0} (before after : Node T) where
+  pub row_grown : (row : Row Definition) (sent : List Message) → IsRow before row sent after → IsGrown before.parts.history after.parts.history
+  row_grown row sent is = subst (λ (s : Stored Definition). IsGrown before.parts.history s.history) (sym is.stored) (store_grown (stored_of before) row.entry)
+
+  -- a node that is as it was but for its tape
+  pub same_grown : IsSameNode before after → IsGrown before.parts.history after.parts.history
+  same_grown same = subst (IsGrown before.parts.history) (sym (ap (λ (n : Node T). n.parts.history) same)) (grown_itself before.parts.history)
+
+  module _ {A : Type 0} (honest : Type 0) (content : T → List ℕ) (images : T → List ℕ → Type 0) (failures : T → ℕ) (input : Input Definition) where
+    pub step_grown : (result : Result (Vec Message A) NodeFault) → IsStep honest content images failures before input result after → IsGrown before.parts.history after.parts.history
+    step_grown (Ok said) step = row_grown _ said.items step.done
+    step_grown (Err why) step = same_grown step.same

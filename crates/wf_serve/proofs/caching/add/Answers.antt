@@ -1,0 +1,9 @@
+-- One more cache, which is empty.
+use Rattle.std.proofs.Common.{sym, ap, subst, ◌∙◌, ◌+◌, ℕ, length}
+use Rattle.std.proofs.lemmas.List.{length_push}
+use Rattle.wf_serve.specs.Caching.{AreEmpty}
+use Rattle.wf_serve.proofs.Caches.{one_more_empty}
+use Rattle.wf_serve.proofs.caching.add.Goals as goal
+
+pub returns-clause-empty : goal.returns-clause-empty
+returns-clause-empty c = subst AreEmpty (sym c.in_ok-push.ensures.items) (one_more_empty c.args.caches.now.items c.in_ok-cache.cache c.requires.empty c.in_ok-cache.ensures.kept)

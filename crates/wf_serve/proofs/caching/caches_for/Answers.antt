@@ -1,0 +1,14 @@
+-- Each cache is good for every history, and so for its node's.
+use Rattle.std.proofs.Common.{◌≡◌, [], length, sym, subst, ap, refl, ◌∙◌, arith}
+use Rattle.wf_serve.specs.Caching.{AreEmpty}
+use Rattle.wf_serve.proofs.Caches.{none_yet, kept_empty}
+use Rattle.wf_serve.proofs.caching.caches_for.Goals as goal
+
+pub loop-number-init : goal.loop-number-init
+loop-number-init g c = record { size = ap length c.new-caches.ensures.items; empty = subst AreEmpty (sym c.new-caches.ensures.items) none_yet }
+
+pub loop-number-preserved : goal.loop-number-preserved
+loop-number-preserved g c = record { size = c.in_ok-add.ensures.size; empty = c.in_ok-add.ensures.empty }
+
+pub returns : goal.returns
+returns g c = kept_empty c.args.nodes.now c.loop-number.caches.items (omega (arith, c.loop-number.invariant.size, c.loop-number-test.false)) c.loop-number.invariant.empty

@@ -1,0 +1,7 @@
+-- So many caches are there, and none has a picture yet.
+use Rattle.std.proofs.Common.{◌≡◌, length}
+use Rattle.wf_serve.specs.Caching.{AreEmpty}
+use Rattle.wf_serve.proofs.caching.caches_for.Given as goal
+
+abbrev pub invariant-loop-number : goal.invariant-loop-number
+invariant-loop-number g l = record { size : length l.caches.items ≡ l.number; empty : AreEmpty l.caches.items }

@@ -1,0 +1,45 @@
+//! The caches of the nodes.
+ghost use Rattle.std.specs.Prelude.{◌≡◌, ◌≤◌, ◌+◌, length, IfOk, OnOk};
+ghost use Rattle.wf_serve.specs.Caching.{AreEmpty, AreKept};
+ghost use Rattle.wf_wms.specs.Kept.{most_kept};
+
+use std::alloc::{AllocError, Global};
+use wf_node::Node;
+use wf_tape::Tape;
+use wf_wms::cache::Cache;
+
+/// A cache for each node, which keeps so many pictures and has none yet.
+pub(crate) fn caches_for<T: Tape>(
+    alloc: Global,
+    nodes: &[Node<T>],
+    capacity: u8,
+) -> Result<Vec<Cache>, AllocError>
+    requires least { 1 ≤ capacity }
+    requires most { capacity ≤ most_kept }
+    ensures { IfOk result (λ caches. AreKept nodes.now caches.items) }
+{
+    let mut caches = Vec::new(alloc);
+    for number in 0..nodes.len() {
+        add(alloc, &mut caches, number, capacity)?;
+    }
+    Ok(caches)
+}
+
+/// Adds the cache of the node of this number.
+fn add(
+    alloc: Global,
+    caches: &mut Vec<Cache>,
+    number: usize,
+    capacity: u8,
+) -> Result<(), AllocError>
+    requires least { 1 ≤ capacity }
+    requires most { capacity ≤ most_kept }
+    requires next { length caches.old.items ≡ number }
+    requires empty { AreEmpty caches.old.items }
+    ensures size { OnOk result (length caches.new.items ≡ number + 1) }
+    ensures empty { OnOk result (AreEmpty caches.new.items) }
+{
+    let cache = Cache::new(alloc, capacity as usize)?;
+    caches.push(cache)?;
+    Ok(())
+}

@@ -1,0 +1,56 @@
+-- How a query is judged, step by step.
+use Rattle.std.proofs.Common.{◌≡◌, ◌∙◌, ◌<◌, ◌≤◌, sym, subst, ℕ, List, length}
+use Rattle.std.specs.Prelude.{Some, Result, Ok, Err}
+use Rattle.std.specs.List.{All}
+use Rattle.std.proofs.lemmas.Option.{same_Some}
+use Rattle.wf_def.specs.Definition.{Definition}
+use Rattle.wf_learner.specs.History.{map_at}
+use Rattle.wf_picture.specs.Request.{RequestValue}
+use Rattle.wf_wms.specs.Answer.{AnswerValue, IsAnswerOn, IsMapAnswer, refusal}
+use Rattle.wf_wms.specs.Judged.{IsAsked, IsJudged}
+use Rattle.wf_wms.specs.MapRequest.{map_sequence, picture_in}
+use Rattle.wf_wms.specs.declared.asked.Asked.{Asked}
+use Rattle.wf_wms.specs.declared.asked.Judged.{Judged}
+use Rattle.wf_wms.specs.declared.asked.Judged.TheVariants.{Ready, Picture}
+use Rattle.wf_wms.specs.declared.exception.Exception.{Exception}
+use Rattle.wf_wms.specs.declared.operation.Operation.TheVariants.{Map}
+use Rattle.wf_wms.proofs.HistoryLaw.{map_there}
+use Rattle.wf_wms.proofs.ServiceLaw.{map_drawn}
+
+-- what is wanted may be less
+pub judged_weaker : (history : List Definition) (P Q : AnswerValue → Type 0) (judged : Judged) → ((answer : AnswerValue) → P answer → Q answer) → IsJudged history P judged → IsJudged history Q judged
+judged_weaker history P Q (Ready answer) follows is = follows answer is
+judged_weaker history P Q (Picture asked) follows is = record { of = is.of; answers = λ answer picture. follows answer (is.answers answer picture) }
+
+-- the parameters behind MAPSEQ are rejected
+pub picture_refused : (history : List Definition) (sequence : ℕ) (map : Definition) (pairs : List (List ℕ × List ℕ)) (e : Exception) (answer : AnswerValue) →
+    map_at history sequence ≡ Some map → Err e ≡ picture_in map pairs → answer ≡ refusal e → (other : Definition) → map_at history sequence ≡ Some other →
+    IsMapAnswer other (picture_in other pairs) answer
+picture_refused history sequence map pairs e answer there refused is other other_there =
+    let same : map ≡ other = same_Some map other (sym there ∙ other_there) in
+    let P : Definition → Type 0 = λ m. IsMapAnswer m (picture_in m pairs) answer in
+    let R : Result RequestValue Exception → Type 0 = λ r. IsMapAnswer map r answer in
+    subst P same (subst R refused is)
+
+-- or they ask for a picture
+pub picture_wanted : (history : List Definition) (map : Definition) (pairs : List (List ℕ × List ℕ)) (asked : Asked) → asked.sequence ≤ length history →
+    map_at history asked.sequence ≡ Some map → Ok asked.request ≡ picture_in map pairs → All (λ place. place < length map.layers) asked.request.layers →
+    (other : Definition) → map_at history asked.sequence ≡ Some other → IsAsked history (IsMapAnswer other (picture_in other pairs)) asked
+picture_wanted history map pairs asked within there wanted layers other other_there =
+    let same : map ≡ other = same_Some map other (sym there ∙ other_there) in
+    let P : Definition → Type 0 = λ m. IsAsked history (IsMapAnswer m (picture_in m pairs)) asked in
+    subst P same (record {
+      of = record { within = within; map = map; is_published = there; layers = layers };
+      answers = λ answer picture.
+          let R : Result RequestValue Exception → Type 0 = λ r. IsMapAnswer map r answer in
+          subst R wanted (picture map there);
+    })
+
+-- so does the request of a map whose MAPSEQ is taken
+pub sequence_judged : (history : List Definition) (s number : ℕ) (pairs : List (List ℕ × List ℕ)) (judged : Judged) → map_sequence s pairs ≡ Ok number → number ≤ length history →
+    ((map : Definition) → map_at history number ≡ Some map → IsJudged history (IsMapAnswer map (picture_in map pairs)) judged) →
+    IsJudged history (IsAnswerOn (Ok Map) s history pairs) judged
+sequence_judged history s number pairs judged taken within is =
+    let there = map_there history number within in
+    judged_weaker history (IsMapAnswer there.0 (picture_in there.0 pairs)) (IsAnswerOn (Ok Map) s history pairs) judged
+    (λ answer. map_drawn s history pairs number there.0 answer taken there.1) (is there.0 there.1)

@@ -1,0 +1,12 @@
+use Rattle.std.proofs.Common.{◌≡◌, ◌<◌, ℕ, false, [], get_or, length, take}
+use Rattle.std.specs.Prelude.{filter_map, is_none}
+use Rattle.wf_wms.specs.MapRequest.{entries, layer_of}
+use Rattle.wf_wms.proofs.layers.layer_places.Given as goal
+
+-- the names so far are those of layers, whose places stand there
+abbrev pub invariant-loop-name : goal.invariant-loop-name
+invariant-loop-name l = record {
+  known : (k : ℕ) → k < length l.yielded → is_none (layer_of l.map (get_or (entries l.names) k [])) ≡ false;
+  places : l.places.items ≡ filter_map (layer_of l.map) (take (length l.yielded) (entries l.names));
+  count : length l.places.items ≡ length l.yielded;
+}

@@ -1,0 +1,167 @@
+//! Kept pictures.
+ghost use Rattle.std.specs.Prelude.{◌≡◌, ◌≤◌, ◌<◌, List, pos, IfOk, IfSome};
+ghost use Rattle.std.specs.Map.{lookup};
+ghost use Rattle.wf_def.specs.Definition.{Definition};
+ghost use Rattle.wf_paint.specs.Exact.{quotient};
+ghost use Rattle.wf_wms.specs.Kept.{most_kept, background_of, AllKept, IsCellOf, IsKept, IsTileAt, IsTileOf};
+
+use crate::asked::Asked;
+use crate::history::published_map;
+use crate::key::Key;
+use lru::LruCache;
+use std::alloc::{AllocError, Global};
+use std::marker::Model;
+use std::num::NonZeroUsize;
+use wf_def::color::Color;
+use wf_learner::History;
+use wf_paint::cell::GridCell;
+use wf_paint::pixmap::Pixmap;
+use wf_paint::view::View;
+use wf_picture::law::tiles_are_crops_of_one_picture;
+use wf_picture::picture::{cut, labelled};
+use wf_picture::size::Size;
+
+/// The size of a tile.
+const TILE: Size = Size {
+    width: 256,
+    height: 256,
+};
+
+/// Pictures that are kept for the next request: each is 1,024 by 1,024 pixels of the grid of a map, which sixteen tiles are cut out of.
+/// The least recently used goes where there is no room.
+#[derive(Drop)]
+pub struct Cache {
+    kept: LruCache<Key, Pixmap>,
+}
+
+impl Model for Cache {
+    ghost use Rattle.wf_wms.specs.Kept.{CacheValue};
+
+    ghost Value = { CacheValue };
+
+    ghost view = { λ c. c.kept };
+}
+
+impl Cache {
+    /// A cache that keeps so many pictures, 1 to 64, and has none yet. A picture takes 3 MB. Allocation failure is the only error.
+    pub fn new(alloc: Global, capacity: usize) -> Result<Self, AllocError>
+        requires least { 1 ≤ capacity }
+        requires most { capacity ≤ most_kept }
+        ensures capacity { IfOk result (λ cache. cache.cap ≡ capacity) }
+        ensures kept { IfOk result (λ cache. (history : List Definition) → AllKept history cache) }
+    {
+        let capacity = NonZeroUsize::new(capacity).unwrap();
+        Ok(Cache {
+            kept: LruCache::new(alloc, capacity)?,
+        })
+    }
+
+    /// The file of the tile that the key and the view are of, cut out of the key's picture. That is drawn where it isn't kept, and kept
+    /// from then on, if there is memory to keep it.
+    pub(crate) fn tile(
+        &mut self,
+        alloc: Global,
+        history: &History,
+        key: Key,
+        view: &View,
+    ) -> Result<Vec<u8>, AllocError>
+        requires kept { AllKept history.now.definitions self.old }
+        requires tile { IsTileAt history.now.definitions key view.now }
+        ensures file { IfOk result (λ file. IsTileOf history.now.definitions key view.now file.items) }
+        ensures kept { AllKept history.now.definitions self.new }
+        ensures capacity { self.new.cap ≡ self.old.cap }
+    {
+        self.touch(&key);
+        match self.find(&key) {
+            Some(pixmap) => cut(alloc, pixmap, view, TILE),
+            None => self.drawn(alloc, history, key, view),
+        }
+    }
+
+    /// The same, where the picture isn't kept.
+    fn drawn(
+        &mut self,
+        alloc: Global,
+        history: &History,
+        key: Key,
+        view: &View,
+    ) -> Result<Vec<u8>, AllocError>
+        requires kept { AllKept history.now.definitions self.old }
+        requires tile { IsTileAt history.now.definitions key view.now }
+        ensures file { IfOk result (λ file. IsTileOf history.now.definitions key view.now file.items) }
+        ensures kept { AllKept history.now.definitions self.new }
+        ensures capacity { self.new.cap ≡ self.old.cap }
+    {
+        tiles_are_crops_of_one_picture();
+        let map = published_map(history, key.sequence);
+        let pixmap = labelled(alloc, map, &key.layers, view, key.background())?;
+        let file = cut(alloc, &pixmap, view, TILE);
+        self.keep(key, pixmap);
+        file
+    }
+
+    /// Makes the key's picture, if it is kept, the most recently used.
+    fn touch(&mut self, key: &Key)
+        ensures kept { (history : List Definition) → AllKept history self.old → AllKept history self.new }
+        ensures capacity { self.new.cap ≡ self.old.cap }
+    {
+        let _ = self.kept.promote(key);
+    }
+
+    /// The key's picture, if it is kept.
+    fn find(&self, key: &Key) -> Option<&Pixmap>
+        ensures { IfSome result (λ pixmap. (history : List Definition) → AllKept history self.now → IsKept history key.now pixmap.now) }
+    {
+        self.kept.peek(key)
+    }
+
+    /// Keeps a picture, if there is memory to keep it; where there is none the others stay.
+    fn keep(&mut self, key: Key, pixmap: Pixmap)
+        ensures kept { (history : List Definition) → AllKept history self.old → IsKept history key pixmap → AllKept history self.new }
+        ensures capacity { self.new.cap ≡ self.old.cap }
+    {
+        let _ = self.kept.put(key, pixmap);
+    }
+}
+
+impl Key {
+    /// The key of the picture that a tile is cut out of, where the tile of this cell is asked for.
+    pub(crate) fn of(asked: Asked, cell: GridCell) -> Self
+        ensures sequence { result.sequence ≡ asked.sequence }
+        ensures layers { result.layers.items ≡ asked.request.layers }
+        ensures background { background_of result ≡ asked.request.background }
+        ensures cell { IsCellOf result cell }
+    {
+        let Asked { sequence, request } = asked;
+        let background = request.background();
+        Key {
+            sequence,
+            layers: request.into_layers(),
+            red: background.r,
+            green: background.g,
+            blue: background.b,
+            level: cell.z,
+            column: quarter(cell.col),
+            row: quarter(cell.row),
+        }
+    }
+
+    /// The background.
+    fn background(&self) -> Color
+        ensures { result ≡ background_of self.now }
+    {
+        Color {
+            r: self.red,
+            g: self.green,
+            b: self.blue,
+        }
+    }
+}
+
+/// A quarter, rounded down.
+#[tactic(auto, unfolding(wf_paint::specs::Exact::quotient))]
+fn quarter(k: i64) -> i64
+    ensures { result ≡ quotient k (pos 4) }
+{
+    k.div_euclid(4)
+}

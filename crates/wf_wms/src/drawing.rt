@@ -1,0 +1,49 @@
+//! The picture that is asked for is drawn, or cut out of a kept one.
+ghost use Rattle.std.specs.Prelude.{◌≡◌, IfOk};
+ghost use Rattle.wf_wms.specs.Judged.{IsAskedOf, IsPictureFor};
+ghost use Rattle.wf_wms.specs.Kept.{AllKept};
+
+use crate::answer::Answer;
+use crate::asked::Asked;
+use crate::cache::Cache;
+use crate::history::published_map;
+use crate::key::Key;
+use std::alloc::{AllocError, Global};
+use wf_learner::History;
+use wf_paint::cell::GridCell;
+use wf_picture::picture::{draw, view_of};
+
+/// The answer with the picture, drawn anew.
+pub(crate) fn drawn(alloc: Global, history: &History, asked: Asked) -> Result<Answer, AllocError>
+    requires { IsAskedOf history.now.definitions asked }
+    ensures { IfOk result (λ answer. IsPictureFor history.now.definitions asked answer) }
+{
+    let map = published_map(history, asked.sequence);
+    Ok(Answer::picture(draw(alloc, map, &asked.request)?))
+}
+
+/// The same answer. A tile of the map's grid is cut out of the picture that the cache keeps, or keeps from now on.
+pub(crate) fn drawn_by(
+    alloc: Global,
+    cache: &mut Cache,
+    history: &History,
+    asked: Asked,
+) -> Result<Answer, AllocError>
+    requires asked { IsAskedOf history.now.definitions asked }
+    requires kept { AllKept history.now.definitions cache.old }
+    ensures answer { IfOk result (λ answer. IsPictureFor history.now.definitions asked answer) }
+    ensures kept { AllKept history.now.definitions cache.new }
+    ensures capacity { cache.new.cap ≡ cache.old.cap }
+{
+    let map = published_map(history, asked.sequence);
+    let request = &asked.request;
+    let size = request.size();
+    match GridCell::of(map.extent(), request.bbox(), size.width, size.height) {
+        Some(cell) => {
+            let view = view_of(map, request);
+            let key = Key::of(asked, cell);
+            Ok(Answer::picture(cache.tile(alloc, history, key, &view)?))
+        }
+        None => drawn(alloc, history, asked),
+    }
+}
