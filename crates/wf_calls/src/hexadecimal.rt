@@ -1,9 +1,9 @@
 //! Bytes in hexadecimal.
-use wf_table::Unanswered;
 use wf_table::escape::digit;
+use wf_table::{Answer, Answered, Unanswered};
 
 /// Appends the bytes that the digits say, two a byte.
-pub fn push_hexadecimal(digits: &str, bytes: &mut Vec<u8>) -> Result<(), Unanswered> {
+pub fn push_hexadecimal(digits: &str, bytes: &mut Answer) -> Answered {
     let mut high = None;
     for byte in digits.as_bytes() {
         high = take(high, *byte, bytes)?;
@@ -15,14 +15,14 @@ pub fn push_hexadecimal(digits: &str, bytes: &mut Vec<u8>) -> Result<(), Unanswe
 }
 
 /// Takes a digit. Behind the first of a byte it answers the byte so far, behind the second nothing.
-fn take(high: Option<u8>, byte: u8, bytes: &mut Vec<u8>) -> Result<Option<u8>, Unanswered> {
+fn take(high: Option<u8>, byte: u8, bytes: &mut Answer) -> Result<Option<u8>, Unanswered> {
     let Some(digit) = digit(byte) else {
         return Err(Unanswered::BadWords);
     };
     match high {
         None => Ok(Some(digit * 16)),
         Some(high) => {
-            bytes.extend_from_slice(&[high | digit])?;
+            bytes.bytes(&[high | digit]);
             Ok(None)
         }
     }

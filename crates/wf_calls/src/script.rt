@@ -7,7 +7,7 @@
 //! ```
 use std::alloc::Global;
 use wf_canon::{Canon, CanonFault};
-use wf_table::Unanswered;
+use wf_table::{Unanswered, Words};
 
 /// The line behind each map.
 const END: &str = "endmap\n";
@@ -18,10 +18,39 @@ pub struct Maps<'a> {
     script: &'a str,
 }
 
+/// Where a definition comes from.
+#[derive(Clone, Copy)]
+pub enum Definitions<'a> {
+    /// The next word is the name of a map.
+    Named(Maps<'a>),
+    /// This canonical text is the only one.
+    Text(&'a [u8]),
+}
+
+impl Definitions<'_> {
+    /// The definition that the words go on with.
+    pub fn next(self, alloc: Global, words: &mut Words<'_>) -> Result<Canon, Unanswered> {
+        match self {
+            Definitions::Named(maps) => maps.canon(alloc, words.word()),
+            Definitions::Text(text) => canon_of(alloc, text),
+        }
+    }
+}
+
 /// A script's maps and its calls.
-pub fn read_script(input: &[u8]) -> Result<(Maps<'_>, &str), Unanswered> {
+#[derive(Clone, Copy)]
+pub struct Script<'a> {
+    pub maps: Maps<'a>,
+    pub calls: &'a str,
+}
+
+/// The script that an input is.
+pub fn read_script(input: &[u8]) -> Result<Script<'_>, Unanswered> {
     match str::from_utf8(input) {
-        Ok(script) => Ok((Maps { script }, calls_of(script))),
+        Ok(script) => Ok(Script {
+            maps: Maps { script },
+            calls: calls_of(script),
+        }),
         Err(_) => Err(Unanswered::BadWords),
     }
 }

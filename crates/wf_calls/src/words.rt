@@ -1,100 +1,37 @@
-//! Words between spaces, read from left to right.
-use std::mem;
+//! What a farm counts in, read from words.
 use wf_ballot::{Ballot, NodeId, Seq, Slot};
-use wf_table::Unanswered;
+use wf_table::{Unanswered, Words};
 
-/// The words that are left.
-#[derive(Clone, Copy)]
-pub struct Words<'a> {
-    rest: &'a str,
+/// The next word, the number of a node.
+pub fn node(words: &mut Words<'_>) -> Result<NodeId, Unanswered> {
+    match NodeId::new(words.byte()?) {
+        Some(node) => Ok(node),
+        None => Err(Unanswered::BadWords),
+    }
 }
 
-impl<'a> Words<'a> {
-    /// The words of a text.
-    pub fn new(words: &'a str) -> Words<'a> {
-        Words { rest: words }
+/// The next word, the number of a sequence.
+pub fn sequence(words: &mut Words<'_>) -> Result<Seq, Unanswered> {
+    match Seq::new(words.short()?) {
+        Some(sequence) => Ok(sequence),
+        None => Err(Unanswered::BadWords),
     }
+}
 
-    /// The words of an input, which has to be UTF-8.
-    pub fn of(input: &'a [u8]) -> Result<Words<'a>, Unanswered> {
-        match str::from_utf8(input) {
-            Ok(words) => Ok(Words::new(words)),
-            Err(_) => Err(Unanswered::BadWords),
-        }
+/// The next word, the number of a slot.
+pub fn slot(words: &mut Words<'_>) -> Result<Slot, Unanswered> {
+    match Slot::new(words.short()?) {
+        Some(slot) => Ok(slot),
+        None => Err(Unanswered::BadWords),
     }
+}
 
-    /// The next word; an empty one behind the last.
-    pub fn word(&mut self) -> &'a str {
-        match self.rest.split_once(' ') {
-            Some((word, rest)) => {
-                self.rest = rest;
-                word
-            }
-            None => mem::replace(&mut self.rest, ""),
-        }
-    }
-
-    /// All words that are left.
-    pub fn rest(self) -> &'a str {
-        self.rest
-    }
-
-    /// Is no word left?
-    pub fn is_empty(&self) -> bool {
-        self.rest.is_empty()
-    }
-
-    /// The next word, a number of at most 255.
-    pub fn byte(&mut self) -> Result<u8, Unanswered> {
-        match self.word().parse::<u8>() {
-            Ok(number) => Ok(number),
-            Err(_) => Err(Unanswered::BadWords),
-        }
-    }
-
-    /// The next word, a number of at most 65,535.
-    pub fn short(&mut self) -> Result<u16, Unanswered> {
-        match self.word().parse::<u16>() {
-            Ok(number) => Ok(number),
-            Err(_) => Err(Unanswered::BadWords),
-        }
-    }
-
-    /// The next word, the number of a round, or 0.
-    pub fn round(&mut self) -> Result<u32, Unanswered> {
-        match self.word().parse::<u32>() {
-            Ok(round) => Ok(round),
-            Err(_) => Err(Unanswered::BadWords),
-        }
-    }
-
-    /// The next word, a count.
-    pub fn count(&mut self) -> Result<usize, Unanswered> {
-        match self.word().parse::<usize>() {
-            Ok(count) => Ok(count),
-            Err(_) => Err(Unanswered::BadWords),
-        }
-    }
-
-    /// The next word, the number of a node.
-    pub fn node(&mut self) -> Result<NodeId, Unanswered> {
-        NodeId::new(self.byte()?).ok_or(Unanswered::BadWords)
-    }
-
-    /// The next word, the number of a sequence.
-    pub fn sequence(&mut self) -> Result<Seq, Unanswered> {
-        Seq::new(self.short()?).ok_or(Unanswered::BadWords)
-    }
-
-    /// The next word, the number of a slot.
-    pub fn slot(&mut self) -> Result<Slot, Unanswered> {
-        Slot::new(self.short()?).ok_or(Unanswered::BadWords)
-    }
-
-    /// The next two words, a ballot's round and its node.
-    pub fn ballot(&mut self) -> Result<Ballot, Unanswered> {
-        let round = self.round()?;
-        let node = self.node()?;
-        Ballot::new(round, node).ok_or(Unanswered::BadWords)
+/// The next two words, a ballot's round and its node.
+pub fn ballot(words: &mut Words<'_>) -> Result<Ballot, Unanswered> {
+    let round = words.number()?;
+    let node = node(words)?;
+    match Ballot::new(round, node) {
+        Some(ballot) => Ok(ballot),
+        None => Err(Unanswered::BadWords),
     }
 }

@@ -1,14 +1,13 @@
 //! Maps in words: what stands at a sequence or a slot.
 use crate::script::Maps;
-use crate::telling::tell_none;
-use crate::words_of_message::{write_definition, write_field};
+use crate::telling::{tell_none, write_field};
+use crate::words_of_message::write_definition;
 use std::alloc::Global;
 use std::fmt::Display;
 use wf_ballot::Seq;
 use wf_canon::Canon;
 use wf_def::map::MapDef;
-use wf_table::Unanswered;
-use wf_table::write::write_line;
+use wf_table::Answer;
 
 /// Appends a line: a number and the definition that stands there.
 pub fn tell_at<T: Display + Copy>(
@@ -16,11 +15,11 @@ pub fn tell_at<T: Display + Copy>(
     number: T,
     canon: &Canon,
     maps: Maps<'_>,
-    answer: &mut Vec<u8>,
-) -> Result<(), Unanswered> {
-    write_field(title, number, answer)?;
-    write_definition(canon, maps, answer)?;
-    Ok(write_line("", answer)?)
+    answer: &mut Answer,
+) {
+    write_field(title, number, answer);
+    write_definition(canon, maps, answer);
+    answer.line("");
 }
 
 /// Appends a line: a sequence and its map, none where there is none.
@@ -29,17 +28,16 @@ pub fn tell_map(
     sequence: Seq,
     map: Option<&MapDef>,
     maps: Maps<'_>,
-    answer: &mut Vec<u8>,
-) -> Result<(), Unanswered> {
+    answer: &mut Answer,
+) {
     let Some(map) = map else {
         return tell_none(answer);
     };
     match Canon::of(alloc, map) {
         Ok(canon) => {
-            let told = tell_at("sequence ", sequence, &canon, maps, answer);
+            tell_at("sequence ", sequence, &canon, maps, answer);
             drop(canon);
-            told
         }
-        Err(_) => Err(Unanswered::Memory),
+        Err(_) => answer.cut(),
     }
 }

@@ -1,9 +1,9 @@
 //! What is to be stored and sent, in words.
 use crate::script::Maps;
-use crate::words_of_message::{write_at, write_definition, write_field, write_message};
+use crate::telling::write_field;
+use crate::words_of_message::{write_at, write_definition, write_message};
 use wf_codec::Message;
-use wf_table::Unanswered;
-use wf_table::write::{write_line, write_text};
+use wf_table::Answer;
 use wf_tape::Record;
 
 /// Appends a line: the record to store and the messages to send after that, each `nothing` where there is
@@ -12,63 +12,51 @@ pub fn tell_step(
     record: Option<&Record>,
     messages: &[Message],
     maps: Maps<'_>,
-    answer: &mut Vec<u8>,
-) -> Result<(), Unanswered> {
-    write_text("store ", answer)?;
-    write_stored(record, maps, answer)?;
-    write_text(", ", answer)?;
-    tell_sent(messages, maps, answer)
+    answer: &mut Answer,
+) {
+    answer.text("store ");
+    match record {
+        Some(record) => write_record(record, maps, answer),
+        None => answer.text("nothing"),
+    }
+    answer.text(", ");
+    tell_sent(messages, maps, answer);
 }
 
 /// Appends a line: the messages to send, `nothing` where there is none.
-pub fn tell_sent(
-    messages: &[Message],
-    maps: Maps<'_>,
-    answer: &mut Vec<u8>,
-) -> Result<(), Unanswered> {
-    write_text("send ", answer)?;
-    write_sent(messages, maps, answer)?;
-    Ok(write_line("", answer)?)
+pub fn tell_sent(messages: &[Message], maps: Maps<'_>, answer: &mut Answer) {
+    answer.text("send ");
+    write_sent(messages, maps, answer);
+    answer.line("");
 }
 
-fn write_stored(
-    record: Option<&Record>,
-    maps: Maps<'_>,
-    answer: &mut Vec<u8>,
-) -> Result<(), Unanswered> {
-    match record {
-        Some(record) => write_record(record, maps, answer),
-        None => Ok(write_text("nothing", answer)?),
-    }
-}
-
-fn write_record(record: &Record, maps: Maps<'_>, answer: &mut Vec<u8>) -> Result<(), Unanswered> {
+/// Appends what a record says, without its definition.
+pub fn write_head(record: &Record, answer: &mut Answer) {
     match record {
         Record::Tried(round) => write_field("tried ", *round, answer),
         Record::Promised(slot, ballot) => write_at("promised", *slot, *ballot, answer),
-        Record::Accepted(slot, ballot, canon) => {
-            write_at("accepted", *slot, *ballot, answer)?;
-            write_definition(canon, maps, answer)
-        }
-        Record::Published(slot, canon) => {
-            write_field("published slot ", *slot, answer)?;
-            write_definition(canon, maps, answer)
-        }
+        Record::Accepted(slot, ballot, _) => write_at("accepted", *slot, *ballot, answer),
+        Record::Published(slot, _) => write_field("published slot ", *slot, answer),
     }
 }
 
-fn write_sent(
-    messages: &[Message],
-    maps: Maps<'_>,
-    answer: &mut Vec<u8>,
-) -> Result<(), Unanswered> {
-    let Some((first, others)) = messages.split_first() else {
-        return Ok(write_text("nothing", answer)?);
-    };
-    write_message(first, maps, answer)?;
-    for message in others {
-        write_text(" and ", answer)?;
-        write_message(message, maps, answer)?;
+fn write_record(record: &Record, maps: Maps<'_>, answer: &mut Answer) {
+    write_head(record, answer);
+    match record {
+        Record::Accepted(_, _, canon) | Record::Published(_, canon) => {
+            write_definition(canon, maps, answer);
+        }
+        Record::Tried(_) | Record::Promised(_, _) => {}
     }
-    Ok(())
+}
+
+fn write_sent(messages: &[Message], maps: Maps<'_>, answer: &mut Answer) {
+    let Some((first, others)) = messages.split_first() else {
+        return answer.text("nothing");
+    };
+    write_message(first, maps, answer);
+    for message in others {
+        answer.text(" and ");
+        write_message(message, maps, answer);
+    }
 }

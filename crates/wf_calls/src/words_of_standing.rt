@@ -1,17 +1,16 @@
 //! How a proposal stands, in words.
-use crate::words_of_message::write_field;
+use crate::telling::write_field;
 use wf_proposer::Standing;
-use wf_table::Unanswered;
-use wf_table::write::{write_line, write_text};
+use wf_table::Answer;
 
 /// Appends a line: how a proposal stands.
-pub fn tell_standing(standing: Standing, answer: &mut Vec<u8>) -> Result<(), Unanswered> {
-    write_text("standing: ", answer)?;
+pub fn tell_standing(standing: Standing, answer: &mut Answer) {
+    answer.text("standing: ");
     match standing {
-        Standing::None => write_text("none", answer)?,
-        Standing::Running => write_text("running", answer)?,
-        Standing::Published(slot) => write_field("published at slot ", slot, answer)?,
-        Standing::Overtaken(slot) => write_field("overtaken at slot ", slot, answer)?,
+        Standing::None => answer.text("none"),
+        Standing::Running => answer.text("running"),
+        Standing::Published(slot) => write_field("published at slot ", slot, answer),
+        Standing::Overtaken(slot) => write_field("overtaken at slot ", slot, answer),
     }
-    Ok(write_line("", answer)?)
+    answer.line("");
 }

@@ -1,7 +1,15 @@
-//! Tapes in words: how many bytes are on one.
-use wf_table::Unanswered;
-use wf_table::write::{write_line, write_whole};
+//! Tapes of bytes, and in words how many bytes are on one.
+use std::alloc::Global;
+use wf_table::{Answer, Unanswered};
 use wf_tape::MemoryTape;
+
+/// A tape with a copy of these bytes, all of them synced.
+pub fn tape_of(alloc: Global, bytes: &[u8]) -> Result<MemoryTape, Unanswered> {
+    match bytes.to_vec(alloc) {
+        Ok(copy) => Ok(MemoryTape::new(copy)),
+        Err(_) => Err(Unanswered::Memory),
+    }
+}
 
 /// How many bytes are on a tape, which isn't used any more.
 pub fn bytes_on(tape: MemoryTape) -> usize {
@@ -11,7 +19,7 @@ pub fn bytes_on(tape: MemoryTape) -> usize {
 }
 
 /// Appends how many bytes are on a tape.
-pub fn tell_length(bytes: usize, answer: &mut Vec<u8>) -> Result<(), Unanswered> {
-    write_whole(bytes as u64, answer)?;
-    Ok(write_line(" bytes", answer)?)
+pub fn tell_length(bytes: usize, answer: &mut Answer) {
+    answer.count(bytes);
+    answer.line(" bytes");
 }

@@ -1,42 +1,17 @@
-//! The questions.
-//!
-//! ```text
-//! script     a script     what it writes; its fault line behind that, where it has one
-//! ```
-use std::alloc::Global;
+//! Scripts.
 use wf_script::run_script;
 use wf_stream::Stream;
-use wf_table::write::write_line;
-use wf_table::{Questions, Unanswered};
+use wf_table::{Answer, Answered, Asked};
 
-/// What scripts are asked.
-pub(crate) struct Scripts;
-
-fn play(alloc: Global, script: &[u8], answer: &mut Vec<u8>) -> Result<(), Unanswered> {
-    match run_script(
-        alloc,
-        &mut Stream::new(script),
-        &mut Stream::new(&mut *answer),
-    ) {
-        Ok(()) => Ok(()),
-        Err(fault) => {
-            let line = fault.to_string(alloc)?;
-            Ok(write_line(line.as_str(), answer)?)
-        }
+/// `script`: what the script writes, and its fault line behind that, where it has one.
+pub(crate) fn script(asked: Asked<'_>, answer: &mut Answer) -> Answered {
+    let mut source = Stream::new(asked.input);
+    let mut sink = Stream::new(answer.target());
+    let played = run_script(asked.alloc, &mut source, &mut sink);
+    drop(sink);
+    if let Err(fault) = played {
+        answer.value(fault);
+        answer.line("");
     }
-}
-
-impl Questions for Scripts {
-    fn answer(
-        &self,
-        alloc: Global,
-        words: &str,
-        input: &[u8],
-        answer: &mut Vec<u8>,
-    ) -> Result<(), Unanswered> {
-        match words {
-            "script" => play(alloc, input, answer),
-            _ => Err(Unanswered::UnknownQuestion),
-        }
-    }
+    Ok(())
 }

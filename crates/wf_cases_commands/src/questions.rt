@@ -1,34 +1,21 @@
 //! The questions by their names.
-use crate::asked::Asked;
-use crate::commands;
-use crate::played::Scripts;
-use std::alloc::Global;
-use wf_table::{Questions, Unanswered};
+use crate::{broken, commands, lines, played};
+use wf_table::{Answer, Answered, Asked, Questions, Unanswered};
 
-/// All that this program can be asked: about command lines, and what [`Scripts`] are asked.
+/// All that this program can be asked.
 pub(crate) struct CommandQuestions;
 
 impl Questions for CommandQuestions {
-    fn answer(
-        &self,
-        alloc: Global,
-        words: &str,
-        input: &[u8],
-        answer: &mut Vec<u8>,
-    ) -> Result<(), Unanswered> {
-        let (question, rest) = words.split_once(' ').unwrap_or((words, ""));
-        let asked = Asked {
-            alloc,
-            words: rest,
-            input,
-        };
-        match question {
+    fn answer(&self, mut asked: Asked<'_>, answer: &mut Answer) -> Answered {
+        match asked.words.word() {
             "canon" => commands::canon(asked, answer),
+            "canon_broken" => broken::canon_broken(asked, answer),
             "canon_twice" => commands::canon_twice(asked, answer),
             "caps" => commands::caps(asked, answer),
-            "line" => commands::command_line(asked, answer),
-            "run" => commands::run(asked, answer),
-            _ => Scripts.answer(alloc, words, input, answer),
+            "line" => lines::line_of(asked, answer),
+            "run" => lines::run(asked, answer),
+            "script" => played::script(asked, answer),
+            _ => Err(Unanswered::UnknownQuestion),
         }
     }
 }

@@ -3,10 +3,9 @@ use std::alloc::Global;
 use wf_edge::hearing::hear;
 use wf_edge::outcome::Outcome;
 use wf_edge::request::Request;
-use wf_edge::resource::Asked;
+use wf_edge::resource::Asked as Resource;
 use wf_stream::{Bytes, Output};
-use wf_table::Unanswered;
-use wf_table::write::{write_line, write_text, write_whole};
+use wf_table::{Answer, Answered, Asked, Unanswered, Words};
 
 /// More bytes than any request or response of a case has.
 const ALL: usize = 1_048_576;
@@ -23,38 +22,30 @@ pub(crate) struct Exchange {
 }
 
 impl Exchange {
-    /// The request in one piece, and the response whole.
-    pub(crate) fn whole() -> Self {
-        Exchange {
-            piece: ALL,
-            until_failure: None,
-            room: ALL,
+    /// The way that words name; without any the request comes in one piece, and the response is taken whole.
+    pub(crate) fn read(mut words: Words<'_>) -> Result<Exchange, Unanswered> {
+        match words.word() {
+            "" => Ok(Exchange::new(ALL, None, ALL)),
+            "by" => Exchange::read_piece(words),
+            "room" => Ok(Exchange::new(ALL, None, words.count()?)),
+            _ => Err(Unanswered::UnknownQuestion),
         }
     }
 
-    /// The request in pieces.
-    pub(crate) fn by(piece: usize) -> Self {
+    // Reads `N` or `N failing at K`: the K-th call of the reader fails, counted from 1.
+    fn read_piece(mut words: Words<'_>) -> Result<Exchange, Unanswered> {
+        let piece = words.count()?;
+        match words.word() {
+            "" => Ok(Exchange::new(piece, None, ALL)),
+            "failing" => Ok(Exchange::new(piece, Some(read_call(words)?), ALL)),
+            _ => Err(Unanswered::BadWords),
+        }
+    }
+
+    fn new(piece: usize, until_failure: Option<u64>, room: usize) -> Self {
         Exchange {
             piece,
-            until_failure: None,
-            room: ALL,
-        }
-    }
-
-    /// The same, where this call of the reader fails, counted from 1.
-    pub(crate) fn failing_at(self, call: usize) -> Self {
-        Exchange {
-            piece: self.piece,
-            until_failure: Some(call.saturating_sub(1) as u64),
-            room: self.room,
-        }
-    }
-
-    /// The same, where the writer takes so many bytes.
-    pub(crate) fn with_room(self, room: usize) -> Self {
-        Exchange {
-            piece: self.piece,
-            until_failure: self.until_failure,
+            until_failure,
             room,
         }
     }
@@ -73,80 +64,75 @@ impl Exchange {
     }
 }
 
-fn write_counted(
-    what: &str,
-    status: u16,
-    count: u64,
-    answer: &mut Vec<u8>,
-) -> Result<(), Unanswered> {
-    write_text(what, answer)?;
-    write_whole(u64::from(status), answer)?;
-    write_text(", ", answer)?;
-    write_whole(count, answer)?;
-    Ok(write_line(" bytes", answer)?)
+// How many reads come before the one that `at K` says.
+fn read_call(mut words: Words<'_>) -> Result<u64, Unanswered> {
+    if words.word() != "at" {
+        return Err(Unanswered::BadWords);
+    }
+    let call = words.count()?;
+    Ok(call.saturating_sub(1) as u64)
+}
+
+fn write_counted(what: &str, status: u16, count: u64, answer: &mut Answer) {
+    answer.text(what);
+    answer.value(status);
+    answer.text(", ");
+    answer.value(count);
+    answer.line(" bytes");
 }
 
 /// Appends what became of a request.
-pub(crate) fn tell_outcome(outcome: Outcome, answer: &mut Vec<u8>) -> Result<(), Unanswered> {
+pub(crate) fn tell_outcome(outcome: Outcome, answer: &mut Answer) {
     match outcome {
         Outcome::Sent(status, count) => write_counted("sent ", status, count, answer),
         Outcome::WriteFailed(status, count) => write_counted("cut ", status, count, answer),
-        Outcome::ReadFailed => Ok(write_line("read failed", answer)?),
-        Outcome::NoRequest => Ok(write_line("no request", answer)?),
+        Outcome::ReadFailed => answer.line("read failed"),
+        Outcome::NoRequest => answer.line("no request"),
     }
 }
 
-fn name(asked: Asked) -> &'static str {
-    match asked {
-        Asked::Wms => "heard wms, query [",
-        Asked::Status => "heard status, query [",
-        Asked::Publish(_) => "heard publish, query [",
+fn name(resource: Resource) -> &'static str {
+    match resource {
+        Resource::Wms => "heard wms, query [",
+        Resource::Status => "heard status, query [",
+        Resource::Publish(_) => "heard publish, query [",
     }
 }
 
 // Appends what a request asks for, its query and how long its body is.
-fn tell_request(request: &Request, answer: &mut Vec<u8>) -> Result<(), Unanswered> {
-    write_text(name(request.asked()), answer)?;
-    answer.extend_from_slice(request.query())?;
-    write_text("], body ", answer)?;
-    write_whole(request.body().len() as u64, answer)?;
-    Ok(write_line(" bytes", answer)?)
+fn tell_request(request: &Request, answer: &mut Answer) {
+    answer.text(name(request.asked()));
+    answer.bytes(request.query());
+    answer.text("], body ");
+    answer.count(request.body().len());
+    answer.line(" bytes");
 }
 
 /// Appends what was written, in whole lines.
-pub(crate) fn tell_written(written: &[u8], answer: &mut Vec<u8>) -> Result<(), Unanswered> {
-    answer.extend_from_slice(written)?;
+pub(crate) fn tell_written(written: &[u8], answer: &mut Answer) {
+    answer.bytes(written);
     match written.last() {
-        Some(last) if *last != b'\n' => Ok(write_line("", answer)?),
-        _ => Ok(()),
+        Some(last) if *last != b'\n' => answer.line(""),
+        _ => {}
     }
 }
 
-fn tell(
-    heard: &Result<Request, Outcome>,
-    written: &[u8],
-    answer: &mut Vec<u8>,
-) -> Result<(), Unanswered> {
+fn tell(heard: &Result<Request, Outcome>, answer: &mut Answer) {
     match heard {
-        Ok(request) => tell_request(request, answer)?,
-        Err(outcome) => tell_outcome(*outcome, answer)?,
+        Ok(request) => tell_request(request, answer),
+        Err(outcome) => tell_outcome(*outcome, answer),
     }
-    tell_written(written, answer)
 }
 
 /// Appends what is heard of a request that is read and answered so, or the outcome, and what is written.
-pub(crate) fn tell_hearing(
-    alloc: Global,
-    way: Exchange,
-    input: &[u8],
-    answer: &mut Vec<u8>,
-) -> Result<(), Unanswered> {
-    let mut reader = way.reader(input)?;
-    let mut writer = way.writer(alloc);
-    let heard = hear(alloc, &mut reader, &mut writer);
-    let told = tell(&heard, writer.bytes(), answer);
+pub(crate) fn tell_hearing(asked: Asked<'_>, way: Exchange, answer: &mut Answer) -> Answered {
+    let mut reader = way.reader(asked.input)?;
+    let mut writer = way.writer(asked.alloc);
+    let heard = hear(asked.alloc, &mut reader, &mut writer);
+    tell(&heard, answer);
+    tell_written(writer.bytes(), answer);
     drop(heard);
     drop(writer);
     drop(reader);
-    told
+    Ok(())
 }

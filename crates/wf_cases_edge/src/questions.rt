@@ -11,79 +11,19 @@
 //! ```
 use crate::broken::Broken;
 use crate::exchange::{Exchange, tell_hearing};
-use crate::member::Member;
-use crate::serving::serve_all;
-use std::alloc::Global;
-use wf_calls::words::Words;
-use wf_table::{Questions, Unanswered};
-use wf_tape::{MemoryTape, Tape};
+use crate::serving::serve;
+use wf_table::{Answer, Answered, Asked, Questions, Unanswered};
+use wf_tape::MemoryTape;
 
 /// What is asked of the edge.
 pub(crate) struct Edge;
 
-fn number(word: &str) -> Result<usize, Unanswered> {
-    match word.parse::<u32>() {
-        Ok(number) => Ok(number as usize),
-        Err(_) => Err(Unanswered::BadWords),
-    }
-}
-
-fn way_by(words: &str) -> Result<Exchange, Unanswered> {
-    match words.split_once(" failing at ") {
-        Some((piece, call)) => Ok(Exchange::by(number(piece)?).failing_at(number(call)?)),
-        None => Ok(Exchange::by(number(words)?)),
-    }
-}
-
-fn way(words: &str) -> Result<Exchange, Unanswered> {
-    match words.split_once(' ') {
-        Some(("by", how)) => way_by(how),
-        Some(("room", room)) => Ok(Exchange::whole().with_room(number(room)?)),
-        _ => Err(Unanswered::UnknownQuestion),
-    }
-}
-
-/// The way that words name; without any the request comes in one piece, and the response is taken whole.
-fn way_or_whole(words: Words<'_>) -> Result<Exchange, Unanswered> {
-    if words.is_empty() {
-        Ok(Exchange::whole())
-    } else {
-        way(words.rest())
-    }
-}
-
-fn serve<T: Tape + Drop>(
-    alloc: Global,
-    mut words: Words<'_>,
-    tape: T,
-    input: &[u8],
-    answer: &mut Vec<u8>,
-) -> Result<(), Unanswered> {
-    match (Member::named(&mut words), way_or_whole(words)) {
-        (Ok(member), Ok(way)) => serve_all(alloc, member, tape, way, input, answer),
-        _ => {
-            drop(tape);
-            Err(Unanswered::BadWords)
-        }
-    }
-}
-
 impl Questions for Edge {
-    fn answer(
-        &self,
-        alloc: Global,
-        words: &str,
-        input: &[u8],
-        answer: &mut Vec<u8>,
-    ) -> Result<(), Unanswered> {
-        let mut words = Words::new(words);
-        match words.word() {
-            "hear" => tell_hearing(alloc, way_or_whole(words)?, input, answer),
-            "serve" => {
-                let tape = MemoryTape::new(Vec::new(alloc));
-                serve(alloc, words, tape, input, answer)
-            }
-            "refuse" => serve(alloc, words, Broken::new(), input, answer),
+    fn answer(&self, mut asked: Asked<'_>, answer: &mut Answer) -> Answered {
+        match asked.words.word() {
+            "hear" => tell_hearing(asked, Exchange::read(asked.words)?, answer),
+            "serve" => serve(asked, MemoryTape::new(Vec::new(asked.alloc)), answer),
+            "refuse" => serve(asked, Broken::new(), answer),
             _ => Err(Unanswered::UnknownQuestion),
         }
     }

@@ -1,43 +1,58 @@
 //! Requests that a node serves, one after the other.
 use crate::exchange::{Exchange, tell_outcome, tell_written};
-use crate::member::Member;
 use std::alloc::Global;
+use wf_calls::member::Member;
 use wf_calls::script::Maps;
 use wf_calls::words_of_record::tell_sent;
 use wf_edge::serve::{Served, serve_one};
 use wf_node::Node;
-use wf_table::Unanswered;
+use wf_table::{Answer, Answered, Asked, Unanswered};
 use wf_tape::Tape;
 
-/// Appends, for each request, what becomes of it, what is written and what is sent. The node is new, on that tape.
-pub(crate) fn serve_all<T: Tape + Drop>(
-    alloc: Global,
+/// Appends, for each request, what becomes of it, what is written and what is sent. The node of the words is new, on that tape.
+pub(crate) fn serve<T: Tape + Drop>(
+    mut asked: Asked<'_>,
+    tape: T,
+    answer: &mut Answer,
+) -> Answered {
+    match (Member::named(&mut asked.words), Exchange::read(asked.words)) {
+        (Ok(member), Ok(way)) => serve_by(asked, member, tape, way, answer),
+        _ => {
+            drop(tape);
+            Err(Unanswered::BadWords)
+        }
+    }
+}
+
+fn serve_by<T: Tape + Drop>(
+    asked: Asked<'_>,
     member: Member,
     tape: T,
     way: Exchange,
-    input: &[u8],
-    answer: &mut Vec<u8>,
-) -> Result<(), Unanswered> {
-    match member.open(alloc, tape) {
+    answer: &mut Answer,
+) -> Answered {
+    match Node::open(asked.alloc, tape, member.node(), member.nodes()) {
         Ok(mut node) => {
-            let told = serve_each(alloc, &mut node, way, input, answer);
+            let told = serve_each(asked, &mut node, way, answer);
             drop(node);
             told
         }
-        Err(unanswered) => Err(unanswered),
+        Err(refused) => {
+            drop(refused);
+            Err(Unanswered::Memory)
+        }
     }
 }
 
 // One request after the other: bytes of 0 part them, which no head can hold.
 fn serve_each<T: Tape>(
-    alloc: Global,
+    asked: Asked<'_>,
     node: &mut Node<T>,
     way: Exchange,
-    input: &[u8],
-    answer: &mut Vec<u8>,
-) -> Result<(), Unanswered> {
-    for request in input.split(|byte| *byte == 0) {
-        tell_serving(alloc, node, way, request, answer)?;
+    answer: &mut Answer,
+) -> Answered {
+    for request in asked.input.split(|byte| *byte == 0) {
+        tell_serving(asked.alloc, node, way, request, answer)?;
     }
     Ok(())
 }
@@ -47,20 +62,20 @@ fn tell_serving<T: Tape>(
     node: &mut Node<T>,
     way: Exchange,
     request: &[u8],
-    answer: &mut Vec<u8>,
-) -> Result<(), Unanswered> {
+    answer: &mut Answer,
+) -> Answered {
     let mut reader = way.reader(request)?;
     let mut writer = way.writer(alloc);
     let served = serve_one(alloc, &mut reader, &mut writer, node);
-    let told = tell(&served, writer.bytes(), answer);
+    tell(&served, writer.bytes(), answer);
     drop(served);
     drop(writer);
     drop(reader);
-    told
+    Ok(())
 }
 
-fn tell(served: &Served, written: &[u8], answer: &mut Vec<u8>) -> Result<(), Unanswered> {
-    tell_outcome(served.outcome, answer)?;
-    tell_written(written, answer)?;
-    tell_sent(&served.messages, Maps::NONE, answer)
+fn tell(served: &Served, written: &[u8], answer: &mut Answer) {
+    tell_outcome(served.outcome, answer);
+    tell_written(written, answer);
+    tell_sent(&served.messages, Maps::NONE, answer);
 }

@@ -9,54 +9,47 @@
 //!
 //! A slot that is published can't be asked about.
 use std::alloc::{AllocError, Global};
-use wf_acceptor::{Acceptor, Answer};
+use wf_acceptor::{Acceptor, Answer as Reply};
 use wf_ballot::Slot;
 use wf_calls::script::{Maps, read_script};
-use wf_calls::telling::tell_done;
-use wf_calls::words::Words;
+use wf_calls::telling::{tell_done, tell_whether};
+use wf_calls::words;
 use wf_calls::words_of_record::tell_step;
-use wf_table::Unanswered;
-use wf_table::write::write_line;
+use wf_table::{Answer, Answered, Asked, Unanswered, Words};
 use wf_tape::Record;
 
 #[derive(Drop)]
-struct Asked<'a> {
+struct Session<'a> {
     alloc: Global,
     maps: Maps<'a>,
     acceptor: Acceptor,
 }
 
 /// Appends what the acceptor of a node, which has stored nothing, answers to each call.
-pub(crate) fn ask(
-    alloc: Global,
-    node: &str,
-    input: &[u8],
-    answer: &mut Vec<u8>,
-) -> Result<(), Unanswered> {
-    let node = Words::new(node).node()?;
-    let (maps, calls) = read_script(input)?;
-    let acceptor = Acceptor::new(alloc, node);
-    let mut asked = Asked {
-        alloc,
-        maps,
-        acceptor,
+pub(crate) fn ask(mut asked: Asked<'_>, answer: &mut Answer) -> Answered {
+    let node = words::node(&mut asked.words)?;
+    let script = read_script(asked.input)?;
+    let mut session = Session {
+        alloc: asked.alloc,
+        maps: script.maps,
+        acceptor: Acceptor::new(asked.alloc, node),
     };
-    let taken = asked.take_calls(calls, answer);
-    drop(asked);
+    let taken = session.take_calls(script.calls, answer);
+    drop(session);
     taken
 }
 
-impl Asked<'_> {
+impl Session<'_> {
     ghost use Rattle.std.specs.Prelude.{◌≡◌, ◌+◌, IsTrue};
 
-    fn take_calls(&mut self, calls: &str, answer: &mut Vec<u8>) -> Result<(), Unanswered> {
+    fn take_calls(&mut self, calls: &str, answer: &mut Answer) -> Answered {
         for call in calls.lines() {
             self.take(&mut Words::new(call), answer)?;
         }
         Ok(())
     }
 
-    fn take(&mut self, call: &mut Words<'_>, answer: &mut Vec<u8>) -> Result<(), Unanswered> {
+    fn take(&mut self, call: &mut Words<'_>, answer: &mut Answer) -> Answered {
         match call.word() {
             "prepare" => self.prepare(call, answer),
             "accept" => self.accept(call, answer),
@@ -66,50 +59,44 @@ impl Asked<'_> {
         }
     }
 
-    fn prepare(&mut self, words: &mut Words<'_>, answer: &mut Vec<u8>) -> Result<(), Unanswered> {
-        let slot = words.slot()?;
-        let ballot = words.ballot()?;
+    fn prepare(&mut self, call: &mut Words<'_>, answer: &mut Answer) -> Answered {
+        let slot = words::slot(call)?;
+        let ballot = words::ballot(call)?;
         if self.acceptor.is_published(slot) {
             return Err(Unanswered::BadWords);
         }
-        let answered = self.acceptor.on_prepare(slot, ballot);
-        self.give(answered, answer)
+        let given = self.acceptor.on_prepare(slot, ballot);
+        self.give(given, answer)
     }
 
-    fn accept(&mut self, words: &mut Words<'_>, answer: &mut Vec<u8>) -> Result<(), Unanswered> {
-        let slot = words.slot()?;
-        let ballot = words.ballot()?;
+    fn accept(&mut self, call: &mut Words<'_>, answer: &mut Answer) -> Answered {
+        let slot = words::slot(call)?;
+        let ballot = words::ballot(call)?;
         if self.acceptor.is_published(slot) {
             return Err(Unanswered::BadWords);
         }
-        let canon = self.maps.canon(self.alloc, words.word())?;
-        let answered = self.acceptor.on_accept(slot, ballot, canon);
-        self.give(answered, answer)
+        let canon = self.maps.canon(self.alloc, call.word())?;
+        let given = self.acceptor.on_accept(slot, ballot, canon);
+        self.give(given, answer)
     }
 
-    fn give(
-        &mut self,
-        answered: Result<Answer, AllocError>,
-        answer: &mut Vec<u8>,
-    ) -> Result<(), Unanswered> {
-        match answered {
-            Ok(answered) => self.take_answer(answered, answer),
+    fn give(&mut self, given: Result<Reply, AllocError>, answer: &mut Answer) -> Answered {
+        match given {
+            Ok(reply) => self.take_reply(reply, answer),
             Err(_) => Err(Unanswered::Memory),
         }
     }
 
-    /// Applies the record of an answer, and tells the answer.
-    fn take_answer(&mut self, answered: Answer, answer: &mut Vec<u8>) -> Result<(), Unanswered> {
-        let told = match self.store(answered.entry.as_ref()) {
-            Ok(()) => tell_answer(&answered, self.maps, answer),
-            Err(fault) => Err(fault),
-        };
-        drop(answered);
-        told
+    /// Applies the record of a reply, and tells the reply.
+    fn take_reply(&mut self, reply: Reply, answer: &mut Answer) -> Answered {
+        let stored = self.store(reply.entry.as_ref());
+        tell_reply(&reply, self.maps, answer);
+        drop(reply);
+        stored
     }
 
     /// Applies a promise or a vote, if there is one.
-    fn store(&mut self, record: Option<&Record>) -> Result<(), Unanswered> {
+    fn store(&mut self, record: Option<&Record>) -> Answered {
         let Some(record) = record else {
             return Ok(());
         };
@@ -120,16 +107,17 @@ impl Asked<'_> {
         }
     }
 
-    fn publish(&mut self, words: &mut Words<'_>, answer: &mut Vec<u8>) -> Result<(), Unanswered> {
-        let slot = words.slot()?;
+    fn publish(&mut self, call: &mut Words<'_>, answer: &mut Answer) -> Answered {
+        let slot = words::slot(call)?;
         if !self.is_next(slot) {
             return Err(Unanswered::BadWords);
         }
-        let canon = self.maps.canon(self.alloc, words.word())?;
+        let canon = self.maps.canon(self.alloc, call.word())?;
         let record = Record::Published(slot, canon);
         let applied = self.acceptor.apply(&record);
         drop(record);
-        tell_done(applied, answer)
+        tell_done(applied, answer);
+        Ok(())
     }
 
     /// Is the slot the next to be published?
@@ -143,22 +131,14 @@ impl Asked<'_> {
         }
     }
 
-    fn is_published(
-        &mut self,
-        words: &mut Words<'_>,
-        answer: &mut Vec<u8>,
-    ) -> Result<(), Unanswered> {
-        let slot = words.slot()?;
-        let word = if self.acceptor.is_published(slot) {
-            "yes"
-        } else {
-            "no"
-        };
-        Ok(write_line(word, answer)?)
+    fn is_published(&self, call: &mut Words<'_>, answer: &mut Answer) -> Answered {
+        let slot = words::slot(call)?;
+        tell_whether(self.acceptor.is_published(slot), answer);
+        Ok(())
     }
 }
 
-fn tell_answer(answered: &Answer, maps: Maps<'_>, answer: &mut Vec<u8>) -> Result<(), Unanswered> {
-    let reply = answered.reply.as_slice();
-    tell_step(answered.entry.as_ref(), reply, maps, answer)
+fn tell_reply(reply: &Reply, maps: Maps<'_>, answer: &mut Answer) {
+    let messages = reply.reply.as_slice();
+    tell_step(reply.entry.as_ref(), messages, maps, answer);
 }

@@ -13,97 +13,106 @@
 //! ```
 use std::alloc::{AllocError, Global};
 use wf_ballot::{Seq, Slot};
-use wf_calls::script::{Maps, read_script};
-use wf_calls::telling::{tell_done, tell_none, tell_number, tell_read};
-use wf_calls::words::Words;
+use wf_calls::script::{Maps, Script, read_script};
+use wf_calls::telling::{tell_done, tell_none, tell_printed, tell_read, write_field};
+use wf_calls::words;
 use wf_calls::words_of_map::{tell_at, tell_map};
-use wf_calls::words_of_message::write_field;
 use wf_calls::words_of_record::tell_sent;
 use wf_canon::Canon;
 use wf_learner::{History, Learned};
-use wf_table::Unanswered;
-use wf_table::write::{write_line, write_text};
+use wf_table::{Answer, Answered, Asked, Unanswered, Words};
 
 #[derive(Drop)]
-struct Asked<'a> {
+struct Session<'a> {
     alloc: Global,
     maps: Maps<'a>,
     history: History,
 }
 
 /// Appends what the history of a node, which has published nothing, answers to each call.
-pub(crate) fn ask(alloc: Global, input: &[u8], answer: &mut Vec<u8>) -> Result<(), Unanswered> {
-    let (maps, calls) = read_script(input)?;
-    match History::new(alloc) {
-        Ok(history) => take_calls(
-            Asked {
-                alloc,
-                maps,
-                history,
-            },
-            calls,
-            answer,
-        ),
+pub(crate) fn ask(asked: Asked<'_>, answer: &mut Answer) -> Answered {
+    let script = read_script(asked.input)?;
+    match History::new(asked.alloc) {
+        Ok(history) => take_calls(asked.alloc, history, script, answer),
         Err(_) => Err(Unanswered::Memory),
     }
 }
 
-fn take_calls(mut asked: Asked<'_>, calls: &str, answer: &mut Vec<u8>) -> Result<(), Unanswered> {
-    let taken = asked.take_calls(calls, answer);
-    drop(asked);
+fn take_calls(
+    alloc: Global,
+    history: History,
+    script: Script<'_>,
+    answer: &mut Answer,
+) -> Answered {
+    let mut session = Session {
+        alloc,
+        maps: script.maps,
+        history,
+    };
+    let taken = session.take_calls(script.calls, answer);
+    drop(session);
     taken
 }
 
-impl Asked<'_> {
-    fn take_calls(&mut self, calls: &str, answer: &mut Vec<u8>) -> Result<(), Unanswered> {
+impl Session<'_> {
+    fn take_calls(&mut self, calls: &str, answer: &mut Answer) -> Answered {
         for call in calls.lines() {
             self.take(&mut Words::new(call), answer)?;
         }
         Ok(())
     }
 
-    fn take(&mut self, call: &mut Words<'_>, answer: &mut Vec<u8>) -> Result<(), Unanswered> {
+    fn take(&mut self, call: &mut Words<'_>, answer: &mut Answer) -> Answered {
         match call.word() {
             "learn" => self.learn(call, answer),
             "fill" => self.fill(call, answer),
-            "room" => tell_done(self.history.make_room(), answer),
+            "room" => {
+                tell_done(self.history.make_room(), answer);
+                Ok(())
+            }
             asked => self.look(asked, call, answer),
         }
     }
 
     /// The calls that change nothing.
-    fn look(
-        &self,
-        asked: &str,
-        words: &mut Words<'_>,
-        answer: &mut Vec<u8>,
-    ) -> Result<(), Unanswered> {
+    fn look(&self, asked: &str, call: &mut Words<'_>, answer: &mut Answer) -> Answered {
         match asked {
-            "published" => tell_number(u64::from(self.history.published().number()), answer),
+            "published" => tell_printed(self.history.published().number(), answer),
             "next" => tell_read(self.history.next_slot(), answer),
-            "get" => self.get(words.sequence()?, answer),
-            "canon" => self.canon(words.slot()?, answer),
-            "chosen" => self.chosen(words.slot()?, answer),
-            "ask" => self.answer_ask(words.slot()?, answer),
-            _ => Err(Unanswered::UnknownQuestion),
+            "get" => self.get(words::sequence(call)?, answer),
+            asked => return self.look_at(asked, words::slot(call)?, answer),
         }
+        Ok(())
     }
 
-    fn learn(&mut self, words: &mut Words<'_>, answer: &mut Vec<u8>) -> Result<(), Unanswered> {
-        let slot = words.slot()?;
-        let canon = self.maps.canon(self.alloc, words.word())?;
+    /// The same about a slot.
+    fn look_at(&self, asked: &str, slot: Slot, answer: &mut Answer) -> Answered {
+        match asked {
+            "canon" => self.canon(slot, answer),
+            "chosen" => self.chosen(slot, answer),
+            "ask" => self.answer_ask(slot, answer),
+            _ => return Err(Unanswered::UnknownQuestion),
+        }
+        Ok(())
+    }
+
+    fn learn(&mut self, call: &mut Words<'_>, answer: &mut Answer) -> Answered {
+        let slot = words::slot(call)?;
+        let canon = self.maps.canon(self.alloc, call.word())?;
         match self.history.learn(slot, canon) {
             Ok(learned) => tell_learned(learned, answer),
-            Err(_) => Err(Unanswered::Memory),
+            Err(_) => answer.cut(),
         }
+        Ok(())
     }
 
-    fn fill(&mut self, words: &mut Words<'_>, answer: &mut Vec<u8>) -> Result<(), Unanswered> {
-        let last = words.slot()?;
-        let canon = self.maps.canon(self.alloc, words.word())?;
+    fn fill(&mut self, call: &mut Words<'_>, answer: &mut Answer) -> Answered {
+        let last = words::slot(call)?;
+        let canon = self.maps.canon(self.alloc, call.word())?;
         let filled = self.learn_up_to(last, &canon);
         drop(canon);
-        tell_done(filled, answer)
+        tell_done(filled, answer);
+        Ok(())
     }
 
     /// Learns the definition at each slot up to the last.
@@ -117,51 +126,50 @@ impl Asked<'_> {
     }
 
     fn learn_copy(&mut self, slot: Slot, canon: &Canon) -> Result<(), AllocError> {
-        let copy = canon.copy()?;
-        self.history.learn(slot, copy)?;
-        Ok(())
+        match self.history.learn(slot, canon.copy()?) {
+            Ok(_) => Ok(()),
+            Err(error) => Err(error),
+        }
     }
 
-    fn get(&self, sequence: Seq, answer: &mut Vec<u8>) -> Result<(), Unanswered> {
+    fn get(&self, sequence: Seq, answer: &mut Answer) {
         let map = self.history.get(sequence);
-        tell_map(self.alloc, sequence, map, self.maps, answer)
+        tell_map(self.alloc, sequence, map, self.maps, answer);
     }
 
-    fn canon(&self, slot: Slot, answer: &mut Vec<u8>) -> Result<(), Unanswered> {
+    fn canon(&self, slot: Slot, answer: &mut Answer) {
         match self.history.canon(slot) {
             Some(canon) => tell_at("slot ", slot, canon, self.maps, answer),
             None => tell_none(answer),
         }
     }
 
-    fn chosen(&self, slot: Slot, answer: &mut Vec<u8>) -> Result<(), Unanswered> {
+    fn chosen(&self, slot: Slot, answer: &mut Answer) {
         match self.history.chosen(slot) {
             Ok(message) => {
-                let told = tell_sent(message.as_slice(), self.maps, answer);
+                tell_sent(message.as_slice(), self.maps, answer);
                 drop(message);
-                told
             }
-            Err(_) => Err(Unanswered::Memory),
+            Err(_) => answer.cut(),
         }
     }
 
-    fn answer_ask(&self, slot: Slot, answer: &mut Vec<u8>) -> Result<(), Unanswered> {
+    fn answer_ask(&self, slot: Slot, answer: &mut Answer) {
         match self.history.answer_ask(self.alloc, slot) {
             Ok(messages) => {
-                let told = tell_sent(&messages, self.maps, answer);
+                tell_sent(&messages, self.maps, answer);
                 drop(messages);
-                told
             }
-            Err(_) => Err(Unanswered::Memory),
+            Err(_) => answer.cut(),
         }
     }
 }
 
-fn tell_learned(learned: Learned, answer: &mut Vec<u8>) -> Result<(), Unanswered> {
+fn tell_learned(learned: Learned, answer: &mut Answer) {
     match learned {
-        Learned::Published => write_text("published", answer)?,
-        Learned::Known => write_text("known", answer)?,
-        Learned::Missing(slot) => write_field("missing from slot ", slot, answer)?,
+        Learned::Published => answer.text("published"),
+        Learned::Known => answer.text("known"),
+        Learned::Missing(slot) => write_field("missing from slot ", slot, answer),
     }
-    Ok(write_line("", answer)?)
+    answer.line("");
 }

@@ -1,29 +1,31 @@
 //! What is asked of messages.
-use crate::reading::{tell_beginnings, tell_copy, tell_decoded, tell_fault};
+use crate::reading::{tell_beginnings, tell_copy, tell_decoded};
 use crate::spelling::tell_encoded;
-use std::alloc::Global;
-use wf_calls::words::Words;
+use wf_calls::telling::tell_printed;
 use wf_codec::DecodeFault;
-use wf_table::Unanswered;
+use wf_table::{Answer, Answered, Asked, Unanswered, Words};
 
-pub(crate) fn ask(
-    alloc: Global,
-    asked: &str,
-    input: &[u8],
-    answer: &mut Vec<u8>,
-) -> Result<(), Unanswered> {
-    let (question, words) = asked.split_once(' ').unwrap_or((asked, ""));
-    match question {
-        "decode" => tell_decoded(alloc, input, answer),
-        "beginnings" => tell_beginnings(alloc, input, answer),
-        "copy" => tell_copy(alloc, input, answer),
-        "encode" => tell_encoded(alloc, words, input, answer),
-        "fault" => tell_fault(fault_named(Words::of(input)?.word())?, answer),
+pub(crate) fn ask(mut asked: Asked<'_>, answer: &mut Answer) -> Answered {
+    match asked.words.word() {
+        "decode" => tell_decoded(asked, answer),
+        "beginnings" => {
+            tell_beginnings(asked, answer);
+            Ok(())
+        }
+        "copy" => tell_copy(asked, answer),
+        "encode" => tell_encoded(asked, answer),
+        "fault" => tell_fault_named(asked, answer),
         _ => Err(Unanswered::UnknownQuestion),
     }
 }
 
-/// The fault that a word stands for.
+/// Appends the fault that a word stands for, as it is printed.
+fn tell_fault_named(asked: Asked<'_>, answer: &mut Answer) -> Answered {
+    let fault = fault_named(Words::of(asked.input)?.word())?;
+    tell_printed(fault, answer);
+    Ok(())
+}
+
 fn fault_named(word: &str) -> Result<DecodeFault, Unanswered> {
     match word {
         "short" => Ok(DecodeFault::Short),

@@ -10,60 +10,62 @@
 //! published SLOT MAP                       `done`: the definition is published at the slot
 //! ```
 //!
-//! A call that is refused is answered by `refused: ` and the refusal as it is printed.
+//! A call that is rejected is answered by `refused: ` and the rejection as it is printed.
 use std::alloc::Global;
-use wf_ballot::{Ballot, SEQUENCES};
-use wf_calls::script::{Maps, read_script};
-use wf_calls::telling::tell_printed;
-use wf_calls::words::Words;
+use wf_ballot::SEQUENCES;
+use wf_calls::message::Spoken;
+use wf_calls::script::{Definitions, Maps, Script, read_script};
+use wf_calls::telling::tell_refused;
+use wf_calls::words;
 use wf_calls::words_of_record::tell_step;
 use wf_calls::words_of_standing::tell_standing;
-use wf_canon::Canon;
 use wf_proposer::{Next, Proposer, Refusal};
-use wf_table::Unanswered;
-use wf_table::write::{write_line, write_text};
+use wf_table::{Answer, Answered, Asked, Unanswered, Words};
 
 #[derive(Drop)]
-struct Asked<'a> {
+struct Session<'a> {
     alloc: Global,
     maps: Maps<'a>,
     proposer: Proposer,
 }
 
 /// Appends what the proposer of a node, of a farm of so many nodes, answers to each call, and its standing.
-pub(crate) fn ask(
-    alloc: Global,
-    asked: &str,
-    input: &[u8],
-    answer: &mut Vec<u8>,
-) -> Result<(), Unanswered> {
-    let mut words = Words::new(asked);
-    let node = words.node()?;
-    if words.word() != "of" {
+pub(crate) fn ask(mut asked: Asked<'_>, answer: &mut Answer) -> Answered {
+    let node = words::node(&mut asked.words)?;
+    if asked.words.word() != "of" {
         return Err(Unanswered::BadWords);
     }
-    let nodes = words.byte()?;
-    let (maps, calls) = read_script(input)?;
-    let proposer = Proposer::new(node, nodes);
-    let mut asked = Asked {
+    let nodes = asked.words.byte()?;
+    let script = read_script(asked.input)?;
+    take_calls(asked.alloc, Proposer::new(node, nodes), script, answer)
+}
+
+fn take_calls(
+    alloc: Global,
+    proposer: Proposer,
+    script: Script<'_>,
+    answer: &mut Answer,
+) -> Answered {
+    let mut session = Session {
         alloc,
-        maps,
+        maps: script.maps,
         proposer,
     };
-    let taken = asked.take_calls(calls, answer);
-    drop(asked);
+    let taken = session.take_calls(script.calls, answer);
+    tell_standing(session.proposer.proposal(), answer);
+    drop(session);
     taken
 }
 
-impl Asked<'_> {
-    fn take_calls(&mut self, calls: &str, answer: &mut Vec<u8>) -> Result<(), Unanswered> {
+impl Session<'_> {
+    fn take_calls(&mut self, calls: &str, answer: &mut Answer) -> Answered {
         for call in calls.lines() {
             self.take(&mut Words::new(call), answer)?;
         }
-        tell_standing(self.proposer.proposal(), answer)
+        Ok(())
     }
 
-    fn take(&mut self, call: &mut Words<'_>, answer: &mut Vec<u8>) -> Result<(), Unanswered> {
+    fn take(&mut self, call: &mut Words<'_>, answer: &mut Answer) -> Answered {
         match call.word() {
             "start" => self.start(call, answer),
             "retry" => self.retry(call, answer),
@@ -75,95 +77,79 @@ impl Asked<'_> {
         }
     }
 
-    fn start(&mut self, words: &mut Words<'_>, answer: &mut Vec<u8>) -> Result<(), Unanswered> {
-        let tried = words.round()?;
-        let published = words.sequence()?;
+    fn start(&mut self, call: &mut Words<'_>, answer: &mut Answer) -> Answered {
+        let tried = call.number()?;
+        let published = words::sequence(call)?;
         if published.number() >= SEQUENCES {
             return Err(Unanswered::BadWords);
         }
-        let own = self.maps.canon(self.alloc, words.word())?;
+        let own = self.maps.canon(self.alloc, call.word())?;
         let started = self.proposer.start(self.alloc, tried, published, own);
         self.give(started, answer)
     }
 
-    fn retry(&mut self, words: &mut Words<'_>, answer: &mut Vec<u8>) -> Result<(), Unanswered> {
-        let tried = words.round()?;
+    fn retry(&mut self, call: &mut Words<'_>, answer: &mut Answer) -> Answered {
+        let tried = call.number()?;
         let retried = self.proposer.retry(self.alloc, tried);
         self.give(retried, answer)
     }
 
-    fn promise(&mut self, words: &mut Words<'_>, answer: &mut Vec<u8>) -> Result<(), Unanswered> {
-        let from = words.node()?;
-        let slot = words.slot()?;
-        let ballot = words.ballot()?;
-        let vote = self.vote(words)?;
+    fn promise(&mut self, call: &mut Words<'_>, answer: &mut Answer) -> Answered {
+        let from = words::node(call)?;
+        let slot = words::slot(call)?;
+        let ballot = words::ballot(call)?;
+        let spoken = Spoken {
+            alloc: self.alloc,
+            words: *call,
+            definitions: Definitions::Named(self.maps),
+        };
+        let vote = spoken.vote()?;
         let heard = self
             .proposer
             .on_promise(self.alloc, from, slot, ballot, vote);
         self.give(heard, answer)
     }
 
-    /// The vote that a Promise tells, where words are left.
-    fn vote(&self, words: &mut Words<'_>) -> Result<Option<(Ballot, Canon)>, Unanswered> {
-        if words.is_empty() {
-            return Ok(None);
-        }
-        let voted = words.ballot()?;
-        match self.maps.canon(self.alloc, words.word()) {
-            Ok(canon) => Ok(Some((voted, canon))),
-            Err(fault) => Err(fault),
-        }
-    }
-
-    fn accepted(&mut self, words: &mut Words<'_>, answer: &mut Vec<u8>) -> Result<(), Unanswered> {
-        let from = words.node()?;
-        let slot = words.slot()?;
-        let ballot = words.ballot()?;
+    fn accepted(&mut self, call: &mut Words<'_>, answer: &mut Answer) -> Answered {
+        let from = words::node(call)?;
+        let slot = words::slot(call)?;
+        let ballot = words::ballot(call)?;
         let heard = self.proposer.on_accepted(self.alloc, from, slot, ballot);
         self.give(heard, answer)
     }
 
-    fn nack(&mut self, words: &mut Words<'_>, answer: &mut Vec<u8>) -> Result<(), Unanswered> {
-        let slot = words.slot()?;
-        let ballot = words.ballot()?;
-        let promised = words.ballot()?;
+    fn nack(&mut self, call: &mut Words<'_>, answer: &mut Answer) -> Answered {
+        let slot = words::slot(call)?;
+        let ballot = words::ballot(call)?;
+        let promised = words::ballot(call)?;
         let next = self.proposer.on_nack(self.alloc, slot, ballot, promised);
-        self.commit(next, answer)
+        self.commit(next, answer);
+        Ok(())
     }
 
-    fn published(&mut self, words: &mut Words<'_>, answer: &mut Vec<u8>) -> Result<(), Unanswered> {
-        let slot = words.slot()?;
-        let canon = self.maps.canon(self.alloc, words.word())?;
+    fn published(&mut self, call: &mut Words<'_>, answer: &mut Answer) -> Answered {
+        let slot = words::slot(call)?;
+        let canon = self.maps.canon(self.alloc, call.word())?;
         self.proposer.on_published(slot, &canon);
         drop(canon);
-        Ok(write_line("done", answer)?)
+        answer.line("done");
+        Ok(())
     }
 
-    /// Tells the refusal, or what the answer has, which is committed.
-    fn give(
-        &mut self,
-        answered: Result<Next, Refusal>,
-        answer: &mut Vec<u8>,
-    ) -> Result<(), Unanswered> {
+    /// Tells the rejection, or what the answer has, which is committed.
+    fn give(&mut self, answered: Result<Next, Refusal>, answer: &mut Answer) -> Answered {
         match answered {
             Ok(next) => self.commit(next, answer),
-            Err(refusal) => tell_refusal(refusal, answer),
+            Err(Refusal::Memory) => return Err(Unanswered::Memory),
+            Err(refusal) => tell_refused(refusal, answer),
         }
+        Ok(())
     }
 
-    fn commit(&mut self, next: Next, answer: &mut Vec<u8>) -> Result<(), Unanswered> {
+    fn commit(&mut self, next: Next, answer: &mut Answer) {
         let (record, messages) = self.proposer.commit(next);
-        let told = tell_step(record.as_ref(), &messages, self.maps, answer);
+        tell_step(record.as_ref(), &messages, self.maps, answer);
         drop(record);
         drop(messages);
-        told
     }
-}
-
-fn tell_refusal(refusal: Refusal, answer: &mut Vec<u8>) -> Result<(), Unanswered> {
-    if refusal == Refusal::Memory {
-        return Err(Unanswered::Memory);
-    }
-    write_text("refused: ", answer)?;
-    tell_printed(refusal, answer)
 }

@@ -29,33 +29,25 @@
 //!
 //! `wf_calls` has what a script is, [`crate::acceptor`], [`crate::proposer`] and [`crate::history`] the calls.
 use crate::{acceptor, history, message, number, proposer, tape, tries};
-use std::alloc::Global;
-use wf_table::{Questions, Unanswered};
+use wf_table::{Answer, Answered, Asked, Questions, Unanswered};
 
 /// What is asked of a farm's numbers, messages, acceptors, proposers, histories and tapes.
 pub(crate) struct Farm;
 
 impl Questions for Farm {
-    fn answer(
-        &self,
-        alloc: Global,
-        words: &str,
-        input: &[u8],
-        answer: &mut Vec<u8>,
-    ) -> Result<(), Unanswered> {
-        let (subject, asked) = words.split_once(' ').unwrap_or((words, ""));
-        match subject {
-            "majority" => tries::majority(input, answer),
-            "node" => number::ask_node(asked, input, answer),
-            "sequence" => number::ask_sequence(asked, input, answer),
-            "slot" => number::ask_slot(asked, input, answer),
-            "round" => tries::ask_round(asked, input, answer),
-            "ballot" => tries::ask_ballot(asked, input, answer),
-            "message" => message::ask(alloc, asked, input, answer),
-            "acceptor" => acceptor::ask(alloc, asked, input, answer),
-            "proposer" => proposer::ask(alloc, asked, input, answer),
-            "history" => history::ask(alloc, input, answer),
-            "tape" => tape::ask(alloc, asked, input, answer),
+    fn answer(&self, mut asked: Asked<'_>, answer: &mut Answer) -> Answered {
+        match asked.words.word() {
+            "majority" => tries::majority(asked, answer),
+            "node" => number::ask_node(asked, answer),
+            "sequence" => number::ask_sequence(asked, answer),
+            "slot" => number::ask_slot(asked, answer),
+            "round" => tries::ask_round(asked, answer),
+            "ballot" => tries::ask_ballot(asked, answer),
+            "message" => message::ask(asked, answer),
+            "acceptor" => acceptor::ask(asked, answer),
+            "proposer" => proposer::ask(asked, answer),
+            "history" => history::ask(asked, answer),
+            "tape" => tape::ask(asked, answer),
             _ => Err(Unanswered::UnknownQuestion),
         }
     }

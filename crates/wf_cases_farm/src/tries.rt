@@ -1,88 +1,93 @@
 //! Majorities, rounds and ballots.
 use wf_ballot::{Ballot, is_majority, split_ballot, split_round};
-use wf_calls::telling::{tell_bytes, tell_left, tell_none, tell_number, tell_read};
-use wf_calls::words::Words;
-use wf_table::Unanswered;
-use wf_table::write::{write_line, write_text, write_whole};
+use wf_calls::telling::{tell_bytes, tell_left, tell_none, tell_printed, tell_read, tell_whether};
+use wf_calls::words::{ballot, node};
+use wf_table::{Answer, Answered, Asked, Unanswered, Words};
 
-pub(crate) fn majority(input: &[u8], answer: &mut Vec<u8>) -> Result<(), Unanswered> {
-    let mut words = Words::of(input)?;
+pub(crate) fn majority(asked: Asked<'_>, answer: &mut Answer) -> Answered {
+    let mut words = Words::of(asked.input)?;
     let count = words.count()?;
     if words.word() != "of" {
         return Err(Unanswered::BadWords);
     }
-    let of = words.count()?;
-    let word = if is_majority(count, of) { "yes" } else { "no" };
-    Ok(write_line(word, answer)?)
+    tell_whether(is_majority(count, words.count()?), answer);
+    Ok(())
 }
 
-pub(crate) fn ask_round(asked: &str, input: &[u8], answer: &mut Vec<u8>) -> Result<(), Unanswered> {
-    if asked != "split" {
+pub(crate) fn ask_round(asked: Asked<'_>, answer: &mut Answer) -> Answered {
+    if asked.words.rest() != "split" {
         return Err(Unanswered::UnknownQuestion);
     }
-    match split_round(input) {
+    match split_round(asked.input) {
         Some((round, rest)) => tell_left(round, rest, answer),
         None => tell_none(answer),
     }
+    Ok(())
 }
 
-pub(crate) fn ask_ballot(
-    asked: &str,
-    input: &[u8],
-    answer: &mut Vec<u8>,
-) -> Result<(), Unanswered> {
-    match asked {
-        "number" => ballot_number(input, answer),
-        "bytes" => ballot_bytes(input, answer),
-        "read" => tell_read(Ballot::from_bytes(input), answer),
-        "split" => ballot_split(input, answer),
-        "next" => ballot_next(input, answer),
-        "compare" => ballot_compare(input, answer),
+pub(crate) fn ask_ballot(asked: Asked<'_>, answer: &mut Answer) -> Answered {
+    match asked.words.rest() {
+        "number" => ballot_number(asked, answer),
+        "bytes" => ballot_bytes(asked, answer),
+        "read" => {
+            tell_read(Ballot::from_bytes(asked.input), answer);
+            Ok(())
+        }
+        "split" => {
+            ballot_split(asked.input, answer);
+            Ok(())
+        }
+        "next" => ballot_next(asked, answer),
+        "compare" => ballot_compare(asked, answer),
         _ => Err(Unanswered::UnknownQuestion),
     }
 }
 
 /// Appends a ballot's round and node.
-fn tell_parts(ballot: Option<Ballot>, answer: &mut Vec<u8>) -> Result<(), Unanswered> {
+fn tell_parts(ballot: Option<Ballot>, answer: &mut Answer) {
     match ballot {
         Some(ballot) => {
-            write_whole(u64::from(ballot.round()), answer)?;
-            write_text(" ", answer)?;
-            tell_number(u64::from(ballot.node().number()), answer)
+            answer.value(ballot.round());
+            answer.text(" ");
+            tell_printed(ballot.node().number(), answer);
         }
         None => tell_none(answer),
     }
 }
 
-fn ballot_number(input: &[u8], answer: &mut Vec<u8>) -> Result<(), Unanswered> {
-    let mut words = Words::of(input)?;
-    let round = words.round()?;
-    tell_parts(Ballot::new(round, words.node()?), answer)
+fn ballot_number(asked: Asked<'_>, answer: &mut Answer) -> Answered {
+    let mut words = Words::of(asked.input)?;
+    let round = words.number()?;
+    tell_parts(Ballot::new(round, node(&mut words)?), answer);
+    Ok(())
 }
 
-fn ballot_next(input: &[u8], answer: &mut Vec<u8>) -> Result<(), Unanswered> {
-    let mut words = Words::of(input)?;
-    let round = words.round()?;
-    tell_parts(Ballot::next(round, words.node()?), answer)
+fn ballot_next(asked: Asked<'_>, answer: &mut Answer) -> Answered {
+    let mut words = Words::of(asked.input)?;
+    let round = words.number()?;
+    tell_parts(Ballot::next(round, node(&mut words)?), answer);
+    Ok(())
 }
 
-fn ballot_bytes(input: &[u8], answer: &mut Vec<u8>) -> Result<(), Unanswered> {
-    let ballot = Words::of(input)?.ballot()?;
-    tell_bytes(&ballot.bytes(), answer)
+fn ballot_bytes(asked: Asked<'_>, answer: &mut Answer) -> Answered {
+    let ballot = ballot(&mut Words::of(asked.input)?)?;
+    tell_bytes(&ballot.bytes(), answer);
+    Ok(())
 }
 
-fn ballot_split(input: &[u8], answer: &mut Vec<u8>) -> Result<(), Unanswered> {
+fn ballot_split(input: &[u8], answer: &mut Answer) {
     match split_ballot(input) {
         Some((ballot, rest)) => tell_left(ballot, rest, answer),
         None => tell_none(answer),
     }
 }
 
-fn ballot_compare(input: &[u8], answer: &mut Vec<u8>) -> Result<(), Unanswered> {
-    let mut words = Words::of(input)?;
-    let first = words.ballot()?;
-    let second = words.ballot()?;
-    Ok(write_line(order(first, second), answer)?)
+fn ballot_compare(asked: Asked<'_>, answer: &mut Answer) -> Answered {
+    let mut words = Words::of(asked.input)?;
+    let first = ballot(&mut words)?;
+    let second = ballot(&mut words)?;
+    answer.line(order(first, second));
+    Ok(())
 }
 
 /// How a ballot stands to another, where the call, `<` and `==` agree on it.

@@ -1,7 +1,4 @@
 //! Canonical numbers and texts.
-use crate::asked::{Answered, Asked};
-use crate::numbers::write_count;
-use crate::shown::{write_fault, write_texts};
 use crate::texts::text_of;
 use std::alloc::Global;
 use wf_canon::{Canon, CanonFault, write_number};
@@ -10,50 +7,51 @@ use wf_def::extent::Extent;
 use wf_def::map::MapDef;
 use wf_def::micro::Micro;
 use wf_def::text::Text;
-use wf_table::Unanswered;
-use wf_table::write::{write_line, write_text};
+use wf_table::{Answer, Answered, Asked, Unanswered, Words};
 
 /// `canonical_number`: the canonical text of so many millionths, behind what is written already.
-pub(crate) fn number(asked: Asked<'_>, answer: &mut Vec<u8>) -> Answered {
-    let millionths = match asked.text()?.parse::<i64>() {
-        Ok(millionths) => millionths,
-        Err(_) => return Err(Unanswered::BadWords),
+pub(crate) fn number(asked: Asked<'_>, answer: &mut Answer) -> Answered {
+    let millionths = Words::of(asked.input)?.signed()?;
+    let Some(number) = Micro::from_millionths(millionths) else {
+        return Err(Unanswered::BadWords);
     };
-    let number = Micro::from_millionths(millionths).ok_or(Unanswered::BadWords)?;
-    write_text("x ", answer)?;
-    write_number(number, answer)?;
-    Ok(write_line("", answer)?)
+    answer.text("x ");
+    if write_number(number, answer.target()).is_err() {
+        answer.cut();
+    }
+    answer.line("");
+    Ok(())
 }
 
-fn write_canon_fault(fault: CanonFault, answer: &mut Vec<u8>) -> Answered {
+fn write_canon_fault(fault: CanonFault, answer: &mut Answer) {
     match fault {
-        CanonFault::Memory => Err(Unanswered::Memory),
-        CanonFault::TooBig => Ok(write_line("K1", answer)?),
-        CanonFault::NotCanonical => Ok(write_line("K2", answer)?),
+        CanonFault::Memory => answer.cut(),
+        CanonFault::TooBig => answer.line("K1"),
+        CanonFault::NotCanonical => answer.line("K2"),
     }
 }
 
-fn tell_canon(canon: Canon, answer: &mut Vec<u8>) -> Answered {
-    let told = answer.extend_from_slice(canon.text());
+fn tell_canon(canon: Canon, answer: &mut Answer) {
+    answer.bytes(canon.text());
     drop(canon);
-    Ok(told?)
 }
 
-fn tell_copy(canon: Canon, answer: &mut Vec<u8>) -> Answered {
+fn tell_copy(canon: Canon, answer: &mut Answer) {
     let copied = canon.copy();
     drop(canon);
     match copied {
         Ok(copy) => tell_canon(copy, answer),
-        Err(_) => Err(Unanswered::Memory),
+        Err(_) => answer.cut(),
     }
 }
 
 /// `canonical`: a copy of the canonical text that the bytes are, or why they are none.
-pub(crate) fn from_bytes(asked: Asked<'_>, answer: &mut Vec<u8>) -> Answered {
+pub(crate) fn from_bytes(asked: Asked<'_>, answer: &mut Answer) -> Answered {
     match Canon::from_bytes(asked.alloc, asked.input) {
         Ok(canon) => tell_copy(canon, answer),
         Err(fault) => write_canon_fault(fault, answer),
     }
+    Ok(())
 }
 
 /// The texts of these bytes.
@@ -62,7 +60,13 @@ pub(crate) fn two_texts(
     first: &[u8],
     second: &[u8],
 ) -> Result<(Text, Text), Unanswered> {
-    let first = text_of(alloc, first)?;
+    match text_of(alloc, first) {
+        Ok(first) => with_second(alloc, first, second),
+        Err(unanswered) => Err(unanswered),
+    }
+}
+
+fn with_second(alloc: Global, first: Text, second: &[u8]) -> Result<(Text, Text), Unanswered> {
     match text_of(alloc, second) {
         Ok(second) => Ok((first, second)),
         Err(unanswered) => {
@@ -72,18 +76,26 @@ pub(crate) fn two_texts(
     }
 }
 
-fn extent_of_4_degrees() -> Result<Extent, Unanswered> {
-    let zero = Micro::from_millionths(0).ok_or(Unanswered::BadWords)?;
-    let four = Micro::from_millionths(4_000_000).ok_or(Unanswered::BadWords)?;
-    Extent::new(zero, zero, four, four).ok_or(Unanswered::BadWords)
+fn extent_of_4_degrees() -> Option<Extent> {
+    let zero = Micro::from_millionths(0)?;
+    let four = Micro::from_millionths(4_000_000)?;
+    Extent::new(zero, zero, four, four)
 }
 
 // The map `a`, from 0 0 to 4 4 degrees, with a title.
 fn titled(alloc: Global, title: &[u8]) -> Result<MapDef, Unanswered> {
-    let extent = extent_of_4_degrees()?;
-    let (name, title) = two_texts(alloc, b"a", title)?;
-    match two_texts(alloc, b"", b"http://localhost/wms?") {
-        Ok((abstract_text, address)) => Ok(MapDef::new(
+    match two_texts(alloc, b"a", title) {
+        Ok((name, title)) => named_and_titled(alloc, name, title),
+        Err(unanswered) => Err(unanswered),
+    }
+}
+
+fn named_and_titled(alloc: Global, name: Text, title: Text) -> Result<MapDef, Unanswered> {
+    match (
+        two_texts(alloc, b"", b"http://localhost/wms?"),
+        extent_of_4_degrees(),
+    ) {
+        (Ok((abstract_text, address)), Some(extent)) => Ok(MapDef::new(
             alloc,
             name,
             title,
@@ -92,10 +104,11 @@ fn titled(alloc: Global, title: &[u8]) -> Result<MapDef, Unanswered> {
             extent,
             Projection::Epsg4326,
         )),
-        Err(unanswered) => {
+        (texts, _) => {
+            drop(texts);
             drop(name);
             drop(title);
-            Err(unanswered)
+            Err(Unanswered::Memory)
         }
     }
 }
@@ -114,47 +127,45 @@ fn spelled_title(text: &[u8]) -> &[u8] {
     }
 }
 
-fn tell_title(canon: Canon, answer: &mut Vec<u8>) -> Answered {
-    let told = write_texts(&["again: ", canon.def().title().as_str(), "\n"], answer);
+fn tell_title(canon: Canon, answer: &mut Answer) {
+    answer.text("again: ");
+    answer.line(canon.def().title().as_str());
     drop(canon);
-    told
 }
 
-fn tell_title_of_copy(canon: Canon, answer: &mut Vec<u8>) -> Answered {
+fn tell_title_of_copy(canon: Canon, answer: &mut Answer) {
     let copied = canon.copy();
     drop(canon);
     match copied {
         Ok(copy) => tell_title(copy, answer),
-        Err(_) => Err(Unanswered::Memory),
+        Err(_) => answer.cut(),
     }
 }
 
-fn write_title(alloc: Global, text: &[u8], answer: &mut Vec<u8>) -> Answered {
-    answer.extend_from_slice(spelled_title(text))?;
-    write_text("\n", answer)?;
-    match Canon::from_bytes(alloc, text) {
-        Ok(canon) => tell_title_of_copy(canon, answer),
+fn tell_title_again(alloc: Global, canon: Canon, answer: &mut Answer) {
+    answer.bytes(spelled_title(canon.text()));
+    answer.line("");
+    match Canon::from_bytes(alloc, canon.text()) {
+        Ok(again) => tell_title_of_copy(again, answer),
         Err(fault) => write_canon_fault(fault, answer),
     }
+    drop(canon);
 }
 
-fn tell_titled(alloc: Global, map: MapDef, answer: &mut Vec<u8>) -> Answered {
+fn tell_titled(alloc: Global, map: MapDef, answer: &mut Answer) {
     let canonical = Canon::of(alloc, &map);
     drop(map);
     match canonical {
-        Ok(canon) => {
-            let told = write_title(alloc, canon.text(), answer);
-            drop(canon);
-            told
-        }
+        Ok(canon) => tell_title_again(alloc, canon, answer),
         Err(fault) => write_canon_fault(fault, answer),
     }
 }
 
 /// `title`: how the canonical text of map `a` with this title spells it, and the title that this text means.
-pub(crate) fn title(asked: Asked<'_>, answer: &mut Vec<u8>) -> Answered {
+pub(crate) fn title(asked: Asked<'_>, answer: &mut Answer) -> Answered {
     match titled(asked.alloc, asked.input) {
         Ok(map) => tell_titled(asked.alloc, map, answer),
-        Err(unanswered) => Err(unanswered),
+        Err(unanswered) => return Err(unanswered),
     }
+    Ok(())
 }

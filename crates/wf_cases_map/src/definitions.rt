@@ -1,10 +1,8 @@
 //! Definitions that are put together by calls.
 ghost use Rattle.std.specs.Prelude.{◌<◌, length};
 
-use crate::asked::{Answered, Asked};
 use crate::canonical::two_texts;
 use crate::mapfiles::write_value;
-use crate::numbers::write_count;
 use crate::shown::tell_map;
 use crate::texts::text_of;
 use std::alloc::{AllocError, Global};
@@ -19,24 +17,26 @@ use wf_def::point::Point;
 use wf_def::style::Style;
 use wf_def::text::Text;
 use wf_def::whole::Whole;
-use wf_table::Unanswered;
-use wf_table::write::{write_line, write_text, write_whole};
+use wf_table::{Answer, Answered, Asked, Unanswered, Words};
 
 /// `attribute`: the value of names between commas, values between semicolons and a name, with `|` between the three.
-pub(crate) fn attribute_of_lists(asked: Asked<'_>, answer: &mut Vec<u8>) -> Answered {
-    let (names, rest) = asked.text()?.split_once('|').ok_or(Unanswered::BadWords)?;
-    let (values, name) = rest.split_once('|').ok_or(Unanswered::BadWords)?;
+pub(crate) fn attribute_of_lists(asked: Asked<'_>, answer: &mut Answer) -> Answered {
+    let Some((names, rest)) = asked.text()?.split_once('|') else {
+        return Err(Unanswered::BadWords);
+    };
+    let Some((values, name)) = rest.split_once('|') else {
+        return Err(Unanswered::BadWords);
+    };
     write_value(
         attribute(names.as_bytes(), values.as_bytes(), name.as_bytes()),
         answer,
-    )
+    );
+    Ok(())
 }
 
 // A style that draws nothing, so wide.
-fn style_of_width(word: &str) -> Result<Style, Unanswered> {
-    let width = word.parse::<u8>().ok().and_then(|width| Whole::new(width));
-    let size = Whole::new(1);
-    match (width, size) {
+fn style_of_width(width: u8) -> Result<Style, Unanswered> {
+    match (Whole::new(width), Whole::new(1)) {
         (Some(width), Some(size)) => Ok(Style {
             color: None,
             outline_color: None,
@@ -47,55 +47,52 @@ fn style_of_width(word: &str) -> Result<Style, Unanswered> {
     }
 }
 
-// Appends whether there is room for one more, and the widths in their order.
-fn write_styles(styles: &Styles, answer: &mut Vec<u8>) -> Answered {
-    write_text(if styles.is_full() { "full:" } else { "room:" }, answer)?;
-    for style in styles.as_slice() {
-        write_text(" ", answer)?;
-        write_whole(u64::from(style.width.get()), answer)?;
-    }
-    Ok(write_line("", answer)?)
+// Appends whether there is room for one more.
+fn write_room(is_full: bool, answer: &mut Answer) {
+    answer.text(if is_full { "full:" } else { "room:" });
 }
 
-fn write_copy_of_styles(styles: &Styles, answer: &mut Vec<u8>) -> Answered {
+// Appends whether there is room for one more, and the widths in their order.
+fn tell_styles(styles: Styles, answer: &mut Answer) {
+    write_room(styles.is_full(), answer);
+    for style in styles.as_slice() {
+        answer.text(" ");
+        answer.value(style.width.get());
+    }
+    answer.line("");
+    drop(styles);
+}
+
+fn tell_copy_of_styles(styles: &Styles, answer: &mut Answer) {
     match styles.clone() {
-        Ok(copy) => {
-            let written = write_styles(&copy, answer);
-            drop(copy);
-            written
-        }
-        Err(_) => Err(Unanswered::Memory),
+        Ok(copy) => tell_styles(copy, answer),
+        Err(_) => answer.cut(),
     }
 }
 
 /// `styles`: a copy of the styles of these widths, as far as there is room.
-pub(crate) fn styles(asked: Asked<'_>, answer: &mut Vec<u8>) -> Answered {
-    let words = asked.text()?;
+pub(crate) fn styles(asked: Asked<'_>, answer: &mut Answer) -> Answered {
+    let words = Words::of(asked.input)?;
     let mut styles = Styles::new(asked.alloc);
     let pushed = push_styles(&mut styles, words);
-    let written = match pushed {
-        Ok(()) => write_copy_of_styles(&styles, answer),
-        Err(unanswered) => Err(unanswered),
-    };
+    tell_copy_of_styles(&styles, answer);
     drop(styles);
-    written
+    pushed
 }
 
-fn push_styles(styles: &mut Styles, words: &str) -> Answered {
-    for word in words.split(' ') {
-        let style = style_of_width(word)?;
-        if !styles.is_full() {
-            styles.push(style)?;
-        }
+fn push_styles(styles: &mut Styles, words: Words<'_>) -> Answered {
+    for word in words.rest().split(' ') {
+        push_style(styles, Words::new(word).byte()?)?;
     }
     Ok(())
 }
 
-fn number_in(text: &str) -> Result<usize, Unanswered> {
-    match text.parse::<usize>() {
-        Ok(number) => Ok(number),
-        Err(_) => Err(Unanswered::BadWords),
+fn push_style(styles: &mut Styles, width: u8) -> Answered {
+    let style = style_of_width(width)?;
+    if !styles.is_full() {
+        styles.push(style)?;
     }
+    Ok(())
 }
 
 fn empty_class(alloc: Global) -> Result<Class, Unanswered> {
@@ -105,40 +102,29 @@ fn empty_class(alloc: Global) -> Result<Class, Unanswered> {
     }
 }
 
-fn write_classes(classes: &Classes, answer: &mut Vec<u8>) -> Answered {
-    write_text(
-        if classes.is_full() {
-            "full: "
-        } else {
-            "room: "
-        },
-        answer,
-    )?;
-    write_count(classes.as_slice().len(), "\n", answer)
+fn tell_classes(classes: Classes, answer: &mut Answer) {
+    write_room(classes.is_full(), answer);
+    answer.text(" ");
+    answer.count(classes.as_slice().len());
+    answer.line("");
+    drop(classes);
 }
 
-fn write_copy_of_classes(classes: &Classes, answer: &mut Vec<u8>) -> Answered {
+fn tell_copy_of_classes(classes: &Classes, answer: &mut Answer) {
     match classes.clone() {
-        Ok(copy) => {
-            let written = write_classes(&copy, answer);
-            drop(copy);
-            written
-        }
-        Err(_) => Err(Unanswered::Memory),
+        Ok(copy) => tell_classes(copy, answer),
+        Err(_) => answer.cut(),
     }
 }
 
 /// `classes`: a copy of so many empty classes, as far as there is room.
-pub(crate) fn classes(asked: Asked<'_>, answer: &mut Vec<u8>) -> Answered {
-    let count = number_in(asked.text()?)?;
+pub(crate) fn classes(asked: Asked<'_>, answer: &mut Answer) -> Answered {
+    let count = Words::of(asked.input)?.count()?;
     let mut classes = Classes::new(asked.alloc);
     let pushed = push_classes(asked.alloc, &mut classes, count);
-    let written = match pushed {
-        Ok(()) => write_copy_of_classes(&classes, answer),
-        Err(unanswered) => Err(unanswered),
-    };
+    tell_copy_of_classes(&classes, answer);
     drop(classes);
-    written
+    pushed
 }
 
 fn push_classes(alloc: Global, classes: &mut Classes, count: usize) -> Answered {
@@ -153,32 +139,43 @@ fn push_classes(alloc: Global, classes: &mut Classes, count: usize) -> Answered 
 
 fn part_of_points(alloc: Global, count: usize) -> Result<Part, AllocError> {
     let mut part = Part::new(alloc);
+    match push_points(&mut part, count) {
+        Ok(()) => Ok(part),
+        Err(error) => {
+            drop(part);
+            Err(error)
+        }
+    }
+}
+
+fn push_points(part: &mut Part, count: usize) -> Result<(), AllocError> {
     for _ in 0..count {
         if let Some(zero) = Micro::from_millionths(0) {
             part.push(Point { x: zero, y: zero })?;
         }
     }
-    Ok(part)
+    Ok(())
 }
 
 // Parts of so many points each, as the words say.
 fn parts_of_points(alloc: Global, words: &str) -> Result<Parts, Unanswered> {
     let mut parts = Parts::new(alloc);
-    for word in words.split_whitespace() {
-        let part = part_of_points(alloc, number_in(word)?)?;
-        parts.push(part)?;
-    }
-    Ok(parts)
-}
-
-fn feature_of_parts(alloc: Global, parts: Parts) -> Result<Option<Feature>, Unanswered> {
-    match two_texts(alloc, b"", b"") {
-        Ok((items, text)) => Ok(Feature::new(parts, items, text)),
+    match push_parts(alloc, words, &mut parts) {
+        Ok(()) => Ok(parts),
         Err(unanswered) => {
             drop(parts);
             Err(unanswered)
         }
     }
+}
+
+fn push_parts(alloc: Global, words: &str, parts: &mut Parts) -> Answered {
+    for word in words.split_whitespace() {
+        let count = Words::new(word).count()?;
+        let part = part_of_points(alloc, count)?;
+        parts.push(part)?;
+    }
+    Ok(())
 }
 
 fn kind_of(word: &str) -> Result<LayerKind, Unanswered> {
@@ -192,7 +189,13 @@ fn kind_of(word: &str) -> Result<LayerKind, Unanswered> {
 
 // A layer's title, and its attributes for the class and for the label.
 fn empty_texts(alloc: Global) -> Result<(Text, Text, Text), Unanswered> {
-    let title = text_of(alloc, b"")?;
+    match text_of(alloc, b"") {
+        Ok(title) => with_items(alloc, title),
+        Err(unanswered) => Err(unanswered),
+    }
+}
+
+fn with_items(alloc: Global, title: Text) -> Result<(Text, Text, Text), Unanswered> {
     match two_texts(alloc, b"", b"") {
         Ok((class_item, label_item)) => Ok((title, class_item, label_item)),
         Err(unanswered) => {
@@ -202,45 +205,63 @@ fn empty_texts(alloc: Global) -> Result<(Text, Text, Text), Unanswered> {
     }
 }
 
-// Whether a layer of the kind can have these attributes and features.
-fn is_layer(
+// Appends whether a layer of the kind can have these attributes and features.
+fn tell_layer(
     alloc: Global,
     kind: LayerKind,
     items: Text,
     features: Features,
-) -> Result<bool, Unanswered> {
+    answer: &mut Answer,
+) {
     match empty_texts(alloc) {
         Ok((title, class_item, label_item)) => {
             let classes = Classes::new(alloc);
             let layer = Layer::new(
                 kind, title, class_item, label_item, items, classes, features,
             );
-            let is_layer = layer.is_some();
+            answer.line(if layer.is_some() {
+                "a layer"
+            } else {
+                "no layer"
+            });
             drop(layer);
-            Ok(is_layer)
+        }
+        Err(_) => {
+            drop(items);
+            drop(features);
+            answer.cut();
+        }
+    }
+}
+
+fn tell_layer_of_items(
+    alloc: Global,
+    kind: LayerKind,
+    items: &[u8],
+    features: Features,
+    answer: &mut Answer,
+) -> Answered {
+    match text_of(alloc, items) {
+        Ok(items) => {
+            tell_layer(alloc, kind, items, features, answer);
+            Ok(())
         }
         Err(unanswered) => {
-            drop(items);
             drop(features);
             Err(unanswered)
         }
     }
 }
 
-fn write_is_layer(is_layer: bool, answer: &mut Vec<u8>) -> Answered {
-    let words = if is_layer { "a layer" } else { "no layer" };
-    Ok(write_line(words, answer)?)
-}
-
-fn layer_of_feature(
+fn tell_layer_of_feature(
     alloc: Global,
     kind: LayerKind,
     feature: Feature,
-    answer: &mut Vec<u8>,
+    answer: &mut Answer,
 ) -> Answered {
     let mut features = Features::new(alloc);
     match features.push(feature) {
-        Ok(()) => layer_of_items(alloc, kind, b"", features, answer),
+        Ok(()) => tell_layer_of_items(alloc, kind, b"", features, answer),
         Err(_) => {
             drop(features);
             Err(Unanswered::Memory)
@@ -248,44 +269,40 @@ fn layer_of_feature(
     }
 }
 
-fn layer_of_items(
+fn tell_layer_of_parts(
     alloc: Global,
     kind: LayerKind,
-    items: &[u8],
-    features: Features,
-    answer: &mut Vec<u8>,
+    parts: Parts,
+    answer: &mut Answer,
 ) -> Answered {
-    match text_of(alloc, items) {
-        Ok(items) => write_is_layer(is_layer(alloc, kind, items, features)?, answer),
+    match two_texts(alloc, b"", b"") {
+        Ok((items, text)) => match Feature::new(parts, items, text) {
+            Some(feature) => tell_layer_of_feature(alloc, kind, feature, answer),
+            None => {
+                answer.line("no feature");
+                Ok(())
+            }
+        },
         Err(unanswered) => {
-            drop(features);
+            drop(parts);
             Err(unanswered)
         }
     }
 }
 
 /// `shape KIND`: whether a layer of the kind can have one feature, whose parts have so many points.
-pub(crate) fn shape(asked: Asked<'_>, answer: &mut Vec<u8>) -> Answered {
-    let kind = kind_of(asked.words)?;
-    let words = asked.text()?;
-    match parts_of_points(asked.alloc, words) {
-        Ok(parts) => shape_of_parts(asked.alloc, kind, parts, answer),
-        Err(unanswered) => Err(unanswered),
-    }
-}
-
-fn shape_of_parts(alloc: Global, kind: LayerKind, parts: Parts, answer: &mut Vec<u8>) -> Answered {
-    match feature_of_parts(alloc, parts) {
-        Ok(Some(feature)) => layer_of_feature(alloc, kind, feature, answer),
-        Ok(None) => Ok(write_line("no feature", answer)?),
+pub(crate) fn shape(asked: Asked<'_>, answer: &mut Answer) -> Answered {
+    let kind = kind_of(asked.words.rest())?;
+    match parts_of_points(asked.alloc, asked.text()?) {
+        Ok(parts) => tell_layer_of_parts(asked.alloc, kind, parts, answer),
         Err(unanswered) => Err(unanswered),
     }
 }
 
 /// `items`: whether a layer can have this list of attributes.
-pub(crate) fn items(asked: Asked<'_>, answer: &mut Vec<u8>) -> Answered {
+pub(crate) fn items(asked: Asked<'_>, answer: &mut Answer) -> Answered {
     let features = Features::new(asked.alloc);
-    layer_of_items(
+    tell_layer_of_items(
         asked.alloc,
         LayerKind::Points,
         asked.input,
@@ -295,9 +312,10 @@ pub(crate) fn items(asked: Asked<'_>, answer: &mut Vec<u8>) -> Answered {
 }
 
 /// `empty_map`: the map that a farm begins with.
-pub(crate) fn empty_map(asked: Asked<'_>, answer: &mut Vec<u8>) -> Answered {
+pub(crate) fn empty_map(asked: Asked<'_>, answer: &mut Answer) -> Answered {
     match MapDef::empty(asked.alloc) {
         Ok(map) => tell_map(map, answer),
-        Err(_) => Err(Unanswered::Memory),
+        Err(_) => answer.cut(),
     }
+    Ok(())
 }

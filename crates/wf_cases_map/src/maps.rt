@@ -1,16 +1,17 @@
 //! Requests to a server that publishes one map.
-use crate::asked::{Answered, Asked};
+ghost use Rattle.wf_wms.specs.Kept.{AllKept};
+
 use crate::requests::tell_summary;
-use crate::shown::write_texts;
 use std::alloc::{AllocError, Global};
 use wf_ballot::Slot;
 use wf_canon::Canon;
 use wf_def::map::MapDef;
 use wf_learner::History;
-use wf_table::Unanswered;
 use wf_table::escape::unescape;
-use wf_wms::Answer;
-use wf_wms::service::answer;
+use wf_table::{Answer, Answered, Asked, Unanswered};
+use wf_wms::Answer as Given;
+use wf_wms::cache::Cache;
+use wf_wms::service::{answer as answer_query, answer_cached};
 
 /// Map `sq`: in 0 0 4 4, in metres, a red square from 1 1 to 3 3.
 const MAP_SQ: &str =
@@ -26,7 +27,7 @@ fn canon_of(alloc: Global, map: MapDef) -> Result<Canon, Unanswered> {
     }
 }
 
-fn read_canon(alloc: Global, mapfile: &[u8]) -> Result<Canon, Unanswered> {
+pub(crate) fn read_canon(alloc: Global, mapfile: &[u8]) -> Result<Canon, Unanswered> {
     match wf_mapfile::read(alloc, mapfile) {
         Ok(map) => canon_of(alloc, map),
         Err(_) => Err(Unanswered::BadWords),
@@ -34,91 +35,176 @@ fn read_canon(alloc: Global, mapfile: &[u8]) -> Result<Canon, Unanswered> {
 }
 
 fn learn_first(history: &mut History, canon: Canon) -> Result<(), AllocError> {
-    match Slot::new(1) {
-        Some(slot) => {
-            let _ = history.learn(slot, canon)?;
-        }
-        None => drop(canon),
+    let Some(slot) = Slot::new(1) else {
+        drop(canon);
+        return Ok(());
+    };
+    match history.learn(slot, canon) {
+        Ok(_) => Ok(()),
+        Err(error) => Err(error),
     }
-    Ok(())
 }
 
-fn ask_history(alloc: Global, history: &History, query: &[u8]) -> Result<Answer, AllocError> {
-    answer(alloc, history.published().number(), history, query)
+pub(crate) fn is_same(a: &Given, b: &Given) -> bool {
+    a.kind == b.kind && a.media == b.media && a.bytes == b.bytes
+}
+
+// Whether the cache gives the same answer.
+fn is_kept(
+    alloc: Global,
+    cache: &mut Cache,
+    history: &History,
+    query: &[u8],
+    plain: &Given,
+) -> Result<bool, AllocError>
+    requires { AllKept history.now.definitions cache.old }
+    ensures { AllKept history.now.definitions cache.new }
+{
+    match answer_cached(alloc, cache, history.published().number(), history, query) {
+        Ok(kept) => {
+            let same = is_same(&kept, plain);
+            drop(kept);
+            Ok(same)
+        }
+        Err(error) => Err(error),
+    }
+}
+
+// Whether a cache gives the same answer, where it is empty and once more.
+fn is_kept_twice(
+    alloc: Global,
+    history: &History,
+    query: &[u8],
+    plain: &Given,
+) -> Result<bool, AllocError> {
+    match Cache::new(alloc, 1) {
+        Ok(mut cache) => {
+            let first = is_kept(alloc, &mut cache, history, query, plain);
+            let again = is_kept(alloc, &mut cache, history, query, plain);
+            drop(cache);
+            Ok(first? && again?)
+        }
+        Err(error) => Err(error),
+    }
+}
+
+// The answer to a query at the last sequence; none where a cache gives another.
+fn ask_published(
+    alloc: Global,
+    history: &History,
+    query: &[u8],
+) -> Result<Option<Given>, AllocError> {
+    match answer_query(alloc, history.published().number(), history, query) {
+        Ok(plain) => match is_kept_twice(alloc, history, query, &plain) {
+            Ok(true) => Ok(Some(plain)),
+            Ok(false) => {
+                drop(plain);
+                Ok(None)
+            }
+            Err(error) => {
+                drop(plain);
+                Err(error)
+            }
+        },
+        Err(error) => Err(error),
+    }
+}
+
+fn ask_history(
+    alloc: Global,
+    history: &mut History,
+    canon: Canon,
+    query: &[u8],
+) -> Result<Option<Given>, AllocError> {
+    match learn_first(history, canon) {
+        Ok(()) => ask_published(alloc, history, query),
+        Err(error) => Err(error),
+    }
 }
 
 // The answer to a query at update sequence 1, where the map is published.
-fn ask_canon(alloc: Global, canon: Canon, query: &[u8]) -> Result<Answer, AllocError> {
-    let mut history = History::new(alloc)?;
-    let learned = learn_first(&mut history, canon);
-    let given = ask_history(alloc, &history, query);
-    drop(history);
-    learned?;
-    given
+fn ask_canon(alloc: Global, canon: Canon, query: &[u8]) -> Result<Option<Given>, AllocError> {
+    match History::new(alloc) {
+        Ok(mut history) => {
+            let given = ask_history(alloc, &mut history, canon, query);
+            drop(history);
+            given
+        }
+        Err(error) => {
+            drop(canon);
+            Err(error)
+        }
+    }
 }
 
-fn ask_map(alloc: Global, mapfile: &[u8], query: &[u8]) -> Result<Answer, Unanswered> {
-    match ask_canon(alloc, read_canon(alloc, mapfile)?, query) {
-        Ok(given) => Ok(given),
-        Err(_) => Err(Unanswered::Memory),
+fn ask_map(alloc: Global, mapfile: &[u8], query: &[u8]) -> Result<Given, Unanswered> {
+    match read_canon(alloc, mapfile) {
+        Ok(canon) => match ask_canon(alloc, canon, query) {
+            Ok(Some(given)) => Ok(given),
+            Ok(None) => Err(Unanswered::BadWords),
+            Err(_) => Err(Unanswered::Memory),
+        },
+        Err(unanswered) => Err(unanswered),
     }
 }
 
 /// `get`: the kind, the media type and the length of the answer to a query at update sequence 1, where map `sq` is published.
-pub(crate) fn get(asked: Asked<'_>, answer: &mut Vec<u8>) -> Answered {
-    tell_summary(
-        ask_map(asked.alloc, MAP_SQ.as_bytes(), asked.input)?,
-        answer,
-    )
+pub(crate) fn get(asked: Asked<'_>, answer: &mut Answer) -> Answered {
+    match ask_map(asked.alloc, MAP_SQ.as_bytes(), asked.input) {
+        Ok(given) => tell_summary(given, answer),
+        Err(unanswered) => return Err(unanswered),
+    }
+    Ok(())
 }
 
-fn write_pixel(pixel: &[u8], answer: &mut Vec<u8>) -> Answered {
-    let letter = match pixel {
+pub(crate) fn letter_of(pixel: &[u8]) -> &'static str {
+    match pixel {
         [255, 255, 255] => "W",
         [255, 0, 0] => "R",
         [0, 0, 255] => "B",
         [0, 0, 0] => "K",
         _ => "?",
-    };
-    write_texts(&[letter], answer)
+    }
 }
 
 // A row of pixels as letters, on a line of its own.
-fn write_row(row: &[u8], answer: &mut Vec<u8>) -> Answered {
+fn write_row(row: &[u8], answer: &mut Answer) {
     for pixel in row.chunks(3) {
-        write_pixel(pixel, answer)?;
+        answer.text(letter_of(pixel));
     }
-    write_texts(&["\n"], answer)
+    answer.line("");
 }
 
-// Rows of 4 pixels.
-fn write_rows(pixels: &[u8], answer: &mut Vec<u8>) -> Answered {
+// A picture of 4 by 4 pixels: its head, and its pixels as letters.
+fn write_picture(bytes: &[u8], answer: &mut Answer) -> Answered {
+    let Some(pixels) = bytes.strip_prefix(b"P6\n4 4\n255\n".as_slice()) else {
+        return Err(Unanswered::BadWords);
+    };
     for row in pixels.chunks(12) {
-        write_row(row, answer)?;
+        write_row(row, answer);
     }
     Ok(())
 }
 
-// A picture of 4 by 4 pixels: its head, and its pixels as letters.
-fn write_picture(bytes: &[u8], answer: &mut Vec<u8>) -> Answered {
-    match bytes.strip_prefix(b"P6\n4 4\n255\n".as_slice()) {
-        Some(pixels) => write_rows(pixels, answer),
-        None => Err(Unanswered::BadWords),
+fn tell_drawn(asked: Asked<'_>, query: &Answer, answer: &mut Answer) -> Answered {
+    match ask_map(asked.alloc, asked.input, query.written()?) {
+        Ok(given) => {
+            let told = write_picture(&given.bytes, answer);
+            drop(given);
+            told
+        }
+        Err(unanswered) => Err(unanswered),
     }
-}
-
-fn tell_picture(given: Answer, answer: &mut Vec<u8>) -> Answered {
-    let told = write_picture(&given.bytes, answer);
-    drop(given);
-    told
 }
 
 /// `drawn QUERY`: the pixels, as letters, of the picture of 4 by 4 pixels that the query gets at update sequence 1, where the map of the
 /// input is published. QUERY is spelled with escapes.
-pub(crate) fn drawn(asked: Asked<'_>, answer: &mut Vec<u8>) -> Answered {
-    let mut query = Vec::new(asked.alloc);
-    if unescape(asked.words, &mut query).is_err() {
-        return Err(Unanswered::BadWords);
-    }
-    tell_picture(ask_map(asked.alloc, asked.input, &query)?, answer)
+pub(crate) fn drawn(asked: Asked<'_>, answer: &mut Answer) -> Answered {
+    let mut query = Answer::new(asked.alloc);
+    let told = match unescape(asked.words.rest(), &mut query) {
+        Ok(()) => tell_drawn(asked, &query, answer),
+        Err(unanswered) => Err(unanswered),
+    };
+    drop(query);
+    told
 }

@@ -1,46 +1,43 @@
 //! Numbers and boxes.
-use crate::asked::{Answered, Asked};
 use wf_def::extent::Extent;
 use wf_def::fault::NumberFault;
 use wf_def::limits::{MOST_BUFFER, MOST_PRIORITY, MOST_SIZE, MOST_WIDTH};
 use wf_def::micro::Micro;
 use wf_def::whole::Whole;
-use wf_table::Unanswered;
-use wf_table::write::{write_line, write_signed, write_text, write_whole};
+use wf_table::{Answer, Answered, Asked, Unanswered, Words};
 
-fn write_number(number: i64, answer: &mut Vec<u8>) -> Answered {
-    write_signed(number, answer)?;
-    Ok(write_line("", answer)?)
+fn tell_number(number: Micro, answer: &mut Answer) {
+    answer.number(number.millionths());
+    answer.line("");
 }
 
 /// `number`: the millionths that a text means, or why it means none.
-pub(crate) fn number(asked: Asked<'_>, answer: &mut Vec<u8>) -> Answered {
+pub(crate) fn number(asked: Asked<'_>, answer: &mut Answer) -> Answered {
     match Micro::read(asked.input) {
-        Ok(number) => write_number(number.millionths(), answer),
-        Err(NumberFault::BadNumber) => Ok(write_line("BadNumber", answer)?),
-        Err(NumberFault::OutOfRange) => Ok(write_line("OutOfRange", answer)?),
+        Ok(number) => tell_number(number, answer),
+        Err(NumberFault::BadNumber) => answer.line("BadNumber"),
+        Err(NumberFault::OutOfRange) => answer.line("OutOfRange"),
     }
-}
-
-fn parsed(text: &str) -> Result<i64, Unanswered> {
-    match text.parse::<i64>() {
-        Ok(number) => Ok(number),
-        Err(_) => Err(Unanswered::BadWords),
-    }
+    Ok(())
 }
 
 /// `millionths`: the number of so many millionths, in millionths, where it is within the limits.
-pub(crate) fn millionths(asked: Asked<'_>, answer: &mut Vec<u8>) -> Answered {
-    match Micro::from_millionths(parsed(asked.text()?)?) {
-        Some(number) => write_number(number.millionths(), answer),
-        None => Ok(write_line("none", answer)?),
+pub(crate) fn millionths(asked: Asked<'_>, answer: &mut Answer) -> Answered {
+    let millionths = Words::of(asked.input)?.signed()?;
+    match Micro::from_millionths(millionths) {
+        Some(number) => tell_number(number, answer),
+        None => answer.line("none"),
     }
+    Ok(())
 }
 
-fn write_whole_or_none(number: Option<u8>, answer: &mut Vec<u8>) -> Answered {
+fn tell_whole(number: Option<u8>, answer: &mut Answer) {
     match number {
-        Some(number) => write_number(i64::from(number), answer),
-        None => Ok(write_line("none", answer)?),
+        Some(number) => {
+            answer.value(number);
+            answer.line("");
+        }
+        None => answer.line("none"),
     }
 }
 
@@ -52,62 +49,69 @@ fn number_within<const LEAST: u8, const MOST: u8>(number: u8) -> Option<u8> {
 }
 
 /// `whole KIND`: the whole number of a width, a size, a priority or a buffer.
-pub(crate) fn whole(asked: Asked<'_>, answer: &mut Vec<u8>) -> Answered {
-    let number = match asked.text()?.parse::<u8>() {
-        Ok(number) => number,
-        Err(_) => return Err(Unanswered::BadWords),
-    };
-    let found = match asked.words {
+pub(crate) fn whole(asked: Asked<'_>, answer: &mut Answer) -> Answered {
+    let number = Words::of(asked.input)?.byte()?;
+    let found = match asked.words.rest() {
         "width" => number_within::<1, MOST_WIDTH>(number),
         "size" => number_within::<1, MOST_SIZE>(number),
         "priority" => number_within::<1, MOST_PRIORITY>(number),
         "buffer" => number_within::<0, MOST_BUFFER>(number),
         _ => return Err(Unanswered::BadWords),
     };
-    write_whole_or_none(found, answer)
+    tell_whole(found, answer);
+    Ok(())
+}
+
+fn whole_of(number: Micro) -> Option<u8> {
+    match Whole::<1, 16>::from_micro(number) {
+        Some(whole) => Some(whole.get()),
+        None => None,
+    }
 }
 
 /// `whole_of_number`: the whole number from 1 to 16 that a text means.
-pub(crate) fn whole_of_number(asked: Asked<'_>, answer: &mut Vec<u8>) -> Answered {
+pub(crate) fn whole_of_number(asked: Asked<'_>, answer: &mut Answer) -> Answered {
     match Micro::read(asked.input) {
-        Ok(number) => write_whole_or_none(
-            Whole::<1, 16>::from_micro(number).map(|whole| whole.get()),
-            answer,
-        ),
-        Err(_) => Err(Unanswered::BadWords),
+        Ok(number) => tell_whole(whole_of(number), answer),
+        Err(_) => return Err(Unanswered::BadWords),
     }
+    Ok(())
 }
 
-fn write_extent(extent: Extent, answer: &mut Vec<u8>) -> Answered {
-    let sides = [extent.minx(), extent.miny(), extent.maxx(), extent.maxy()];
-    write_text("extent", answer)?;
-    for side in &sides {
-        write_text(" ", answer)?;
-        write_signed(side.millionths(), answer)?;
-    }
-    Ok(write_line("", answer)?)
+/// Appends the sides of a box in millionths.
+pub(crate) fn write_sides(extent: Extent, answer: &mut Answer) {
+    answer.number(extent.minx().millionths());
+    answer.text(" ");
+    answer.number(extent.miny().millionths());
+    answer.text(" ");
+    answer.number(extent.maxx().millionths());
+    answer.text(" ");
+    answer.number(extent.maxy().millionths());
 }
 
-fn micro(word: Option<&str>) -> Result<Micro, Unanswered> {
-    let number = parsed(word.unwrap_or(""))?;
-    Micro::from_millionths(number).ok_or(Unanswered::BadWords)
+fn micro(words: &mut Words<'_>) -> Result<Micro, Unanswered> {
+    match Micro::from_millionths(words.signed()?) {
+        Some(number) => Ok(number),
+        None => Err(Unanswered::BadWords),
+    }
 }
 
 /// `extent`: the box of four sides in millionths (least x, least y, most x, most y).
-pub(crate) fn extent(asked: Asked<'_>, answer: &mut Vec<u8>) -> Answered {
-    let mut words = asked.text()?.split(' ');
-    let minx = micro(words.next())?;
-    let miny = micro(words.next())?;
-    let maxx = micro(words.next())?;
-    let maxy = micro(words.next())?;
+pub(crate) fn extent(asked: Asked<'_>, answer: &mut Answer) -> Answered {
+    let mut words = Words::of(asked.input)?;
+    let minx = micro(&mut words)?;
+    let miny = micro(&mut words)?;
+    let maxx = micro(&mut words)?;
+    let maxy = micro(&mut words)?;
     match Extent::new(minx, miny, maxx, maxy) {
-        Some(extent) => write_extent(extent, answer),
-        None => Ok(write_line("none", answer)?),
+        Some(extent) => tell_extent(extent, answer),
+        None => answer.line("none"),
     }
+    Ok(())
 }
 
-/// Appends a count and what it counts.
-pub(crate) fn write_count(count: usize, what: &str, answer: &mut Vec<u8>) -> Answered {
-    write_whole(count as u64, answer)?;
-    Ok(write_text(what, answer)?)
+fn tell_extent(extent: Extent, answer: &mut Answer) {
+    answer.text("extent ");
+    write_sides(extent, answer);
+    answer.line("");
 }

@@ -1,15 +1,14 @@
 //! The questions by their names.
-use crate::asked::{Answered, Asked};
 use crate::{
-    canonical, definitions, mapfiles, maps, numbers, reports, requests, tables, texts, tokens,
+    canonical, definitions, kept, mapfiles, maps, numbers, reports, requests, spellings, tables,
+    texts, tokens,
 };
-use std::alloc::Global;
-use wf_table::{Questions, Unanswered};
+use wf_table::{Answer, Answered, Asked, Questions, Unanswered};
 
 /// All that this program can be asked.
 pub(crate) struct MapQuestions;
 
-fn about_numbers(question: &str, asked: Asked<'_>, answer: &mut Vec<u8>) -> Answered {
+fn about_numbers(question: &str, asked: Asked<'_>, answer: &mut Answer) -> Answered {
     match question {
         "number" => numbers::number(asked, answer),
         "millionths" => numbers::millionths(asked, answer),
@@ -20,7 +19,7 @@ fn about_numbers(question: &str, asked: Asked<'_>, answer: &mut Vec<u8>) -> Answ
     }
 }
 
-fn about_texts(question: &str, asked: Asked<'_>, answer: &mut Vec<u8>) -> Answered {
+fn about_texts(question: &str, asked: Asked<'_>, answer: &mut Answer) -> Answered {
     match question {
         "text" => texts::text(asked, answer),
         "same_texts" => texts::same_texts(asked, answer),
@@ -30,7 +29,7 @@ fn about_texts(question: &str, asked: Asked<'_>, answer: &mut Vec<u8>) -> Answer
     }
 }
 
-fn about_definitions(question: &str, asked: Asked<'_>, answer: &mut Vec<u8>) -> Answered {
+fn about_definitions(question: &str, asked: Asked<'_>, answer: &mut Answer) -> Answered {
     match question {
         "attribute" => definitions::attribute_of_lists(asked, answer),
         "styles" => definitions::styles(asked, answer),
@@ -38,19 +37,11 @@ fn about_definitions(question: &str, asked: Asked<'_>, answer: &mut Vec<u8>) -> 
         "shape" => definitions::shape(asked, answer),
         "items" => definitions::items(asked, answer),
         "empty_map" => definitions::empty_map(asked, answer),
-        _ => about_tokens(question, asked, answer),
-    }
-}
-
-fn about_tokens(question: &str, asked: Asked<'_>, answer: &mut Vec<u8>) -> Answered {
-    match question {
-        "tokens" => tokens::tokens(asked, answer),
-        "each_byte" => tokens::each_byte(asked, answer),
         _ => about_mapfiles(question, asked, answer),
     }
 }
 
-fn about_mapfiles(question: &str, asked: Asked<'_>, answer: &mut Vec<u8>) -> Answered {
+fn about_mapfiles(question: &str, asked: Asked<'_>, answer: &mut Answer) -> Answered {
     match question {
         "map" => mapfiles::map(asked, answer),
         "layers" => mapfiles::layers(asked, answer),
@@ -62,16 +53,18 @@ fn about_mapfiles(question: &str, asked: Asked<'_>, answer: &mut Vec<u8>) -> Ans
     }
 }
 
-fn about_spellings(question: &str, asked: Asked<'_>, answer: &mut Vec<u8>) -> Answered {
+fn about_spellings(question: &str, asked: Asked<'_>, answer: &mut Answer) -> Answered {
     match question {
-        "same" => mapfiles::same(asked, answer),
-        "beginnings" => mapfiles::beginnings(asked, answer),
-        "gaps" => mapfiles::gaps(asked, answer),
+        "tokens" => tokens::tokens(asked, answer),
+        "each_byte" => tokens::each_byte(asked, answer),
+        "same" => spellings::same(asked, answer),
+        "beginnings" => spellings::beginnings(asked, answer),
+        "gaps" => spellings::gaps(asked, answer),
         _ => about_canonical_texts(question, asked, answer),
     }
 }
 
-fn about_canonical_texts(question: &str, asked: Asked<'_>, answer: &mut Vec<u8>) -> Answered {
+fn about_canonical_texts(question: &str, asked: Asked<'_>, answer: &mut Answer) -> Answered {
     match question {
         "canonical_number" => canonical::number(asked, answer),
         "title" => canonical::title(asked, answer),
@@ -80,11 +73,12 @@ fn about_canonical_texts(question: &str, asked: Asked<'_>, answer: &mut Vec<u8>)
     }
 }
 
-fn about_requests(question: &str, asked: Asked<'_>, answer: &mut Vec<u8>) -> Answered {
+fn about_requests(question: &str, asked: Asked<'_>, answer: &mut Answer) -> Answered {
     match question {
         "request" => requests::request(asked, answer),
         "get" => maps::get(asked, answer),
         "drawn" => maps::drawn(asked, answer),
+        "kept" => kept::kept(asked, answer),
         "report" => reports::report_of(asked, answer),
         "table" => tables::table(asked, answer),
         _ => Err(Unanswered::UnknownQuestion),
@@ -92,22 +86,7 @@ fn about_requests(question: &str, asked: Asked<'_>, answer: &mut Vec<u8>) -> Ans
 }
 
 impl Questions for MapQuestions {
-    fn answer(
-        &self,
-        alloc: Global,
-        words: &str,
-        input: &[u8],
-        answer: &mut Vec<u8>,
-    ) -> Result<(), Unanswered> {
-        let (question, words) = words.split_once(' ').unwrap_or((words, ""));
-        about_numbers(
-            question,
-            Asked {
-                alloc,
-                words,
-                input,
-            },
-            answer,
-        )
+    fn answer(&self, mut asked: Asked<'_>, answer: &mut Answer) -> Answered {
+        about_numbers(asked.words.word(), asked, answer)
     }
 }

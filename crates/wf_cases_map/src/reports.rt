@@ -1,6 +1,5 @@
 //! Reports of exceptions, also each by itself.
-use crate::asked::{Answered, Asked};
-use wf_table::Unanswered;
+use wf_table::{Answer, Answered, Asked, Unanswered, Words};
 use wf_wms::report::report;
 use wf_wms::{Exception, Parameter};
 
@@ -11,13 +10,6 @@ fn parameter_of(name: &str) -> Result<Parameter, Unanswered> {
         "BGCOLOR" => Ok(Parameter::BackgroundColor),
         "MAPSEQ" => Ok(Parameter::MapSequence),
         _ => Err(Unanswered::BadWords),
-    }
-}
-
-fn entry_of(word: &str) -> Result<usize, Unanswered> {
-    match word.parse::<usize>() {
-        Ok(entry) => Ok(entry),
-        Err(_) => Err(Unanswered::BadWords),
     }
 }
 
@@ -33,21 +25,24 @@ fn exception_alone(name: &str) -> Result<Exception, Unanswered> {
     }
 }
 
-fn exception_of(words: &str) -> Result<Exception, Unanswered> {
-    let (name, word) = words.split_once(' ').unwrap_or((words, ""));
-    match name {
-        "MissingParameter" => Ok(Exception::MissingParameter(parameter_of(word)?)),
-        "BadValue" => Ok(Exception::BadValue(parameter_of(word)?)),
-        "LayerNotDefined" => Ok(Exception::LayerNotDefined(entry_of(word)?)),
-        "StyleNotDefined" => Ok(Exception::StyleNotDefined(entry_of(word)?)),
-        _ => exception_alone(name),
+fn exception_of(mut words: Words<'_>) -> Result<Exception, Unanswered> {
+    match words.word() {
+        "MissingParameter" => Ok(Exception::MissingParameter(parameter_of(words.rest())?)),
+        "BadValue" => Ok(Exception::BadValue(parameter_of(words.rest())?)),
+        "LayerNotDefined" => Ok(Exception::LayerNotDefined(words.count()?)),
+        "StyleNotDefined" => Ok(Exception::StyleNotDefined(words.count()?)),
+        name => exception_alone(name),
     }
 }
 
 /// `report EXCEPTION`: its report.
-pub(crate) fn report_of(asked: Asked<'_>, answer: &mut Vec<u8>) -> Answered {
+pub(crate) fn report_of(asked: Asked<'_>, answer: &mut Answer) -> Answered {
     match report(asked.alloc, exception_of(asked.words)?) {
-        Ok(document) => Ok(answer.extend_from_slice(&document)?),
-        Err(_) => Err(Unanswered::Memory),
+        Ok(document) => {
+            answer.bytes(&document);
+            drop(document);
+        }
+        Err(_) => answer.cut(),
     }
+    Ok(())
 }

@@ -1,8 +1,8 @@
 //! Pieces of mapfiles, and the mapfile round them.
-use std::alloc::{AllocError, Global};
+use std::alloc::Global;
 use wf_def::map::MapDef;
 use wf_mapfile::fault::MapFault;
-use wf_table::Unanswered;
+use wf_table::{Answer, Unanswered};
 
 /// What stands before and behind a piece, to make a mapfile of it.
 #[derive(Clone, Copy)]
@@ -42,23 +42,22 @@ pub(crate) const CLASS: Wrapping = Wrapping {
     back: " END END",
 };
 
-/// The three parts, one behind the other.
-fn joined(alloc: Global, front: &str, piece: &[u8], back: &str) -> Result<Vec<u8>, AllocError> {
-    let mut text = Vec::from_slice(alloc, front.as_bytes())?;
-    text.extend_from_slice(piece)?;
-    text.extend_from_slice(back.as_bytes())?;
-    Ok(text)
+fn read_written(alloc: Global, mapfile: &Answer) -> Result<MapDef, MapFault> {
+    match mapfile.written() {
+        Ok(mapfile) => wf_mapfile::read(alloc, mapfile),
+        Err(_) => Err(MapFault::Memory),
+    }
 }
 
-/// Reads front, piece and back as a mapfile.
-pub(crate) fn read_joined(
-    alloc: Global,
-    front: &str,
-    piece: &[u8],
-    back: &str,
-) -> Result<MapDef, MapFault> {
-    match joined(alloc, front, piece, back) {
-        Ok(text) => wf_mapfile::read(alloc, &text),
-        Err(_) => Err(MapFault::Memory),
+impl Wrapping {
+    /// Reads a piece in the mapfile round it.
+    pub fn read(self, alloc: Global, piece: &[u8]) -> Result<MapDef, MapFault> {
+        let mut mapfile = Answer::new(alloc);
+        mapfile.text(self.front);
+        mapfile.bytes(piece);
+        mapfile.text(self.back);
+        let map = read_written(alloc, &mapfile);
+        drop(mapfile);
+        map
     }
 }

@@ -1,7 +1,7 @@
 //! A node that is asked by a script. It begins on an empty tape.
 //!
 //! ```text
-//! propose MAP              what the step sends, or how it is refused
+//! propose MAP              what the step sends, or how it is rejected
 //! retry                    the same
 //! catchup                  the same
 //! deliver MESSAGE          the same, for a message that comes in
@@ -20,27 +20,28 @@
 //!                          each length from FROM on; then as restart
 //! ```
 //!
-//! [`crate::delivering`] has what a message is. A step that is refused is answered by `refused: ` and the fault as
+//! [`wf_calls::message`] has what a message is. A step that is rejected is answered by `refused: ` and the fault as
 //! it is printed.
-use crate::member::Member;
+use crate::opening::begin;
 use std::alloc::Global;
 use wf_ballot::Slot;
-use wf_calls::script::{Maps, read_script};
-use wf_calls::telling::{tell_number, tell_printed};
-use wf_calls::words::Words;
+use wf_calls::member::Member;
+use wf_calls::message::Spoken;
+use wf_calls::script::{Definitions, Maps, Script, read_script};
+use wf_calls::telling::{tell_printed, tell_refused};
+use wf_calls::words;
 use wf_calls::words_of_map::tell_map;
 use wf_calls::words_of_record::tell_sent;
 use wf_calls::words_of_standing::tell_standing;
 use wf_canon::Canon;
 use wf_codec::Message;
 use wf_node::{Input, Node, NodeFault};
-use wf_table::Unanswered;
-use wf_table::write::{write_line, write_text};
+use wf_table::{Answer, Answered, Asked, Unanswered, Words};
 use wf_tape::MemoryTape;
 
 /// A node, the maps of the script, and which node of the farm it is.
 #[derive(Drop)]
-pub(crate) struct Asked<'a> {
+pub(crate) struct Session<'a> {
     pub alloc: Global,
     pub maps: Maps<'a>,
     pub member: Member,
@@ -48,122 +49,123 @@ pub(crate) struct Asked<'a> {
 }
 
 /// Appends what the node answers to each call.
-pub(crate) fn ask(
-    alloc: Global,
-    member: Member,
-    input: &[u8],
-    answer: &mut Vec<u8>,
-) -> Result<(), Unanswered> {
-    let (maps, calls) = read_script(input)?;
-    match member.begin(alloc) {
-        Ok(node) => take_calls(
-            Asked {
-                alloc,
-                maps,
-                member,
-                node,
-            },
-            calls,
-            answer,
-        ),
+pub(crate) fn ask(mut asked: Asked<'_>, answer: &mut Answer) -> Answered {
+    let member = Member::named(&mut asked.words)?;
+    let script = read_script(asked.input)?;
+    match begin(asked.alloc, member) {
+        Ok(node) => take_calls(asked.alloc, member, node, script, answer),
         Err(unanswered) => Err(unanswered),
     }
 }
 
-fn take_calls(mut asked: Asked<'_>, calls: &str, answer: &mut Vec<u8>) -> Result<(), Unanswered> {
-    let taken = asked.take_calls(calls, answer);
-    drop(asked);
+fn take_calls(
+    alloc: Global,
+    member: Member,
+    node: Node<MemoryTape>,
+    script: Script<'_>,
+    answer: &mut Answer,
+) -> Answered {
+    let mut session = Session {
+        alloc,
+        maps: script.maps,
+        member,
+        node,
+    };
+    let taken = session.take_calls(script.calls, answer);
+    drop(session);
     taken
 }
 
-impl Asked<'_> {
-    fn take_calls(&mut self, calls: &str, answer: &mut Vec<u8>) -> Result<(), Unanswered> {
+impl Session<'_> {
+    fn take_calls(&mut self, calls: &str, answer: &mut Answer) -> Answered {
         for call in calls.lines() {
             self.take(&mut Words::new(call), answer)?;
         }
         Ok(())
     }
 
-    fn take(&mut self, call: &mut Words<'_>, answer: &mut Vec<u8>) -> Result<(), Unanswered> {
+    fn take(&mut self, call: &mut Words<'_>, answer: &mut Answer) -> Answered {
         match call.word() {
             "propose" => self.propose(call, answer),
             "retry" => self.step(Input::Retry, answer),
             "catchup" => self.step(Input::CatchUp, answer),
-            "deliver" => self.deliver(call, answer),
+            "deliver" => self.deliver(*call, answer),
             "fill" => self.fill(call, answer),
             asked => self.take_tape(asked, call, answer),
         }
     }
 
     /// The calls that put another node in the place of this one.
-    fn take_tape(
-        &mut self,
-        asked: &str,
-        words: &mut Words<'_>,
-        answer: &mut Vec<u8>,
-    ) -> Result<(), Unanswered> {
+    fn take_tape(&mut self, asked: &str, call: &mut Words<'_>, answer: &mut Answer) -> Answered {
         match asked {
-            "open" => self.open(words, answer),
+            "open" => self.open(call, answer),
             "restart" => self.restart(answer),
-            "crash" => self.crash(words.count()?, answer),
+            "crash" => self.crash(call, answer),
             "length" => self.length(answer),
             "close" => self.close(answer),
-            "cuts" => self.cuts(words, answer),
-            asked => self.look(asked, words, answer),
+            "cuts" => self.cuts(call, answer),
+            asked => self.look(asked, call, answer),
         }
     }
 
     /// The calls that change nothing.
-    fn look(
-        &self,
-        asked: &str,
-        words: &mut Words<'_>,
-        answer: &mut Vec<u8>,
-    ) -> Result<(), Unanswered> {
+    fn look(&self, asked: &str, call: &mut Words<'_>, answer: &mut Answer) -> Answered {
         match asked {
-            "published" => tell_number(u64::from(self.node.published().number()), answer),
-            "definition" => self.definition(words, answer),
+            "published" => tell_printed(self.node.published().number(), answer),
+            "definition" => return self.definition(call, answer),
             "proposal" => tell_standing(self.node.proposal(), answer),
-            _ => Err(Unanswered::UnknownQuestion),
+            _ => return Err(Unanswered::UnknownQuestion),
         }
+        Ok(())
     }
 
-    fn definition(&self, words: &mut Words<'_>, answer: &mut Vec<u8>) -> Result<(), Unanswered> {
-        let sequence = words.sequence()?;
+    fn definition(&self, call: &mut Words<'_>, answer: &mut Answer) -> Answered {
+        let sequence = words::sequence(call)?;
         let map = self.node.definition(sequence);
-        tell_map(self.alloc, sequence, map, self.maps, answer)
+        tell_map(self.alloc, sequence, map, self.maps, answer);
+        Ok(())
     }
 
-    fn propose(&mut self, words: &mut Words<'_>, answer: &mut Vec<u8>) -> Result<(), Unanswered> {
-        let own = self.maps.canon(self.alloc, words.word())?;
+    fn propose(&mut self, call: &mut Words<'_>, answer: &mut Answer) -> Answered {
+        let own = self.maps.canon(self.alloc, call.word())?;
         self.step(Input::Propose(own), answer)
     }
 
-    /// Takes a step, and tells what it sends or how it is refused.
-    pub(crate) fn step(&mut self, input: Input, answer: &mut Vec<u8>) -> Result<(), Unanswered> {
-        match self.node.step(self.alloc, input) {
-            Ok(messages) => {
-                let told = tell_sent(&messages, self.maps, answer);
-                drop(messages);
-                told
-            }
-            Err(fault) => tell_fault(fault, answer),
-        }
+    /// A message comes in.
+    pub(crate) fn deliver(&mut self, words: Words<'_>, answer: &mut Answer) -> Answered {
+        let spoken = Spoken {
+            alloc: self.alloc,
+            words,
+            definitions: Definitions::Named(self.maps),
+        };
+        let message = spoken.message()?;
+        self.step(Input::Deliver(message), answer)
     }
 
-    fn fill(&mut self, words: &mut Words<'_>, answer: &mut Vec<u8>) -> Result<(), Unanswered> {
-        let last = words.slot()?;
-        let canon = self.maps.canon(self.alloc, words.word())?;
+    /// Takes a step, and tells what it sends or how it is rejected.
+    fn step(&mut self, input: Input, answer: &mut Answer) -> Answered {
+        match self.node.step(self.alloc, input) {
+            Ok(messages) => {
+                tell_sent(&messages, self.maps, answer);
+                drop(messages);
+            }
+            Err(NodeFault::Memory) => return Err(Unanswered::Memory),
+            Err(fault) => tell_refused(fault, answer),
+        }
+        Ok(())
+    }
+
+    fn fill(&mut self, call: &mut Words<'_>, answer: &mut Answer) -> Answered {
+        let last = words::slot(call)?;
+        let canon = self.maps.canon(self.alloc, call.word())?;
         let filled = self.publish_up_to(last, &canon);
         drop(canon);
-        match filled {
-            Ok(()) => Ok(write_line("done", answer)?),
-            Err(unanswered) => Err(unanswered),
-        }
+        answer.line("done");
+        filled
     }
 
     /// The definition comes in as chosen, at each slot up to the last.
-    fn publish_up_to(&mut self, last: Slot, canon: &Canon) -> Result<(), Unanswered> {
+    fn publish_up_to(&mut self, last: Slot, canon: &Canon) -> Answered {
         for number in 1..last.number().saturating_add(1) {
             if let Some(slot) = Slot::new(number) {
                 self.publish(slot, canon)?;
@@ -172,9 +174,8 @@ impl Asked<'_> {
         Ok(())
     }
 
-    fn publish(&mut self, slot: Slot, canon: &Canon) -> Result<(), Unanswered> {
-        let copy = canon.copy()?;
-        let chosen = Message::Chosen(slot, copy);
+    fn publish(&mut self, slot: Slot, canon: &Canon) -> Answered {
+        let chosen = Message::Chosen(slot, canon.copy()?);
         match self.node.step(self.alloc, Input::Deliver(chosen)) {
             Ok(messages) => {
                 drop(messages);
@@ -184,12 +185,4 @@ impl Asked<'_> {
             Err(_) => Err(Unanswered::BadWords),
         }
     }
-}
-
-fn tell_fault(fault: NodeFault, answer: &mut Vec<u8>) -> Result<(), Unanswered> {
-    if let NodeFault::Memory = fault {
-        return Err(Unanswered::Memory);
-    }
-    write_text("refused: ", answer)?;
-    tell_printed(fault, answer)
 }

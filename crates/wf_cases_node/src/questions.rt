@@ -7,26 +7,17 @@
 //! ```
 //!
 //! `wf_calls` has what a script is, [`crate::node`] the calls.
-use crate::member::Member;
 use crate::{node, opening};
-use std::alloc::Global;
-use wf_table::{Questions, Unanswered};
+use wf_table::{Answer, Answered, Asked, Questions, Unanswered};
 
 /// What is asked of a node.
 pub(crate) struct OneNode;
 
 impl Questions for OneNode {
-    fn answer(
-        &self,
-        alloc: Global,
-        words: &str,
-        input: &[u8],
-        answer: &mut Vec<u8>,
-    ) -> Result<(), Unanswered> {
-        let (subject, asked) = words.split_once(' ').unwrap_or((words, ""));
-        match subject {
-            "node" => node::ask(alloc, Member::named(asked)?, input, answer),
-            "open" => opening::ask(alloc, Member::named(asked)?, input, answer),
+    fn answer(&self, mut asked: Asked<'_>, answer: &mut Answer) -> Answered {
+        match asked.words.word() {
+            "node" => node::ask(asked, answer),
+            "open" => opening::ask(asked, answer),
             _ => Err(Unanswered::UnknownQuestion),
         }
     }

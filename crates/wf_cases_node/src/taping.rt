@@ -1,133 +1,108 @@
 //! The tape of a node: what is on it, and the nodes that open on it again.
-use crate::node::Asked;
-use crate::opening::tell_refused;
+use crate::node::Session;
+use crate::opening::{begin, open, tell_refused};
 use std::mem::replace;
 use wf_calls::hexadecimal::push_hexadecimal;
-use wf_calls::telling::tell_bytes;
-use wf_calls::words::Words;
-use wf_calls::words_of_message::write_field;
-use wf_calls::words_of_tape::{bytes_on, tell_length};
+use wf_calls::telling::{tell_bytes, write_field};
+use wf_calls::words_of_tape::{bytes_on, tape_of, tell_length};
 use wf_node::Node;
-use wf_table::write::write_line;
-use wf_table::{Runs, Unanswered};
+use wf_table::{Answer, Answered, Runs, Unanswered, Words};
 use wf_tape::MemoryTape;
 
-impl Asked<'_> {
-    pub(crate) fn open(
-        &mut self,
-        words: &mut Words<'_>,
-        answer: &mut Vec<u8>,
-    ) -> Result<(), Unanswered> {
-        let bytes = self.bytes_of(words.rest())?;
-        self.open_on(MemoryTape::new(bytes), answer)
-    }
-
-    pub(crate) fn restart(&mut self, answer: &mut Vec<u8>) -> Result<(), Unanswered> {
-        match self.take_tape_out() {
-            Ok(tape) => self.open_on(tape, answer),
+impl Session<'_> {
+    pub(crate) fn open(&mut self, call: &mut Words<'_>, answer: &mut Answer) -> Answered {
+        let mut bytes = Answer::new(self.alloc);
+        let opened = match self.push_bytes(call.rest(), &mut bytes) {
+            Ok(()) => self.open_on_copy(&bytes, answer),
             Err(unanswered) => Err(unanswered),
-        }
+        };
+        drop(bytes);
+        opened
     }
 
-    pub(crate) fn crash(&mut self, keep: usize, answer: &mut Vec<u8>) -> Result<(), Unanswered> {
-        match self.take_tape_out() {
-            Ok(tape) => self.open_on(crashed(tape, keep), answer),
-            Err(unanswered) => Err(unanswered),
-        }
+    fn open_on_copy(&mut self, bytes: &Answer, answer: &mut Answer) -> Answered {
+        let tape = tape_of(self.alloc, bytes.written()?)?;
+        self.open_on(tape, answer);
+        Ok(())
     }
 
-    pub(crate) fn length(&mut self, answer: &mut Vec<u8>) -> Result<(), Unanswered> {
-        match self.take_tape_out() {
-            Ok(tape) => tell_length(bytes_on(tape), answer),
-            Err(unanswered) => Err(unanswered),
-        }
+    pub(crate) fn restart(&mut self, answer: &mut Answer) -> Answered {
+        let tape = self.take_tape_out()?;
+        self.open_on(tape, answer);
+        Ok(())
     }
 
-    pub(crate) fn close(&mut self, answer: &mut Vec<u8>) -> Result<(), Unanswered> {
-        match self.take_tape_out() {
-            Ok(tape) => tell_content(tape, answer),
-            Err(unanswered) => Err(unanswered),
-        }
+    pub(crate) fn crash(&mut self, call: &mut Words<'_>, answer: &mut Answer) -> Answered {
+        let keep = call.count()?;
+        let mut tape = self.take_tape_out()?;
+        tape.crash(keep);
+        self.open_on(tape, answer);
+        Ok(())
     }
 
-    pub(crate) fn cuts(
-        &mut self,
-        words: &mut Words<'_>,
-        answer: &mut Vec<u8>,
-    ) -> Result<(), Unanswered> {
-        let from = words.count()?;
-        match self.take_tape_out() {
-            Ok(tape) => self.cut_and_open(from, tape, *words, answer),
-            Err(unanswered) => Err(unanswered),
-        }
+    pub(crate) fn length(&mut self, answer: &mut Answer) -> Answered {
+        let tape = self.take_tape_out()?;
+        tell_length(bytes_on(tape), answer);
+        Ok(())
     }
 
-    /// The bytes that words stand for: bytes in hexadecimal, a map's text, and so on in turn.
-    fn bytes_of(&self, words: &str) -> Result<Vec<u8>, Unanswered> {
-        let mut bytes = Vec::new(self.alloc);
+    pub(crate) fn close(&mut self, answer: &mut Answer) -> Answered {
+        let tape = self.take_tape_out()?;
+        tell_bytes(tape.bytes(), answer);
+        drop(tape);
+        Ok(())
+    }
+
+    pub(crate) fn cuts(&mut self, call: &mut Words<'_>, answer: &mut Answer) -> Answered {
+        let from = call.count()?;
+        let tape = self.take_tape_out()?;
+        let told = self.tell_cuts(from, tape.bytes(), *call, answer);
+        self.open_on(tape, answer);
+        told
+    }
+
+    /// Appends the bytes that words stand for: bytes in hexadecimal, a map's text, and so on in turn.
+    fn push_bytes(&self, words: &str, bytes: &mut Answer) -> Answered {
         let mut is_map = false;
         for word in words.split(' ') {
             if is_map {
-                self.push_text(word, &mut bytes)?;
+                self.push_text(word, bytes)?;
             } else {
-                push_hexadecimal(word, &mut bytes)?;
+                push_hexadecimal(word, bytes)?;
             }
             is_map = !is_map;
         }
-        Ok(bytes)
+        Ok(())
     }
 
-    fn push_text(&self, name: &str, bytes: &mut Vec<u8>) -> Result<(), Unanswered> {
+    fn push_text(&self, name: &str, bytes: &mut Answer) -> Answered {
         match self.maps.text_of(name) {
-            Some(text) => Ok(bytes.extend_from_slice(text.as_bytes())?),
-            None => Err(Unanswered::BadWords),
+            Some(text) => bytes.text(text),
+            None => return Err(Unanswered::BadWords),
         }
+        Ok(())
     }
 
     /// The node's tape. A node on an empty tape takes its place.
     fn take_tape_out(&mut self) -> Result<MemoryTape, Unanswered> {
-        match self.member.begin(self.alloc) {
-            Ok(node) => {
-                let closed = replace(&mut self.node, node);
-                Ok(closed.close())
-            }
+        match begin(self.alloc, self.member) {
+            Ok(node) => Ok(replace(&mut self.node, node).close()),
             Err(unanswered) => Err(unanswered),
         }
     }
 
     /// A node that opens on the tape takes the place of the one that stood here.
-    fn open_on(&mut self, tape: MemoryTape, answer: &mut Vec<u8>) -> Result<(), Unanswered> {
-        match self.member.open(self.alloc, tape) {
+    fn open_on(&mut self, tape: MemoryTape, answer: &mut Answer) {
+        match open(self.alloc, self.member, tape) {
             Ok(node) => self.put(node, answer),
             Err((tape, fault)) => tell_refused(tape, fault, answer),
         }
     }
 
-    /// The node takes the place of the one that stood here.
-    fn stand_in(&mut self, node: Node<MemoryTape>) {
+    fn put(&mut self, node: Node<MemoryTape>, answer: &mut Answer) {
+        write_field("published ", node.published(), answer);
+        answer.line("");
         drop(replace(&mut self.node, node));
-    }
-
-    fn put(&mut self, node: Node<MemoryTape>, answer: &mut Vec<u8>) -> Result<(), Unanswered> {
-        self.stand_in(node);
-        write_field("published ", self.node.published(), answer)?;
-        Ok(write_line("", answer)?)
-    }
-
-    fn cut_and_open(
-        &mut self,
-        from: usize,
-        tape: MemoryTape,
-        call: Words<'_>,
-        answer: &mut Vec<u8>,
-    ) -> Result<(), Unanswered> {
-        match self.tell_cuts(from, tape.bytes(), call, answer) {
-            Ok(()) => self.open_on(tape, answer),
-            Err(unanswered) => {
-                drop(tape);
-                Err(unanswered)
-            }
-        }
     }
 
     /// Tells what each node answers that opens on the first bytes, of each length from the least on.
@@ -136,45 +111,45 @@ impl Asked<'_> {
         from: usize,
         bytes: &[u8],
         call: Words<'_>,
-        answer: &mut Vec<u8>,
-    ) -> Result<(), Unanswered> {
+        answer: &mut Answer,
+    ) -> Answered {
         let mut runs = Runs::new(self.alloc);
-        let mut said = Vec::new(self.alloc);
+        let taken = self.take_cuts(from, bytes, call, &mut runs, answer);
+        runs.write(answer);
+        drop(runs);
+        taken
+    }
+
+    fn take_cuts(
+        &mut self,
+        from: usize,
+        bytes: &[u8],
+        call: Words<'_>,
+        runs: &mut Runs,
+        answer: &mut Answer,
+    ) -> Answered {
         for length in from..bytes.len() + 1 {
-            said.clear();
-            self.answer_on(&bytes[..length], call, &mut said)?;
-            runs.take(&said, answer)?;
+            let mut said = Answer::new(self.alloc);
+            let answered = self.answer_on(&bytes[..length], call, &mut said);
+            runs.take(&said, answer);
+            drop(said);
+            answered?;
         }
-        Ok(runs.write(answer)?)
+        Ok(())
     }
 
     /// Tells what a node answers to the message that opens on a tape of these bytes.
-    fn answer_on(
-        &mut self,
-        bytes: &[u8],
-        mut call: Words<'_>,
-        answer: &mut Vec<u8>,
-    ) -> Result<(), Unanswered> {
-        let tape = MemoryTape::new(bytes.to_vec(self.alloc)?);
-        match self.member.open(self.alloc, tape) {
+    fn answer_on(&mut self, bytes: &[u8], call: Words<'_>, answer: &mut Answer) -> Answered {
+        let tape = tape_of(self.alloc, bytes)?;
+        match open(self.alloc, self.member, tape) {
             Ok(node) => {
-                self.stand_in(node);
-                self.deliver(&mut call, answer)
+                drop(replace(&mut self.node, node));
+                self.deliver(call, answer)
             }
-            Err((tape, fault)) => tell_refused(tape, fault, answer),
+            Err((tape, fault)) => {
+                tell_refused(tape, fault, answer);
+                Ok(())
+            }
         }
     }
-}
-
-/// What a crash leaves of the tape that keeps so many bytes that weren't synced.
-fn crashed(mut tape: MemoryTape, keep: usize) -> MemoryTape {
-    tape.crash(keep);
-    tape
-}
-
-/// Tells the bytes on the tape, and a line feed.
-fn tell_content(tape: MemoryTape, answer: &mut Vec<u8>) -> Result<(), Unanswered> {
-    let told = tell_bytes(tape.bytes(), answer);
-    drop(tape);
-    told
 }

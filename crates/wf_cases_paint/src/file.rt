@@ -1,22 +1,15 @@
 //! Pictures of a map's layers with their labels, as files.
 use crate::frame::read_map;
-use crate::request::{Request, are_below, places_of, split_request};
-use std::alloc::Global;
+use crate::request::{Request, are_below, places_of};
 use wf_def::map::MapDef;
-use wf_table::Unanswered;
+use wf_table::{Answer, Answered, Asked, Unanswered};
 
 /// Appends the file of the picture of `BOX, W by H, BACKGROUND[, LAYER ..]`.
-pub(crate) fn ask(
-    alloc: Global,
-    asked: &str,
-    mapfile: &[u8],
-    answer: &mut Vec<u8>,
-) -> Result<(), Unanswered> {
-    let (sides, size, background, layers) = split_request(asked)?;
-    let request = Request::read(sides, size, background)?;
-    match read_map(alloc, mapfile) {
+pub(crate) fn ask(mut asked: Asked<'_>, answer: &mut Answer) -> Answered {
+    let request = Request::read(&mut asked.words)?;
+    match read_map(asked) {
         Ok(map) => {
-            let told = tell_file(alloc, &map, layers, request, answer);
+            let told = tell_file(asked, &map, request, answer);
             drop(map);
             told
         }
@@ -24,17 +17,21 @@ pub(crate) fn ask(
     }
 }
 
-fn tell_file(
-    alloc: Global,
-    map: &MapDef,
-    layers: &str,
-    request: Request,
-    answer: &mut Vec<u8>,
-) -> Result<(), Unanswered> {
-    let layers = places_of(alloc, map, layers)?;
+fn tell_file(asked: Asked<'_>, map: &MapDef, request: Request, answer: &mut Answer) -> Answered {
+    let layers = places_of(asked, map)?;
     if !are_below(&layers, map.layer_count()) {
+        drop(layers);
         return Err(Unanswered::BadWords);
     }
-    let file = request.frame.file(alloc, map, &layers, request.background)?;
-    Ok(answer.extend_from_slice(&file)?)
+    match request
+        .frame
+        .file(asked.alloc, map, layers, request.background)
+    {
+        Ok(file) => {
+            answer.bytes(&file);
+            drop(file);
+            Ok(())
+        }
+        Err(unanswered) => Err(unanswered),
+    }
 }

@@ -13,7 +13,9 @@ use wf_mapfile::fault::MapFault;
 use wf_mapfile::read;
 use wf_paint::view::View;
 use wf_picture::picture::draw;
-use wf_table::Unanswered;
+use wf_picture::request::PictureRequest;
+use wf_picture::size::Size;
+use wf_table::{Asked, Unanswered, Words};
 
 /// A box and a size in pixels.
 #[derive(Clone, Copy)]
@@ -24,13 +26,16 @@ pub(crate) struct Frame {
 }
 
 impl Frame {
-    /// The frame of a box and of a size, `W by H`.
-    pub fn read(sides: &str, size: &str) -> Result<Frame, Unanswered> {
-        let (width, height) = size.split_once(" by ").ok_or(Unanswered::BadWords)?;
+    /// The frame of the parts `BOX, W by H`.
+    pub fn read(words: &mut Words<'_>) -> Result<Frame, Unanswered> {
+        let bbox = read_box(Words::new(words.part()))?;
+        let mut size = Words::new(words.part());
+        let width = size.number()?;
+        let height = read_other_side(&mut size)?;
         Ok(Frame {
-            bbox: read_box(sides)?,
-            width: read_pixels(width)?,
-            height: read_pixels(height)?,
+            bbox,
+            width,
+            height,
         })
     }
 
@@ -55,10 +60,10 @@ impl Frame {
         self,
         alloc: Global,
         map: &MapDef,
-        layers: &[usize],
+        layers: Vec<usize>,
         background: Color,
     ) -> Result<Vec<u8>, Unanswered>
-        requires { All (λ i. i < length map.now.layers) layers.now }
+        requires { All (λ i. i < length map.now.layers) layers.items }
     {
         let Frame {
             bbox,
@@ -68,58 +73,57 @@ impl Frame {
         let (left, right) = (bbox.minx(), bbox.maxx());
         let (low, high) = (bbox.miny(), bbox.maxy());
         if is_side(width) && is_side(height) && is_wide(left, right) && is_wide(low, high) {
-            Ok(draw(alloc, map, layers, &bbox, width, height, background)?)
+            let size = Size { width, height };
+            let request = PictureRequest::new(layers, bbox, size, background);
+            let file = draw(alloc, map, &request);
+            drop(request);
+            Ok(file?)
         } else {
+            drop(layers);
             Err(Unanswered::BadWords)
         }
     }
 }
 
-/// The parts of `BOX, W by H, WORDS`.
-pub(crate) fn split_frame(asked: &str) -> Result<(&str, &str, &str), Unanswered> {
-    let (sides, rest) = asked.split_once(", ").ok_or(Unanswered::BadWords)?;
-    let (size, words) = rest.split_once(", ").ok_or(Unanswered::BadWords)?;
-    Ok((sides, size, words))
+/// The number of pixels behind the word `by`.
+pub(crate) fn read_other_side(words: &mut Words<'_>) -> Result<u32, Unanswered> {
+    match words.word() {
+        "by" => words.number(),
+        _ => Err(Unanswered::BadWords),
+    }
 }
 
 /// The box of four sides: least x, least y, most x and most y.
-pub(crate) fn read_box(words: &str) -> Result<Extent, Unanswered> {
-    let mut sides = words.split(' ');
-    let minx = read_number(sides.next())?;
-    let miny = read_number(sides.next())?;
-    let maxx = read_number(sides.next())?;
-    let maxy = read_number(sides.next())?;
-    Extent::new(minx, miny, maxx, maxy).ok_or(Unanswered::BadWords)
+pub(crate) fn read_box(mut words: Words<'_>) -> Result<Extent, Unanswered> {
+    let minx = read_number(&mut words)?;
+    let miny = read_number(&mut words)?;
+    let maxx = read_number(&mut words)?;
+    let maxy = read_number(&mut words)?;
+    match Extent::new(minx, miny, maxx, maxy) {
+        Some(extent) => Ok(extent),
+        None => Err(Unanswered::BadWords),
+    }
 }
 
 /// The point of two coordinates.
-pub(crate) fn read_point(words: &str) -> Result<Point, Unanswered> {
-    let mut coordinates = words.split(' ');
-    let x = read_number(coordinates.next())?;
-    let y = read_number(coordinates.next())?;
+pub(crate) fn read_point(mut words: Words<'_>) -> Result<Point, Unanswered> {
+    let x = read_number(&mut words)?;
+    let y = read_number(&mut words)?;
     Ok(Point { x, y })
 }
 
-/// The map of a mapfile.
-pub(crate) fn read_map(alloc: Global, mapfile: &[u8]) -> Result<MapDef, Unanswered> {
-    match read(alloc, mapfile) {
+/// The map of the mapfile that is the input.
+pub(crate) fn read_map(asked: Asked<'_>) -> Result<MapDef, Unanswered> {
+    match read(asked.alloc, asked.input) {
         Ok(map) => Ok(map),
         Err(MapFault::Memory) => Err(Unanswered::Memory),
         Err(_) => Err(Unanswered::BadWords),
     }
 }
 
-fn read_number(word: Option<&str>) -> Result<Micro, Unanswered> {
-    match Micro::read(word.unwrap_or("").as_bytes()) {
+fn read_number(words: &mut Words<'_>) -> Result<Micro, Unanswered> {
+    match Micro::read(words.word().as_bytes()) {
         Ok(number) => Ok(number),
-        Err(_) => Err(Unanswered::BadWords),
-    }
-}
-
-/// A number of pixels.
-pub(crate) fn read_pixels(word: &str) -> Result<u32, Unanswered> {
-    match word.parse::<u32>() {
-        Ok(pixels) => Ok(pixels),
         Err(_) => Err(Unanswered::BadWords),
     }
 }

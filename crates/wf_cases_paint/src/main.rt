@@ -16,25 +16,12 @@ mod picture;
 mod place;
 mod questions;
 mod request;
+mod window;
 
 use questions::Painter;
-use std::io;
 use std::process::ExitCode;
-use wf_table::run_table;
-
-/// Puts the cases of the table, and writes the report.
-fn run(rt: &HostRuntime) -> Result<bool, io::Error> {
-    let table = io::read_to_string(rt.alloc(), rt.reader())?;
-    let mut report = Vec::new(rt.alloc());
-    let counts = run_table(rt.alloc(), &Painter, table.as_str(), &mut report)?;
-    let mut writer = io::writer(rt);
-    io::Write::write_all(&mut writer, &report)?;
-    Ok(counts.differing == 0 && counts.faults == 0)
-}
+use wf_table::run_program;
 
 fn main(rt: HostRuntime) -> ExitCode {
-    match run(&rt) {
-        Ok(true) => ExitCode::SUCCESS,
-        _ => ExitCode::FAILURE,
-    }
+    run_program(&rt, &Painter)
 }

@@ -1,45 +1,43 @@
 //! Where a view shows a point.
-use crate::frame::{Frame, read_map, read_point, split_frame};
-use std::alloc::Global;
+use crate::frame::{Frame, read_map, read_point};
 use wf_paint::corner::Corner;
 use wf_paint::place::Place;
-use wf_table::Unanswered;
-use wf_table::write::{write_line, write_signed, write_text, write_whole};
+use wf_paint::view::View;
+use wf_table::{Answer, Answered, Asked, Unanswered};
 
 /// Appends where the view of `BOX, W by H, X Y` shows the point; for a tile also where it is cut out.
-pub(crate) fn ask(
-    alloc: Global,
-    asked: &str,
-    mapfile: &[u8],
-    answer: &mut Vec<u8>,
-) -> Result<(), Unanswered> {
-    let (sides, size, point) = split_frame(asked)?;
-    let frame = Frame::read(sides, size)?;
-    let point = read_point(point)?;
-    match read_map(alloc, mapfile) {
+pub(crate) fn ask(mut asked: Asked<'_>, answer: &mut Answer) -> Answered {
+    let frame = Frame::read(&mut asked.words)?;
+    let point = read_point(asked.words)?;
+    let view = view_of(asked, frame)?;
+    write_place(view.place(&point), answer);
+    if let Some(corner) = view.corner() {
+        write_corner(corner, answer);
+    }
+    answer.line("");
+    Ok(())
+}
+
+fn view_of(asked: Asked<'_>, frame: Frame) -> Result<View, Unanswered> {
+    match read_map(asked) {
         Ok(map) => {
-            let viewed = frame.view(&map);
+            let view = frame.view(&map);
             drop(map);
-            let view = viewed?;
-            write_place(view.place(&point), answer)?;
-            write_corner(view.corner(), answer)
+            view
         }
         Err(unanswered) => Err(unanswered),
     }
 }
 
-fn write_place(place: Place, answer: &mut Vec<u8>) -> Result<(), Unanswered> {
-    write_signed(place.x(), answer)?;
-    write_text(" ", answer)?;
-    Ok(write_signed(place.y(), answer)?)
+fn write_place(place: Place, answer: &mut Answer) {
+    answer.value(place.x());
+    answer.text(" ");
+    answer.value(place.y());
 }
 
-fn write_corner(corner: Option<Corner>, answer: &mut Vec<u8>) -> Result<(), Unanswered> {
-    if let Some(Corner { column, row }) = corner {
-        write_text(", cut at ", answer)?;
-        write_whole(u64::from(column), answer)?;
-        write_text(" ", answer)?;
-        write_whole(u64::from(row), answer)?;
-    }
-    Ok(write_line("", answer)?)
+fn write_corner(corner: Corner, answer: &mut Answer) {
+    answer.text(", cut at ");
+    answer.value(corner.column);
+    answer.text(" ");
+    answer.value(corner.row);
 }

@@ -14,27 +14,19 @@
 //!
 //! [`crate::letter`] has the letters.
 use crate::{cell, file, picture, place};
-use std::alloc::Global;
-use wf_table::{Questions, Unanswered};
+use wf_table::{Answer, Answered, Asked, Questions, Unanswered};
 
 /// What is asked of the painter.
 pub(crate) struct Painter;
 
 impl Questions for Painter {
-    fn answer(
-        &self,
-        alloc: Global,
-        words: &str,
-        input: &[u8],
-        answer: &mut Vec<u8>,
-    ) -> Result<(), Unanswered> {
-        let (subject, asked) = words.split_once(' ').unwrap_or((words, ""));
-        match subject {
-            "picture" => picture::ask(alloc, asked, input, answer),
-            "part" => picture::ask_part(alloc, asked, input, answer),
-            "file" => file::ask(alloc, asked, input, answer),
-            "place" => place::ask(alloc, asked, input, answer),
-            "cell" => cell::ask(asked, input, answer),
+    fn answer(&self, mut asked: Asked<'_>, answer: &mut Answer) -> Answered {
+        match asked.words.word() {
+            "picture" => picture::ask(asked, answer),
+            "part" => picture::ask_part(asked, answer),
+            "file" => file::ask(asked, answer),
+            "place" => place::ask(asked, answer),
+            "cell" => cell::ask(asked, answer),
             _ => Err(Unanswered::UnknownQuestion),
         }
     }

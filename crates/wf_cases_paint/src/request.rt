@@ -1,12 +1,11 @@
 //! Which part of a map is asked for over which colour, and which of its layers.
 ghost use Rattle.std.specs.Prelude.{◌<◌, ◌↔◌, IsTrue, All};
 
-use crate::frame::{Frame, split_frame};
+use crate::frame::Frame;
 use crate::letter::color_of;
-use std::alloc::Global;
 use wf_def::color::Color;
 use wf_def::map::MapDef;
-use wf_table::Unanswered;
+use wf_table::{Asked, Unanswered, Words};
 
 /// A frame and the colour of the background.
 #[derive(Clone, Copy)]
@@ -16,36 +15,36 @@ pub(crate) struct Request {
 }
 
 impl Request {
-    /// The request of a box, of a size, `W by H`, and of a colour's letter.
-    pub fn read(sides: &str, size: &str, background: &str) -> Result<Self, Unanswered> {
-        Ok(Request {
-            frame: Frame::read(sides, size)?,
-            background: color_of(background)?,
-        })
+    /// The request of the parts `BOX, W by H, BACKGROUND`.
+    pub fn read(words: &mut Words<'_>) -> Result<Self, Unanswered> {
+        let frame = Frame::read(words)?;
+        let background = color_of(words.part())?;
+        Ok(Request { frame, background })
     }
 }
 
-/// The parts of `BOX, W by H, BACKGROUND[, LAYER ..]`.
-pub(crate) fn split_request(asked: &str) -> Result<(&str, &str, &str, &str), Unanswered> {
-    let (sides, size, rest) = split_frame(asked)?;
-    let (background, layers) = rest.split_once(", ").unwrap_or((rest, ""));
-    Ok((sides, size, background, layers))
+/// The places of the layers of these names.
+pub(crate) fn places_of(asked: Asked<'_>, map: &MapDef) -> Result<Vec<usize>, Unanswered> {
+    let mut places = Vec::new(asked.alloc);
+    match push_places(map, asked.words, &mut places) {
+        Ok(()) => Ok(places),
+        Err(unanswered) => {
+            drop(places);
+            Err(unanswered)
+        }
+    }
 }
 
-/// The places of the layers of these names.
-pub(crate) fn places_of(
-    alloc: Global,
-    map: &MapDef,
-    names: &str,
-) -> Result<Vec<usize>, Unanswered> {
-    let mut places = Vec::new(alloc);
-    for name in names.split_whitespace() {
-        let place = place_of(map, name).ok_or(Unanswered::BadWords)?;
+fn push_places(map: &MapDef, words: Words<'_>, places: &mut Vec<usize>) -> Result<(), Unanswered> {
+    for name in words.rest().split_whitespace() {
+        let Some(place) = place_of(map, name) else {
+            return Err(Unanswered::BadWords);
+        };
         if places.push(place).is_err() {
             return Err(Unanswered::Memory);
         }
     }
-    Ok(places)
+    Ok(())
 }
 
 /// The place of the layer of a name.

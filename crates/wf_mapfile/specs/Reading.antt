@@ -8,7 +8,7 @@ abbrev pub is_memory : MapFault → Bool
 is_memory faults.Memory = true
 is_memory _ = false
 
--- the bytes were refused because they are no UTF-8
+-- the bytes were rejected because they are no UTF-8
 abbrev pub IsNotUtf8 : {X : Type 0} → Result X MapFault → Type 0
 IsNotUtf8 (Err (faults.NotUtf8 place)) = ⊤
 IsNotUtf8 _ = ⊥

@@ -1,11 +1,12 @@
 //! Blocks: keywords, each with what it asks for, up to END.
-ghost use Rattle.std.specs.Prelude.{◌≡◌, false, is_some, length, true, MatchResult, OnOk};
+ghost use Rattle.std.specs.Prelude.{◌≡◌, length, OnOk, Some};
 ghost use Rattle.wf_mapfile.specs.Reading.{Gives};
 ghost use Rattle.wf_mapfile.specs.Steps.{fill};
 
 use crate::fault::MapFault;
 use crate::keyword::is_end;
 use crate::parser::Parser;
+use std::mem::replace;
 use wf_token::token::Token;
 
 /// A block while it is read: what its keywords said so far, within what they may say.
@@ -56,12 +57,28 @@ pub fn fill_block<S: Slots>(parser: &mut Parser<'_>, slots: &mut S) -> Result<()
     Err(parser.missing_end())
 }
 
-/// Refuses a keyword that was said already.
-pub fn vacant<T>(slot: &Option<T>, place: usize) -> Result<(), MapFault>
-    ensures { MatchResult result (λ _. is_some slot.now ≡ false) (λ _. is_some slot.now ≡ true) }
+/// Keeps what a keyword said.
+pub fn keep<T: Drop>(slot: &mut Option<T>, said: T)
+    ensures { slot.new ≡ Some said }
 {
-    match slot {
-        None => Ok(()),
-        Some(_) => Err(MapFault::Repeated(place)),
-    }
+    drop(replace(slot, Some(said)));
 }
+
+/// Reads what a keyword asks for that comes at most once, and keeps it in its slot, or what is made of it. A macro, since two exits
+/// by `?` are six calls to prove wherever they stand.
+macro_rules! once {
+    ($slot:expr, $place:expr, $read:expr) => {
+        once!($slot, $place, $read, said => said)
+    };
+    ($slot:expr, $place:expr, $read:expr, $said:pat => $kept:expr) => {
+        if $slot.is_some() {
+            return Err(MapFault::Repeated($place));
+        }
+        match $read {
+            Ok($said) => $crate::block::keep(&mut $slot, $kept),
+            Err(fault) => return Err(fault),
+        }
+    };
+}
+
+pub(crate) use once;

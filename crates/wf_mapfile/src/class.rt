@@ -4,7 +4,7 @@ ghost use Rattle.wf_mapfile.specs.Class.{begins_pattern, class, class_of, class_
 ghost use Rattle.wf_mapfile.specs.Reading.{Gives, is_memory};
 ghost use Rattle.wf_def.specs.Limit.{most_styles};
 
-use crate::block::{Slots, fill_block, vacant};
+use crate::block::{Slots, fill_block, once};
 use crate::fault::MapFault;
 use crate::keyword::is_name;
 use crate::map::text_or_empty;
@@ -52,14 +52,11 @@ impl ClassOnce {
         let word = keyword.text;
         let place = keyword.place;
         if is_name(word, "NAME") {
-            vacant(&self.name, place)?;
-            self.name = Some(parser.text()?);
+            once!(self.name, place, parser.text());
         } else if is_name(word, "EXPRESSION") {
-            vacant(&self.expression, place)?;
-            self.expression = Some(parser.expression()?);
+            once!(self.expression, place, parser.expression());
         } else if is_name(word, "LABEL") {
-            vacant(&self.label, place)?;
-            self.label = Some(parser.label()?);
+            once!(self.label, place, parser.label());
         } else {
             return Err(MapFault::UnexpectedWord(place));
         }
@@ -67,7 +64,7 @@ impl ClassOnce {
     }
 }
 
-/// Refuses another style where there is no room for it.
+/// Rejects another style where there is no room for it.
 fn room(styles: &Styles) -> Result<(), MapFault>
     ensures { MatchResult result (λ _. nat_lt (length styles.now) most_styles ≡ true) (λ e. (nat_lt (length styles.now) most_styles ≡ false) × (is_memory e ≡ false)) }
 {

@@ -1,47 +1,90 @@
 //! Why bytes are no mapfile.
 use std::alloc::{AllocError, AllocFailed};
-use thiserror::Error;
+use std::error::Error;
+use std::fmt;
 
 /// The first fault of a mapfile, from the left. A place counts bytes from the front of the file, from 0.
-#[derive(Clone, Copy, Debug, PartialEq, Eq, Error)]
+#[derive(Clone, Copy, PartialEq, Eq)]
 pub enum MapFault {
     /// Memory ran out; the bytes may be a mapfile.
-    #[error("M1")]
     Memory,
     /// The file is longer than a mapfile may be.
-    #[error("M2")]
     TooLong,
     /// The file isn't UTF-8: the first byte of the ill-formed sequence.
-    #[error("M3 at {0}")]
     NotUtf8(usize),
     /// A quote or a comment that stays open (its first byte), or a byte that no token may hold.
-    #[error("M4 at {0}")]
     BadToken(usize),
     /// Not the keyword, block, choice or kind of argument that is wanted.
-    #[error("M5 at {0}")]
     UnexpectedWord(usize),
     /// The file ends inside MAP: its length.
-    #[error("M6 at {0}")]
     MissingEnd(usize),
     /// A number or a colour of a wrong form.
-    #[error("M7 at {0}")]
     BadNumber(usize),
     /// A value outside its range: its token, or the keyword EXTENT of an empty extent.
-    #[error("M8 at {0}")]
     OutOfRange(usize),
     /// A keyword that must come, or MAP itself, is missing.
-    #[error("M9")]
     Missing,
     /// A keyword or a metadata key that comes a second time.
-    #[error("M10 at {0}")]
     Repeated(usize),
     /// More of something than a map may have.
-    #[error("M11")]
     TooMany,
     /// A token after MAP's END.
-    #[error("M12 at {0}")]
     Trailing(usize),
 }
+
+impl MapFault {
+    /// The number that names the fault.
+    fn code(self) -> &'static str {
+        match self {
+            MapFault::Memory => "M1",
+            MapFault::TooLong => "M2",
+            MapFault::NotUtf8(_) => "M3",
+            MapFault::BadToken(_) => "M4",
+            MapFault::UnexpectedWord(_) => "M5",
+            MapFault::MissingEnd(_) => "M6",
+            MapFault::BadNumber(_) => "M7",
+            MapFault::OutOfRange(_) => "M8",
+            MapFault::Missing => "M9",
+            MapFault::Repeated(_) => "M10",
+            MapFault::TooMany => "M11",
+            MapFault::Trailing(_) => "M12",
+        }
+    }
+
+    /// Where the fault is, if it is at one place.
+    fn place(self) -> Option<usize> {
+        match self {
+            MapFault::NotUtf8(place)
+            | MapFault::BadToken(place)
+            | MapFault::UnexpectedWord(place)
+            | MapFault::MissingEnd(place)
+            | MapFault::BadNumber(place)
+            | MapFault::OutOfRange(place)
+            | MapFault::Repeated(place)
+            | MapFault::Trailing(place) => Some(place),
+            MapFault::Memory | MapFault::TooLong | MapFault::Missing | MapFault::TooMany => None,
+        }
+    }
+}
+
+// By hand: derived, each case prints its text by calls of its own.
+impl fmt::Display for MapFault {
+    fn fmt<W: fmt::Write>(&self, f: &mut fmt::Formatter<W>) -> fmt::Result {
+        f.write_str(self.code())?;
+        match self.place() {
+            Some(place) => write!(f, " at {place}"),
+            None => Ok(()),
+        }
+    }
+}
+
+impl fmt::Debug for MapFault {
+    fn fmt<W: fmt::Write>(&self, f: &mut fmt::Formatter<W>) -> fmt::Result {
+        fmt::Display::fmt(self, f)
+    }
+}
+
+impl Error for MapFault {}
 
 impl From<AllocError> for MapFault {
     ghost use Rattle.std.specs.Prelude.{◌≡◌};

@@ -4,7 +4,7 @@ ghost use Rattle.wf_def.specs.Limits.{points_of_feature};
 ghost use Rattle.wf_mapfile.specs.Feature.{feature, feature_of, feature_once, no_feature, point, points};
 ghost use Rattle.wf_mapfile.specs.Reading.{Gives};
 
-use crate::block::{Slots, fill_block, vacant};
+use crate::block::{Slots, fill_block, once};
 use crate::fault::MapFault;
 use crate::keyword::is_name;
 use crate::map::text_or_empty;
@@ -65,11 +65,9 @@ impl FeatureOnce {
         let word = keyword.text;
         let place = keyword.place;
         if is_name(word, "ITEMS") {
-            vacant(&self.items, place)?;
-            self.items = Some(parser.text()?);
+            once!(self.items, place, parser.text());
         } else if is_name(word, "TEXT") {
-            vacant(&self.text, place)?;
-            self.text = Some(parser.text()?);
+            once!(self.text, place, parser.text());
         } else {
             return Err(MapFault::UnexpectedWord(place));
         }

@@ -3,7 +3,7 @@ ghost use Rattle.std.specs.Prelude.{◌≡◌, None};
 ghost use Rattle.wf_mapfile.specs.Label.{label, label_kind, label_of, label_position, label_size, truth};
 ghost use Rattle.wf_mapfile.specs.Reading.{Gives};
 
-use crate::block::{Slots, fill_block, vacant};
+use crate::block::{Slots, fill_block, once};
 use crate::default::or_least;
 use crate::fault::MapFault;
 use crate::keyword::is_name;
@@ -37,26 +37,19 @@ impl Slots for LabelSlots {
         let word = keyword.text;
         let place = keyword.place;
         if is_name(word, "COLOR") {
-            vacant(&self.color, place)?;
-            self.color = Some(parser.color()?);
+            once!(self.color, place, parser.color());
         } else if is_name(word, "SIZE") {
-            vacant(&self.size, place)?;
-            self.size = Some(parser.label_size()?);
+            once!(self.size, place, parser.label_size());
         } else if is_name(word, "POSITION") {
-            vacant(&self.position, place)?;
-            self.position = Some(parser.label_position()?);
+            once!(self.position, place, parser.label_position());
         } else if is_name(word, "PRIORITY") {
-            vacant(&self.priority, place)?;
-            self.priority = Some(parser.whole::<1, MOST_PRIORITY>()?);
+            once!(self.priority, place, parser.whole::<1, MOST_PRIORITY>());
         } else if is_name(word, "FORCE") {
-            vacant(&self.force, place)?;
-            self.force = Some(parser.truth()?);
+            once!(self.force, place, parser.truth());
         } else if is_name(word, "BUFFER") {
-            vacant(&self.buffer, place)?;
-            self.buffer = Some(parser.whole::<0, MOST_BUFFER>()?);
+            once!(self.buffer, place, parser.whole::<0, MOST_BUFFER>());
         } else if is_name(word, "TYPE") {
-            vacant(&self.kind, place)?;
-            self.kind = Some(parser.label_kind()?);
+            once!(self.kind, place, parser.label_kind());
         } else {
             return Err(MapFault::UnexpectedWord(place));
         }

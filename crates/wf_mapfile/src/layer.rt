@@ -1,13 +1,14 @@
 //! LAYER: features of one kind, with what they are drawn by.
-ghost use Rattle.std.specs.Prelude.{◌≡◌, ◌≤◌, IfOk, IfSome, MatchOption, MatchResult, OnOk, codes, drop, take, true, false, length, nat_lt, sum_by, unwrap_or};
+ghost use Rattle.std.specs.Prelude.{◌≡◌, ◌≤◌, [], None, Some, IfOk, IfSome, MatchOption, MatchResult, OnOk, codes, drop, is_some, take, true, false, length, nat_lt, sum_by, unwrap_or};
 ghost use Rattle.std.specs.Str.{str_eq_ignore_ascii_case};
+ghost use Rattle.wf_def.specs.Layer as def;
 ghost use Rattle.wf_def.specs.Limits.{has_layer, points_of_feature};
 ghost use Rattle.wf_mapfile.specs.Layer.{features_left, layer, layer_dropped, layer_kind, layer_name, layer_of, layer_once, new_name, no_layer, points_left, processing};
 ghost use Rattle.wf_mapfile.specs.Reading.{Gives, is_memory};
 ghost use Rattle.wf_mapfile.specs.Web.{no_metadata};
 ghost use Rattle.wf_def.specs.Limit.{most_classes};
 
-use crate::block::{Slots, fill_block, vacant};
+use crate::block::{Slots, fill_block, once};
 use crate::fault::MapFault;
 use crate::keyword::is_name;
 use crate::layers::{LayerName, LayerRead, Layers};
@@ -68,7 +69,7 @@ impl Slots for LayerReading<'_> {
     }
 }
 
-/// Refuses another feature where there are as many as may come.
+/// Rejects another feature where there are as many as may come.
 fn feature_room(features: &Features, most: usize) -> Result<(), MapFault>
     ensures { MatchResult result (λ _. nat_lt (length features.now) most ≡ true) (λ e. (nat_lt (length features.now) most ≡ false) × (is_memory e ≡ false)) }
 {
@@ -78,7 +79,7 @@ fn feature_room(features: &Features, most: usize) -> Result<(), MapFault>
     Ok(())
 }
 
-/// Refuses another class where there is no room for it.
+/// Rejects another class where there is no room for it.
 fn class_room(classes: &Classes) -> Result<(), MapFault>
     ensures { MatchResult result (λ _. nat_lt (length classes.now) most_classes ≡ true) (λ e. (nat_lt (length classes.now) most_classes ≡ false) × (is_memory e ≡ false)) }
 {
@@ -104,23 +105,17 @@ impl LayerOnce {
         let word = keyword.text;
         let place = keyword.place;
         if is_name(word, "NAME") {
-            vacant(&self.name, place)?;
-            self.name = Some(parser.new_name(others)?);
+            once!(self.name, place, parser.new_name(others));
         } else if is_name(word, "TYPE") {
-            vacant(&self.kind, place)?;
-            self.kind = Some(parser.layer_kind()?);
+            once!(self.kind, place, parser.layer_kind());
         } else if is_name(word, "CLASSITEM") {
-            vacant(&self.class_item, place)?;
-            self.class_item = Some(parser.text()?);
+            once!(self.class_item, place, parser.text());
         } else if is_name(word, "LABELITEM") {
-            vacant(&self.label_item, place)?;
-            self.label_item = Some(parser.text()?);
+            once!(self.label_item, place, parser.text());
         } else if is_name(word, "PROCESSING") {
-            vacant(&self.items, place)?;
-            self.items = Some(parser.attribute_names()?);
+            once!(self.items, place, parser.attribute_names());
         } else if is_name(word, "METADATA") {
-            vacant(&self.metadata, place)?;
-            self.metadata = Some(parser.metadata()?);
+            once!(self.metadata, place, parser.metadata());
         } else {
             self.dropped.take(keyword, parser)?;
         }
@@ -137,17 +132,11 @@ impl LayerDropped {
         let word = keyword.text;
         let place = keyword.place;
         if is_name(word, "STATUS") {
-            vacant(&self.status, place)?;
-            let _ = parser.text()?;
-            self.status = Some(());
+            once!(self.status, place, parser.text_there(), _ => ());
         } else if is_name(word, "UNITS") {
-            vacant(&self.units, place)?;
-            let _ = parser.text()?;
-            self.units = Some(());
+            once!(self.units, place, parser.text_there(), _ => ());
         } else if is_name(word, "TEMPLATE") {
-            vacant(&self.template, place)?;
-            let _ = parser.text()?;
-            self.template = Some(());
+            once!(self.template, place, parser.text_there(), _ => ());
         } else {
             return Err(MapFault::UnexpectedWord(place));
         }
@@ -171,11 +160,42 @@ impl LayerSlots {
     fn filled(self, alloc: Global) -> Result<(LayerName, Layer), MapFault>
         ensures { Gives (λ l. l) result (layer_of self) }
     {
+        if self.single.name.is_none() {
+            drop(self);
+            return Err(MapFault::Missing);
+        }
+        if self.single.kind.is_none() {
+            drop(self);
+            return Err(MapFault::Missing);
+        }
         let LayerSlots {
             classes,
             features,
             single,
         } = self;
+        match single.filled(alloc) {
+            Ok(head) => head.with(classes, features),
+            Err(_) => {
+                drop(classes);
+                drop(features);
+                Err(MapFault::Memory)
+            }
+        }
+    }
+}
+
+impl LayerOnce {
+    /// What it says in the end, with defaults for what wasn't said.
+    fn filled(self, alloc: Global) -> Result<LayerHead, AllocError>
+        requires name { is_some self.name ≡ true }
+        requires kind { is_some self.kind ≡ true }
+        ensures name { IfOk result (λ head. self.name ≡ Some head.name) }
+        ensures kind { IfOk result (λ head. self.kind ≡ Some head.kind) }
+        ensures title { IfOk result (λ head. head.title ≡ unwrap_or (unwrap_or self.metadata no_metadata).title head.name) }
+        ensures class_item { IfOk result (λ head. head.class_item ≡ unwrap_or self.class_item []) }
+        ensures label_item { IfOk result (λ head. head.label_item ≡ unwrap_or self.label_item []) }
+        ensures items { IfOk result (λ head. head.items ≡ unwrap_or self.items []) }
+    {
         let LayerOnce {
             name,
             kind,
@@ -184,18 +204,135 @@ impl LayerSlots {
             items,
             metadata,
             dropped: _,
-        } = single;
-        let name = name.ok_or(MapFault::Missing)?;
-        let kind = kind.ok_or(MapFault::Missing)?;
-        let title = title_or(metadata, name.text())?;
-        let class_item = text_or_empty(alloc, class_item)?;
-        let label_item = text_or_empty(alloc, label_item)?;
-        let items = text_or_empty(alloc, items)?;
-        let layer = Layer::new(
+        } = self;
+        let name = name.unwrap();
+        let kind = kind.unwrap();
+        let texts = match texts_or_empty(alloc, class_item, label_item, items) {
+            Ok(texts) => texts,
+            Err(error) => {
+                drop(name);
+                drop(metadata);
+                return Err(error);
+            }
+        };
+        match title_or(metadata, name.text()) {
+            Ok(title) => {
+                let (class_item, label_item, items) = texts;
+                Ok(LayerHead {
+                    name,
+                    kind,
+                    title,
+                    class_item,
+                    label_item,
+                    items,
+                })
+            }
+            Err(error) => {
+                drop(name);
+                drop(texts);
+                Err(error)
+            }
+        }
+    }
+}
+
+/// Three texts, each empty where it wasn't said.
+fn texts_or_empty(
+    alloc: Global,
+    first: Option<Text>,
+    second: Option<Text>,
+    third: Option<Text>,
+) -> Result<(Text, Text, Text), AllocError>
+    ensures { IfOk result (λ texts. texts ≡ (unwrap_or first [], unwrap_or second [], unwrap_or third [])) }
+{
+    let first = match text_or_empty(alloc, first) {
+        Ok(first) => first,
+        Err(error) => {
+            drop(second);
+            drop(third);
+            return Err(error);
+        }
+    };
+    let second = match text_or_empty(alloc, second) {
+        Ok(second) => second,
+        Err(error) => {
+            drop(first);
+            drop(third);
+            return Err(error);
+        }
+    };
+    match text_or_empty(alloc, third) {
+        Ok(third) => Ok((first, second, third)),
+        Err(error) => {
+            drop(first);
+            drop(second);
+            Err(error)
+        }
+    }
+}
+
+/// What a layer is beside its classes and features.
+struct LayerHead {
+    name: LayerName,
+    kind: LayerKind,
+    title: Text,
+    class_item: Text,
+    label_item: Text,
+    items: Text,
+}
+
+impl LayerHead {
+    /// The layer of these classes and features, with its name.
+    fn with(self, classes: Classes, features: Features) -> Result<(LayerName, Layer), MapFault>
+        ensures { MatchResult result (λ l. (def.layer_of self.kind self.title self.class_item self.label_item self.items classes features ≡ Some l.1) × (l.0 ≡ self.name)) (λ _. def.layer_of self.kind self.title self.class_item self.label_item self.items classes features ≡ None) }
+    {
+        let LayerHead {
+            name,
+            kind,
+            title,
+            class_item,
+            label_item,
+            items,
+        } = self;
+        match Layer::new(
             kind, title, class_item, label_item, items, classes, features,
-        )
-        .ok_or(MapFault::Missing)?;
-        Ok((name, layer))
+        ) {
+            Some(layer) => Ok((name, layer)),
+            None => {
+                drop(name);
+                Err(MapFault::Missing)
+            }
+        }
+    }
+}
+
+impl LayerReading<'_> {
+    /// The layer that was read, with its name and how many points it has.
+    #[tactic(auto, using(crate::proofs::Counted::layer_counted))]
+    fn filled(self, alloc: Global) -> Result<LayerRead, MapFault>
+        requires name { IfSome self.slots.single.name (λ name. has_layer self.others.now name ≡ false) }
+        requires features { length self.slots.features ≤ features_left self.others.now }
+        requires counted { self.points ≡ sum_by points_of_feature self.slots.features }
+        requires points { self.points ≤ points_left self.others.now }
+        ensures read { Gives (λ l. (l.name, l.layer)) result (layer_of self.entry.slots) }
+        ensures new { IfOk result (λ l. has_layer self.entry.others.now l.name ≡ false) }
+        ensures features { IfOk result (λ l. length l.layer.features ≤ features_left self.entry.others.now) }
+        ensures counted { IfOk result (λ l. l.points ≡ sum_by points_of_feature l.layer.features) }
+        ensures points { IfOk result (λ l. l.points ≤ points_left self.entry.others.now) }
+    {
+        let LayerReading {
+            slots,
+            others: _,
+            points,
+        } = self;
+        match slots.filled(alloc) {
+            Ok((name, layer)) => Ok(LayerRead {
+                name,
+                layer,
+                points,
+            }),
+            Err(fault) => Err(fault),
+        }
     }
 }
 
@@ -220,7 +357,7 @@ fn title_or(metadata: Option<Metadata>, name: &Text) -> Result<Text, AllocError>
 impl Parser<'_> {
     /// Reads a layer up to its END (MapServer mapfile reference, LAYER), which stands behind others: its name is none of theirs,
     /// and it has no more features and points than the map may still have.
-    #[tactic(auto, unfolding(crate::specs::Layer::layer), using(crate::proofs::Counted::layer_counted))]
+    #[tactic(auto, unfolding(crate::specs::Layer::layer))]
     pub fn layer(&mut self, others: &Layers) -> Result<LayerRead, MapFault>
         ensures read { Gives (λ l. ((l.name, l.layer), self.new)) result (layer others.now self.old) }
         ensures new { IfOk result (λ l. has_layer others.now l.name ≡ false) }
@@ -233,18 +370,13 @@ impl Parser<'_> {
             others,
             points: 0,
         };
-        fill_block(self, &mut reading)?;
-        let LayerReading {
-            slots,
-            others: _,
-            points,
-        } = reading;
-        let (name, layer) = slots.filled(self.alloc())?;
-        Ok(LayerRead {
-            name,
-            layer,
-            points,
-        })
+        match fill_block(self, &mut reading) {
+            Ok(()) => reading.filled(self.alloc()),
+            Err(fault) => {
+                drop(reading);
+                Err(fault)
+            }
+        }
     }
 
     /// Reads a name that none of the other layers has.
@@ -289,7 +421,7 @@ impl Parser<'_> {
         ensures { Gives (λ t. (t, self.new)) result (processing self.old) }
     {
         let place = self.place();
-        let text = self.text()?;
+        let text = self.text_there()?;
         match names_of(text.as_bytes()) {
             Some(names) => self.text_at(names, place),
             None => Err(MapFault::UnexpectedWord(place)),

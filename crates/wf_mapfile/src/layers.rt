@@ -12,7 +12,7 @@ use wf_def::limits::{MOST_FEATURES, MOST_LAYERS, MOST_POINTS};
 use wf_def::map::MapDef;
 use wf_def::text::Text;
 
-/// The test by which a layer's name is refused finds exactly the texts that may be one. A law about the definitions: the call does
+/// The test by which a layer's name is rejected finds exactly the texts that may be one. A law about the definitions: the call does
 /// nothing.
 pub fn layer_names_are_tested()
     ensures { LayerNamesAreTested }
@@ -147,7 +147,7 @@ impl Layers {
         false
     }
 
-    /// Puts a layer behind the others, where it may stand there. After want of memory they are as they were.
+    /// Puts a layer behind the others, where it may stand there. After allocation failure they are as they were.
     #[tactic(auto, unfolding(crate::specs::Layer::features_left, crate::specs::Layer::points_left))]
     pub fn push(&mut self, read: LayerRead) -> Result<(), AllocError>
         requires room { length self.old < most_layers }

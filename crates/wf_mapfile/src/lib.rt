@@ -4,7 +4,7 @@
 //! that it means: `meaning` of the bytes, by a grammar over tokens that has no comments, letter case, order of keywords or dropped
 //! words on the side of the definition.
 //!
-//! It promises, of [`read`], that what is read is what the bytes mean, and that a fault other than want of memory comes only
+//! It promises, of [`read`], that what is read is what the bytes mean, and that a fault other than allocation failure comes only
 //! where they mean no map. Each byte is looked at a bounded number of times. Which fault is answered, and its place, is tested and
 //! not proved. It says nothing of files or of how a definition is written (wf_canon).
 //!

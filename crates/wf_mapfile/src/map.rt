@@ -6,7 +6,7 @@ ghost use Rattle.wf_mapfile.specs.Reading.{Gives, is_memory};
 ghost use Rattle.wf_mapfile.specs.Web.{no_metadata};
 ghost use Rattle.wf_def.specs.Limit.{most_layers};
 
-use crate::block::{Slots, fill_block, vacant};
+use crate::block::{Slots, fill_block, once};
 use crate::choice::choose;
 use crate::fault::MapFault;
 use crate::keyword::is_name;
@@ -63,17 +63,13 @@ impl MapOnce {
         let word = keyword.text;
         let place = keyword.place;
         if is_name(word, "NAME") {
-            vacant(&self.name, place)?;
-            self.name = Some(parser.text()?);
+            once!(self.name, place, parser.text());
         } else if is_name(word, "EXTENT") {
-            vacant(&self.extent, place)?;
-            self.extent = Some(parser.extent(place)?);
+            once!(self.extent, place, parser.extent(place));
         } else if is_name(word, "PROJECTION") {
-            vacant(&self.projection, place)?;
-            self.projection = Some(parser.projection()?);
+            once!(self.projection, place, parser.projection());
         } else if is_name(word, "WEB") {
-            vacant(&self.web, place)?;
-            self.web = Some(parser.web()?);
+            once!(self.web, place, parser.web());
         } else {
             self.dropped.take(keyword, parser)?;
         }
@@ -90,29 +86,17 @@ impl MapDropped {
         let word = keyword.text;
         let place = keyword.place;
         if is_name(word, "SIZE") {
-            vacant(&self.size, place)?;
-            parser.two_numbers()?;
-            self.size = Some(());
+            once!(self.size, place, parser.two_numbers());
         } else if is_name(word, "IMAGECOLOR") {
-            vacant(&self.image_color, place)?;
-            let _ = parser.color()?;
-            self.image_color = Some(());
+            once!(self.image_color, place, parser.color(), _ => ());
         } else if is_name(word, "UNITS") {
-            vacant(&self.units, place)?;
-            let _ = parser.text()?;
-            self.units = Some(());
+            once!(self.units, place, parser.text_there(), _ => ());
         } else if is_name(word, "STATUS") {
-            vacant(&self.status, place)?;
-            let _ = parser.text()?;
-            self.status = Some(());
+            once!(self.status, place, parser.text_there(), _ => ());
         } else if is_name(word, "IMAGETYPE") {
-            vacant(&self.image_type, place)?;
-            let _ = parser.text()?;
-            self.image_type = Some(());
+            once!(self.image_type, place, parser.text_there(), _ => ());
         } else if is_name(word, "SHAPEPATH") {
-            vacant(&self.shape_path, place)?;
-            let _ = parser.text()?;
-            self.shape_path = Some(());
+            once!(self.shape_path, place, parser.text_there(), _ => ());
         } else {
             return Err(MapFault::UnexpectedWord(place));
         }
@@ -120,7 +104,7 @@ impl MapDropped {
     }
 }
 
-/// Refuses another layer where there is no room for it.
+/// Rejects another layer where there is no room for it.
 fn layer_room(layers: &Layers) -> Result<(), MapFault>
     ensures { MatchResult result (λ _. nat_lt (length layers.now) most_layers ≡ true) (λ e. (nat_lt (length layers.now) most_layers ≡ false) × (is_memory e ≡ false)) }
 {
@@ -145,22 +129,42 @@ impl MapSlots {
     fn filled(self, alloc: Global) -> Result<MapDef, MapFault>
         ensures { Gives (λ d. d) result (map_of self) }
     {
+        let Some(extent) = self.single.extent else {
+            drop(self);
+            return Err(MapFault::Missing);
+        };
+        let Some(projection) = self.single.projection else {
+            drop(self);
+            return Err(MapFault::Missing);
+        };
         let MapSlots { layers, single } = self;
         let MapOnce {
             name,
-            extent,
-            projection,
+            extent: _,
+            projection: _,
             web,
             dropped: _,
         } = single;
-        let extent = extent.ok_or(MapFault::Missing)?;
-        let projection = projection.ok_or(MapFault::Missing)?;
-        let name = text_or(alloc, name, DEFAULT_NAME)?;
+        let name = match text_or(alloc, name, DEFAULT_NAME) {
+            Ok(name) => name,
+            Err(_) => {
+                drop(layers);
+                drop(web);
+                return Err(MapFault::Memory);
+            }
+        };
         let Service {
             title,
             abstract_text,
             address,
-        } = Service::new(alloc, &name, web)?;
+        } = match Service::new(alloc, &name, web) {
+            Ok(service) => service,
+            Err(_) => {
+                drop(layers);
+                drop(name);
+                return Err(MapFault::Memory);
+            }
+        };
         let map = MapDef::new(
             alloc,
             name,
@@ -170,7 +174,10 @@ impl MapSlots {
             extent,
             projection,
         );
-        Ok(layers.into_map(map)?)
+        match layers.into_map(map) {
+            Ok(map) => Ok(map),
+            Err(_) => Err(MapFault::Memory),
+        }
     }
 }
 
@@ -266,7 +273,7 @@ impl Parser<'_> {
         ensures { Gives (λ p. (p, self.new)) result (projection self.old) }
     {
         let place = self.place();
-        let text = self.text()?;
+        let text = self.text_there()?;
         let projection = projection_named(text.as_bytes()).ok_or(MapFault::UnexpectedWord(place))?;
         self.end()?;
         Ok(projection)

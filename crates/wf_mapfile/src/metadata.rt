@@ -1,11 +1,12 @@
 //! METADATA: pairs of texts.
-ghost use Rattle.std.specs.Prelude.{◌≡◌, None, string_bytes};
+ghost use Rattle.std.specs.Prelude.{◌≡◌, None, length, string_bytes};
 ghost use Rattle.std.specs.HashSet.{contains_text};
 ghost use Rattle.wf_mapfile.specs.Metadata.{metadata};
 ghost use Rattle.wf_mapfile.specs.Reading.{Gives};
-ghost use Rattle.wf_mapfile.specs.Pairs.{keep, new_pair};
+ghost use Rattle.wf_mapfile.specs.Pairs.{collect, keep, new_pair};
 ghost use Rattle.wf_mapfile.specs.Web.{no_metadata};
 
+use crate::block::keep;
 use crate::fault::MapFault;
 use crate::parser::Parser;
 use crate::slots::Metadata;
@@ -30,11 +31,13 @@ impl Metadata {
         ensures { self.new ≡ keep self.old key.now value }
     {
         if key == "wms_title" {
-            self.title = Some(value);
+            keep(&mut self.title, value);
         } else if key == "wms_abstract" {
-            self.abstract_text = Some(value);
+            keep(&mut self.abstract_text, value);
         } else if key == "wms_onlineresource" {
-            self.address = Some(value);
+            keep(&mut self.address, value);
+        } else {
+            drop(value);
         }
     }
 }
@@ -42,18 +45,33 @@ impl Metadata {
 impl Parser<'_> {
     /// Reads pairs of texts up to END (MapServer mapfile reference, METADATA). Keys are read without regard to ASCII letter case,
     /// and no key may come a second time, whether it is kept or not.
-    #[tactic(auto, using(crate::proofs::Pairs::metadata_read, crate::proofs::Pairs::collect_step, crate::proofs::Pairs::collect_past))]
+    #[tactic(auto, using(crate::proofs::Pairs::metadata_read))]
     pub fn metadata(&mut self) -> Result<Metadata, MapFault>
         ensures { Gives (λ m. (m, self.new)) result (metadata self.old) }
     {
         let mut keys = HashSet::new(self.alloc());
         let mut kept = Metadata::new();
+        let read = self.pairs(&mut keys, &mut kept);
+        drop(keys);
+        match read {
+            Ok(()) => Ok(kept),
+            Err(fault) => {
+                drop(kept);
+                Err(fault)
+            }
+        }
+    }
+
+    /// Reads pairs up to END, each with a key that is none of those before it, and keeps their values.
+    #[tactic(auto, using(crate::proofs::Pairs::collect_step, crate::proofs::Pairs::collect_past))]
+    fn pairs(&mut self, keys: &mut HashSet<String>, kept: &mut Metadata) -> Result<(), MapFault>
+        ensures { Gives (λ _. (kept.new, self.new)) result (collect (λ key. contains_text keys.old key) kept.old (length self.old) self.old) }
+    {
         for _ in 0..self.len() {
             if self.is_at_end() {
-                self.end()?;
-                return Ok(kept);
+                return self.end();
             }
-            let (key, value) = self.new_pair(&keys)?;
+            let (key, value) = self.new_pair(keys)?;
             kept.keep(key.as_str(), value);
             keys.insert(key)?;
         }
@@ -66,12 +84,18 @@ impl Parser<'_> {
         ensures { Gives (λ pair. ((string_bytes pair.0, pair.1), self.new)) result (new_pair (λ key. contains_text keys.now key) self.old) }
     {
         let place = self.place();
-        let key = self.text()?;
-        let key = key.as_str().to_ascii_lowercase(self.alloc())?;
+        let text = self.text_there()?;
+        let key = text.to_ascii_lowercase(self.alloc())?;
         if keys.contains(key.as_str()) {
+            drop(key);
             return Err(MapFault::Repeated(place));
         }
-        let value = self.text()?;
-        Ok((key, value))
+        match self.text() {
+            Ok(value) => Ok((key, value)),
+            Err(fault) => {
+                drop(key);
+                Err(fault)
+            }
+        }
     }
 }

@@ -1,6 +1,6 @@
 //! The parser: readers of the tokens that are left.
-ghost use Rattle.std.specs.Prelude.{◌≡◌, ◌∷◌, [], drop, false, is_some, length, MatchOption, MatchResult, Some, None, if◌then◌else◌};
-ghost use Rattle.wf_def.specs.Text.{is_text};
+ghost use Rattle.std.specs.Prelude.{◌≡◌, ◌∷◌, [], drop, false, is_some, length, IfOk, MatchOption, MatchResult, Some, None, if◌then◌else◌};
+ghost use Rattle.wf_def.specs.Text.{IsText, is_text};
 ghost use Rattle.wf_token.specs.Token.{token_value, token_values};
 ghost use Rattle.wf_mapfile.specs.Reading.{Gives, is_memory};
 ghost use Rattle.wf_mapfile.specs.Grammar.{argument, end, number, text, whole, word};
@@ -11,7 +11,7 @@ use std::alloc::Global;
 use std::marker::Model;
 use wf_def::fault::{NumberFault, TextFault};
 use wf_def::micro::Micro;
-use wf_def::text::Text;
+use wf_def::text::{Text, checked};
 use wf_def::whole::Whole;
 use wf_token::token::{Token, TokenKind};
 
@@ -163,16 +163,22 @@ impl<'a> Parser<'a> {
         self.text_at(token.text, token.place)
     }
 
+    /// Reads a text where it stands in the file, without a copy.
+    #[tactic(auto, unfolding(crate::specs::Grammar::text))]
+    pub fn text_there(&mut self) -> Result<&'a str, MapFault>
+        ensures read { Gives (λ t. (t.now, self.new)) result (text self.old) }
+        ensures within { IfOk result (λ t. IsText t.now) }
+    {
+        let token = self.argument()?;
+        text_of(token.text, token.place)
+    }
+
     /// What a token says, as a text.
     pub fn text_at(&self, bytes: &[u8], place: usize) -> Result<Text, MapFault>
         ensures { Gives (λ t. t) result (if is_text bytes.now then Some bytes.now else None) }
     {
-        match Text::new(self.alloc, bytes) {
-            Ok(text) => Ok(text),
-            Err(TextFault::OutOfMemory) => Err(MapFault::Memory),
-            Err(TextFault::TooLong) => Err(MapFault::OutOfRange(place)),
-            Err(_) => Err(MapFault::BadToken(place)),
-        }
+        let text = text_of(bytes, place)?;
+        Ok(Text::from_str(self.alloc, text)?)
     }
 
     /// Reads a number.
@@ -196,5 +202,17 @@ impl<'a> Parser<'a> {
         let place = self.place();
         let number = self.number()?;
         Whole::from_micro(number).ok_or(MapFault::OutOfRange(place))
+    }
+}
+
+/// The bytes of a token as a text.
+fn text_of(bytes: &[u8], place: usize) -> Result<&str, MapFault>
+    ensures read { Gives (λ t. t.now) result (if is_text bytes.now then Some bytes.now else None) }
+    ensures within { IfOk result (λ t. IsText t.now) }
+{
+    match checked(bytes) {
+        Ok(text) => Ok(text),
+        Err(TextFault::TooLong) => Err(MapFault::OutOfRange(place)),
+        Err(_) => Err(MapFault::BadToken(place)),
     }
 }

@@ -27,11 +27,11 @@ pub fn limit_of_mapfiles()
 pub fn read(alloc: Global, bytes: &[u8]) -> Result<MapDef, MapFault>
     // Over 65,536 bytes nothing else is looked at.
     ensures too_long { longest_mapfile < length bytes.now → result ≡ Err MapFault.TooLong }
-    // Within them, bytes that are no UTF-8 are refused for that, before anything is read.
+    // Within them, bytes that are no UTF-8 are rejected for that, before anything is read.
     ensures not_utf8 { length bytes.now ≤ longest_mapfile → is_utf8 bytes.now ≡ false → IsNotUtf8 result }
     // What is read is what the bytes mean.
     ensures meant { IfOk result (λ map. Means bytes.now map) }
-    // A fault other than want of memory comes only where the bytes mean no map.
+    // A fault other than allocation failure comes only where the bytes mean no map.
     ensures refused { IfErr result (λ fault. is_memory fault ≡ false → MeansNothing bytes.now) }
 {
     read_meaning(alloc, bytes)
@@ -57,7 +57,7 @@ fn read_meaning(alloc: Global, bytes: &[u8]) -> Result<MapDef, MapFault>
     }
 }
 
-/// Refuses what isn't UTF-8.
+/// Rejects what isn't UTF-8.
 fn check_utf8(bytes: &[u8]) -> Result<(), MapFault>
     ensures ok { OnOk result (is_utf8 bytes.now ≡ true) }
     ensures err { OnErr result ((is_utf8 bytes.now ≡ false) × IsNotUtf8 result) }
@@ -68,7 +68,7 @@ fn check_utf8(bytes: &[u8]) -> Result<(), MapFault>
     }
 }
 
-/// The first fault of a file whose tokens end at a fault: the parser's, unless the parser came to that place. Want of memory is
+/// The first fault of a file whose tokens end at a fault: the parser's, unless the parser came to that place. Allocation failure is
 /// answered only where the parser wanted it.
 fn first_fault(parsed: Result<MapDef, MapFault>, no_tokens: bool, lexed: LexFault) -> MapFault
     ensures { is_memory result ≡ true → parsed ≡ Err result }

@@ -3,7 +3,7 @@ ghost use Rattle.std.specs.Prelude.{◌≡◌};
 ghost use Rattle.wf_mapfile.specs.Reading.{Gives};
 ghost use Rattle.wf_mapfile.specs.Style.{style, style_of};
 
-use crate::block::{Slots, fill_block, vacant};
+use crate::block::{Slots, fill_block, once};
 use crate::default::or_least;
 use crate::fault::MapFault;
 use crate::keyword::is_name;
@@ -32,17 +32,13 @@ impl Slots for StyleSlots {
         let word = keyword.text;
         let place = keyword.place;
         if is_name(word, "COLOR") {
-            vacant(&self.color, place)?;
-            self.color = Some(parser.color()?);
+            once!(self.color, place, parser.color());
         } else if is_name(word, "OUTLINECOLOR") {
-            vacant(&self.outline_color, place)?;
-            self.outline_color = Some(parser.color()?);
+            once!(self.outline_color, place, parser.color());
         } else if is_name(word, "WIDTH") {
-            vacant(&self.width, place)?;
-            self.width = Some(parser.whole::<1, MOST_WIDTH>()?);
+            once!(self.width, place, parser.whole::<1, MOST_WIDTH>());
         } else if is_name(word, "SIZE") {
-            vacant(&self.size, place)?;
-            self.size = Some(parser.whole::<1, MOST_SIZE>()?);
+            once!(self.size, place, parser.whole::<1, MOST_SIZE>());
         } else {
             return Err(MapFault::UnexpectedWord(place));
         }

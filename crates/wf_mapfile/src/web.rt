@@ -3,7 +3,7 @@ ghost use Rattle.std.specs.Prelude.{◌≡◌, Some, None, is_some, false, Match
 ghost use Rattle.wf_mapfile.specs.Reading.{Gives, is_memory};
 ghost use Rattle.wf_mapfile.specs.Web.{no_metadata, web};
 
-use crate::block::{Slots, fill_block, vacant};
+use crate::block::{Slots, fill_block, once};
 use crate::fault::MapFault;
 use crate::keyword::is_name;
 use crate::parser::Parser;
@@ -29,16 +29,11 @@ impl Slots for WebSlots {
         let word = keyword.text;
         let place = keyword.place;
         if is_name(word, "METADATA") {
-            vacant(&self.metadata, place)?;
-            self.metadata = Some(parser.metadata()?);
+            once!(self.metadata, place, parser.metadata());
         } else if is_name(word, "IMAGEPATH") {
-            vacant(&self.image_path, place)?;
-            let _ = parser.text()?;
-            self.image_path = Some(());
+            once!(self.image_path, place, parser.text_there(), _ => ());
         } else if is_name(word, "IMAGEURL") {
-            vacant(&self.image_url, place)?;
-            let _ = parser.text()?;
-            self.image_url = Some(());
+            once!(self.image_url, place, parser.text_there(), _ => ());
         } else {
             return Err(MapFault::UnexpectedWord(place));
         }

@@ -1,9 +1,8 @@
 //! Bytes as a table spells them: `\n`, `\r`, `\t`, `\\`, `\s` for a space, `\xHH` for any byte; everything else is itself.
 ghost use Rattle.std.specs.Prelude.{◌<◌, IfSome};
 
-use crate::fault::Fault;
-use crate::write::write_text;
-use std::alloc::AllocError;
+use crate::answer::Answer;
+use crate::questions::Unanswered;
 
 // Where the reader of a spelled text stands.
 #[derive(Clone, Copy)]
@@ -27,12 +26,12 @@ pub fn digit(byte: u8) -> Option<u8>
 }
 
 // Takes a byte that no backslash stands before.
-fn take_plain(byte: u8, out: &mut Vec<u8>) -> Result<Place, Fault> {
+fn take_plain(byte: u8, out: &mut Answer) -> Place {
     if byte == b'\\' {
-        return Ok(Place::BehindBackslash);
+        return Place::BehindBackslash;
     }
-    out.extend_from_slice(&[byte])?;
-    Ok(Place::Outside)
+    out.bytes(&[byte]);
+    Place::Outside
 }
 
 // The byte that a letter behind a backslash stands for.
@@ -47,74 +46,77 @@ fn letter(byte: u8) -> Option<u8> {
     }
 }
 
-fn take_letter(byte: u8, out: &mut Vec<u8>) -> Result<Place, Fault> {
+fn take_letter(byte: u8, out: &mut Answer) -> Result<Place, Unanswered> {
     if byte == b'x' {
         return Ok(Place::BehindX);
     }
-    let meant = letter(byte).ok_or(Fault::BadEscape)?;
-    out.extend_from_slice(&[meant])?;
+    match letter(byte) {
+        Some(meant) => out.bytes(&[meant]),
+        None => return Err(Unanswered::BadWords),
+    }
     Ok(Place::Outside)
 }
 
-fn take_first_digit(byte: u8) -> Result<Place, Fault> {
+fn take_first_digit(byte: u8) -> Result<Place, Unanswered> {
     match digit(byte) {
         Some(high) => Ok(Place::BehindDigit(high * 16)),
-        None => Err(Fault::BadEscape),
+        None => Err(Unanswered::BadWords),
     }
 }
 
-fn take_second_digit(high: u8, byte: u8, out: &mut Vec<u8>) -> Result<Place, Fault> {
-    let low = digit(byte).ok_or(Fault::BadEscape)?;
-    out.extend_from_slice(&[high | low])?;
+fn take_second_digit(high: u8, byte: u8, out: &mut Answer) -> Result<Place, Unanswered> {
+    match digit(byte) {
+        Some(low) => out.bytes(&[high | low]),
+        None => return Err(Unanswered::BadWords),
+    }
     Ok(Place::Outside)
 }
 
-fn take(place: Place, byte: u8, out: &mut Vec<u8>) -> Result<Place, Fault> {
+fn take(place: Place, byte: u8, out: &mut Answer) -> Result<Place, Unanswered> {
     match place {
-        Place::Outside => take_plain(byte, out),
+        Place::Outside => Ok(take_plain(byte, out)),
         Place::BehindBackslash => take_letter(byte, out),
         Place::BehindX => take_first_digit(byte),
         Place::BehindDigit(high) => take_second_digit(high, byte, out),
     }
 }
 
-/// Appends the bytes that a text spells. At a fault a part is appended.
-pub fn unescape(text: &str, out: &mut Vec<u8>) -> Result<(), Fault> {
+/// Appends the bytes that a text spells. Where a backslash begins no escape, it is rejected with a part appended.
+pub fn unescape(text: &str, out: &mut Answer) -> Result<(), Unanswered> {
     let mut place = Place::Outside;
     for byte in text.as_bytes() {
         place = take(place, *byte, out)?;
     }
     match place {
         Place::Outside => Ok(()),
-        _ => Err(Fault::BadEscape),
+        _ => Err(Unanswered::BadWords),
     }
 }
 
-fn write_hexadecimal(byte: u8, out: &mut Vec<u8>) -> Result<(), AllocError> {
+fn write_hexadecimal(byte: u8, out: &mut Answer) {
     let digits = b"0123456789ABCDEF";
-    out.extend_from_slice(&[
+    out.bytes(&[
         b'\\',
         b'x',
         digits[(byte / 16) as usize],
         digits[(byte % 16) as usize],
-    ])
+    ]);
 }
 
-fn write_escaped_byte(byte: u8, out: &mut Vec<u8>) -> Result<(), AllocError> {
+fn write_escaped_byte(byte: u8, out: &mut Answer) {
     match byte {
-        b'\n' => write_text("\\n", out),
-        b'\r' => write_text("\\r", out),
-        b'\t' => write_text("\\t", out),
-        b'\\' => write_text("\\\\", out),
-        b' '..=b'~' => out.extend_from_slice(&[byte]),
+        b'\n' => out.text("\\n"),
+        b'\r' => out.text("\\r"),
+        b'\t' => out.text("\\t"),
+        b'\\' => out.text("\\\\"),
+        b' '..=b'~' => out.bytes(&[byte]),
         _ => write_hexadecimal(byte, out),
     }
 }
 
 /// Appends bytes as a table spells them, on one line.
-pub fn escape(bytes: &[u8], out: &mut Vec<u8>) -> Result<(), AllocError> {
+pub fn escape(bytes: &[u8], out: &mut Answer) {
     for byte in bytes {
-        write_escaped_byte(*byte, out)?;
+        write_escaped_byte(*byte, out);
     }
-    Ok(())
 }

@@ -16,6 +16,7 @@
 //! White space beside a row's INPUT and ANSWER doesn't belong to them.
 
 use crate::fault::Fault;
+use crate::words::Words;
 
 /// What a line of content adds.
 #[derive(Clone, Copy)]
@@ -48,8 +49,10 @@ fn behind<'a>(line: &'a str, word: &str) -> Option<&'a str> {
 }
 
 fn read_times(rest: &str) -> Result<Content<'_>, Fault> {
-    let (count, text) = rest.split_once(' ').ok_or(Fault::BadCount)?;
-    match count.parse::<u32>() {
+    let Some((count, text)) = rest.split_once(' ') else {
+        return Err(Fault::BadCount);
+    };
+    match Words::new(count).number() {
         Ok(count) => Ok(Content::Times(count, text)),
         Err(_) => Err(Fault::BadCount),
     }

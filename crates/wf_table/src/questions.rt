@@ -1,5 +1,7 @@
 //! What a program of cases can be asked.
-use std::alloc::{AllocError, Global};
+use crate::answer::Answer;
+use crate::asked::Asked;
+use std::alloc::AllocError;
 
 /// Why there is no answer.
 #[derive(Clone, Copy)]
@@ -12,6 +14,9 @@ pub enum Unanswered {
     BadWords,
 }
 
+/// What a question's function returns, beside what it appends.
+pub type Answered = Result<(), Unanswered>;
+
 impl From<AllocError> for Unanswered {
     fn from(_error: AllocError) -> Unanswered {
         Unanswered::Memory
@@ -20,12 +25,6 @@ impl From<AllocError> for Unanswered {
 
 /// The questions of a program of cases.
 pub trait Questions {
-    /// Appends the answer, in whole lines, to what `answer` holds. `words` is what stands behind `ask`, escapes and all.
-    fn answer(
-        &self,
-        alloc: Global,
-        words: &str,
-        input: &[u8],
-        answer: &mut Vec<u8>,
-    ) -> Result<(), Unanswered>;
+    /// Appends the answer, in whole lines, to what `answer` holds.
+    fn answer(&self, asked: Asked<'_>, answer: &mut Answer) -> Answered;
 }

@@ -1,19 +1,21 @@
 //! The runner: line by line through a table.
 ghost use Rattle.std.specs.Prelude.{◌≡◌, ◌≤◌};
 
+use crate::answer::Answer;
+use crate::asked::Asked;
 use crate::counts::Counts;
 use crate::escape::{escape, unescape};
 use crate::fault::Fault;
 use crate::line::{Content, Line, read_line};
 use crate::questions::Questions;
-use crate::write::{write_line, write_text, write_whole};
+use crate::words::Words;
 use std::alloc::{AllocError, Global};
 use std::mem;
 
 #[derive(Drop)]
 struct NamedText<'a> {
     name: &'a str,
-    body: Vec<u8>,
+    body: Answer,
 }
 
 // What the lines of content belong to, with the number and the name of the line that began it.
@@ -32,22 +34,36 @@ struct Runner<'a> {
     texts: Vec<NamedText<'a>>,
     block: Block<'a>,
     question: Option<&'a str>,
-    input: Vec<u8>,
-    expected: Vec<u8>,
+    input: Answer,
+    expected: Answer,
     counts: Counts,
 }
 
-fn write_times(count: u32, text: &str, out: &mut Vec<u8>) -> Result<(), Fault> {
-    let mut piece = Vec::new(*out.allocator());
-    unescape(text, &mut piece)?;
-    for _ in 0..count {
-        out.extend_from_slice(&piece)?;
+fn write_spelled(text: &str, out: &mut Answer) -> Result<(), Fault> {
+    match unescape(text, out) {
+        Ok(()) => Ok(()),
+        Err(_) => Err(Fault::BadEscape),
     }
-    Ok(())
+}
+
+fn write_pieces(count: u32, piece: &Answer, out: &mut Answer) {
+    for _ in 0..count {
+        out.append(piece);
+    }
+}
+
+fn write_times(alloc: Global, count: u32, text: &str, out: &mut Answer) -> Result<(), Fault> {
+    let mut piece = Answer::new(alloc);
+    let spelled = write_spelled(text, &mut piece);
+    if spelled.is_ok() {
+        write_pieces(count, &piece, out);
+    }
+    drop(piece);
+    spelled
 }
 
 // The text of a name.
-fn find_text<'t>(texts: &'t [NamedText<'_>], name: &str) -> Option<&'t [u8]> {
+fn find_text<'t>(texts: &'t [NamedText<'_>], name: &str) -> Option<&'t Answer> {
     for text in texts {
         if text.name == name {
             return Some(&text.body);
@@ -56,51 +72,53 @@ fn find_text<'t>(texts: &'t [NamedText<'_>], name: &str) -> Option<&'t [u8]> {
     None
 }
 
-fn write_named(texts: &[NamedText<'_>], name: &str, out: &mut Vec<u8>) -> Result<(), Fault> {
+fn write_named(texts: &[NamedText<'_>], name: &str, out: &mut Answer) -> Result<(), Fault> {
     match find_text(texts, name) {
-        Some(body) => Ok(out.extend_from_slice(body)?),
-        None => Err(Fault::UnknownText),
+        Some(body) => out.append(body),
+        None => return Err(Fault::UnknownText),
     }
+    Ok(())
 }
 
-fn write_content_line(text: &str, out: &mut Vec<u8>) -> Result<(), Fault> {
-    unescape(text, out)?;
-    out.extend_from_slice(b"\n")?;
+fn write_content_line(text: &str, out: &mut Answer) -> Result<(), Fault> {
+    write_spelled(text, out)?;
+    out.text("\n");
     Ok(())
 }
 
 fn write_content(
+    alloc: Global,
     texts: &[NamedText<'_>],
     content: Content<'_>,
-    out: &mut Vec<u8>,
+    out: &mut Answer,
 ) -> Result<(), Fault> {
     match content {
         Content::Line(text) => write_content_line(text, out),
-        Content::Piece(text) => unescape(text, out),
-        Content::Times(count, text) => write_times(count, text, out),
+        Content::Piece(text) => write_spelled(text, out),
+        Content::Times(count, text) => write_times(alloc, count, text, out),
         Content::Named(name) => write_named(texts, name, out),
     }
 }
 
-fn write_place(number: u64, report: &mut Vec<u8>) -> Result<(), AllocError> {
-    write_text("line ", report)?;
-    write_whole(number, report)?;
-    write_text(": ", report)
+fn write_place(number: u64, report: &mut Answer) {
+    report.text("line ");
+    report.value(number);
+    report.text(": ");
 }
 
-fn write_spelled(title: &str, bytes: &[u8], report: &mut Vec<u8>) -> Result<(), AllocError> {
-    write_text(title, report)?;
-    escape(bytes, report)?;
-    write_text("\n", report)
+fn write_escaped(title: &str, bytes: &[u8], report: &mut Answer) {
+    report.text(title);
+    escape(bytes, report);
+    report.text("\n");
 }
 
-fn write_counts(counts: Counts, report: &mut Vec<u8>) -> Result<(), AllocError> {
-    write_whole(counts.cases, report)?;
-    write_text(" cases, ", report)?;
-    write_whole(counts.differing, report)?;
-    write_text(" differ, ", report)?;
-    write_whole(counts.faults, report)?;
-    write_line(" faults of the table", report)
+fn write_counts(counts: Counts, report: &mut Answer) {
+    report.value(counts.cases);
+    report.text(" cases, ");
+    report.value(counts.differing);
+    report.text(" differ, ");
+    report.value(counts.faults);
+    report.line(" faults of the table");
 }
 
 impl<'a> Runner<'a> {
@@ -110,18 +128,18 @@ impl<'a> Runner<'a> {
             texts: Vec::new(alloc),
             block: Block::Nothing,
             question: None,
-            input: Vec::new(alloc),
-            expected: Vec::new(alloc),
+            input: Answer::new(alloc),
+            expected: Answer::new(alloc),
             counts: Counts::NONE,
         }
     }
 
-    // Counts a fault and reports it.
+    // Counts a fault and reports it; allocation failure is none of the table's.
     fn report_fault(
         &mut self,
         number: u64,
         fault: Fault,
-        report: &mut Vec<u8>,
+        report: &mut Answer,
     ) -> Result<(), AllocError>
         ensures kept { self.new.counts.differing ≡ self.old.counts.differing }
     {
@@ -129,49 +147,94 @@ impl<'a> Runner<'a> {
             return Err(AllocError);
         }
         self.counts.count_fault();
-        write_place(number, report)?;
-        write_line(fault.words(), report)
+        write_place(number, report);
+        report.line(fault.words());
+        Ok(())
+    }
+
+    // Reports why a line can't be taken, where it can't.
+    fn settle(
+        &mut self,
+        number: u64,
+        taken: Result<(), Fault>,
+        report: &mut Answer,
+    ) -> Result<(), AllocError>
+        ensures kept { self.new.counts.differing ≡ self.old.counts.differing }
+    {
+        match taken {
+            Ok(()) => Ok(()),
+            Err(fault) => self.report_fault(number, fault, report),
+        }
     }
 
     // Compares an answer with the expected one, and reports a difference.
-    fn judge(
+    fn judge(&mut self, number: u64, name: &str, given: &[u8], report: &mut Answer)
+        // Where no difference is counted, the answer is the expected one.
+        ensures told { self.new.counts.differing ≡ 0 → self.old.expected.text.items ≡ given.now }
+        ensures kept { self.old.counts.differing ≤ self.new.counts.differing }
+    {
+        if self.counts.compare(&self.expected.text, given) {
+            return;
+        }
+        write_place(number, report);
+        report.line(name);
+        write_escaped("  expected: ", &self.expected.text, report);
+        write_escaped("  given:    ", given, report);
+    }
+
+    // Judges what is written of an answer, unless memory ran out.
+    fn judge_written(
         &mut self,
         number: u64,
         name: &str,
-        given: &[u8],
-        report: &mut Vec<u8>,
-    ) -> Result<(), AllocError>
-        // Where no difference is counted, the answer is the expected one.
-        ensures told { self.new.counts.differing ≡ 0 → self.old.expected.items ≡ given.now }
+        given: &Answer,
+        report: &mut Answer,
+    ) -> Result<(), Fault>
         ensures kept { self.old.counts.differing ≤ self.new.counts.differing }
     {
-        if self.counts.compare(&self.expected, given) {
-            return Ok(());
+        if self.input.is_cut || self.expected.is_cut || given.is_cut {
+            return Err(Fault::Memory);
         }
-        write_place(number, report)?;
-        write_line(name, report)?;
-        write_spelled("  expected: ", &self.expected, report)?;
-        write_spelled("  given:    ", given, report)
+        self.judge(number, name, &given.text, report);
+        Ok(())
     }
 
-    // Puts the question about the input that is gathered.
+    // Appends the answer to the question about the input that is gathered.
+    fn ask<Q: Questions>(&self, questions: &Q, given: &mut Answer) -> Result<(), Fault> {
+        if self.expected.text.is_empty() {
+            return Err(Fault::NoAnswer);
+        }
+        let Some(words) = self.question else {
+            return Err(Fault::NoQuestion);
+        };
+        let asked = Asked {
+            alloc: self.alloc,
+            words: Words::new(words),
+            input: &self.input.text,
+        };
+        match questions.answer(asked, given) {
+            Ok(()) => Ok(()),
+            Err(unanswered) => Err(Fault::from(unanswered)),
+        }
+    }
+
+    // Puts the question about the input that is gathered, and judges the answer.
     fn put<Q: Questions>(
         &mut self,
         questions: &Q,
         number: u64,
         name: &str,
-        report: &mut Vec<u8>,
+        report: &mut Answer,
     ) -> Result<(), Fault>
         ensures kept { self.old.counts.differing ≤ self.new.counts.differing }
     {
-        if self.expected.is_empty() {
-            return Err(Fault::NoAnswer);
-        }
-        let words = self.question.ok_or(Fault::NoQuestion)?;
-        let mut given = Vec::new(self.alloc);
-        questions.answer(self.alloc, words, &self.input, &mut given)?;
-        self.judge(number, name, &given, report)?;
-        Ok(())
+        let mut given = Answer::new(self.alloc);
+        let put = match self.ask(questions, &mut given) {
+            Ok(()) => self.judge_written(number, name, &given, report),
+            Err(fault) => Err(fault),
+        };
+        drop(given);
+        put
     }
 
     fn keep_text(&mut self, name: &'a str) -> Result<(), Fault>
@@ -180,7 +243,7 @@ impl<'a> Runner<'a> {
         if find_text(&self.texts, name).is_some() {
             return Err(Fault::NameTaken);
         }
-        let body = mem::replace(&mut self.input, Vec::new(self.alloc));
+        let body = mem::replace(&mut self.input, Answer::new(self.alloc));
         if self.texts.push(NamedText { name, body }).is_err() {
             return Err(Fault::Memory);
         }
@@ -195,7 +258,7 @@ impl<'a> Runner<'a> {
     }
 
     // Ends the text or the case that the lines so far belong to.
-    fn close<Q: Questions>(&mut self, questions: &Q, report: &mut Vec<u8>) -> Result<(), AllocError>
+    fn close<Q: Questions>(&mut self, questions: &Q, report: &mut Answer) -> Result<(), AllocError>
         ensures kept { self.old.counts.differing ≤ self.new.counts.differing }
     {
         let (number, closed) = match self.block {
@@ -206,10 +269,7 @@ impl<'a> Runner<'a> {
         self.block = Block::Nothing;
         self.question = None;
         self.clear();
-        match closed {
-            Ok(()) => Ok(()),
-            Err(fault) => self.report_fault(number, fault, report),
-        }
+        self.settle(number, closed, report)
     }
 
     fn add_input(&mut self, content: Content<'_>) -> Result<(), Fault>
@@ -217,7 +277,7 @@ impl<'a> Runner<'a> {
     {
         match self.block {
             Block::Text(..) | Block::Case(..) => {
-                write_content(&self.texts, content, &mut self.input)
+                write_content(self.alloc, &self.texts, content, &mut self.input)
             }
             _ => Err(Fault::Misplaced),
         }
@@ -227,12 +287,14 @@ impl<'a> Runner<'a> {
         ensures kept { self.new.counts ≡ self.old.counts }
     {
         match self.block {
-            Block::Case(..) => write_content(&self.texts, content, &mut self.expected),
+            Block::Case(..) => {
+                write_content(self.alloc, &self.texts, content, &mut self.expected)
+            }
             _ => Err(Fault::Misplaced),
         }
     }
 
-    fn ask(&mut self, words: &'a str) -> Result<(), Fault>
+    fn take_question(&mut self, words: &'a str) -> Result<(), Fault>
         ensures kept { self.new.counts ≡ self.old.counts }
     {
         match self.block {
@@ -244,13 +306,27 @@ impl<'a> Runner<'a> {
         }
     }
 
+    // Has the case no content so far?
+    fn is_bare(&self) -> bool {
+        self.input.text.is_empty() && self.expected.text.is_empty()
+    }
+
     // The name of the case that a row belongs to.
     fn name_of_rows(&self) -> Result<&'a str, Fault> {
         match self.block {
             Block::Rows(name) => Ok(name),
-            Block::Case(_, name) if self.input.is_empty() && self.expected.is_empty() => Ok(name),
+            Block::Case(_, name) if self.is_bare() => Ok(name),
             _ => Err(Fault::Misplaced),
         }
+    }
+
+    // Takes a row's content in the place of what was gathered.
+    fn gather(&mut self, input: &str, answer: &str) -> Result<(), Fault>
+        ensures kept { self.new.counts ≡ self.old.counts }
+    {
+        self.clear();
+        write_spelled(input, &mut self.input)?;
+        write_content_line(answer, &mut self.expected)
     }
 
     fn row<Q: Questions>(
@@ -259,15 +335,13 @@ impl<'a> Runner<'a> {
         number: u64,
         input: &str,
         answer: &str,
-        report: &mut Vec<u8>,
+        report: &mut Answer,
     ) -> Result<(), Fault>
         ensures kept { self.old.counts.differing ≤ self.new.counts.differing }
     {
         let name = self.name_of_rows()?;
         self.block = Block::Rows(name);
-        self.clear();
-        unescape(input, &mut self.input)?;
-        write_content_line(answer, &mut self.expected)?;
+        self.gather(input, answer)?;
         self.put(questions, number, name, report)
     }
 
@@ -275,13 +349,16 @@ impl<'a> Runner<'a> {
         &mut self,
         questions: &Q,
         block: Block<'a>,
-        report: &mut Vec<u8>,
+        report: &mut Answer,
     ) -> Result<(), Fault>
         ensures kept { self.old.counts.differing ≤ self.new.counts.differing }
     {
-        self.close(questions, report)?;
+        let closed = self.close(questions, report);
         self.block = block;
-        Ok(())
+        match closed {
+            Ok(()) => Ok(()),
+            Err(_) => Err(Fault::Memory),
+        }
     }
 
     fn follow<Q: Questions>(
@@ -289,7 +366,7 @@ impl<'a> Runner<'a> {
         questions: &Q,
         number: u64,
         line: Line<'a>,
-        report: &mut Vec<u8>,
+        report: &mut Answer,
     ) -> Result<(), Fault>
         ensures kept { self.old.counts.differing ≤ self.new.counts.differing }
     {
@@ -297,7 +374,7 @@ impl<'a> Runner<'a> {
             Line::Nothing => Ok(()),
             Line::Text(name) => self.begin(questions, Block::Text(number, name), report),
             Line::Case(name) => self.begin(questions, Block::Case(number, name), report),
-            Line::Ask(words) => self.ask(words),
+            Line::Ask(words) => self.take_question(words),
             Line::Row(input, answer) => self.row(questions, number, input, answer, report),
             Line::Input(content) => self.add_input(content),
             Line::Expected(content) => self.add_expected(content),
@@ -309,7 +386,7 @@ impl<'a> Runner<'a> {
         questions: &Q,
         number: u64,
         line: &'a str,
-        report: &mut Vec<u8>,
+        report: &mut Answer,
     ) -> Result<(), AllocError>
         ensures kept { self.old.counts.differing ≤ self.new.counts.differing }
     {
@@ -317,27 +394,41 @@ impl<'a> Runner<'a> {
             Ok(line) => self.follow(questions, number, line, report),
             Err(fault) => Err(fault),
         };
-        match taken {
-            Ok(()) => Ok(()),
-            Err(fault) => self.report_fault(number, fault, report),
+        self.settle(number, taken, report)
+    }
+
+    fn take_all<Q: Questions>(
+        &mut self,
+        questions: &Q,
+        table: &'a str,
+        report: &mut Answer,
+    ) -> Result<(), AllocError> {
+        let mut number = 0u64;
+        for line in table.lines() {
+            number = number.saturating_add(1);
+            self.take(questions, number, line, report)?;
         }
+        self.close(questions, report)
     }
 }
 
-/// Puts each case of a table, and appends the report: what differs, what is wrong with the table, and the counts on the last line.
+/// Puts each case of a table, and appends the report: what differs, what is wrong with the table, and the counts on the last line. Where a
+/// question finds no memory, the run ends there.
 pub fn run_table<Q: Questions>(
     alloc: Global,
     questions: &Q,
     table: &str,
-    report: &mut Vec<u8>,
+    report: &mut Answer,
 ) -> Result<Counts, AllocError> {
     let mut runner = Runner::new(alloc);
-    let mut number = 0u64;
-    for line in table.lines() {
-        number = number.saturating_add(1);
-        runner.take(questions, number, line, report)?;
+    let taken = runner.take_all(questions, table, report);
+    let counts = runner.counts;
+    drop(runner);
+    match taken {
+        Ok(()) => {
+            write_counts(counts, report);
+            Ok(counts)
+        }
+        Err(error) => Err(error),
     }
-    runner.close(questions, report)?;
-    write_counts(runner.counts, report)?;
-    Ok(runner.counts)
 }

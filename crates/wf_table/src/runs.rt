@@ -1,11 +1,11 @@
 //! Lines that come many times in a row.
-use crate::write::{write_text, write_whole};
-use std::alloc::{AllocError, Global};
+use crate::answer::Answer;
+use std::alloc::Global;
 
 /// A line, with its line feed, and how often it came.
 #[derive(Drop)]
 pub struct Runs {
-    line: Vec<u8>,
+    line: Answer,
     times: usize,
 }
 
@@ -13,30 +13,29 @@ impl Runs {
     /// Before the first line.
     pub fn new(alloc: Global) -> Self {
         Runs {
-            line: Vec::new(alloc),
+            line: Answer::new(alloc),
             times: 0,
         }
     }
 
     /// Appends what came so far, as `3 times: LINE`, where anything did.
-    pub fn write(&self, answer: &mut Vec<u8>) -> Result<(), AllocError> {
+    pub fn write(&self, answer: &mut Answer) {
         if self.times == 0 {
-            return Ok(());
+            return;
         }
-        write_whole(self.times as u64, answer)?;
-        write_text(" times: ", answer)?;
-        answer.extend_from_slice(&self.line)
+        answer.count(self.times);
+        answer.text(" times: ");
+        answer.append(&self.line);
     }
 
     /// Takes the next line, and appends what came before where it is another one.
-    pub fn take(&mut self, line: &[u8], answer: &mut Vec<u8>) -> Result<(), AllocError> {
-        if self.line.as_slice() != line {
-            self.write(answer)?;
+    pub fn take(&mut self, line: &Answer, answer: &mut Answer) {
+        if self.line.text.as_slice() != line.text.as_slice() {
+            self.write(answer);
             self.times = 0;
             self.line.clear();
-            self.line.extend_from_slice(line)?;
+            self.line.append(line);
         }
         self.times = self.times.saturating_add(1);
-        Ok(())
     }
 }

@@ -6,8 +6,6 @@
 #![tactic(auto)]
 
 #[cfg(test)]
-mod commands;
-#[cfg(test)]
 mod edge;
 #[cfg(test)]
 mod farm;

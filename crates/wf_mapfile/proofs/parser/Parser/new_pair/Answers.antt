@@ -5,9 +5,9 @@ use Rattle.wf_mapfile.proofs.parser.Parser.new_pair.Goals as goal
 
 pub returns-then-contains : goal.returns-then-contains
 returns-then-contains c = λ _.
-    pair_seen (λ key. contains_text c.args.keys.now key) c.args.self.now c.text.new.self c.in_ok-key.key (string_bytes c.in_ok-key-2.key) c.in_ok-key.ensures (search rules) (search rules)
+    pair_seen (λ key. contains_text c.args.keys.now key) c.args.self.now c.text_there.new.self c.in_ok-text.text.now (string_bytes c.in_ok-key.key) c.in_ok-text.ensures.read (search rules) (search rules)
 
-pub returns : goal.returns
-returns c =
-    pair_read (λ key. contains_text c.args.keys.now key) c.args.self.now c.text.new.self c.in_ok-key.key (string_bytes c.in_ok-key-2.key) c.in_ok-key.ensures (search rules)
-    c.in_ok-value.value c.text-2.new.self (search rules) c.in_ok-value.ensures
+pub returns-in-Ok : goal.returns-in-Ok
+returns-in-Ok c =
+    pair_read (λ key. contains_text c.args.keys.now key) c.args.self.now c.text_there.new.self c.in_ok-text.text.now (string_bytes c.in_ok-key.key) c.in_ok-text.ensures.read (search rules)
+    c.in-Ok.value c.text.new.self (search rules) c.in-Ok.ensures

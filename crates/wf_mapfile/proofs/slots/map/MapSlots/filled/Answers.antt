@@ -11,9 +11,9 @@ unfolding is_text is_utf8 chars encode_utf8
 text_or-requires c = refl
 
 -- What must be said was, and the layers are put into a map of the rest.
-pub returns : goal.returns
+pub returns-in-Ok-into_map : goal.returns-in-Ok-into_map
 unfolding map_of definition
-returns c =
-    let extent : c.args.self.single.extent ≡ Some c.in_ok-extent.extent = search rules in
-    let projection : c.args.self.single.projection ≡ Some c.in_ok-projection.projection = search rules in
+returns-in-Ok-into_map c =
+    let extent : c.args.self.single.extent ≡ Some c.in-Some.extent = search rules in
+    let projection : c.args.self.single.projection ≡ Some c.in-Some-projection.projection = search rules in
     rw (extent, projection) (search rules)

@@ -1,23 +1,26 @@
 //! The command `canon` between a reader and a writer of which one fails at one of its calls.
-use crate::value::MAP_A;
+use crate::commands::tell_outcome;
 use std::alloc::Global;
 use std::io;
 use std::io::{ErrorKind, Read, Write};
-use wf_canon::CanonFault;
 use wf_commands::fault::RunFault;
 use wf_commands::run::run_canon;
-use wf_mapfile::fault::MapFault;
 use wf_stream::Stream;
+use wf_table::{Answer, Answered, Asked, Unanswered};
 
-/// A mapfile of the map `a`: 63 bytes.
+/// A mapfile: 63 bytes.
 const MAPFILE: &[u8] = b"MAP NAME \"a\" EXTENT 0 0 4 4 PROJECTION \"init=epsg:4326\" END END";
+
+/// Its canonical text: 164 bytes.
+const CANONICAL: &[u8] =
+    b"MAP\nNAME \"a\"\nEXTENT 0 0 4 4\nPROJECTION\n\"init=epsg:4326\"\nEND\nWEB\nMETADATA\n\"wms_title\" \"a\"\n\"wms_abstract\" \"\"\n\"wms_onlineresource\" \"http://localhost/wms?\"\nEND\nEND\nEND\n";
 
 /// Gives 7 bytes a call, and fails at one of the calls.
 #[derive(Drop)]
 struct Pieces {
     rest: &'static [u8],
-    calls: usize,
-    failing: usize,
+    calls: u64,
+    failing: u64,
 }
 
 impl Read for Pieces {
@@ -38,8 +41,8 @@ impl Read for Pieces {
 #[derive(Drop)]
 struct Sink {
     awaited: &'static [u8],
-    calls: usize,
-    failing: usize,
+    calls: u64,
+    failing: u64,
 }
 
 impl Write for Sink {
@@ -63,10 +66,10 @@ impl Write for Sink {
 }
 
 /// The outcome of a run whose reader and writer fail at these calls, and how many bytes weren't written.
-fn run_once(
+fn run_broken(
     alloc: Global,
-    failing_read: usize,
-    failing_write: usize,
+    failing_read: u64,
+    failing_write: u64,
 ) -> (Result<(), RunFault>, usize) {
     let mut reader = Pieces {
         rest: MAPFILE,
@@ -74,7 +77,7 @@ fn run_once(
         failing: failing_read,
     };
     let mut writer = Sink {
-        awaited: MAP_A,
+        awaited: CANONICAL,
         calls: 0,
         failing: failing_write,
     };
@@ -86,47 +89,30 @@ fn run_once(
     (outcome, writer.awaited.len())
 }
 
-/// The same, once more where it found no memory.
-fn run(alloc: Global, failing_read: usize, failing_write: usize) -> (Result<(), RunFault>, usize) {
-    match run_once(alloc, failing_read, failing_write) {
-        (Err(RunFault::Map(MapFault::Memory)), _) => run_once(alloc, failing_read, failing_write),
-        (Err(RunFault::Canon(CanonFault::Memory)), _) => {
-            run_once(alloc, failing_read, failing_write)
-        }
-        ended => ended,
-    }
-}
-
 /// A call that doesn't come.
-const NEVER: usize = 1_000;
+const NEVER: u64 = 1_000;
 
-#[test]
-fn a_reader_that_fails_is_a_read_fault_and_nothing_is_written(rt: HostRuntime) {
-    // 63 bytes are nine pieces of 7, and then the reader is at its end.
-    for failing in 0..20 {
-        let wanted = if failing < 10 {
-            (Err(RunFault::Read), 164)
-        } else {
-            (Ok(()), 0)
-        };
-        assert_eq!(rt; run(rt.alloc(), failing, NEVER), wanted, "{failing}");
+/// The number of the call that fails: `-` where none does.
+fn failing(word: &str) -> Result<u64, Unanswered> {
+    match word {
+        "-" => Ok(NEVER),
+        _ => match word.parse::<u64>() {
+            Ok(number) => Ok(number),
+            Err(_) => Err(Unanswered::BadWords),
+        },
     }
 }
 
-#[test]
-fn a_writer_that_fails_is_a_write_fault(rt: HostRuntime) {
-    // 164 bytes are four pieces of 41.
-    for failing in 0..8 {
-        let left = 164usize.saturating_sub(41 * failing);
-        let wanted = if failing < 4 {
-            Err(RunFault::Write)
-        } else {
-            Ok(())
-        };
-        assert_eq!(rt;
-            run(rt.alloc(), NEVER, failing),
-            (wanted, left),
-            "{failing}"
-        );
+/// `canon_broken`: how `canon` ends, and how many bytes of the canonical text aren't written, where a call of its reader and a
+/// call of its writer fail. The input is their numbers, counted from 0.
+pub(crate) fn canon_broken(asked: Asked<'_>, answer: &mut Answer) -> Answered {
+    let (read, write) = asked.text()?.split_once(' ').unwrap_or(("", ""));
+    let (outcome, left) = run_broken(asked.alloc, failing(read)?, failing(write)?);
+    answer.count(left);
+    answer.text(" bytes left: ");
+    match outcome {
+        Ok(()) => answer.line("done"),
+        Err(fault) => tell_outcome(Err(fault), answer),
     }
+    Ok(())
 }

@@ -1,21 +1,20 @@
-//! Which node of which farm serves.
-use std::alloc::Global;
+//! Which node of which farm is asked.
+ghost use Rattle.std.specs.Prelude.{◌≡◌, ◌<◌, ◌≤◌};
+
+use crate::words::node;
 use std::marker::Model;
 use wf_ballot::{NODES, NodeId};
-use wf_calls::words::Words;
-use wf_node::Node;
-use wf_table::Unanswered;
-use wf_tape::Tape;
+use wf_table::{Unanswered, Words};
 
 /// A node's number, and how many nodes its farm has.
 #[derive(Clone, Copy)]
-pub(crate) struct Member {
+pub struct Member {
     node: NodeId,
     nodes: u8,
 }
 
 impl Model for Member {
-    ghost use Rattle.wf_cases_edge.specs.Member.{MemberValue, IsMember};
+    ghost use Rattle.wf_calls.specs.Member.{MemberValue, IsMember};
 
     ghost Value = { MemberValue };
 
@@ -28,8 +27,8 @@ impl Model for Member {
 
 impl Member {
     /// The node that `NODE of NODES` names, where the farm has it.
-    pub(crate) fn named(words: &mut Words<'_>) -> Result<Member, Unanswered> {
-        let node = words.node()?;
+    pub fn named(words: &mut Words<'_>) -> Result<Member, Unanswered> {
+        let node = node(words)?;
         if words.word() != "of" {
             return Err(Unanswered::BadWords);
         }
@@ -41,18 +40,19 @@ impl Member {
         }
     }
 
-    /// The node on a tape.
-    pub(crate) fn open<T: Tape + Drop>(
-        self,
-        alloc: Global,
-        tape: T,
-    ) -> Result<Node<T>, Unanswered> {
-        match Node::open(alloc, tape, self.node, self.nodes) {
-            Ok(node) => Ok(node),
-            Err(refused) => {
-                drop(refused);
-                Err(Unanswered::Memory)
-            }
-        }
+    /// The node.
+    pub fn node(self) -> NodeId
+        ensures value { result ≡ self.node }
+        ensures inside { self.node < self.nodes }
+    {
+        self.node
+    }
+
+    /// How many nodes the farm has.
+    pub fn nodes(self) -> u8
+        ensures value { result ≡ self.nodes }
+        ensures most { self.nodes ≤ 64 }
+    {
+        self.nodes
     }
 }

@@ -4,7 +4,7 @@ use Rattle.std.proofs.lemmas.Map.Text.{hash_set_updates_text}
 use Rattle.wf_mapfile.specs.Grammar.{end}
 use Rattle.wf_mapfile.specs.Pairs.{keep}
 use Rattle.wf_mapfile.proofs.Pairs.{collect_more}
-use Rattle.wf_mapfile.proofs.parser.Parser.metadata.Goals as goal
+use Rattle.wf_mapfile.proofs.parser.Parser.pairs.Goals as goal
 
 -- a pair behind those so far
 pub loop-preserved : goal.loop-preserved

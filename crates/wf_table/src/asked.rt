@@ -1,17 +1,15 @@
 //! What a question is given.
+use crate::questions::Unanswered;
+use crate::words::Words;
 use std::alloc::Global;
-use wf_table::Unanswered;
 
-/// The words behind the question's name, and the input.
+/// The words that stand behind `ask`, or those of them that are left, escapes and all; and the input.
 #[derive(Clone, Copy)]
-pub(crate) struct Asked<'a> {
+pub struct Asked<'a> {
     pub alloc: Global,
-    pub words: &'a str,
+    pub words: Words<'a>,
     pub input: &'a [u8],
 }
-
-/// What a question's function answers, beside what it appends.
-pub(crate) type Answered = Result<(), Unanswered>;
 
 impl<'a> Asked<'a> {
     /// The input as a text, where it has to be one.

@@ -1,9 +1,0 @@
-use Rattle.std.proofs.Common.{◌≡◌, ◌-◌, false}
-use Rattle.std.specs.HashSet.{contains_text}
-use Rattle.wf_mapfile.specs.Pairs.{collect}
-use Rattle.wf_mapfile.specs.Web.{no_metadata}
-use Rattle.wf_mapfile.proofs.parser.Parser.metadata.Given as goal
-
--- what is left to collect, from here, gives what was to be collected
-abbrev pub invariant-loop : goal.invariant-loop
-invariant-loop l = collect (λ key. contains_text l.keys key) l.kept (l.end - l.counter) l.self ≡ collect (λ key. false) no_metadata l.end l.initial.self

@@ -1,0 +1,104 @@
+//! The answer to a question, as it is written.
+use std::alloc::{AllocError, Global};
+use std::fmt::Display;
+
+/// What is appended so far. Where an append finds no memory, the answer remembers that, and [`Answer::written`] says so: the calls that
+/// append need not.
+pub struct Answer {
+    pub(crate) text: Vec<u8>,
+    pub(crate) is_cut: bool,
+}
+
+impl Drop for Answer {
+    fn drop(self) {
+        let Answer { text, is_cut: _ } = self;
+        drop(text);
+    }
+}
+
+impl Answer {
+    /// An empty answer.
+    pub fn new(alloc: Global) -> Self {
+        Answer {
+            text: Vec::new(alloc),
+            is_cut: false,
+        }
+    }
+
+    /// Appends bytes.
+    pub fn bytes(&mut self, bytes: &[u8]) {
+        if self.text.extend_from_slice(bytes).is_err() {
+            self.is_cut = true;
+        }
+    }
+
+    /// Appends a text.
+    pub fn text(&mut self, text: &str) {
+        self.bytes(text.as_bytes());
+    }
+
+    /// Appends texts, one behind the other.
+    pub fn texts(&mut self, texts: &[&str]) {
+        for text in texts {
+            self.text(*text);
+        }
+    }
+
+    /// Appends a text and a line feed.
+    pub fn line(&mut self, text: &str) {
+        self.text(text);
+        self.text("\n");
+    }
+
+    /// Appends a value as it is printed.
+    pub fn value<T: Display + Copy>(&mut self, value: T) {
+        match value.to_string(*self.text.allocator()) {
+            Ok(printed) => {
+                self.text(printed.as_str());
+                drop(printed);
+            }
+            Err(_) => self.is_cut = true,
+        }
+    }
+
+    /// Appends a number in decimal digits.
+    pub fn number(&mut self, number: i64) {
+        self.value(number);
+    }
+
+    /// Appends a count in decimal digits.
+    pub fn count(&mut self, count: usize) {
+        self.value(count);
+    }
+
+    /// Appends what another answer holds.
+    pub fn append(&mut self, other: &Answer) {
+        self.bytes(&other.text);
+        self.is_cut = self.is_cut || other.is_cut;
+    }
+
+    /// Empties the answer.
+    pub fn clear(&mut self) {
+        self.text.clear();
+        self.is_cut = false;
+    }
+
+    /// Remembers that memory ran out.
+    pub fn cut(&mut self) {
+        self.is_cut = true;
+    }
+
+    /// Where a call appends by itself.
+    pub fn target(&mut self) -> &mut Vec<u8> {
+        &mut self.text
+    }
+
+    /// What was appended, unless memory ran out.
+    pub fn written(&self) -> Result<&[u8], AllocError> {
+        if self.is_cut {
+            Err(AllocError)
+        } else {
+            Ok(&self.text)
+        }
+    }
+}
