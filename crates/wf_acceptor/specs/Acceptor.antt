@@ -48,7 +48,7 @@ abbrev pub IsNext : Part → Record → Type 0
 IsNext part (Published s d) = s ≡ part.published + 1
 IsNext part r = ⊤
 
--- There is room for the record: to apply it takes no memory. That is so of a tried round and of a published
+-- There is room for the record: to apply it allocates nothing. That is so of a tried round and of a published
 -- definition, and of the record that is set aside.
 abbrev pub HasRoomFor : Acceptor → Record → Type 0
 HasRoomFor acceptor (Tried round) = ⊤

@@ -150,7 +150,7 @@ impl Acceptor {
         self.vote(slot, ballot, canon)
     }
 
-    /// Applies a record, as the fold does; nothing is set aside then. It takes no memory for the record that
+    /// Applies a record, as the fold does; nothing is set aside then. It allocates nothing for the record that
     /// the last answer gave, nor for one of a tried round or a published definition. An error changes nothing.
     pub fn apply(&mut self, entry: &Record) -> Result<(), AllocError>
         requires { IsNext self.old.part entry.now }

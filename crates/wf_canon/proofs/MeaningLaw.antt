@@ -121,14 +121,14 @@ unlike xs ys e same =
     let eq : bytes_eq xs ys ≡ true = (bytes_eq-Decides xs ys).1 same in
     absurd cc
 
--- memory is wanted only for UTF-8: other bytes are refused for that
+-- memory is wanted only for UTF-8: other bytes are rejected for that
 memory-is_utf8 : (fault : MapFault) (bytes : List ℕ) (utf8 : Bool) → is_utf8 bytes ≡ utf8 → is_memory fault ≡ true
     → (is_utf8 bytes ≡ false → IsNotUtf8 {X = Definition} (Err fault)) → is_utf8 bytes ≡ true
 memory-is_utf8 fault bytes true is memory none = is
 memory-is_utf8 reading.Memory bytes false is memory none = absurd (none is)
 memory-is_utf8 _ bytes false is memory none = absurd (let impossible : ⊥ = cc in impossible)
 
--- what the reader's fault says, where it is want of memory and where it isn't
+-- what the reader's fault says, where it is allocation failure and where it isn't
 why_unread_by : (memory : Bool) (unread : MapFault) (fault : CanonFault) (bytes : List ℕ) → length bytes ≤ 32768 → is_memory unread ≡ memory
     → fault ≡ cond memory Memory NotCanonical → (is_utf8 bytes ≡ false → IsNotUtf8 {X = Definition} (Err unread)) → (memory ≡ false → MeansNothing bytes)
     → IsWhyRefused fault bytes

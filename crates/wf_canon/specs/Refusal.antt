@@ -17,13 +17,13 @@ IsCauseOf Memory d = length (canon d) ≤ most_canon_bytes
 abbrev pub HasNoCanon : List ℕ → Type 0
 HasNoCanon bytes = (d : Definition) → IsWithinLimits d → canon d ≡ bytes → ⊥
 
--- why bytes are refused; the length and UTF-8 are judged without memory, and want of it says nothing more of them
+-- why bytes are rejected; the length and UTF-8 are judged without memory, and want of it says nothing more of them
 abbrev pub IsWhyRefused : CanonFault → List ℕ → Type 0
 IsWhyRefused TooBig bytes = most_canon_bytes < length bytes
 IsWhyRefused NotCanonical bytes = HasNoCanon bytes
 IsWhyRefused Memory bytes = (length bytes ≤ most_canon_bytes) × (is_utf8 bytes ≡ true)
 
--- what bytes within the limit are refused for, where the map that they mean has no text of its own: one over the limit is another text
+-- what bytes within the limit are rejected for, where the map that they mean has no text of its own: one over the limit is another text
 abbrev pub refused_again : CanonFault → CanonFault
 refused_again TooBig = NotCanonical
 refused_again NotCanonical = NotCanonical

@@ -76,7 +76,7 @@ impl Canon {
         Ok(Canon { text, def })
     }
 
-    /// An equal value, for a message or a history that keeps its own. Want of memory is the one error.
+    /// An equal value, for a message or a history that keeps its own. Allocation failure is the one error.
     pub fn copy(&self) -> Result<Self, AllocError>
         ensures { IfOk result (λ copy. copy ≡ self.now) }
     {

@@ -137,7 +137,7 @@ never_refused view NotCanonical m refusal is_message reads = not_bad m is_messag
 never_refused view TooLong m refusal is_message reads = reads
 never_refused view Memory m refusal is_message reads = refusal
 
--- The frame that was split off is split off the longer bytes too; where it was refused, the longer bytes are refused so too.
+-- The frame that was split off is split off the longer bytes too; where it was rejected, the longer bytes are rejected so too.
 refused_by : {X : Type 0} (view : X → Message Definition) (e : DecodeFault) (bytes : List ℕ) (r : Result (Kind × List ℕ) DecodeFault) → frame_front bytes ≡ r → AreBytes bytes →
     IsJudged view (Err e) r → IsRefusal e → NeverBegins bytes
 refused_by {X} view e bytes (Err fault) is fits judged refusal more m spelled after spells same =
@@ -155,7 +155,7 @@ refused_by {X} view e bytes (Ok found) is fits judged refusal more m spelled aft
     let fields = ap (λ (f : Kind × List ℕ). fields_of f.0 f.1) same_frame ∙ fields_of_body m spells.is_message in
     never_refused view e m refusal spells.is_message (subst (λ (o : Option (Message (List ℕ))). ReadsAs (λ (x : X × ℕ). view x.0) (Err e) o) fields judged.0)
 
--- what is refused never begins with a message, however it goes on
+-- what is rejected never begins with a message, however it goes on
 pub refused : {X : Type 0} (view : X → Message Definition) (result : Result (X × ℕ) DecodeFault) (bytes : List ℕ) → AreBytes bytes → IsJudged view result (frame_front bytes) →
     IfErr result (λ e. IsRefusal e → NeverBegins bytes)
 refused view (Ok x) bytes fits judged = tt

@@ -64,7 +64,7 @@ IsUnfinished [] = Unit {0}
 IsUnfinished (version ∷ []) = version ≡ message_version
 IsUnfinished (version ∷ byte ∷ bytes) = (version ≡ message_version) × ((kind : Kind) × (byte ≡ kind_byte kind) × LacksBody kind bytes)
 
--- the message and its length; a message that carries a definition may be answered by want of memory
+-- the message and its length; a message that carries a definition may be answered by allocation failure
 abbrev pub IsReadAs : {X : Type 0} → (X → Message Definition) → Result (X × ℕ) DecodeFault → Message Definition → ℕ → Type 0
 IsReadAs view result m k = MatchResult result (λ x. (view x.0 ≡ m) × (x.1 ≡ k)) (λ e. (e ≡ Memory) × HasDefinition m)
 

@@ -24,7 +24,7 @@ use wf_canon::{Canon, CanonFault, one_text_one_map};
 /// the text of a definition is read, behind the fields of a Promise with a vote, an Accept or a Chosen;
 /// it says nothing of that text. After any other fault no further bytes make a message of them.
 pub fn decode(alloc: Global, bytes: &[u8]) -> Result<(Message, usize), DecodeFault>
-    // What is read stands at the front, and what stands at the front is read: want of memory excuses only a
+    // What is read stands at the front, and what stands at the front is read: allocation failure excuses only a
     // message that carries a definition.
     ensures read { IfOk result (λ x. BeginsWith bytes.now (view x.0) x.1) }
     ensures each { (m : _) (spelled after : _) → Spells m spelled → bytes.now ≡ spelled ++ after → IsReadAs view result m (length spelled) }
@@ -32,7 +32,7 @@ pub fn decode(alloc: Global, bytes: &[u8]) -> Result<(Message, usize), DecodeFau
     // What is read has at least one byte, and no more than there are.
     ensures count { IfOk result (λ x. (1 ≤ x.1) × (x.1 ≤ length bytes.now)) }
 
-    // What is refused never becomes a message, however it goes on.
+    // What is rejected never becomes a message, however it goes on.
     ensures refused { IfErr result (λ e. IsRefusal e → NeverBegins bytes.now) }
 
     ensures short { IsErrOf result DecodeFault.Short ↔ IsUnfinished bytes.now }

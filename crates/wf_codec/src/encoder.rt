@@ -10,7 +10,7 @@ use std::alloc::AllocError;
 use wf_ballot::Ballot;
 use wf_canon::Canon;
 
-/// Appends the message's one spelling. The one error is want of memory, where the vector's room doesn't
+/// Appends the message's one spelling. The one error is allocation failure, where the vector's room doesn't
 /// suffice; it leaves the bytes as they were.
 pub fn encode(message: &Message, out: &mut Vec<u8>) -> Result<(), AllocError>
     ensures ok { OnOk result (out.new.items ≡ out.old.items ++ spelling (view message.now)) }

@@ -21,7 +21,7 @@ pub enum DecodeFault {
     /// C5: the length is over that of the longest message.
     #[error("C5: too long")]
     TooLong,
-    /// C6: a growth was refused.
+    /// C6: a growth was rejected.
     #[error("C6: out of memory")]
     Memory,
 }

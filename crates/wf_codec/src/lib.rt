@@ -7,7 +7,7 @@
 //!
 //! It promises that a message has one spelling and that no spelling begins another; that [`encode`]
 //! appends that spelling or nothing; that [`decode`] reads a message exactly where its spelling stands at
-//! the front of the bytes, whatever follows; that bytes are refused only where no continuation of them
+//! the front of the bytes, whatever follows; that bytes are rejected only where no continuation of them
 //! begins with a message, with the fault of the first check that fails (`specs/Fault.antt`); and that only
 //! a message that carries a definition wants memory. Each growth comes before the first change.
 //!

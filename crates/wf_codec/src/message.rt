@@ -16,7 +16,7 @@ pub enum Message {
     Accept(Slot, Ballot, Canon),
     /// The node voted at the slot and the ballot.
     Accepted(NodeId, Slot, Ballot),
-    /// The node refuses the ballot at the slot, since it promised the second ballot there.
+    /// The node rejects the ballot at the slot, since it promised the second ballot there.
     Nack(NodeId, Slot, Ballot, Ballot),
     /// The definition is chosen at the slot.
     Chosen(Slot, Canon),
@@ -27,7 +27,7 @@ pub enum Message {
 impl Message {
     ghost use Rattle.wf_codec.specs.Message.{view, HasDefinition};
 
-    /// An equal message. The one error is want of memory, for a message that carries a definition.
+    /// An equal message. The one error is allocation failure, for a message that carries a definition.
     pub fn copy(&self) -> Result<Message, AllocError>
         ensures copy { IfOk result (λ m. m ≡ self.now) }
         ensures memory { OnErr result (HasDefinition (view self.now)) }

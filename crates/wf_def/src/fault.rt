@@ -1,4 +1,4 @@
-//! Why a number, a text or a layer was refused: of the first two `wf_text` says so.
+//! Why a number, a text or a layer was rejected: of the first two `wf_text` says so.
 
 use thiserror::Error;
 pub use wf_text::fault::{NumberFault, TextFault};

@@ -179,7 +179,7 @@ fn has_enough_points(kind: LayerKind, feature: &Feature) -> bool
     feature.parts().iter().all(|part| part.len() >= least)
 }
 
-/// The test by which a layer is refused finds exactly the features whose parts have the points that the kind needs. A law about the
+/// The test by which a layer is rejected finds exactly the features whose parts have the points that the kind needs. A law about the
 /// definitions: the call does nothing.
 pub fn enough_points_are_tested()
     ensures { EnoughPointsAreTested }

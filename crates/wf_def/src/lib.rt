@@ -9,7 +9,7 @@
 //! It promises that every value is within the limits of `specs/Limits.antt`: each type's accessors ensure both the value and its
 //! limits, and what is plain data, as a style or a label, has fields whose types are within them. What a caller can know, as room for
 //! one more, is a condition of the call that needs it; what only the parts tell, as too few points for the layer's kind, answers none,
-//! and a repeated name is refused. After want of memory a value is as it was. It passes on the texts and numbers of wf_text, which a
+//! and a repeated name is rejected. After allocation failure a value is as it was. It passes on the texts and numbers of wf_text, which a
 //! map is made of. It says nothing of mapfiles, of pictures or of the web.
 #![tactic(auto)]
 

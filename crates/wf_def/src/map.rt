@@ -103,7 +103,7 @@ impl MapDef {
         ))
     }
 
-    /// Puts a layer behind the others. The name of a layer that is there is refused; after a refusal the map is as it was.
+    /// Puts a layer behind the others. The name of a layer that is there is rejected; after a rejection the map is as it was.
     pub fn add_layer(&mut self, name: Text, layer: Layer) -> Result<(), LayerFault>
         requires is_name { IsLayerName name }
         requires room { length self.old.layers < most_layers }

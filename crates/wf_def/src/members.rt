@@ -81,7 +81,7 @@ impl<T: Limited> Members<T> {
 }
 
 impl<T: Limited + Drop> Members<T> {
-    /// Puts one behind the others. After want of memory they are as they were.
+    /// Puts one behind the others. After allocation failure they are as they were.
     pub fn push(&mut self, member: T) -> Result<(), AllocError>
         ensures pushed { OnOk result (self.new ≡ self.old ++ member ∷ []) }
         ensures unchanged { OnErr result (self.new ≡ self.old) }
@@ -186,7 +186,7 @@ impl<T: Limited, const MOST: usize> Capped<T, MOST> {
 }
 
 impl<T: Limited + Drop, const MOST: usize> Capped<T, MOST> {
-    /// Puts one behind the others. After want of memory they are as they were.
+    /// Puts one behind the others. After allocation failure they are as they were.
     pub fn push(&mut self, member: T) -> Result<(), AllocError>
         requires { length self.old < MOST }
         ensures pushed { OnOk result (self.new ≡ self.old ++ member ∷ []) }

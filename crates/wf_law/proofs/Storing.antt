@@ -1,4 +1,4 @@
--- A record is stored, with no message out, and what its node stored keeps its facts. This is a torn step too.
+-- A record is stored, with no message out, and what its node stored keeps its facts. This is a crash within a step too.
 use Rattle.std.proofs.Common.{◌≡◌, ◌⊎◌, ℕ, zero, suc, ◌+◌, ◌<◌, ◌≤◌, true, false, List, [], ◌∷◌, ◌++◌, length, slice_get, Option, Some, None, refl, sym, ap, subst, inl, inr, arith, length-append, lt-ltb}
 use Rattle.std.proofs.lemmas.Bool.{cases_eq}
 use Rattle.std.proofs.lemmas.Option.{none-some, same_Some}

@@ -82,7 +82,7 @@ module _ {V : Type 0} (w : World V) (i : ℕ) where
       asks_itself (record { nodes = slice_set w.nodes i new; sent = w.sent ++ t.row.messages }) i (store t.stored t.row.entry) t.row.working m
       (get-set_same w.nodes i new (record { stored = t.stored; working = Some known.working }) known.is_there) (known.step.asks m is_sent)
 
-  -- a torn step, a stop and a restart send nothing
+  -- a crash within a step, a stop and a restart send nothing
   torn_sends : (kept : Kept) (t : Option (Turn V)) → (after_torn w i kept t).sent ≡ w.sent
   unfolding after_torn with_node
   torn_sends kept None = refl

@@ -141,7 +141,7 @@ module _ {V : Type 0} (same : V → V → Bool) (n : ℕ) (w : World V) (facts :
   SomeWasSent None = ⊤
   SomeWasSent (Some input) = WasSent n i nothing_stored w.sent same input
 
-  -- A step that isn't refused is a row, from what is known of its node.
+  -- A step that isn't rejected is a row, from what is known of its node.
   turn_by : (stored : Stored V) (working : Working V) (input : Input V) (is_refused : Bool) → slice_get w.nodes i ≡ Some (record { stored = stored; working = Some working }) →
       WasSent n i nothing_stored w.sent same input → is_some (refusal stored working input) ≡ is_refused → SomeTurnFacts n w i (turn_running same n i stored (Some working) input)
   unfolding turn_running

@@ -1,5 +1,5 @@
 //! The law of agreement, over the definitions of `wf_model` alone: for every number of nodes and every list
-//! of proposals, retries, deliveries, losses, repeats, reorderings, stops, restarts and torn steps, no two
+//! of proposals, retries, deliveries, losses, repeats, reorderings, stops, restarts and crashes within a step, no two
 //! nodes publish different definitions under one sequence, and no list ever loses a definition.
 //!
 //! **Model.** `wf_model`'s worlds and events. `specs/Laws.antt` has the statements, which say of the world

@@ -197,7 +197,7 @@ impl History {
         self.entries.push_reserved(canon);
     }
 
-    /// Makes room for one more definition: the next `learn` takes no memory.
+    /// Makes room for one more definition: the next `learn` allocates nothing.
     pub fn make_room(&mut self) -> Result<(), AllocError>
         ensures ok { OnOk result (self.new ≡ record self.old { has_room = true }) }
         ensures err { OnErr result (self.new ≡ self.old) }

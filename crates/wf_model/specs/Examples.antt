@@ -136,7 +136,7 @@ two_told = late_accept ++ (Retry 0 ∷ Deliver 2 13 ∷ Deliver 0 13 ∷ Deliver
 unfoldable pub old_accept : List (Event Map)
 old_accept = two_told ++ (Deliver 0 3 ∷ [])
 
--- node 1 tries three rounds, and node 2 hears of the third one alone; node 0 comes with its first one, is refused,
+-- node 1 tries three rounds, and node 2 hears of the third one alone; node 0 comes with its first one, is rejected,
 -- and tries again
 unfoldable pub outrun : List (Event Map)
 outrun = Propose 1 b ∷ Retry 1 ∷ Retry 1 ∷ Deliver 2 2 ∷ Propose 0 a ∷ Deliver 2 4 ∷ Deliver 0 5 ∷ Retry 0 ∷ []

@@ -7,6 +7,6 @@ use Rattle.wf_model.specs.World.{World, Event, refused, happens, steps}
 abbrev pub StepsInTurn : Type 0 → Type 0
 StepsInTurn V = (same : V → V → Bool) (w : World V) (events more : List (Event V)) → steps same w (events ++ more) ≡ steps same (steps same w events) more
 
--- A refused event leaves the world as it was, a torn one too.
+-- A rejected event leaves the world as it was, a torn one too.
 abbrev pub RefusedChangesNothing : Type 0 → Type 0
 RefusedChangesNothing V = (same : V → V → Bool) (w : World V) (event : Event V) (why : Refusal) → refused w event ≡ Some why → happens same w event ≡ w

@@ -52,7 +52,7 @@ pub data Action (V M : Type 0) : Type 0 where
 abbrev pub Input : Type 0 → Type 0
 Input V = Action V (Message V)
 
--- ---- refusals
+-- ---- rejections
 
 pub data Refusal : Type 0 where
   Busy SequenceFull RoundsFull NothingToRetry : Refusal
@@ -72,7 +72,7 @@ unfoldable pub refuse_retry : {V : Type 0} → Stored V → Working V → Option
 refuse_retry stored (Running proposal) = rounds_full (round_known stored proposal)
 refuse_retry stored working = Some NothingToRetry
 
--- A refused step changes nothing. A running node refuses a proposal; none begins past the last sequence or
+-- A rejected step changes nothing. A running node rejects a proposal; none begins past the last sequence or
 -- the last round; only a running proposal is tried again.
 unfoldable pub refusal : {V : Type 0} → Stored V → Working V → Input V → Option Refusal
 refusal stored working (Propose d) = refuse_proposal stored working

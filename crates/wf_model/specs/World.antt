@@ -17,7 +17,7 @@ pub record World (V : Type 0) : Type 0 where
   pub nodes : List (Node V)
   pub sent : List (Message V)
 
--- which stored part a torn step leaves
+-- which stored part a crash within a step leaves
 pub data Kept : Type 0 where
   Before After : Kept
 
@@ -49,7 +49,7 @@ input_of sent table.Retry = Some table.Retry
 input_of sent table.CatchUp = Some table.CatchUp
 input_of sent (table.Deliver k) = delivered (slice_get sent k)
 
--- the stored part that a torn step leaves
+-- the stored part that a crash within a step leaves
 unfoldable pub stored_after : {V : Type 0} → Turn V → Stored V
 stored_after turn = store turn.stored turn.row.entry
 
@@ -57,9 +57,9 @@ unfoldable pub kept_part : {V : Type 0} → Kept → Turn V → Stored V
 kept_part Before turn = turn.stored
 kept_part After turn = stored_after turn
 
--- ---- refused steps
+-- ---- rejected steps
 
--- why a step is refused: its node is there and runs, its message is sent, and the table refuses it
+-- why a step is rejected: its node is there and runs, its message is sent, and the table rejects it
 unfoldable pub refusal_running : {V : Type 0} → Stored V → Option (Working V) → Input V → Option Refusal
 refusal_running stored None input = None
 refusal_running stored (Some working) input = refusal stored working input
@@ -72,7 +72,7 @@ refusal_of (Some node) (Some input) = refusal_running node.stored node.working i
 unfoldable pub refused_at : {V : Type 0} → World V → ℕ → Action V ℕ → Option Refusal
 refused_at w i action = refusal_of (slice_get w.nodes i) (input_of w.sent action)
 
--- the refusal of an event's step, also of a torn one; None where it isn't refused
+-- the rejection of an event's step, also of a torn one; None where it isn't rejected
 unfoldable pub refused : {V : Type 0} → World V → Event V → Option Refusal
 refused w (Propose i d) = refused_at w i (table.Propose d)
 refused w (Retry i) = refused_at w i table.Retry
@@ -94,7 +94,7 @@ after_turn w i None = w
 after_turn w i (Some turn) =
     record (with_node w i (stored_after turn) (Some turn.row.working)) { sent = w.sent ++ turn.row.messages }
 
--- A torn step loses the working part and all output; its record is stored or not.
+-- A crash within a step loses the working part and all output; its record is stored or not.
 unfoldable pub after_torn : {V : Type 0} → World V → ℕ → Kept → Option (Turn V) → World V
 after_torn w i kept None = w
 after_torn w i kept (Some turn) = with_node w i (kept_part kept turn) None
@@ -118,7 +118,7 @@ after_restart w i None = w
 after_restart w i (Some node) = restart_stopped w i node.stored node.working
 
 module _ {V : Type 0} (same : V → V → Bool) where
-  -- A step has an effect where its node is there and runs, its message is sent, and it isn't refused.
+  -- A step has an effect where its node is there and runs, its message is sent, and it isn't rejected.
   unfoldable pub turn_running : ℕ → ℕ → Stored V → Option (Working V) → Input V → Option (Turn V)
   turn_running n i stored None input = None
   turn_running n i stored (Some working) input =

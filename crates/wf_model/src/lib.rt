@@ -12,7 +12,7 @@
 //! **Promises.** Each row's record fits what was stored, whatever the messages say, and no row hands out more than
 //! eight messages. Whatever records are
 //! folded, they leave no promise and no vote of a published sequence, and no vote without a promise. The
-//! events of two lists in turn are the events of one, and a refused event changes nothing. Short runs leave
+//! events of two lists in turn are the events of one, and a rejected event changes nothing. Short runs leave
 //! what they should, by computing them.
 //!
 //! **Doesn't.** There is no code here, and no law of agreement: that is `wf_law`'s.
@@ -53,7 +53,7 @@ pub fn steps_in_turn<V>()
     ensures { StepsInTurn V }
 {}
 
-/// A refused event leaves the world as it was, a torn one too.
+/// A rejected event leaves the world as it was, a torn one too.
 pub fn refused_changes_nothing<V>()
     ensures { RefusedChangesNothing V }
 {}
@@ -90,9 +90,9 @@ pub fn reported_vote()
         Promise 2 1 (ballot 2 0) (Some (vote 1 1 b)) ∷ Promise 0 1 (ballot 2 0) (Some (vote 1 0 a)) ∷ Accept 1 (ballot 2 0) b ∷ [] }
 {}
 
-/// An Accept comes late, to a node that has promised a higher ballot: it is refused, with the promise. A vote
+/// An Accept comes late, to a node that has promised a higher ballot: it is rejected, with the promise. A vote
 /// there would publish a beside b. So it is where the node voted at that ballot before it promised the higher
-/// one. A Prepare below the promise is refused likewise; its proposer's next try is above the promise's round.
+/// one. A Prepare below the promise is rejected likewise; its proposer's next try is above the promise's round.
 pub fn refused_ballots()
     ensures leaves { Leaves 3 late_accept (none ∷ just b ∷ none ∷ []) 13 }
     ensures accept { sent_from (run 3 late_accept) 11 ≡ Accepted 0 1 (ballot 1 0) ∷ Nack 2 1 (ballot 1 0) (ballot 1 1) ∷ [] }
@@ -127,8 +127,8 @@ pub fn torn_step()
     ensures before_leaves { Leaves 3 (torn_then Before 3) (just a ∷ just a ∷ just a ∷ []) 12 }
 {}
 
-/// A running node refuses another proposal, a node without one has nothing to try again, and no proposal
-/// begins past sequence 4,096 or round 4,294,967,295. A refused step changes nothing.
+/// A running node rejects another proposal, a node without one has nothing to try again, and no proposal
+/// begins past sequence 4,096 or round 4,294,967,295. A rejected step changes nothing.
 pub fn refused_steps()
     ensures busy { refused (run 1 (Propose 0 a ∷ [])) (Propose 0 b) ≡ Some Busy }
     ensures busy_unchanged { run 1 (Propose 0 a ∷ Propose 0 b ∷ []) ≡ run 1 (Propose 0 a ∷ []) }

@@ -1,28 +1,28 @@
--- Refusals, as the table has them.
+-- Rejections, as the table has them.
 use Rattle.std.specs.Prelude.{◌≡◌, ℕ, List, codes, Option, Some, None, Result, Ok, Err}
 use Rattle.wf_model.specs.Table as table
 use Rattle.wf_proposer.specs.Next.{Next}
 use Rattle.wf_proposer.specs.declared.refusal.Refusal.{Refusal}
 use Rattle.wf_proposer.specs.declared.refusal.Refusal.TheVariants.{Busy, Nothing, RoundsFull, Memory}
 
--- the table's refusal; want of memory is none of the table's
+-- the table's rejection; allocation failure is none of the table's
 abbrev pub refusal_of : Refusal → Option table.Refusal
 refusal_of Busy = Some table.Busy
 refusal_of Nothing = Some table.NothingToRetry
 refusal_of RoundsFull = Some table.RoundsFull
 refusal_of Memory = None
 
--- the table's refusal that was answered, None for a Next and for want of memory
+-- the table's rejection that was answered, None for a Next and for allocation failure
 abbrev pub refused_by : Result Next Refusal → Option table.Refusal
 refused_by (Ok next) = None
 refused_by (Err refusal) = refusal_of refusal
 
--- this is the table's refusal, or none is
+-- this is the table's rejection, or none is
 abbrev pub IsWhyNot : Option table.Refusal → Option Refusal → Type 0
 IsWhyNot why None = why ≡ None
 IsWhyNot why (Some refusal) = (refusal_of refusal ≡ why) × (why ≡ None → ⊥)
 
--- what a refusal says to people
+-- what a rejection says to people
 abbrev pub words_of : Refusal → List ℕ
 words_of Busy = codes "a proposal runs"
 words_of Nothing = codes "no proposal runs"

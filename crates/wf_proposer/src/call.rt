@@ -58,7 +58,7 @@ impl Proposer {
     }
 
     /// A proposal of `own` begins, where round `tried` is stored and the definitions up to `published` are
-    /// published. It is refused as Busy while one runs, then as RoundsFull after the last round.
+    /// published. It is rejected as Busy while one runs, then as RoundsFull after the last round.
     #[tactic(auto, unfolding(wf_model::specs::Table::refuse_proposal, wf_model::specs::Table::on_propose, wf_model::specs::Table::begin_at, wf_model::specs::Table::stores, wf_model::specs::Working::nobody, wf_model::specs::Stored::next_sequence))]
     pub fn start(
         &self,
@@ -86,7 +86,7 @@ impl Proposer {
         }
     }
 
-    /// The running proposal begins anew in a higher round, where round `tried` is stored. It is refused as
+    /// The running proposal begins anew in a higher round, where round `tried` is stored. It is rejected as
     /// Nothing while none runs, and as RoundsFull where the last round was tried or told.
     #[tactic(auto, unfolding(wf_model::specs::Table::refuse_retry, wf_model::specs::Table::on_retry, wf_model::specs::Table::round_known, wf_model::specs::Table::begin_at, wf_model::specs::Table::stores, wf_model::specs::Working::nobody))]
     pub fn retry(&self, alloc: Global, tried: u32) -> Result<Next, Refusal>
@@ -128,7 +128,7 @@ impl Proposer {
         }
     }
 
-    /// A Promise of `from` came. Memory is the only refusal, and it comes only where the answer is heard.
+    /// A Promise of `from` came. Memory is the only rejection, and it comes only where the answer is heard.
     #[tactic(auto, unfolding(wf_model::specs::Table::on_promise, wf_model::specs::Table::quiet))]
     pub fn on_promise(
         &self,
@@ -152,7 +152,7 @@ impl Proposer {
         }
     }
 
-    /// An Accepted of `from` came. Memory is the only refusal, and it comes only where the answer is heard.
+    /// An Accepted of `from` came. Memory is the only rejection, and it comes only where the answer is heard.
     #[tactic(auto, unfolding(wf_model::specs::Table::on_accepted, wf_model::specs::Table::quiet))]
     pub fn on_accepted(
         &self,
@@ -174,7 +174,7 @@ impl Proposer {
         }
     }
 
-    /// A Nack came that names `promised`. It is never refused, and takes no memory.
+    /// A Nack came that names `promised`. It is never rejected, and allocates nothing.
     #[tactic(auto, unfolding(wf_model::specs::Table::on_nack, wf_model::specs::Table::quiet))]
     pub fn on_nack(&self, alloc: Global, slot: Slot, ballot: Ballot, promised: Ballot) -> Next
         ensures { row_of self.now result ≡ table.on_nack (working_of self.now) slot ballot promised }
@@ -188,7 +188,7 @@ impl Proposer {
     }
 
     /// Makes the working part of an answer the node's, and gives back the record, which is stored by now,
-    /// and the messages to hand out. It takes no memory.
+    /// and the messages to hand out. It allocates nothing.
     pub fn commit(&mut self, next: Next) -> (Option<Record>, Vec<Message>)
         ensures working { working_of self.new ≡ (row_of self.old next).working }
         ensures node { self.new.node ≡ self.old.node }
@@ -201,7 +201,7 @@ impl Proposer {
         (entry, messages)
     }
 
-    /// The definition is published at the slot: a proposal that runs for the slot ends. It takes no memory.
+    /// The definition is published at the slot: a proposal that runs for the slot ends. It allocates nothing.
     #[tactic(auto, unfolding(wf_model::specs::Table::ends))]
     pub fn on_published(&mut self, slot: Slot, canon: &Canon)
         ensures working { working_of self.new ≡ (if runs_for slot (working_of self.old) then table.ends definition_eq (working_of self.old) canon.now else working_of self.old) }

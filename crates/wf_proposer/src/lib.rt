@@ -7,8 +7,8 @@
 //! working part once it is committed.
 //!
 //! It promises that each call answers the row of the model's table, as a function of the working part and
-//! the input, and refuses exactly where the table does, want of memory aside; that a call which answers
-//! changes nothing, until `commit` makes the answered working part the node's, which takes no memory; and
+//! the input, and rejects exactly where the table does, allocation failure aside; that a call which answers
+//! changes nothing, until `commit` makes the answered working part the node's, which allocates nothing; and
 //! that an answer which isn't waited for, and each Nack, is answered without memory.
 //!
 //! It doesn't know what is stored: the caller names the round that was tried and the sequence that was

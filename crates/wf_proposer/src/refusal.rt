@@ -2,7 +2,7 @@ use std::alloc::{AllocError, AllocFailed};
 use std::error::Error;
 use std::fmt;
 
-/// Why a proposer refuses. A refusal changes nothing.
+/// Why a proposer rejects. A rejection changes nothing.
 #[derive(Clone, Copy, Debug, PartialEq, Eq)]
 pub enum Refusal {
     /// A proposal runs.
@@ -11,7 +11,7 @@ pub enum Refusal {
     Nothing,
     /// The last round, 4,294,967,295, was tried or told: there is no higher one.
     RoundsFull,
-    /// A growth was refused.
+    /// A growth was rejected.
     Memory,
 }
 

@@ -193,7 +193,7 @@ impl Proposal {
 
     /// A node promised: it is heard, and its vote is the best if it is a better one than the best so far. Once
     /// a majority promised, votes are asked for. An answer that the proposal doesn't wait for has no effect and
-    /// takes no memory.
+    /// allocates nothing.
     #[tactic(auto, using(crate::proofs::HeardSets::heard_rules), unfolding(wf_model::specs::Table::on_promise, wf_model::specs::Table::with_promise, wf_model::specs::Table::quiet))]
     pub fn on_promise(
         &self,
@@ -290,7 +290,7 @@ impl Proposal {
     }
 
     /// A node voted: it is heard. Once a majority voted, the definition is published and the proposal ends. An
-    /// answer that the proposal doesn't wait for has no effect and takes no memory.
+    /// answer that the proposal doesn't wait for has no effect and allocates nothing.
     #[tactic(auto, using(crate::proofs::HeardSets::heard_rules), unfolding(wf_model::specs::Table::on_accepted, wf_model::specs::Table::with_vote, wf_model::specs::Table::quiet))]
     pub fn on_accepted(
         &self,
@@ -341,7 +341,7 @@ impl Proposal {
         }
     }
 
-    /// A node promised a higher ballot: the highest round told is kept for the next try. It takes no memory.
+    /// A node promised a higher ballot: the highest round told is kept for the next try. It allocates nothing.
     #[tactic(auto, unfolding(wf_model::specs::Table::on_nack, wf_model::specs::Table::quiet))]
     pub fn on_nack(&self, alloc: Global, slot: Slot, ballot: Ballot, promised: Ballot) -> Next
         ensures { row_at (Running self.now) result ≡ table.on_nack (model.Running (proposal_of self.now)) slot ballot promised }

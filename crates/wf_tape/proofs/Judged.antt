@@ -149,7 +149,7 @@ bad_by {X} view fault bytes (Ok found) is judged of_bytes some =
       not_torn = λ torn. let e = torn_judged bytes torn in absurd cc;
     }
 
--- what is refused is bad
+-- what is rejected is bad
 pub is_bad : {X : Type 0} (view : X → Record Definition) (result : Result (X × ℕ) RecordFault) (bytes : List ℕ) → IsJudged view result (frame_front bytes) →
     IfErr result (λ fault. IsFaultOfBytes fault → (bytes ≡ [] → ⊥) → IsBad bytes)
 is_bad view (Ok x) bytes judged = tt

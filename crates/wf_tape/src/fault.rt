@@ -8,7 +8,7 @@ use std::alloc::{AllocError, AllocFailed};
 pub enum TapeFault {
     /// The device failed, which is counted.
     Device,
-    /// A growth was refused, and nothing has changed.
+    /// A growth was rejected, and nothing has changed.
     Memory,
 }
 
@@ -37,6 +37,6 @@ pub enum RecordFault {
     Bad,
     /// The text of its definition isn't canonical.
     NotCanonical,
-    /// A growth was refused.
+    /// A growth was rejected.
     Memory,
 }

@@ -42,7 +42,7 @@ impl<T: Tape> Model for Found<T> {
 
 impl<T: Tape> Found<T> {
     /// Reads the tape: its records are the longest list that its content begins with, the oldest first. The
-    /// tape is as it was, and a refusal hands it back.
+    /// tape is as it was, and a rejection hands it back.
     #[tactic(auto, using(crate::proofs::Lists::length_of_read))]
     pub fn read(alloc: Global, tape: T) -> Result<(Found<T>, Vec<Record>), (T, OpenFault)>
         ensures records { IfOk result (λ x. HasRead x.0.bytes (map view x.1.items) x.0.front) }
@@ -66,7 +66,7 @@ impl<T: Tape> Found<T> {
     }
 
     /// The journal of the tape. A torn record behind the whole ones is removed, and what is kept is synced.
-    /// A refusal hands the tape back; but for a failure of the tape itself it is as it was.
+    /// A rejection hands the tape back; but for a failure of the tape itself it is as it was.
     pub fn settle(self) -> Result<Journal<T>, (T, OpenFault)>
         ensures running { IfOk result (λ journal. journal.halted ≡ false) }
         ensures synced { T.honest → (records : _) → HasRead self.bytes records self.front → IfOk result (λ journal. Holds (T.content journal.tape) (T.images journal.tape) records) }

@@ -38,7 +38,7 @@ impl<T: Tape> Model for Journal<T> {
 
 impl<T: Tape> Journal<T> {
     /// The journal of the tape, and its records, the oldest first. A torn record behind the whole ones is
-    /// removed, and what is kept is synced. A refusal hands the tape back; but for a failure of the tape
+    /// removed, and what is kept is synced. A rejection hands the tape back; but for a failure of the tape
     /// itself it is as it was.
     #[tactic(auto, using(crate::proofs::Settling::followed_on, crate::proofs::Settling::unchanged_on, crate::proofs::Settling::why_failed_on, crate::proofs::Settling::not_bad_anywhere))]
     pub fn open(alloc: Global, tape: T) -> Result<(Journal<T>, Vec<Record>), (T, OpenFault)>

@@ -9,7 +9,7 @@ pub enum OpenFault {
     /// P2: behind the whole records stands what is no record and no beginning of one, at this place.
     #[error("P2: a bad record at {0}")]
     BadRecord(usize),
-    /// P3: a growth was refused.
+    /// P3: a growth was rejected.
     #[error("P3: out of memory")]
     Memory,
 }
@@ -20,7 +20,7 @@ pub enum AddFault {
     /// P1: the tape's device failed, and the journal is halted.
     #[error("P1: the tape failed")]
     TapeFailed,
-    /// P3: a growth was refused, and nothing has changed.
+    /// P3: a growth was rejected, and nothing has changed.
     #[error("P3: out of memory")]
     Memory,
 }

@@ -20,7 +20,7 @@ pub enum Record {
 impl Record {
     ghost use Rattle.wf_tape.specs.Record.{view, HasDefinition};
 
-    /// An equal record. The one error is want of memory, for a record that holds a definition.
+    /// An equal record. The one error is allocation failure, for a record that holds a definition.
     pub fn copy(&self) -> Result<Record, AllocError>
         ensures copy { IfOk result (λ r. r ≡ self.now) }
         ensures memory { OnErr result (HasDefinition (view self.now)) }

@@ -40,7 +40,7 @@ pub trait Tape {
         ensures memory { honest → IsErrOf result Memory → IsUnchanged (content self.old) (content self.new) (images self.old) (images self.new) }
         ensures cause { HasCause (failed self.old) (failed self.new) result };
 
-    /// After it a crash leaves the content and nothing else. It takes no memory.
+    /// After it a crash leaves the content and nothing else. It allocates nothing.
     fn sync(&mut self) -> Result<(), TapeFault>
         ensures ok { honest → OnOk result (IsOnlyImage (content self.new) (images self.new)) }
         ensures same { honest → content self.new ≡ content self.old }

@@ -25,7 +25,7 @@ is_text bytes = nat_le (length bytes) most_text_bytes && is_utf8 bytes && list_a
 abbrev pub IsText : List ℕ → Type 0
 IsText bytes = is_text bytes ≡ true
 
--- the fault is want of memory, which says nothing of the bytes
+-- the fault is allocation failure, which says nothing of the bytes
 abbrev pub is_memory : TextFault → Bool
 is_memory OutOfMemory = true
 is_memory TooLong = false

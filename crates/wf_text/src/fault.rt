@@ -1,4 +1,4 @@
-//! Why a number or a text was refused.
+//! Why a number or a text was rejected.
 
 use thiserror::Error;
 

@@ -6,7 +6,7 @@
 //!
 //! It promises that every value is within the limits of `specs/Limit.antt`, and each accessor says so. A text's number is read exactly
 //! as `specs/Number.antt` defines, without floating point and without memory, and a number is written in one way, that of
-//! `specs/NumberText.antt`, without memory too: what is written is read as that number again. Bytes are refused as a text for the first
+//! `specs/NumberText.antt`, without memory too: what is written is read as that number again. Bytes are rejected as a text for the first
 //! of their faults. It says nothing of what a map holds (wf_def), nor of tokens (wf_token).
 #![tactic(auto)]
 

@@ -20,7 +20,7 @@ const UNIT: u64 = 1_000_000;
 const FRACTION_DIGITS: u32 = 6;
 
 /// The canonical text of a number of millionths: `-` where it is negative, no leading zeros, and a fraction without trailing zeros only
-/// where it isn't zero. It takes no memory.
+/// where it isn't zero. It allocates nothing.
 #[derive(Drop)]
 pub struct NumberText {
     bytes: ArrayVec<u8, MOST_NUMBER_BYTES>,

@@ -40,7 +40,7 @@ impl Model for Text {
 }
 
 impl Text {
-    /// The text of these bytes. A refusal names the first of the faults that the bytes have: too long, not UTF-8, a character that no
+    /// The text of these bytes. A rejection names the first of the faults that the bytes have: too long, not UTF-8, a character that no
     /// text may hold, both kinds of quote. `OutOfMemory` comes only where the bytes are a text, whose copy found no memory.
     pub fn new(alloc: Global, bytes: &[u8]) -> Result<Self, TextFault>
         ensures value { IfOk result (λ text. text ≡ bytes.now) }
@@ -96,7 +96,7 @@ fn is_layout(c: char) -> bool
     c == '\t' || c == '\n' || c == '\r'
 }
 
-/// The bytes as a `str`, where they are a text. A refusal names the first of the faults that the bytes have, in the order of
+/// The bytes as a `str`, where they are a text. A rejection names the first of the faults that the bytes have, in the order of
 /// [`TextFault`]; it is never `OutOfMemory`, since nothing is copied.
 #[tactic(auto, unfolding(crate::specs::Text::is_text))]
 pub fn checked(bytes: &[u8]) -> Result<&str, TextFault>

@@ -182,7 +182,7 @@ fn first_forbidden(text: &[u8]) -> Option<usize>
     None
 }
 
-/// Why a string that begins at `opening` is refused, whose bytes are the first `count` of `inside`: for the first character
+/// Why a string that begins at `opening` is rejected, whose bytes are the first `count` of `inside`: for the first character
 /// that no text may hold, for its length, or since it stays open.
 fn refused_string<'a>(
     opening: &'a [u8],

@@ -1,4 +1,4 @@
-//! The tokens of a mapfile: words and strings with their places, and what a text without tokens is refused for.
+//! The tokens of a mapfile: words and strings with their places, and what a text without tokens is rejected for.
 
 use std::alloc::Global;
 
