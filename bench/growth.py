@@ -74,7 +74,7 @@ def main():
     counts = (100, 200, 400)
     tell("features (squares), 512 by 512", counts, [drawn(mapfile("POLYGON", STYLE, squares(it)), 512) for it in counts])
     tell("labels, 512 by 512", counts, [drawn(mapfile("POINT", LABEL, names(it)), 512) for it in counts])
-    sides = (256, 512, 1024)
+    sides = (250, 500, 1_000)  # off the grid: a tile of 256 by 256 would be drawn with its fifteen neighbours
     tell("pixels by side, 100 squares", sides, [drawn(mapfile("POLYGON", STYLE, squares(100)), it) for it in sides])
     full = mapfile("POLYGON", "CLASS STYLE COLOR 1 2 3 END END\n", [feature([(-1, -1), (101, -1), (101, 101), (-1, 101)])])
     bare = mapfile("POLYGON", "CLASS END\n", [feature([(-1, -1), (101, -1), (101, 101), (-1, 101)])])

@@ -128,7 +128,8 @@ def try_page(browser, farm, look, shots):
         if shots:
             browser.save_screenshot(str(shots / f"{name}.png"))
 
-    first, second = ((HERE.parent / "examples" / it).read_bytes() for it in ("lakes.map", "roads.map"))
+    first = (HERE.parent / "examples" / "lakes.map").read_bytes()
+    second = first.replace(b"COLOR 150 190 235", b"COLOR 200 80 80")
     text = lambda id_: browser.find_element(By.ID, id_).text
     set_to = lambda id_, value: browser.execute_script(
         "const it = document.getElementById(arguments[0]); it.value = arguments[1]; it.dispatchEvent(new Event('change'))", id_, value)
@@ -140,7 +141,7 @@ def try_page(browser, farm, look, shots):
     alike, unlike = browser.execute_async_script(COMPARE)
     look(f"the pixels of {alike} tiles are the farm's own, of {unlike} they aren't", alike >= 4 and not unlike)
     shoot("first")
-    look.within(8, "three nodes stand at 1", lambda: text("nodes").count("published 1") == 3)
+    look.within(8, "three nodes stand at 1", lambda: [it.split()[:4] for it in text("nodes").splitlines()] == [["node", str(k), "published", "1"] for k in range(3)])
     farm.ask("/publish", second)
     look.within(8, "a second publish is seen", lambda: text("shown") == "2 of 2")
     look.within(30, "and its tiles", lambda: browser.execute_script(LOADED))

@@ -190,13 +190,14 @@ async function lookForNews() {
   redraw();
 }
 
-// Each connection goes to the farm's next node, so as many questions as there are nodes reach all of them.
+// Each connection goes to the farm's next node, tiles' too; so nodes are asked for until none has been new for a while.
 async function lookAtNodes() {
   const nodes = new Map();
-  for (let k = 0; k < 64; k += 1) {
+  for (let known = 0; known < 4 + nodes.size; known += 1) {
     const line = new TextDecoder().decode(await ask('status')).trim();
     const found = /^node (\d+) published (\d+)/.exec(line);
-    if (!found || nodes.has(found[1])) break;
+    if (!found) break;
+    if (!nodes.has(found[1])) known = -1;
     nodes.set(found[1], [line, Number(found[2])]);
   }
   const most = Math.max(...[...nodes.values()].map((it) => it[1]));
