@@ -9,7 +9,8 @@ that is the code of `rt ci` itself, which this calls. What it leaves out: the pr
 that don't differ and stand on nothing that does. The libraries of those are taken from a checkout on this machine that
 proved exactly the same files (the stamps are compared); one that no checkout has is proved here.
 
-The last line is `N passed, M failed`, the status 0 where nothing failed. Uncommitted changes aren't seen.
+The last line is `N passed, M failed`, the status 0 where nothing failed; libraries that were taken count as passed. Uncommitted
+changes aren't seen.
 """
 
 import argparse
