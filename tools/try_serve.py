@@ -1,10 +1,13 @@
 #!/usr/bin/env python3
 """Tries the built program's `serve`: three nodes, two publishes, equal answers, old maps by MAPSEQ, refusals of which the client hears though
-it is still sending, and a second start on the same folder.
+it is still sending, answers that come whole though the client has sent more than its request, clients that stay or send byte by byte, a
+start at a port that is taken and one on a folder that is in use, and a new start on the same folder. It takes about fifteen seconds, most
+of them waiting for the client that sends byte by byte to be given up.
 
 Usage: tools/try_serve.py [PROGRAM]    (default crates/wfarm/out/wfarm)
 """
 
+import pathlib
 import re
 import socket
 import subprocess
@@ -46,6 +49,35 @@ class Farm:
         except OSError as broken:
             return None, repr(broken)
 
+    def ask_with_more(self, path, more):
+        """What comes back to a GET with so many bytes behind its head, whole or up to where the connection breaks."""
+        came = b""
+        with socket.create_connection(("127.0.0.1", self.port), timeout=20) as client:
+            client.sendall(b"GET %s HTTP/1.1\r\n\r\n" % path.encode() + b"x" * more)
+            time.sleep(0.2)
+            try:
+                while piece := client.recv(1 << 16):
+                    came += piece
+            except OSError:
+                pass
+        return came
+
+    def trickle(self, most):
+        """Sends a head byte by byte, two a second, and never ends it: after how many seconds the connection is closed, `most` at most."""
+        begun = time.monotonic()
+        with socket.create_connection(("127.0.0.1", self.port), timeout=20) as client:
+            client.settimeout(0.5)
+            while time.monotonic() - begun < most:
+                try:
+                    client.sendall(b"G")
+                    if client.recv(1) == b"":
+                        break
+                except TimeoutError:
+                    continue
+                except OSError:
+                    break
+        return time.monotonic() - begun
+
     def keep_open(self, request):
         """A client that sends a request, reads nothing and doesn't close."""
         client = socket.create_connection(("127.0.0.1", self.port), timeout=20)
@@ -68,8 +100,32 @@ def same(name, got, wanted):
     return got == wanted
 
 
+def tapes(folder):
+    """The bytes of each file of a folder."""
+    return {path.name: path.read_bytes() for path in pathlib.Path(folder).iterdir()}
+
+
+def starts_again(program, folder, port):
+    """What becomes of a second start at a port and on a folder: its status, what it prints and what it says of the fault."""
+    words = [program, "serve", "--nodes", "3", "--port", str(port), "--requests", "1", "--state", folder]
+    second = subprocess.run(words, capture_output=True, text=True, timeout=20)
+    return second.returncode, second.stdout, second.stderr
+
+
+def second_start(program, folder, farm):
+    """A torn record at the end of a tape is removed where that is opened: a second start must not open it."""
+    torn = pathlib.Path(folder) / "node-0.tape"
+    with torn.open("ab") as tape:
+        tape.write(b"\x01\x01\x00")
+    before = tapes(folder)
+    yield same("a second start at its port", starts_again(program, folder, farm.port), (1, "", "serve fault\n"))
+    yield same("a second start at another port", starts_again(program, folder, 0), (1, "", "serve fault\n"))
+    yield same("the tapes after it", tapes(folder) == before, True)
+    torn.write_bytes(before[torn.name][:-3])
+
+
 def three_nodes(program, folder):
-    farm = Farm(program, 22, folder)
+    farm = Farm(program, 25, folder)
     red, blue = (MAP % "255 0 0").encode(), (MAP % "0 0 255").encode()
     yield same("a publish", farm.ask("/publish", red), (202, b"accepted for 1\n"))
     for node, proposal in ((1, "none"), (2, "none"), (0, "published 1")):
@@ -88,6 +144,12 @@ def three_nodes(program, folder):
     yield same("a publish by GET", farm.ask("/publish")[0], 405)
     yield same("a map over the limit", farm.ask("/publish", b" " * 65_537)[0], 413)
     yield same("one far over it", farm.ask("/publish", b" " * 100_000)[0], 413)
+    large = "/wms?" + QUERY.replace("WIDTH=4&HEIGHT=4", "WIDTH=200&HEIGHT=200")
+    for more in (0, 20_000):
+        yield same("a picture, %d bytes behind the head" % more, len(farm.ask_with_more(large, more).partition(b"\r\n\r\n")[2]), 120_015)
+    yield from second_start(program, folder, farm)
+    waited = farm.trickle(15)
+    yield same("a client that sends byte by byte is given up", 9 < waited < 12, True)
     for name, request, most in (
         ("a client that was answered and stays", b"GET /status HTTP/1.1\r\n\r\n", 0.5),
         ("one that was refused and stays", b"POST /publish HTTP/1.1\r\nContent-Length: 100000\r\n\r\n", 2),

@@ -2,7 +2,7 @@
 use wf_table::escape::digit;
 use wf_table::{Answer, Answered, Unanswered};
 
-/// Appends the bytes that the digits say, two a byte.
+/// Appends the bytes that the digits spell, two digits a byte.
 pub fn push_hexadecimal(digits: &str, bytes: &mut Answer) -> Answered {
     let mut high = None;
     for byte in digits.as_bytes() {
@@ -14,7 +14,7 @@ pub fn push_hexadecimal(digits: &str, bytes: &mut Answer) -> Answered {
     }
 }
 
-/// Takes a digit. Behind the first of a byte it answers the byte so far, behind the second nothing.
+/// Reads a digit. Returns the byte so far after the first digit of a byte, None after the second.
 fn take(high: Option<u8>, byte: u8, bytes: &mut Answer) -> Result<Option<u8>, Unanswered> {
     let Some(digit) = digit(byte) else {
         return Err(Unanswered::BadWords);

@@ -1,10 +1,11 @@
-//! Calls in words, and their answers in words: what the programs of cases about a farm share.
+//! Calls and their answers as text: what the programs of test cases about a farm share.
 //!
-//! A script names maps and then makes calls, one a line ([`script`]); a call's arguments are read word by word ([`words`], [`message`]).
-//! Answers are appended as lines: single values ([`telling`]), maps, messages, records, tapes, and how a proposal stands. [`member`] has
-//! which node of which farm is asked.
+//! A script names maps and then makes calls, one a line ([`script`]). A call's arguments are read word by word ([`words`],
+//! [`message`]). Answers are appended as lines: single values ([`telling`]), maps, messages, records, tapes, and the state of a
+//! proposal. [`member`] is a node of a farm.
 //!
-//! It promises nothing but that it runs safely: what a value is called in a table of cases is no contract's affair.
+//! Its functions are proved to be safe and to return, and nothing more: no contract says how a value is written in a table of
+//! cases.
 #![tactic(auto)]
 
 pub mod hexadecimal;

@@ -1,4 +1,4 @@
-//! Which node of which farm is asked.
+//! A node of a farm.
 ghost use Rattle.std.specs.Prelude.{◌≡◌, ◌<◌, ◌≤◌};
 
 use crate::words::node;

@@ -17,7 +17,7 @@ use wf_canon::Canon;
 use wf_codec::Message;
 use wf_table::{Unanswered, Words};
 
-/// The words of a message, and what its definition is.
+/// The words of a message, and where its definition comes from.
 #[derive(Clone, Copy)]
 pub struct Spoken<'a> {
     pub alloc: Global,
@@ -40,7 +40,7 @@ impl Spoken<'_> {
         }
     }
 
-    /// The vote that a Promise tells, where words are left.
+    /// The vote that a Promise reports, where words are left.
     pub fn vote(mut self) -> Result<Option<(Ballot, Canon)>, Unanswered> {
         if self.words.is_empty() {
             return Ok(None);

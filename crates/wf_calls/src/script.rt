@@ -9,7 +9,7 @@ use std::alloc::Global;
 use wf_canon::{Canon, CanonFault};
 use wf_table::{Unanswered, Words};
 
-/// The line behind each map.
+/// The line after each map.
 const END: &str = "endmap\n";
 
 /// The maps of a script.
@@ -28,7 +28,7 @@ pub enum Definitions<'a> {
 }
 
 impl Definitions<'_> {
-    /// The definition that the words go on with.
+    /// The definition that comes next in the words.
     pub fn next(self, alloc: Global, words: &mut Words<'_>) -> Result<Canon, Unanswered> {
         match self {
             Definitions::Named(maps) => maps.canon(alloc, words.word()),
@@ -64,7 +64,7 @@ pub fn canon_of(alloc: Global, text: &[u8]) -> Result<Canon, Unanswered> {
     }
 }
 
-/// What stands behind the last map.
+/// What follows the last map.
 fn calls_of(script: &str) -> &str {
     match script.rsplit_once(END) {
         Some((_, calls)) => calls,
@@ -72,7 +72,7 @@ fn calls_of(script: &str) -> &str {
     }
 }
 
-/// The name and the text of a map, given without the line behind it.
+/// The name and the text of a map, given without the line after it.
 fn named(map: &str) -> Option<(&str, &str)> {
     map.strip_prefix("map ")?.split_once('\n')
 }

@@ -8,7 +8,7 @@ pub fn tell_none(answer: &mut Answer) {
     answer.line("none");
 }
 
-/// Appends that a call was made, unless it found no memory.
+/// Appends that a call was made, or remembers that an allocation failed in it.
 pub fn tell_done(made: Result<(), AllocError>, answer: &mut Answer) {
     match made {
         Ok(()) => answer.line("done"),
@@ -41,7 +41,7 @@ pub fn tell_refused<T: Display + Copy>(refusal: T, answer: &mut Answer) {
     tell_printed(refusal, answer);
 }
 
-/// Appends a value that stood at the front of bytes, and how many bytes are left.
+/// Appends a value that was read at the front of bytes, and how many bytes are left.
 pub fn tell_left<T: Display + Copy>(value: T, left: &[u8], answer: &mut Answer) {
     answer.value(value);
     answer.text(", ");

@@ -1,4 +1,4 @@
-//! What a farm counts in, read from words.
+//! Nodes, sequences, slots and ballots, read from words.
 use wf_ballot::{Ballot, NodeId, Seq, Slot};
 use wf_table::{Unanswered, Words};
 

@@ -1,4 +1,4 @@
-//! Maps in words: what stands at a sequence or a slot.
+//! Maps in words: the definition at a sequence or a slot.
 use crate::script::Maps;
 use crate::telling::{tell_none, write_field};
 use crate::words_of_message::write_definition;
@@ -9,7 +9,7 @@ use wf_canon::Canon;
 use wf_def::map::MapDef;
 use wf_table::Answer;
 
-/// Appends a line: a number and the definition that stands there.
+/// Appends a line: a number and the definition there.
 pub fn tell_at<T: Display + Copy>(
     title: &str,
     number: T,

@@ -41,7 +41,7 @@ pub fn write_at(kind: &str, slot: Slot, ballot: Ballot, answer: &mut Answer) {
     write_field(" ballot ", ballot, answer);
 }
 
-/// Appends a kind with the node that says it, its slot and its ballot.
+/// Appends a kind with the node that sends it, its slot and its ballot.
 fn write_from(kind: &str, node: NodeId, slot: Slot, ballot: Ballot, answer: &mut Answer) {
     answer.text(kind);
     write_field(" node ", node, answer);

@@ -30,7 +30,7 @@ pub fn tell_sent(messages: &[Message], maps: Maps<'_>, answer: &mut Answer) {
     answer.line("");
 }
 
-/// Appends what a record says, without its definition.
+/// Appends the fields of a record, without its definition.
 pub fn write_head(record: &Record, answer: &mut Answer) {
     match record {
         Record::Tried(round) => write_field("tried ", *round, answer),

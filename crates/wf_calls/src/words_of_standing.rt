@@ -1,9 +1,9 @@
-//! How a proposal stands, in words.
+//! The state of a proposal, in words.
 use crate::telling::write_field;
 use wf_proposer::Standing;
 use wf_table::Answer;
 
-/// Appends a line: how a proposal stands.
+/// Appends a line: the state of a proposal.
 pub fn tell_standing(standing: Standing, answer: &mut Answer) {
     answer.text("standing: ");
     match standing {

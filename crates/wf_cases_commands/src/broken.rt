@@ -1,4 +1,4 @@
-//! The command `canon` between a reader and a writer of which one fails at one of its calls.
+//! The command `canon` between a reader and a writer, of which one fails at one of its calls.
 use crate::commands::tell_outcome;
 use std::alloc::Global;
 use std::io;
@@ -37,7 +37,7 @@ impl Read for Pieces {
     }
 }
 
-/// Takes 41 bytes a call, if they are the ones that are awaited, and fails at one of the calls.
+/// Takes 41 bytes a call, if they are the expected ones, and fails at one of the calls.
 #[derive(Drop)]
 struct Sink {
     awaited: &'static [u8],

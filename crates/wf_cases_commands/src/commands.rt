@@ -22,7 +22,7 @@ fn run_canon_on(alloc: Global, input: &[u8], output: &mut Answer) -> Result<(), 
     run_canon(alloc, &mut source, &mut sink)
 }
 
-/// `canon`: what the command `canon` writes, or its fault line.
+/// `canon`: what the command `canon` writes, or its error line.
 pub(crate) fn canon(asked: Asked<'_>, answer: &mut Answer) -> Answered {
     let outcome = run_canon_on(asked.alloc, asked.input, answer);
     tell_outcome(outcome, answer);
@@ -87,7 +87,7 @@ fn tell_caps(asked: Asked<'_>, sequence: Seq, query: &Answer, answer: &mut Answe
     Ok(())
 }
 
-/// `caps SEQ QUERY`: what the command `caps` writes about the input, or its fault line. QUERY is spelled with escapes.
+/// `caps SEQ QUERY`: what the command `caps` writes about the input, or its error line. QUERY is spelled with escapes.
 pub(crate) fn caps(mut asked: Asked<'_>, answer: &mut Answer) -> Answered {
     let Some(sequence) = Seq::new(asked.words.short()?) else {
         return Err(Unanswered::BadWords);

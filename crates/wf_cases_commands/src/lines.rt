@@ -41,18 +41,23 @@ fn tell_line(asked_for: Line<'_>, answer: &mut Answer) {
             tell_bracketed(query, answer);
             answer.line("");
         }
+        Line::Draw { query } => {
+            answer.text("draw");
+            tell_bracketed(query, answer);
+            answer.line("");
+        }
     }
 }
 
-// The status that a command line is rejected with.
+// The exit status of a rejected command line.
 fn status_of(error: Error) -> i32 {
     let status = error.exit_code();
     drop(error);
     status
 }
 
-fn tell_refusal(status: i32, answer: &mut Answer) {
-    answer.text("refused with status ");
+fn tell_rejection(status: i32, answer: &mut Answer) {
+    answer.text("rejected with status ");
     answer.value(status.unsigned_abs());
     answer.line("");
 }
@@ -70,7 +75,7 @@ fn words_of<'a>(alloc: Global, text: &'a str, separator: char) -> Result<Vec<&'a
     Ok(words)
 }
 
-// The words of a text that has a word a line, the last line feed left out or not.
+// The words of a text with a word a line, with or without the last line feed.
 fn words_of_lines<'a>(alloc: Global, text: &'a str) -> Result<Vec<&'a str>, Unanswered> {
     words_of(alloc, text.strip_suffix('\n').unwrap_or(text), '\n')
 }
@@ -78,11 +83,12 @@ fn words_of_lines<'a>(alloc: Global, text: &'a str) -> Result<Vec<&'a str>, Unan
 fn tell_words(alloc: Global, words: &[&str], answer: &mut Answer) {
     match line(alloc, words) {
         Ok(asked_for) => tell_line(asked_for, answer),
-        Err(error) => tell_refusal(status_of(error), answer),
+        Err(error) => tell_rejection(status_of(error), answer),
     }
 }
 
-/// `line`: what a command line asks for, or that it is rejected. Its words have spaces between; `line in lines` has a word a line.
+/// `line`: what a command line asks for, or that it is rejected. Its words have spaces between; `line in lines` has a word a
+/// line.
 pub(crate) fn line_of(asked: Asked<'_>, answer: &mut Answer) -> Answered {
     let text = asked.text()?;
     let words = match asked.words.rest() {
@@ -95,12 +101,12 @@ pub(crate) fn line_of(asked: Asked<'_>, answer: &mut Answer) -> Answered {
     Ok(())
 }
 
-// Does what a command line asks for. Nodes are served over sockets, which no case has.
+// Runs what a command line asks for. Nodes are served over sockets, which no case has.
 fn run_words(asked: Asked<'_>, words: &[&str], answer: &mut Answer) -> Answered {
     match line(asked.alloc, words) {
         Ok(asked_for) => run_asked_for(asked, asked_for, answer),
         Err(error) => {
-            tell_refusal(status_of(error), answer);
+            tell_rejection(status_of(error), answer);
             Ok(())
         }
     }
@@ -120,7 +126,8 @@ fn run_asked_for(asked: Asked<'_>, asked_for: Line<'_>, answer: &mut Answer) -> 
     Ok(())
 }
 
-/// `run WORDS`: what the program writes about the input, or its fault line. WORDS are the command line's, spelled with escapes, with `\n` between.
+/// `run WORDS`: what the program writes about the input, or its error line. WORDS are the command line's, spelled with escapes,
+/// with `\n` between.
 pub(crate) fn run(asked: Asked<'_>, answer: &mut Answer) -> Answered {
     let mut text = Answer::new(asked.alloc);
     let told = match unescape(asked.words.rest(), &mut text) {

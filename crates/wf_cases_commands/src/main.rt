@@ -1,11 +1,11 @@
-//! Cases of scripts and of command lines: what a script writes, what a command line asks for, and what the commands write, with
-//! their fault lines.
+//! Test cases about scripts and command lines: what a script writes, what a command line asks for, and what the commands write,
+//! with their error lines.
 //!
-//! A table of cases comes from standard input (`wf_table` has its language), each answer is compared with
-//! the expected one, and what differs is told, with the counts on the last line. [`played`] has the question about scripts,
-//! [`commands`] those about what the commands write, [`lines`] those about command lines, and [`questions`] has all by their names.
+//! Standard input is a table of cases (`wf_table` defines its format). The program compares each answer with the expected one and
+//! writes each difference, with the counts on the last line. [`played`] has the question about scripts, [`commands`] those about
+//! the commands' output, [`lines`] those about command lines, and [`questions`] all by their names.
 //!
-//! It promises nothing of its own: the answers are those of `wf_script` and `wf_commands`.
+//! It has no contract of its own: its answers are those of `wf_play` and `wf_commands`.
 #![tactic(auto)]
 
 mod broken;

@@ -1,9 +1,9 @@
 //! Scripts.
-use wf_script::run_script;
+use wf_play::run_script;
 use wf_stream::Stream;
 use wf_table::{Answer, Answered, Asked};
 
-/// `script`: what the script writes, and its fault line behind that, where it has one.
+/// `script`: what the script writes, and its error line after that, where it has one.
 pub(crate) fn script(asked: Asked<'_>, answer: &mut Answer) -> Answered {
     let mut source = Stream::new(asked.input);
     let mut sink = Stream::new(answer.target());

@@ -2,7 +2,7 @@
 use crate::{broken, commands, lines, played};
 use wf_table::{Answer, Answered, Asked, Questions, Unanswered};
 
-/// All that this program can be asked.
+/// All questions of this program.
 pub(crate) struct CommandQuestions;
 
 impl Questions for CommandQuestions {

@@ -1,4 +1,4 @@
-//! A tape that takes nothing.
+//! A tape on which every append fails.
 use std::alloc::Global;
 use wf_tape::{Tape, TapeFault};
 

@@ -1,10 +1,12 @@
-//! How a request is read and its response written; and a request that is heard, or answered at once.
+//! How a request is read and its response written; and a request that is read, or answered at once.
+use crate::faltering::{Failure, Faltering};
 use std::alloc::Global;
+use std::io::ErrorKind;
 use wf_edge::hearing::hear;
 use wf_edge::outcome::Outcome;
 use wf_edge::request::Request;
 use wf_edge::resource::Asked as Resource;
-use wf_stream::{Bytes, Output};
+use wf_stream::{Output, Stream};
 use wf_table::{Answer, Answered, Asked, Unanswered, Words};
 
 /// More bytes than any request or response of a case has.
@@ -15,14 +17,14 @@ const ALL: usize = 1_048_576;
 pub(crate) struct Exchange {
     // how many bytes a read gives at most
     piece: usize,
-    // how many reads come before the one that fails
-    until_failure: Option<u64>,
+    // which read fails, and how
+    failure: Option<Failure>,
     // how many bytes the writer takes
     room: usize,
 }
 
 impl Exchange {
-    /// The way that words name; without any the request comes in one piece, and the response is taken whole.
+    /// The way that words name; without words the request comes in one piece, and the response is taken whole.
     pub(crate) fn read(mut words: Words<'_>) -> Result<Exchange, Unanswered> {
         match words.word() {
             "" => Ok(Exchange::new(ALL, None, ALL)),
@@ -32,39 +34,48 @@ impl Exchange {
         }
     }
 
-    // Reads `N` or `N failing at K`: the K-th call of the reader fails, counted from 1.
+    // Reads `N` or `N HOW at K`: so the K-th call of the reader fails, counted from 1.
     fn read_piece(mut words: Words<'_>) -> Result<Exchange, Unanswered> {
         let piece = words.count()?;
         match words.word() {
             "" => Ok(Exchange::new(piece, None, ALL)),
-            "failing" => Ok(Exchange::new(piece, Some(read_call(words)?), ALL)),
+            "failing" => Exchange::failing(piece, ErrorKind::ConnectionReset, words),
+            "interrupted" => Exchange::failing(piece, ErrorKind::Interrupted, words),
+            "timed-out" => Exchange::failing(piece, ErrorKind::TimedOut, words),
+            "out-of-memory" => Exchange::failing(piece, ErrorKind::OutOfMemory, words),
             _ => Err(Unanswered::BadWords),
         }
     }
 
-    fn new(piece: usize, until_failure: Option<u64>, room: usize) -> Self {
+    // Reads `at K`.
+    fn failing(piece: usize, kind: ErrorKind, words: Words<'_>) -> Result<Exchange, Unanswered> {
+        let after = read_call(words)?;
+        Ok(Exchange::new(piece, Some(Failure { after, kind }), ALL))
+    }
+
+    fn new(piece: usize, failure: Option<Failure>, room: usize) -> Self {
         Exchange {
             piece,
-            until_failure,
+            failure,
             room,
         }
     }
 
-    /// The reader that gives a request so.
-    pub(crate) fn reader(self, input: &[u8]) -> Result<Bytes<'_>, Unanswered> {
+    /// The reader that gives a request in this way.
+    pub(crate) fn reader(self, input: &[u8]) -> Result<Stream<Faltering<'_>>, Unanswered> {
         if self.piece == 0 {
             return Err(Unanswered::BadWords);
         }
-        Ok(Bytes::new(input, self.piece, self.until_failure))
+        Ok(Stream::new(Faltering::new(input, self.piece, self.failure)))
     }
 
-    /// The writer that takes a response so.
+    /// The writer that takes a response in this way.
     pub(crate) fn writer(self, alloc: Global) -> Output {
         Output::new(alloc, self.room)
     }
 }
 
-// How many reads come before the one that `at K` says.
+// How many reads come before the one that `at K` names.
 fn read_call(mut words: Words<'_>) -> Result<u64, Unanswered> {
     if words.word() != "at" {
         return Err(Unanswered::BadWords);
@@ -99,7 +110,7 @@ fn name(resource: Resource) -> &'static str {
     }
 }
 
-// Appends what a request asks for, its query and how long its body is.
+// Appends what a request asks for, its query and the length of its body.
 fn tell_request(request: &Request, answer: &mut Answer) {
     answer.text(name(request.asked()));
     answer.bytes(request.query());
@@ -124,7 +135,7 @@ fn tell(heard: &Result<Request, Outcome>, answer: &mut Answer) {
     }
 }
 
-/// Appends what is heard of a request that is read and answered so, or the outcome, and what is written.
+/// Appends what was read of a request in this way, or the outcome, and what was written.
 pub(crate) fn tell_hearing(asked: Asked<'_>, way: Exchange, answer: &mut Answer) -> Answered {
     let mut reader = way.reader(asked.input)?;
     let mut writer = way.writer(asked.alloc);

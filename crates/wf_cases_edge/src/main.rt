@@ -1,14 +1,15 @@
-//! Cases of the edge of a node: requests as bytes, what is heard of them or answered at once, and what a node answers.
+//! Test cases about the HTTP edge of a node: requests as bytes, what is read of them or answered at once, and what a node
+//! answers.
 //!
-//! A table of cases comes from standard input (`wf_table` has its language), each answer is compared with
-//! the expected one, and what differs is told, with the counts on the last line. [`questions`] has the
-//! questions.
+//! Standard input is a table of cases (`wf_table` defines its format). The program compares each answer with the expected one and
+//! writes each difference, with the counts on the last line. [`questions`] lists the questions.
 //!
-//! It promises nothing of its own: the answers are those of `wf_edge`.
+//! It has no contract of its own: its answers are those of `wf_edge`.
 #![tactic(auto)]
 
 mod broken;
 mod exchange;
+mod faltering;
 mod questions;
 mod serving;
 

@@ -1,12 +1,14 @@
 //! The questions. The input is what a client sends.
 //!
 //! ```text
-//! hear                       what is heard of the request, or what became of it, and the bytes that are written
+//! hear                       what was read of the request, or what became of it, and the bytes that are written
 //! hear by N                  the same, where a read gives at most N bytes
-//! hear by N failing at K     the same, where the K-th read fails
+//! hear by N failing at K     the same, where the K-th read fails, as one whose connection is reset; `interrupted`, `timed-out` or
+//!                            `out-of-memory` in place of `failing`: it fails so. The reads after it go on
 //! hear room N                the same, where the writer takes N bytes and then fails
-//! serve NODE of NODES [WAY]  what a new node of so many answers to the request, and the messages that it sends. Bytes of 0 part several
-//!                            requests, each of which is read and answered by the same way: `by N`, `by N failing at K`, `room N`
+//! serve NODE of NODES [WAY]  what a new node NODE, of NODES, answers to the request, and the messages that it sends. Bytes of 0
+//!                            separate several requests; each is read and answered in the same way: `by N`, `by N failing at K` and
+//!                            so on, `room N`
 //! refuse NODE of NODES [WAY] the same, where the node's tape fails
 //! ```
 use crate::broken::Broken;
@@ -15,7 +17,7 @@ use crate::serving::serve;
 use wf_table::{Answer, Answered, Asked, Questions, Unanswered};
 use wf_tape::MemoryTape;
 
-/// What is asked of the edge.
+/// The questions about the edge.
 pub(crate) struct Edge;
 
 impl Questions for Edge {

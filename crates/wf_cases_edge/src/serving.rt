@@ -44,7 +44,7 @@ fn serve_by<T: Tape + Drop>(
     }
 }
 
-// One request after the other: bytes of 0 part them, which no head can hold.
+// One request after the other: bytes of 0, which no head can hold, separate them.
 fn serve_each<T: Tape>(
     asked: Asked<'_>,
     node: &mut Node<T>,

@@ -1,4 +1,4 @@
-//! An acceptor that is asked by a script. The record of each answer is applied.
+//! An acceptor that a script calls. The record of each answer is applied.
 //!
 //! ```text
 //! prepare SLOT BALLOT          what to store and to send
@@ -7,7 +7,7 @@
 //! is_published SLOT            yes, no
 //! ```
 //!
-//! A slot that is published can't be asked about.
+//! `prepare` and `accept` can't name a published slot.
 use std::alloc::{AllocError, Global};
 use wf_acceptor::{Acceptor, Answer as Reply};
 use wf_ballot::Slot;
@@ -87,7 +87,7 @@ impl Session<'_> {
         }
     }
 
-    /// Applies the record of a reply, and tells the reply.
+    /// Applies the record of a reply, and appends the reply.
     fn take_reply(&mut self, reply: Reply, answer: &mut Answer) -> Answered {
         let stored = self.store(reply.entry.as_ref());
         tell_reply(&reply, self.maps, answer);

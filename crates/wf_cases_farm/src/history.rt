@@ -1,4 +1,4 @@
-//! A history that is asked by a script.
+//! A history that a script calls.
 //!
 //! ```text
 //! learn SLOT MAP      `published`, `known` or `missing from slot N`: what became of the definition, which is chosen at the slot

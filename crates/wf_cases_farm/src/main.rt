@@ -1,23 +1,25 @@
-//! Cases of what the nodes of a farm count in, of the bytes of their messages and tapes, and of what an
-//! acceptor, a proposer and a history answer to a script of calls.
+//! Test cases about a farm's node numbers, sequences, slots and ballots, the bytes of its messages and tapes, and what an
+//! acceptor, a proposer, a history and a whole node answer to a script of calls; and what a node opens with on a tape.
 //!
-//! A table of cases comes from standard input (`wf_table` has its language), each answer is compared with
-//! the expected one, and what differs is told, with the counts on the last line. [`questions`] has the
-//! questions.
+//! Standard input is a table of cases (`wf_table` defines its format). The program compares each answer with the expected one and
+//! writes each difference, with the counts on the last line. [`questions`] lists the questions.
 //!
-//! It promises nothing of its own: the answers are those of `wf_ballot`, `wf_codec`, `wf_tape`,
-//! `wf_acceptor`, `wf_proposer` and `wf_learner`, put into words.
+//! It has no contract of its own: its answers are those of `wf_ballot`, `wf_codec`, `wf_tape`, `wf_acceptor`, `wf_proposer`,
+//! `wf_learner` and `wf_node`, put into words.
 #![tactic(auto)]
 
 mod acceptor;
 mod history;
 mod message;
+mod node;
 mod number;
+mod opening;
 mod proposer;
 mod questions;
 mod reading;
 mod spelling;
 mod tape;
+mod taping;
 mod tries;
 
 use questions::Farm;

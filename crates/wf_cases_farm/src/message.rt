@@ -1,4 +1,4 @@
-//! What is asked of messages.
+//! The questions about messages.
 use crate::reading::{tell_beginnings, tell_copy, tell_decoded};
 use crate::spelling::tell_encoded;
 use wf_calls::telling::tell_printed;
@@ -19,7 +19,7 @@ pub(crate) fn ask(mut asked: Asked<'_>, answer: &mut Answer) -> Answered {
     }
 }
 
-/// Appends the fault that a word stands for, as it is printed.
+/// Appends the error that a word names, as it is printed.
 fn tell_fault_named(asked: Asked<'_>, answer: &mut Answer) -> Answered {
     let fault = fault_named(Words::of(asked.input)?.word())?;
     tell_printed(fault, answer);

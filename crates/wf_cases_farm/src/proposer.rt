@@ -1,4 +1,4 @@
-//! A proposer that is asked by a script. Each answer is committed, and in the end the standing is told.
+//! A proposer that a script calls. Each answer is committed, and the last line is the state of the proposal.
 //!
 //! ```text
 //! start TRIED PUBLISHED MAP                what to store and to send, where the round TRIED is stored and
@@ -10,7 +10,7 @@
 //! published SLOT MAP                       `done`: the definition is published at the slot
 //! ```
 //!
-//! A call that is rejected is answered by `refused: ` and the rejection as it is printed.
+//! The answer to a rejected call is `refused: ` and the rejection as it is printed.
 use std::alloc::Global;
 use wf_ballot::SEQUENCES;
 use wf_calls::message::Spoken;
@@ -29,7 +29,7 @@ struct Session<'a> {
     proposer: Proposer,
 }
 
-/// Appends what the proposer of a node, of a farm of so many nodes, answers to each call, and its standing.
+/// Appends what the proposer of a node, of a farm of that many nodes, answers to each call, and the state of its proposal.
 pub(crate) fn ask(mut asked: Asked<'_>, answer: &mut Answer) -> Answered {
     let node = words::node(&mut asked.words)?;
     if asked.words.word() != "of" {
@@ -136,7 +136,7 @@ impl Session<'_> {
         Ok(())
     }
 
-    /// Tells the rejection, or what the answer has, which is committed.
+    /// Appends the rejection, or the answer, which is committed.
     fn give(&mut self, answered: Result<Next, Refusal>, answer: &mut Answer) -> Answered {
         match answered {
             Ok(next) => self.commit(next, answer),

@@ -7,7 +7,7 @@ use wf_calls::words_of_message::write_message;
 use wf_codec::{DecodeFault, Message, decode};
 use wf_table::{Answer, Answered, Asked, Unanswered};
 
-/// Appends how many bytes the message at the front has, and the message; or the fault.
+/// Appends how many bytes the message at the front has, and the message; or the error.
 pub(crate) fn tell_decoded(asked: Asked<'_>, answer: &mut Answer) -> Answered {
     match decode(asked.alloc, asked.input) {
         Ok((message, count)) => tell_read(message, count, answer),

@@ -1,10 +1,10 @@
-//! Messages that are made of words, and spelled.
+//! Messages made of words, and their bytes.
 use wf_calls::message::Spoken;
 use wf_calls::script::Definitions;
 use wf_codec::{Message, encode};
 use wf_table::{Answer, Answered, Asked};
 
-/// Appends `message ` and behind it the bytes of the message that the words say; its definition, if it has one, is given by its
+/// Appends `message ` and then the bytes of the message that the words spell; its definition, if it has one, is given by its
 /// canonical text.
 pub(crate) fn tell_encoded(asked: Asked<'_>, answer: &mut Answer) -> Answered {
     answer.text("message ");

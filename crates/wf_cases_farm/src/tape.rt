@@ -1,4 +1,4 @@
-//! What is asked of tapes: the records that their bytes open with, and the bytes that are left then.
+//! The questions about tapes: the records that their bytes open with, and the bytes that are left then.
 use std::alloc::Global;
 use wf_ballot::Slot;
 use wf_calls::script::canon_of;
@@ -18,7 +18,7 @@ pub(crate) fn ask(mut asked: Asked<'_>, answer: &mut Answer) -> Answered {
     }
 }
 
-/// Appends each record, or the fault, and how many bytes are on the tape then.
+/// Appends each record, or the error, and how many bytes are on the tape then.
 fn tell_opened(asked: Asked<'_>, answer: &mut Answer) -> Answered {
     match Journal::open(asked.alloc, tape_of(asked.alloc, asked.input)?) {
         Ok((journal, records)) => tell_records(journal, records, answer),
@@ -45,7 +45,7 @@ fn tell_refused(tape: MemoryTape, fault: OpenFault, answer: &mut Answer) -> Answ
     Ok(())
 }
 
-/// Appends a record in words, and behind it the text of its definition.
+/// Appends a record in words, and then the text of its definition.
 fn tell_record(record: &Record, answer: &mut Answer) {
     write_head(record, answer);
     answer.line("");
@@ -55,8 +55,8 @@ fn tell_record(record: &Record, answer: &mut Answer) {
     }
 }
 
-/// Appends how many of the beginnings that hold the first bytes, as many as the word says, and not all bytes, open with
-/// just those first bytes left.
+/// Appends how many proper beginnings of the bytes open with exactly the first N bytes left, of those that hold these N bytes.
+/// The word is N.
 fn tell_torn(mut asked: Asked<'_>, answer: &mut Answer) -> Answered {
     let whole = asked.words.count()?;
     let torn = count_torn(asked.alloc, whole, asked.input)?;

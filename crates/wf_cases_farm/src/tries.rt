@@ -90,7 +90,7 @@ fn ballot_compare(asked: Asked<'_>, answer: &mut Answer) -> Answered {
     Ok(())
 }
 
-/// How a ballot stands to another, where the call, `<` and `==` agree on it.
+/// How a ballot compares to another, where the call, `<` and `==` agree on it.
 fn order(first: Ballot, second: Ballot) -> &'static str {
     match (first.is_below(second), first < second, first == second) {
         (true, true, false) => "below",

@@ -9,7 +9,7 @@ use wf_def::micro::Micro;
 use wf_def::text::Text;
 use wf_table::{Answer, Answered, Asked, Unanswered, Words};
 
-/// `canonical_number`: the canonical text of so many millionths, behind what is written already.
+/// `canonical_number`: the canonical text of a number of millionths, after what is written already.
 pub(crate) fn number(asked: Asked<'_>, answer: &mut Answer) -> Answered {
     let millionths = Words::of(asked.input)?.signed()?;
     let Some(number) = Micro::from_millionths(millionths) else {
@@ -119,7 +119,7 @@ const BEFORE_TITLE: &str =
 const BEHIND_TITLE: &str =
     "\n\"wms_abstract\" \"\"\n\"wms_onlineresource\" \"http://localhost/wms?\"\nEND\nEND\nEND\n";
 
-// What stands for the title in the canonical text; all of a text that isn't of this form.
+// The spelling of the title in the canonical text; the whole text where it isn't of this form.
 fn spelled_title(text: &[u8]) -> &[u8] {
     match text.strip_prefix(BEFORE_TITLE.as_bytes()) {
         Some(rest) => rest.strip_suffix(BEHIND_TITLE.as_bytes()).unwrap_or(text),

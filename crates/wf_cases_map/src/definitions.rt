@@ -34,7 +34,7 @@ pub(crate) fn attribute_of_lists(asked: Asked<'_>, answer: &mut Answer) -> Answe
     Ok(())
 }
 
-// A style that draws nothing, so wide.
+// A style of this width that draws nothing.
 fn style_of_width(width: u8) -> Result<Style, Unanswered> {
     match (Whole::new(width), Whole::new(1)) {
         (Some(width), Some(size)) => Ok(Style {
@@ -117,7 +117,7 @@ fn tell_copy_of_classes(classes: &Classes, answer: &mut Answer) {
     }
 }
 
-/// `classes`: a copy of so many empty classes, as far as there is room.
+/// `classes`: a copy of that many empty classes, as far as there is room.
 pub(crate) fn classes(asked: Asked<'_>, answer: &mut Answer) -> Answered {
     let count = Words::of(asked.input)?.count()?;
     let mut classes = Classes::new(asked.alloc);
@@ -157,7 +157,7 @@ fn push_points(part: &mut Part, count: usize) -> Result<(), AllocError> {
     Ok(())
 }
 
-// Parts of so many points each, as the words say.
+// Parts, each with as many points as its word says.
 fn parts_of_points(alloc: Global, words: &str) -> Result<Parts, Unanswered> {
     let mut parts = Parts::new(alloc);
     match push_parts(alloc, words, &mut parts) {
@@ -290,7 +290,7 @@ fn tell_layer_of_parts(
     }
 }
 
-/// `shape KIND`: whether a layer of the kind can have one feature, whose parts have so many points.
+/// `shape KIND`: whether a layer of the kind can have one feature whose parts have these numbers of points.
 pub(crate) fn shape(asked: Asked<'_>, answer: &mut Answer) -> Answered {
     let kind = kind_of(asked.words.rest())?;
     match parts_of_points(asked.alloc, asked.text()?) {
@@ -311,7 +311,7 @@ pub(crate) fn items(asked: Asked<'_>, answer: &mut Answer) -> Answered {
     )
 }
 
-/// `empty_map`: the map that a farm begins with.
+/// `empty_map`: the map at the start of a farm.
 pub(crate) fn empty_map(asked: Asked<'_>, answer: &mut Answer) -> Answered {
     match MapDef::empty(asked.alloc) {
         Ok(map) => tell_map(map, answer),

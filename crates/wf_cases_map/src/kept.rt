@@ -57,7 +57,7 @@ fn tell_kept(kept: &Given, plain: &Given, answer: &mut Answer) -> Answered {
     Ok(())
 }
 
-// Tells an answer by the cache beside the one without it.
+// Appends an answer by the cache beside the one without it.
 fn tell_beside(
     alloc: Global,
     history: &History,
@@ -127,8 +127,9 @@ fn ask_published(asked: Asked<'_>, history: &mut History, answer: &mut Answer) -
     ask_all(asked.alloc, history, asked.words.rest(), answer)
 }
 
-/// `kept QUERY ..`: what is answered to the queries in turn by one cache of one picture, at the last sequence of the maps of the input,
-/// which are published one after the other: of each the first pixel as a letter, and whether it is what is answered without a cache.
+/// `kept QUERY ..`: what is answered to the queries in turn by one cache of one picture, at the last sequence of the maps of the
+/// input, which are published one after the other: of each the first pixel as a letter, and whether it is what is answered
+/// without a cache.
 pub(crate) fn kept(asked: Asked<'_>, answer: &mut Answer) -> Answered {
     match History::new(asked.alloc) {
         Ok(mut history) => {

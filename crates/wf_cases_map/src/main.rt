@@ -1,11 +1,10 @@
-//! Cases about numbers, texts, definitions, tokens, mapfiles, canonical texts and requests.
+//! Test cases about numbers, texts, definitions, tokens, mapfiles, canonical texts and requests.
 //!
-//! Standard input is a table of cases (`wf_table` has its language); standard output is the report, whose last line has the counts. Each
-//! question is one function, by subject: `numbers`, `texts`, `definitions`, `tokens`, `mapfiles`, `canonical`, `requests`, `maps`,
-//! `reports`.
-//! `shown` has how definitions are shown.
+//! Standard input is a table of cases (`wf_table` defines its format); standard output is the report, whose last line has the
+//! counts. Each question is one function, by subject: `numbers`, `texts`, `definitions`, `tokens`, `mapfiles`, `canonical`,
+//! `requests`, `maps`, `reports`. `shown` has how definitions are shown.
 //!
-//! It promises nothing but that it runs safely to its end: what the cases show is in the table.
+//! The program is proved to be safe and to return, and nothing more: what the cases show is in the table.
 #![tactic(auto)]
 
 mod canonical;

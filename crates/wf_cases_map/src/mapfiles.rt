@@ -1,4 +1,4 @@
-//! Mapfiles: what they mean, or why they mean nothing.
+//! Mapfiles: the map that they mean, or the error.
 use crate::shown::{write_class, write_fault, write_layers, write_map};
 use crate::wrapping::{CLASS, Wrapping, wrapping_of};
 use std::alloc::Global;
@@ -10,7 +10,7 @@ use wf_def::text::Text;
 use wf_mapfile::fault::MapFault;
 use wf_table::{Answer, Answered, Asked, Unanswered};
 
-// What is told of a map.
+// What is written about a map.
 #[derive(Clone, Copy)]
 enum Told<'a> {
     Map,
@@ -47,7 +47,7 @@ impl Told<'_> {
         }
     }
 
-    // The same of the map that an input means in a wrapping; or the fault.
+    // The same of the map that an input means in a wrapping; or the error.
     fn tell_read(self, asked: Asked<'_>, wrapping: Wrapping, answer: &mut Answer) {
         match wrapping.read(asked.alloc, asked.input) {
             Ok(map) => self.tell(map, answer),
@@ -56,7 +56,7 @@ impl Told<'_> {
     }
 }
 
-/// `map`: a copy of the map, without its layers, or the fault.
+/// `map`: a copy of the map, without its layers, or the error.
 pub(crate) fn map(asked: Asked<'_>, answer: &mut Answer) -> Answered {
     match wf_mapfile::read(asked.alloc, asked.input) {
         Ok(map) => Told::Map.tell_copy(map, answer),
@@ -65,7 +65,7 @@ pub(crate) fn map(asked: Asked<'_>, answer: &mut Answer) -> Answered {
     Ok(())
 }
 
-/// `layers PIECE`: a copy of the layers, or the fault.
+/// `layers PIECE`: a copy of the layers, or the error.
 pub(crate) fn layers(asked: Asked<'_>, answer: &mut Answer) -> Answered {
     let wrapping = wrapping_of(asked.words.rest())?;
     match wrapping.read(asked.alloc, asked.input) {
@@ -94,10 +94,10 @@ fn write_classes(map: &MapDef, answer: &mut Answer) {
     }
 }
 
-/// `class`: a copy of the class behind whose word CLASS the input stands, or the fault.
+/// `class`: a copy of the class whose text after the word CLASS is the input, or the error.
 ///
-/// The input alone leaves the layer and the map open, which is M6 at its end. It has ended its class where the ends of the layer and
-/// of the map make a mapfile of it.
+/// The input alone leaves the layer and the map open, which is M6 at its end. It has ended its class where the ends of the layer
+/// and of the map make a mapfile of it.
 pub(crate) fn class(asked: Asked<'_>, answer: &mut Answer) -> Answered {
     let open = Wrapping {
         front: CLASS.front,
@@ -155,7 +155,7 @@ fn write_sizes(map: &MapDef, answer: &mut Answer) {
     answer.line(" points");
 }
 
-/// `sizes PIECE`: how much of everything the map has, or the fault.
+/// `sizes PIECE`: how much of everything the map has, or the error.
 pub(crate) fn sizes(asked: Asked<'_>, answer: &mut Answer) -> Answered {
     let wrapping = wrapping_of(asked.words.rest())?;
     Told::Sizes.tell_read(asked, wrapping, answer);
@@ -182,7 +182,7 @@ fn write_classes_of_features(map: &MapDef, answer: &mut Answer) {
     }
 }
 
-/// `class_of`: the place of each feature's class, where the input stands in a layer whose features have a kind and a size.
+/// `class_of`: the index of each feature's class, where the input is in a layer whose features have a kind and a size.
 pub(crate) fn class_of(asked: Asked<'_>, answer: &mut Answer) -> Answered {
     let wrapping = wrapping_of("kinds")?;
     Told::ClassesOfFeatures.tell_read(asked, wrapping, answer);
@@ -210,7 +210,8 @@ fn write_attributes(map: &MapDef, name: &Text, answer: &mut Answer) {
     }
 }
 
-/// `attribute_of NAME`: each feature's attribute of the name, where the input stands in a layer whose features have a kind and a size.
+/// `attribute_of NAME`: each feature's attribute of the name, where the input is in a layer whose features have a kind and a
+/// size.
 pub(crate) fn attribute_of(asked: Asked<'_>, answer: &mut Answer) -> Answered {
     let wrapping = wrapping_of("kinds")?;
     match Text::new(asked.alloc, asked.words.rest().as_bytes()) {

@@ -197,8 +197,8 @@ fn tell_drawn(asked: Asked<'_>, query: &Answer, answer: &mut Answer) -> Answered
     }
 }
 
-/// `drawn QUERY`: the pixels, as letters, of the picture of 4 by 4 pixels that the query gets at update sequence 1, where the map of the
-/// input is published. QUERY is spelled with escapes.
+/// `drawn QUERY`: the pixels, as letters, of the picture of 4 by 4 pixels that the query gets at update sequence 1, where the map
+/// of the input is published. QUERY is spelled with escapes.
 pub(crate) fn drawn(asked: Asked<'_>, answer: &mut Answer) -> Answered {
     let mut query = Answer::new(asked.alloc);
     let told = match unescape(asked.words.rest(), &mut query) {

@@ -11,7 +11,7 @@ fn tell_number(number: Micro, answer: &mut Answer) {
     answer.line("");
 }
 
-/// `number`: the millionths that a text means, or why it means none.
+/// `number`: the millionths that a text means, or the error.
 pub(crate) fn number(asked: Asked<'_>, answer: &mut Answer) -> Answered {
     match Micro::read(asked.input) {
         Ok(number) => tell_number(number, answer),
@@ -21,7 +21,7 @@ pub(crate) fn number(asked: Asked<'_>, answer: &mut Answer) -> Answered {
     Ok(())
 }
 
-/// `millionths`: the number of so many millionths, in millionths, where it is within the limits.
+/// `millionths`: the number of that many millionths, in millionths, where it is within the limits.
 pub(crate) fn millionths(asked: Asked<'_>, answer: &mut Answer) -> Answered {
     let millionths = Words::of(asked.input)?.signed()?;
     match Micro::from_millionths(millionths) {

@@ -5,7 +5,7 @@ use crate::{
 };
 use wf_table::{Answer, Answered, Asked, Questions, Unanswered};
 
-/// All that this program can be asked.
+/// All questions of this program.
 pub(crate) struct MapQuestions;
 
 fn about_numbers(question: &str, asked: Asked<'_>, answer: &mut Answer) -> Answered {

@@ -38,7 +38,7 @@ fn write_kind(kind: Kind, answer: &mut Answer) {
     }
 }
 
-/// Appends the kind, the media type and the length of what a query is given.
+/// Appends the kind, the media type and the length of the answer to a query.
 pub(crate) fn tell_summary(given: Given, answer: &mut Answer) {
     write_kind(given.kind, answer);
     answer.text(", ");

@@ -1,4 +1,4 @@
-//! How definitions and faults are shown, piece by piece.
+//! How definitions and errors are shown, piece by piece.
 use crate::numbers::write_sides;
 use wf_def::choice::{LabelPosition, LabelSize, LayerKind, Projection};
 use wf_def::class::Class;
@@ -18,7 +18,7 @@ fn write_barred(text: &Text, answer: &mut Answer) {
     answer.text("|");
 }
 
-// Appends a number behind a space.
+// Appends a space and a number.
 fn write_number(number: u8, answer: &mut Answer) {
     answer.text(" ");
     answer.value(number);
@@ -172,7 +172,7 @@ pub(crate) fn write_class(class: &Class, answer: &mut Answer) {
     answer.line("");
 }
 
-// Appends a fault's name, and its place in a piece that stands behind so many bytes.
+// Appends an error's name, and its byte offset in a piece that follows `front` bytes.
 fn write_placed(name: &str, place: usize, front: usize, answer: &mut Answer) {
     answer.text(name);
     answer.text(" at ");
@@ -180,7 +180,7 @@ fn write_placed(name: &str, place: usize, front: usize, answer: &mut Answer) {
     answer.line("");
 }
 
-/// Appends a fault, with its place in a piece that stands behind so many bytes.
+/// Appends an error, with its byte offset in a piece that follows `front` bytes.
 pub(crate) fn write_fault(fault: MapFault, front: usize, answer: &mut Answer) {
     match fault {
         MapFault::Memory => answer.cut(),

@@ -1,4 +1,4 @@
-//! Mapfiles that are spelled otherwise, or cut.
+//! Mapfiles that are spelled in another way, or cut.
 use crate::shown::{tell_map, write_fault};
 use crate::wrapping::{Wrapping, wrapping_of};
 use std::alloc::Global;
@@ -47,7 +47,7 @@ pub(crate) fn same(asked: Asked<'_>, answer: &mut Answer) -> Answered {
     Ok(())
 }
 
-// How many texts are read, rejected, and rejected for memory.
+// How many texts are read, rejected, and rejected for allocation failure.
 #[derive(Clone, Copy)]
 struct Tally {
     read: usize,
@@ -77,8 +77,8 @@ impl Tally {
     }
 }
 
-/// `beginnings`: of the input's beginnings, from the empty one to all but its last byte, how many are read, rejected, and rejected for
-/// memory.
+/// `beginnings`: of the input's beginnings, from the empty one to all but its last byte, how many are read, rejected, and
+/// rejected for allocation failure.
 pub(crate) fn beginnings(asked: Asked<'_>, answer: &mut Answer) -> Answered {
     let mut tally = Tally {
         read: 0,
@@ -92,7 +92,7 @@ pub(crate) fn beginnings(asked: Asked<'_>, answer: &mut Answer) -> Answered {
     Ok(())
 }
 
-// What stands behind the lines: a gap, and another one behind one of them.
+// What follows the lines: a gap, and another one after one of them.
 #[derive(Clone, Copy)]
 struct Filling<'a> {
     gap: &'a [u8],
@@ -100,7 +100,7 @@ struct Filling<'a> {
 }
 
 impl Filling<'_> {
-    // Appends the lines one behind the other, with the other gap behind the line of this number.
+    // Appends the lines one after the other, with the other gap after the line of this number.
     fn write(self, text: &str, place: usize, out: &mut Answer) {
         let mut number = 0usize;
         for line in text.split('\n') {
@@ -173,7 +173,8 @@ fn unescape_both(words: &str, gap: &mut Answer, other: &mut Answer) -> Answered 
     unescape(second, other)
 }
 
-/// `gaps GAP|OTHER`: what the mapfile means whose tokens are the input's lines, with GAP behind each, and OTHER behind each in turn.
+/// `gaps GAP|OTHER`: what the mapfile means whose tokens are the input's lines, with GAP after each, and OTHER after each in
+/// turn.
 pub(crate) fn gaps(asked: Asked<'_>, answer: &mut Answer) -> Answered {
     let mut gap = Answer::new(asked.alloc);
     let mut other = Answer::new(asked.alloc);

@@ -1,7 +1,7 @@
 //! The table language itself.
 use wf_table::{Answer, Answered, Asked, Questions, Unanswered, run_table};
 
-// What an inner table can ask: `echo` answers the input, `memory` finds none.
+// The questions of an inner table: `echo` answers the input, in `memory` an allocation fails.
 struct Echo;
 
 impl Questions for Echo {

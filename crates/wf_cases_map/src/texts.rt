@@ -85,7 +85,7 @@ pub(crate) fn same_texts(asked: Asked<'_>, answer: &mut Answer) -> Answered {
     }
 }
 
-/// `characters`: those of the input that may stand in a text.
+/// `characters`: those of the input that a text may hold.
 pub(crate) fn characters(asked: Asked<'_>, answer: &mut Answer) -> Answered {
     for character in asked.text()?.chars() {
         if is_text_character(character) {

@@ -4,7 +4,7 @@ use wf_mapfile::token::{LexFault, LexFaultKind, Token, TokenKind, Tokens};
 use wf_table::escape::unescape;
 use wf_table::{Answer, Answered, Asked, Runs, Unanswered};
 
-// Appends a word as `place:word`, a string as `place"string"`; without its text as `place:` or `place"`.
+// Appends a word as `offset:word`, a string as `offset"string"`; without its text as `offset:` or `offset"`.
 fn write_token(token: Token<'_>, whole: bool, answer: &mut Answer) {
     answer.count(token.place);
     answer.text(match token.kind {
@@ -20,7 +20,7 @@ fn write_token(token: Token<'_>, whole: bool, answer: &mut Answer) {
     }
 }
 
-// Appends a fault as `M4@place`.
+// Appends an error as `M4@offset`.
 fn write_fault(fault: LexFault, answer: &mut Answer) {
     answer.text(match fault.kind {
         LexFaultKind::BadToken => "M4@",
@@ -29,7 +29,7 @@ fn write_fault(fault: LexFault, answer: &mut Answer) {
     answer.count(fault.place);
 }
 
-// Appends a line: the tokens and the fault, with spaces between.
+// Appends a line: the tokens and the error, with spaces between.
 fn write_tokens(lexed: &Tokens<'_>, whole: bool, answer: &mut Answer) {
     let mut space = "";
     for token in &lexed.tokens {
@@ -54,7 +54,7 @@ fn tell_tokens(asked: Asked<'_>, whole: bool, answer: &mut Answer) {
     }
 }
 
-/// `tokens`: the tokens of the input with their places, and the fault that ends them.
+/// `tokens`: the tokens of the input with their byte offsets, and the error that ends them.
 pub(crate) fn tokens(asked: Asked<'_>, answer: &mut Answer) -> Answered {
     tell_tokens(asked, true, answer);
     Ok(())
@@ -102,7 +102,8 @@ fn take_bytes(
     Ok(())
 }
 
-/// `each_byte FRONT|BACK`: the places and kinds of the tokens, where each byte of the input in turn stands between FRONT and BACK.
+/// `each_byte FRONT|BACK`: the byte offsets and kinds of the tokens, where each byte of the input in turn is between FRONT and
+/// BACK.
 pub(crate) fn each_byte(asked: Asked<'_>, answer: &mut Answer) -> Answered {
     let Some(around) = asked.words.rest().split_once('|') else {
         return Err(Unanswered::BadWords);

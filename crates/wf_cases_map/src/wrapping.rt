@@ -1,17 +1,17 @@
-//! Pieces of mapfiles, and the mapfile round them.
+//! Pieces of mapfiles, and the mapfile around them.
 use std::alloc::Global;
 use wf_def::map::MapDef;
 use wf_mapfile::fault::MapFault;
 use wf_table::{Answer, Unanswered};
 
-/// What stands before and behind a piece, to make a mapfile of it.
+/// What comes before and after a piece, to make a mapfile of it.
 #[derive(Clone, Copy)]
 pub(crate) struct Wrapping {
     pub front: &'static str,
     pub back: &'static str,
 }
 
-/// The mapfile round a piece: `map` is a whole mapfile; `layers` stand in a map, `layer` in its layer, `kinds` in one
+/// The mapfile around a piece: `map` is a whole mapfile; `layers` are in a map, `layer` in its layer, `kinds` in one
 /// whose features have a kind and a size, `class` in a class of the layer.
 pub(crate) fn wrapping_of(words: &str) -> Result<Wrapping, Unanswered> {
     match words {
@@ -36,7 +36,7 @@ pub(crate) fn wrapping_of(words: &str) -> Result<Wrapping, Unanswered> {
     }
 }
 
-/// The mapfile round what follows the word CLASS. Its back ends the layer and the map: the piece ends its class itself.
+/// The mapfile around what follows the word CLASS. Its back ends the layer and the map: the piece ends its class itself.
 pub(crate) const CLASS: Wrapping = Wrapping {
     front: "MAP EXTENT 0 0 4 4 PROJECTION \"init=epsg:3857\" END LAYER NAME a TYPE POINT CLASS ",
     back: " END END",
@@ -50,7 +50,7 @@ fn read_written(alloc: Global, mapfile: &Answer) -> Result<MapDef, MapFault> {
 }
 
 impl Wrapping {
-    /// Reads a piece in the mapfile round it.
+    /// Reads a piece in the mapfile around it.
     pub fn read(self, alloc: Global, piece: &[u8]) -> Result<MapDef, MapFault> {
         let mut mapfile = Answer::new(alloc);
         mapfile.text(self.front);

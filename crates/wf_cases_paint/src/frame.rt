@@ -1,4 +1,4 @@
-//! Which part of a map is asked for, and in which size.
+//! Which part of a map is requested, and in which size.
 ghost use Rattle.std.specs.Prelude.{◌≤◌, ◌<◌, ◌+ℤ◌, ◌≤ℤ◌, pos, length, All, IsTrue};
 ghost use Rattle.wf_paint.specs.Grid.{least_cell};
 ghost use Rattle.wf_paint.specs.View.{most_pixels};
@@ -85,7 +85,7 @@ impl Frame {
     }
 }
 
-/// The number of pixels behind the word `by`.
+/// The number of pixels after the word `by`.
 pub(crate) fn read_other_side(words: &mut Words<'_>) -> Result<u32, Unanswered> {
     match words.word() {
         "by" => words.number(),
@@ -128,7 +128,7 @@ fn read_number(words: &mut Words<'_>) -> Result<Micro, Unanswered> {
     }
 }
 
-/// Whether a picture may have a side of so many pixels.
+/// Whether a picture may have a side of this many pixels.
 fn is_side(pixels: u32) -> bool
     ensures least { IsTrue result → 1 ≤ pixels }
     ensures most { IsTrue result → pixels ≤ most_pixels }
@@ -136,7 +136,7 @@ fn is_side(pixels: u32) -> bool
     1 <= pixels && pixels <= 1_024
 }
 
-/// Whether a box may have these sides: a thousandth of a unit lies between them at least.
+/// Whether a box may have these sides: they are at least a thousandth of a unit apart.
 fn is_wide(low: Micro, high: Micro) -> bool
     ensures { IsTrue result → (low +ℤ pos least_cell) ≤ℤ high }
 {

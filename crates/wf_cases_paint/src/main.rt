@@ -1,11 +1,10 @@
-//! Cases of the painter, of labels and of pictures: pictures as letters and as files, where a view shows a point, and cells of the grid
-//! of tiles.
+//! Test cases about the painter, labels and pictures: pictures as letters and as files, where a view shows a point, and cells of
+//! the grid of tiles.
 //!
-//! A table of cases comes from standard input (`wf_table` has its language), each answer is compared with
-//! the expected one, and what differs is told, with the counts on the last line. [`questions`] has the
-//! questions.
+//! Standard input is a table of cases (`wf_table` defines its format). The program compares each answer with the expected one and
+//! writes each difference, with the counts on the last line. [`questions`] lists the questions.
 //!
-//! It promises nothing of its own: the answers are those of `wf_paint`, `wf_label` and `wf_picture`, put into words.
+//! It has no contract of its own: its answers are those of `wf_paint`, `wf_label` and `wf_picture`, put into words.
 #![tactic(auto)]
 
 mod cell;

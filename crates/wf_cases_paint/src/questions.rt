@@ -3,7 +3,7 @@
 //! ```text
 //! picture BOX, W by H, BACKGROUND[, LAYER ..]    a mapfile            the layers painted from left to right over a colour, and
 //!                                                                     their labels: a letter a pixel, the top row first
-//! part COLUMN ROW, W by H of PICTURE             a mapfile            the same of so many columns and rows of the view's
+//! part COLUMN ROW, W by H of PICTURE             a mapfile            the same of W columns and H rows of the view's
 //!                                                                     picture from this pixel on
 //! file BOX, W by H, BACKGROUND[, LAYER ..]       a mapfile            the layers' picture as a file, cut to its tile
 //! place BOX, W by H, X Y                         a mapfile            where the view shows the point, in sixteenths of a pixel
@@ -16,7 +16,7 @@
 use crate::{cell, file, picture, place};
 use wf_table::{Answer, Answered, Asked, Questions, Unanswered};
 
-/// What is asked of the painter.
+/// The questions about the painter.
 pub(crate) struct Painter;
 
 impl Questions for Painter {

@@ -1,4 +1,4 @@
-//! Which part of a map is asked for over which colour, and which of its layers.
+//! Which part of a map is requested over which colour, and which of its layers.
 ghost use Rattle.std.specs.Prelude.{◌<◌, ◌↔◌, IsTrue, All};
 
 use crate::frame::Frame;
@@ -23,7 +23,7 @@ impl Request {
     }
 }
 
-/// The places of the layers of these names.
+/// The indices of the layers of these names.
 pub(crate) fn places_of(asked: Asked<'_>, map: &MapDef) -> Result<Vec<usize>, Unanswered> {
     let mut places = Vec::new(asked.alloc);
     match push_places(map, asked.words, &mut places) {
@@ -47,7 +47,7 @@ fn push_places(map: &MapDef, words: Words<'_>, places: &mut Vec<usize>) -> Resul
     Ok(())
 }
 
-/// The place of the layer of a name.
+/// The index of the layer of a name.
 fn place_of(map: &MapDef, name: &str) -> Option<usize> {
     for place in 0..map.layer_count() {
         let (known, _) = map.layer(place);
@@ -58,7 +58,7 @@ fn place_of(map: &MapDef, name: &str) -> Option<usize> {
     None
 }
 
-/// Whether each of the places is below the count.
+/// Whether each of the indices is below the count.
 pub(crate) fn are_below(places: &[usize], count: usize) -> bool
     ensures { IsTrue result ↔ All (λ place. place < count) places.now }
 {

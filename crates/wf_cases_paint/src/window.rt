@@ -1,11 +1,11 @@
-//! Which pixels of a picture are told.
+//! Which pixels of a picture are written.
 use crate::frame::read_other_side;
 use crate::letter::letter_of;
 use wf_def::color::Color;
 use wf_paint::pixmap::Pixmap;
 use wf_table::{Answer, Answered, Unanswered, Words};
 
-/// So many columns and rows of a picture from a first one on, counted from the left and from the bottom.
+/// Some columns and rows of a picture from a first one on, counted from the left and from the bottom.
 #[derive(Clone, Copy)]
 pub(crate) struct Window {
     column: u32,
@@ -15,7 +15,7 @@ pub(crate) struct Window {
 }
 
 impl Window {
-    /// The window that `COLUMN ROW, W by H of` says.
+    /// The window that `COLUMN ROW, W by H of` names.
     pub fn read(words: &mut Words<'_>) -> Result<Window, Unanswered> {
         let mut corner = Words::new(words.part());
         let column = corner.number()?;
@@ -57,7 +57,7 @@ impl Window {
         Ok(())
     }
 
-    /// The bytes of the row that has so many rows of the window above it.
+    /// The bytes of the row that has this many rows of the window above it.
     fn bytes_of_row(self, down: u32, pixmap: &Pixmap) -> Option<&[u8]> {
         let up = self.row.saturating_add(self.height).saturating_sub(down);
         let above = pixmap.height().checked_sub(up)?;

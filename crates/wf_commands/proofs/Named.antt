@@ -17,7 +17,7 @@ use Rattle.clap.specs.declared.parser.matches.ArgMatches.TheViews.{out-SubComman
 use Rattle.clap.specs.declared.parser.matches.ArgMatches.{ArgMatches}
 use Rattle.clap.specs.declared.parser.matches.Found.{Found}
 use Rattle.clap.specs.declared.parser.matches.SubCommand.{SubCommand}
-use Rattle.wf_commands.specs.CommandLine.{Asks, IsCacheOf, IsCapsOf, IsServeOf, IsServiceOf, program}
+use Rattle.wf_commands.specs.CommandLine.{Asks, IsCacheOf, IsCapsOf, IsDrawOf, IsServeOf, IsServiceOf, program}
 use Rattle.wf_commands.specs.Line.{IsInRange}
 use Rattle.wf_commands.specs.declared.line.Line.{Line}
 use Rattle.wf_serve.specs.Service.{IsService}
@@ -37,6 +37,7 @@ name_met (Some b) = refl
 -- where `caps` was named and no `caps` line has its words, they ask for nothing
 asks_of : (p : Text × List Row) (rows : List Row) → p.1 ≡ rows → p.0 ≡ codes "caps" → ((l : Line) → ¬ (IsCapsOf rows l)) → (l : Line) → ¬ (Asks (Some p) l)
 asks_of p rows has named none (lines.Caps seq query) asks = none (lines.Caps seq query) (rw has at asks.1)
+asks_of p rows has named none (lines.Draw query) asks = false≢true (sym (ap (bytes_eq (codes "caps")) (sym named ∙ asks.0)))
 asks_of p rows has named none lines.Canon asks = let clash : codes "caps" ≡ codes "canon" = sym named ∙ asks in cc
 asks_of p rows has named none lines.Run asks = let clash : codes "caps" ≡ codes "run" = sym named ∙ asks in cc
 asks_of p rows has named none (lines.Serve service) asks = false≢true (sym (ap (bytes_eq (codes "caps")) (sym named ∙ asks.0)))
@@ -44,6 +45,7 @@ asks_of p rows has named none (lines.Serve service) asks = false≢true (sym (ap
 -- where `serve` was named and no `serve` line has its words, they ask for nothing
 serve_asks_of : (p : Text × List Row) (rows : List Row) → p.1 ≡ rows → p.0 ≡ codes "serve" → ((l : Line) → ¬ (IsServeOf rows l)) → (l : Line) → ¬ (Asks (Some p) l)
 serve_asks_of p rows has named none (lines.Caps seq query) asks = false≢true (sym (ap (bytes_eq (codes "serve")) (sym named ∙ asks.0)))
+serve_asks_of p rows has named none (lines.Draw query) asks = false≢true (sym (ap (bytes_eq (codes "serve")) (sym named ∙ asks.0)))
 serve_asks_of p rows has named none lines.Canon asks = false≢true (sym (ap (bytes_eq (codes "serve")) (sym named ∙ asks)))
 serve_asks_of p rows has named none lines.Run asks = false≢true (sym (ap (bytes_eq (codes "serve")) (sym named ∙ asks)))
 serve_asks_of p rows has named none (lines.Serve service) asks = none (lines.Serve service) (rw has at asks.1)
@@ -53,6 +55,20 @@ pub none_served : (line : Option Line) (met : Option (Text × List Row)) (rows :
 none_served (Some line) met rows has named none = tt
 none_served None None rows has named none = λ l asks. asks
 none_served None (Some p) rows has named none = serve_asks_of p rows (let is : p.1 ≡ rows = cc in is) (let is : p.0 ≡ codes "serve" = cc in is) none
+
+-- where `draw` was named and no `draw` line has its words, they ask for nothing
+draw_asks_of : (p : Text × List Row) (rows : List Row) → p.1 ≡ rows → p.0 ≡ codes "draw" → ((l : Line) → ¬ (IsDrawOf rows l)) → (l : Line) → ¬ (Asks (Some p) l)
+draw_asks_of p rows has named none (lines.Caps seq query) asks = false≢true (sym (ap (bytes_eq (codes "draw")) (sym named ∙ asks.0)))
+draw_asks_of p rows has named none (lines.Draw query) asks = none (lines.Draw query) (rw has at asks.1)
+draw_asks_of p rows has named none lines.Canon asks = false≢true (sym (ap (bytes_eq (codes "draw")) (sym named ∙ asks)))
+draw_asks_of p rows has named none lines.Run asks = false≢true (sym (ap (bytes_eq (codes "draw")) (sym named ∙ asks)))
+draw_asks_of p rows has named none (lines.Serve service) asks = false≢true (sym (ap (bytes_eq (codes "draw")) (sym named ∙ asks.0)))
+
+pub none_drawn : (line : Option Line) (met : Option (Text × List Row)) (rows : List Row) → option_map (λ p. p.1) met ≡ Some rows
+    → option_map (λ p. p.0) met ≡ Some (codes "draw") → IfNone line ((l : Line) → ¬ (IsDrawOf rows l)) → IfNone line ((l : Line) → ¬ (Asks met l))
+none_drawn (Some line) met rows has named none = tt
+none_drawn None None rows has named none = λ l asks. asks
+none_drawn None (Some p) rows has named none = draw_asks_of p rows (let is : p.1 ≡ rows = cc in is) (let is : p.0 ≡ codes "draw" = cc in is) none
 
 -- the numbers of what is asked for are within their ranges
 cache_in_range : (word : Option Text) (kept : ℕ) → IsCacheOf word kept → (1 ≤ kept) × (kept ≤ most_kept)
@@ -67,6 +83,7 @@ service_in_range rows service is =
 pub asked_in_range : (met : Option (Text × List Row)) (line : Line) → Asks met line → IsInRange line
 asked_in_range None line asks = absurd asks
 asked_in_range (Some named) (lines.Caps seq query) (is, (word, text, first, second, (sequence, same))) = sequence.most
+asked_in_range (Some named) (lines.Draw query) asks = tt
 asked_in_range (Some named) lines.Canon asks = tt
 asked_in_range (Some named) lines.Run asks = tt
 asked_in_range (Some named) (lines.Serve service) asks = service_in_range named.1 service asks.1

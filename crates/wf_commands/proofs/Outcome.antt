@@ -5,24 +5,25 @@ use Rattle.wf_def.specs.Definition.{Definition}
 use Rattle.wf_def.specs.Limits.{IsWithinLimits}
 use Rattle.wf_mapfile.specs.Meaning.{Means}
 use Rattle.wf_canon.specs.declared.fault.CanonFault.{CanonFault}
-use Rattle.wf_commands.specs.Run.{IsReadingFault, IsWriting, IsOutcome, CountsReads, CountsWrites}
+use Rattle.wf_commands.specs.Run.{IsReadingFault, IsWriting, IsWritingOf, IsOutcome}
+use Rattle.wf_commands.specs.Counting.{CountsReads, CountsWrites}
 use Rattle.wf_commands.specs.declared.fault.RunFault.{RunFault}
 use Rattle.wf_commands.specs.declared.fault.RunFault.TheVariants as faults
 use Rattle.wf_stream.specs.KnownLaws.{keeps_same}
 
-module _ (output : Definition → List ℕ) (refuses : CanonFault → Definition → Type 0) (input old new : Option (List ℕ)) where
-  pub written_outcome : (result : Result (Unit {0}) RunFault) (d : Definition) → IfSome input (λ bytes. Means bytes d) → IsWithinLimits d
-      → IsWriting (output d) (λ fault. refuses fault d) old new result → IsOutcome output refuses input old new result
-  written_outcome (Ok done) d means within writes = (d, means, within, writes)
-  written_outcome (Err faults.Write) d means within writes = (d, means, within, writes)
-  written_outcome (Err (faults.Canon fault)) d means within writes = ((d, means, within, writes.0), writes.1)
-  written_outcome (Err (faults.Map fault)) d means within writes =
+module _ (HasOutput : Definition → List ℕ → Type 0) (rejects : CanonFault → Definition → Type 0) (input old new : Option (List ℕ)) where
+  pub written_outcome : (result : Result (Unit {0}) RunFault) (d : Definition) (bytes : List ℕ) → IfSome input (λ known. Means known d) → IsWithinLimits d
+      → HasOutput d bytes → IsWriting bytes (λ fault. rejects fault d) old new result → IsOutcome HasOutput rejects input old new result
+  written_outcome (Ok done) d bytes means within has writes = (d, means, within, (bytes, has, writes))
+  written_outcome (Err faults.Write) d bytes means within has writes = (d, means, within, (bytes, has, writes))
+  written_outcome (Err (faults.Canon fault)) d bytes means within has writes = ((d, means, within, writes.0), writes.1)
+  written_outcome (Err (faults.Map fault)) d bytes means within has writes =
       (λ other. let clash : true ≡ false = sym writes.0 ∙ other in cc, writes.1)
-  written_outcome (Err faults.Read) d means within writes = absurd writes
-  written_outcome (Err (faults.Script fault)) d means within writes = absurd writes
-  written_outcome (Err faults.Serve) d means within writes = absurd writes
+  written_outcome (Err faults.Read) d bytes means within has writes = absurd writes
+  written_outcome (Err (faults.Script fault)) d bytes means within has writes = absurd writes
+  written_outcome (Err faults.Serve) d bytes means within has writes = absurd writes
 
-  pub fault_outcome : (fault : RunFault) → IsReadingFault input fault → IsOutcome output refuses input old old (Err fault)
+  pub fault_outcome : (fault : RunFault) → IsReadingFault input fault → IsOutcome HasOutput rejects input old old (Err fault)
   fault_outcome (faults.Map fault) why = (why, keeps_same old)
   fault_outcome (faults.Canon fault) why = absurd why
   fault_outcome (faults.Script fault) why = absurd why
@@ -30,16 +31,49 @@ module _ (output : Definition → List ℕ) (refuses : CanonFault → Definition
   fault_outcome faults.Write why = absurd why
   fault_outcome faults.Serve why = absurd why
 
+-- the same of one of several outputs
+pub one_written_outcome : (HasOutput : Definition → List ℕ → Type 0) (input old new : Option (List ℕ)) (result : Result (Unit {0}) RunFault) (d : Definition)
+    → IfSome input (λ known. Means known d) → IsWithinLimits d → IsWritingOf (HasOutput d) old new result → IsOutcome HasOutput (λ _ _. ⊥) input old new result
+one_written_outcome HasOutput input old new (Ok done) d means within writes = (d, means, within, writes)
+one_written_outcome HasOutput input old new (Err faults.Write) d means within writes = (d, means, within, writes)
+one_written_outcome HasOutput input old new (Err (faults.Canon fault)) d means within writes = absurd writes
+one_written_outcome HasOutput input old new (Err (faults.Map fault)) d means within writes =
+    (λ other. let clash : true ≡ false = sym writes.0 ∙ other in cc, writes.1)
+one_written_outcome HasOutput input old new (Err faults.Read) d means within writes = absurd writes
+one_written_outcome HasOutput input old new (Err (faults.Script fault)) d means within writes = absurd writes
+one_written_outcome HasOutput input old new (Err faults.Serve) d means within writes = absurd writes
+
+-- what is written of an output is written of one of them
+pub one_written : (IsOutput : List ℕ → Type 0) (bytes : List ℕ) (old new : Option (List ℕ)) (result : Result (Unit {0}) RunFault) → IsOutput bytes
+    → IsWriting bytes (λ _. ⊥) old new result → IsWritingOf IsOutput old new result
+one_written IsOutput bytes old new (Ok done) is writes = (bytes, is, writes)
+one_written IsOutput bytes old new (Err faults.Write) is writes = (bytes, is, writes)
+one_written IsOutput bytes old new (Err (faults.Canon fault)) is writes = absurd writes.0
+one_written IsOutput bytes old new (Err (faults.Map fault)) is writes = writes
+one_written IsOutput bytes old new (Err faults.Read) is writes = absurd writes
+one_written IsOutput bytes old new (Err (faults.Script fault)) is writes = absurd writes
+one_written IsOutput bytes old new (Err faults.Serve) is writes = absurd writes
+
 -- after the input was read no read fails
-pub no_more_reads : (bytes : List ℕ) (refuses : CanonFault → Type 0) (old new : Option (List ℕ)) (result : Result (Unit {0}) RunFault)
-    (before after : ℕ) → IsWriting bytes refuses old new result → after ≡ before → CountsReads result before after
-no_more_reads bytes refuses old new (Ok done) before after writes same = same
-no_more_reads bytes refuses old new (Err faults.Write) before after writes same = same
-no_more_reads bytes refuses old new (Err (faults.Canon fault)) before after writes same = same
-no_more_reads bytes refuses old new (Err (faults.Map fault)) before after writes same = λ other. same
-no_more_reads bytes refuses old new (Err faults.Read) before after writes same = absurd writes
-no_more_reads bytes refuses old new (Err (faults.Script fault)) before after writes same = absurd writes
-no_more_reads bytes refuses old new (Err faults.Serve) before after writes same = absurd writes
+pub no_more_reads : (bytes : List ℕ) (rejects : CanonFault → Type 0) (old new : Option (List ℕ)) (result : Result (Unit {0}) RunFault)
+    (before after : ℕ) → IsWriting bytes rejects old new result → after ≡ before → CountsReads result before after
+no_more_reads bytes rejects old new (Ok done) before after writes same = same
+no_more_reads bytes rejects old new (Err faults.Write) before after writes same = same
+no_more_reads bytes rejects old new (Err (faults.Canon fault)) before after writes same = same
+no_more_reads bytes rejects old new (Err (faults.Map fault)) before after writes same = λ other. same
+no_more_reads bytes rejects old new (Err faults.Read) before after writes same = absurd writes
+no_more_reads bytes rejects old new (Err (faults.Script fault)) before after writes same = absurd writes
+no_more_reads bytes rejects old new (Err faults.Serve) before after writes same = absurd writes
+
+pub no_more_reads_of_one : (IsOutput : List ℕ → Type 0) (old new : Option (List ℕ)) (result : Result (Unit {0}) RunFault) (before after : ℕ)
+    → IsWritingOf IsOutput old new result → after ≡ before → CountsReads result before after
+no_more_reads_of_one IsOutput old new (Ok done) before after writes same = same
+no_more_reads_of_one IsOutput old new (Err faults.Write) before after writes same = same
+no_more_reads_of_one IsOutput old new (Err (faults.Canon fault)) before after writes same = same
+no_more_reads_of_one IsOutput old new (Err (faults.Map fault)) before after writes same = λ other. same
+no_more_reads_of_one IsOutput old new (Err faults.Read) before after writes same = absurd writes
+no_more_reads_of_one IsOutput old new (Err (faults.Script fault)) before after writes same = absurd writes
+no_more_reads_of_one IsOutput old new (Err faults.Serve) before after writes same = absurd writes
 
 -- before the input was read no write fails
 pub no_writes_yet : (input : Option (List ℕ)) (fault : RunFault) (count : ℕ) → IsReadingFault input fault

@@ -15,7 +15,7 @@ use Rattle.clap.specs.Takes.{bundle_passes, default_passes, flag_word_passes, is
 use Rattle.clap.specs.ValueTests.{accepts}
 use Rattle.clap.specs.declared.builder.value_parser.ValueParser.TheVariants.{Signed}
 use Rattle.clap.specs.Walk.{Held, Row, finished, nothing_held, pushed, settled, walk, Rule, Text, Walk, after_step, arg_by_index, first_of, idle, long_or_other, short_or_plain, trailing, to_positional, value, walk_from, walked, word_met}
-use Rattle.wf_commands.specs.CommandLine.{caps_shape, PlainCapsIsAsked, PlainCanonIsAsked, PlainRunIsAsked, is_plain, program}
+use Rattle.wf_commands.specs.CommandLine.{caps_shape, draw_shape, PlainCapsIsAsked, PlainDrawIsAsked, PlainCanonIsAsked, PlainRunIsAsked, is_plain, program}
 use Rattle.wf_commands.specs.Line.{IsSequence}
 use Rattle.wf_commands.specs.declared.line.Line.TheVariants as lines
 
@@ -132,9 +132,49 @@ pub caps_asked : PlainCapsIsAsked
 caps_asked word query (lines.Caps seq asked) plain_word plain_query is =
     let found = caps_rows word query plain_word plain_query in
     (caps_taken word query plain_word plain_query (sequence_accepted word seq plain_word is.0), rw found.1 (refl, (word, query, found.2, found.3, is)))
+caps_asked word query (lines.Draw asked) plain_word plain_query is = absurd is
 caps_asked word query lines.Canon plain_word plain_query is = absurd is
 caps_asked word query lines.Run plain_word plain_query is = absurd is
 caps_asked word query (lines.Serve service) plain_word plain_query is = absurd is
+
+-- ---- draw and its word
+
+abbrev draw_built : Shape
+draw_built = built_leaf (inherited program.top draw_shape)
+
+-- the word is what is found for QUERY
+found_word : (query : Text) → is_plain query ≡ true
+    → walk draw_built.rules [] nothing_held (query ∷ []) ≡ at (pushed (codes "QUERY") query nothing_held) 2
+unfolding clap_on_literals
+found_word query plain = plain_walked draw_built.rules nothing_held 1 query plain
+
+draw_rows : (query : Text) → is_plain query ≡ true
+    → (rows : List Row) × (subcommand_of program (codes "draw" ∷ query ∷ []) ≡ Some (codes "draw", rows)) × (first_of (codes "QUERY") rows ≡ Some query)
+unfolding clap_on_literals
+draw_rows query plain = (_, ap (λ w. Some (codes "draw", finished draw_built.rules w.held)) (found_word query plain), refl)
+
+word_walked : (query : Text) → is_plain query ≡ true → walk_passes draw_built [] (walk_from nothing_held) (query ∷ []) ≡ true
+unfolding clap_on_literals
+word_walked query plain = ap (λ b. b && true) (turn_taken draw_built nothing_held 1 query plain)
+
+draw_taken : (query : Text) → is_plain query ≡ true → takes program (codes "draw" ∷ query ∷ []) ≡ true
+unfolding clap_on_literals
+draw_taken query plain =
+    ap (λ b. (b && (settle_passes draw_built.rules false (walk draw_built.rules [] nothing_held (query ∷ [])).held && (list_all default_passes draw_built.rules
+    && is_valid draw_built (finished draw_built.rules (walk draw_built.rules [] nothing_held (query ∷ [])).held) false))) && true)
+    (word_walked query plain)
+    ∙ ap (λ w. (settle_passes draw_built.rules false w.held && (list_all default_passes draw_built.rules && is_valid draw_built (finished draw_built.rules w.held) false)) && true)
+    (found_word query plain)
+    ∙ refl
+
+pub draw_asked : PlainDrawIsAsked
+draw_asked query (lines.Caps seq asked) plain is = absurd is
+draw_asked query (lines.Draw asked) plain is =
+    let found = draw_rows query plain in
+    (draw_taken query plain, rw found.1 (refl, (query, found.2, is)))
+draw_asked query lines.Canon plain is = absurd is
+draw_asked query lines.Run plain is = absurd is
+draw_asked query (lines.Serve service) plain is = absurd is
 
 pub canon_asked : PlainCanonIsAsked
 unfolding clap_on_literals

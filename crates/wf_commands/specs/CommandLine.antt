@@ -32,6 +32,10 @@ query_rule = record (new_rule (codes "QUERY")) { required = true }
 abbrev pub caps_shape : Shape
 caps_shape = record (new_shape (codes "caps")) { rules = sequence_rule ∷ query_rule ∷ [] }
 
+-- `draw QUERY`
+abbrev pub draw_shape : Shape
+draw_shape = record (new_shape (codes "draw")) { rules = query_rule ∷ [] }
+
 -- `canon`
 abbrev pub canon_shape : Shape
 canon_shape = new_shape (codes "canon")
@@ -77,7 +81,7 @@ state_rule = record (new_rule (codes "state")) { long = Some (codes "state"); va
 abbrev pub serve_shape : Shape
 serve_shape = record (new_shape (codes "serve")) { rules = nodes_rule ∷ port_rule ∷ requests_rule ∷ cache_rule ∷ state_rule ∷ [] }
 
--- The program is given one of the four commands, or asked for its version or for help. What its parser reads of it:
+-- The program is given one of the five commands, or asked for its version or for help. What its parser reads of it:
 abbrev pub program : App
 program = record {
   top = record (new_shape (codes "wfarm")) {
@@ -86,7 +90,7 @@ program = record {
     has_version = true;
     subcommand_required = true;
   };
-  subs = caps_shape ∷ canon_shape ∷ run_shape ∷ serve_shape ∷ [];
+  subs = caps_shape ∷ draw_shape ∷ canon_shape ∷ run_shape ∷ serve_shape ∷ [];
 }
 
 -- ---- what a line is asked for by
@@ -94,6 +98,7 @@ program = record {
 -- The line is `caps` with the number of a word, and a query as it is.
 abbrev pub IsCapsLine : Text → Text → Line → Type 0
 IsCapsLine word query (lines.Caps seq asked) = IsSequence word seq × (asked.now ≡ query)
+IsCapsLine word query (lines.Draw asked) = ⊥
 IsCapsLine word query lines.Canon = ⊥
 IsCapsLine word query lines.Run = ⊥
 IsCapsLine word query (lines.Serve service) = ⊥
@@ -102,6 +107,18 @@ IsCapsLine word query (lines.Serve service) = ⊥
 abbrev pub IsCapsOf : List Row → Line → Type 0
 IsCapsOf rows line = (word query : Text) × (first_of (codes "SEQ") rows ≡ Some word) × (first_of (codes "QUERY") rows ≡ Some query)
     × IsCapsLine word query line
+
+-- The line is `draw` with a query as it is.
+abbrev pub IsDrawLine : Text → Line → Type 0
+IsDrawLine query (lines.Caps seq asked) = ⊥
+IsDrawLine query (lines.Draw asked) = asked.now ≡ query
+IsDrawLine query lines.Canon = ⊥
+IsDrawLine query lines.Run = ⊥
+IsDrawLine query (lines.Serve service) = ⊥
+
+-- The line is `draw` with the word that was found for QUERY.
+abbrev pub IsDrawOf : List Row → Line → Type 0
+IsDrawOf rows line = (query : Text) × (first_of (codes "QUERY") rows ≡ Some query) × IsDrawLine query line
 
 -- the word that was found for a number stands for it
 abbrev pub IsNumberOf : List Row → Text → ℕ → ℕ → ℕ → Type 0
@@ -127,6 +144,7 @@ pub record IsServiceOf (rows : List Row) (service : Service) : Type 0 where
 -- The line is `serve`, and what is served is what the words say.
 abbrev pub IsServeOf : List Row → Line → Type 0
 IsServeOf rows (lines.Caps seq query) = ⊥
+IsServeOf rows (lines.Draw query) = ⊥
 IsServeOf rows lines.Canon = ⊥
 IsServeOf rows lines.Run = ⊥
 IsServeOf rows (lines.Serve service) = IsServiceOf rows service
@@ -135,13 +153,14 @@ IsServeOf rows (lines.Serve service) = IsServiceOf rows service
 abbrev pub Asks : Option (Text × List Row) → Line → Type 0
 Asks None line = ⊥
 Asks (Some named) (lines.Caps seq query) = (named.0 ≡ codes "caps") × IsCapsOf named.1 (lines.Caps seq query)
+Asks (Some named) (lines.Draw query) = (named.0 ≡ codes "draw") × IsDrawOf named.1 (lines.Draw query)
 Asks (Some named) lines.Canon = named.0 ≡ codes "canon"
 Asks (Some named) lines.Run = named.0 ≡ codes "run"
 Asks (Some named) (lines.Serve service) = (named.0 ≡ codes "serve") × IsServeOf named.1 (lines.Serve service)
 
--- why words are rejected: where the parser takes them and they ask for a line, memory ran out
-abbrev pub IsWhyRefused : List Text → ErrorKind → Type 0
-IsWhyRefused words kind = takes program words ≡ true → (line : Line) → Asks (subcommand_of program words) line → kind ≡ OutOfMemory
+-- why words are rejected: where the parser takes them and they ask for a line, an allocation failed
+abbrev pub IsWhyRejected : List Text → ErrorKind → Type 0
+IsWhyRejected words kind = takes program words ≡ true → (line : Line) → Asks (subcommand_of program words) line → kind ≡ OutOfMemory
 
 -- the word doesn't begin with a hyphen: it is no option
 abbrev pub is_plain : Text → Bool
@@ -153,6 +172,11 @@ is_plain (first ∷ rest) = not (first == 45)
 abbrev pub PlainCapsIsAsked : Type 0
 PlainCapsIsAsked = (word query : Text) (line : Line) → is_plain word ≡ true → is_plain query ≡ true → IsCapsLine word query line
     → (takes program (codes "caps" ∷ word ∷ query ∷ []) ≡ true) × Asks (subcommand_of program (codes "caps" ∷ word ∷ query ∷ [])) line
+
+-- The command line's parser takes `draw` and any word for the query, without a hyphen first, and they ask for exactly the line of that query.
+abbrev pub PlainDrawIsAsked : Type 0
+PlainDrawIsAsked = (query : Text) (line : Line) → is_plain query ≡ true → IsDrawLine query line
+    → (takes program (codes "draw" ∷ query ∷ []) ≡ true) × Asks (subcommand_of program (codes "draw" ∷ query ∷ [])) line
 
 -- The command line's parser takes `canon` alone, and it asks for the canonical text.
 abbrev pub PlainCanonIsAsked : Type 0

@@ -12,20 +12,20 @@ abbrev pub run_status : {T : Type 0} → Result T RunFault → ℕ
 run_status (Ok done) = 0
 run_status (Err fault) = 1
 
--- the fault whose line is written: a failed write has none
-abbrev pub told : {T : Type 0} → Result T RunFault → Option RunFault
-told (Ok done) = None
-told (Err faults.Write) = None
-told (Err fault) = Some fault
+-- the error whose line is written: a failed write has none
+abbrev pub reported : {T : Type 0} → Result T RunFault → Option RunFault
+reported (Ok done) = None
+reported (Err faults.Write) = None
+reported (Err fault) = Some fault
 
 -- The exit status where no command was run, of whether the text was printed: help and the version are no mistake.
-abbrev pub refusal_status : ErrorKind → Bool → ℕ
-refusal_status OutOfMemory printed = 1
-refusal_status DisplayHelp true = 0
-refusal_status DisplayHelp false = 1
-refusal_status DisplayVersion true = 0
-refusal_status DisplayVersion false = 1
-refusal_status _ printed = 2
+abbrev pub rejection_status : ErrorKind → Bool → ℕ
+rejection_status OutOfMemory printed = 1
+rejection_status DisplayHelp true = 0
+rejection_status DisplayHelp false = 1
+rejection_status DisplayVersion true = 0
+rejection_status DisplayVersion false = 1
+rejection_status _ printed = 2
 
 -- the exit status where the command line can't be read: words that are no text are a bad one
 abbrev pub unreadable_status : IoErrorKind → ℕ

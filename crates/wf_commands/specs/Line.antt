@@ -9,6 +9,7 @@ use Rattle.wf_commands.specs.declared.line.Line.TheVariants as lines
 -- the numbers of a command line are within their ranges
 abbrev pub IsInRange : Line → Type 0
 IsInRange (lines.Caps seq query) = seq ≤ last_sequence
+IsInRange (lines.Draw query) = ⊤
 IsInRange lines.Canon = ⊤
 IsInRange lines.Run = ⊤
 IsInRange (lines.Serve service) = IsService service
@@ -16,12 +17,14 @@ IsInRange (lines.Serve service) = IsService service
 -- the line asks for nodes to be served, or for something about an input
 abbrev pub IsServe : Line → Type 0
 IsServe (lines.Caps seq query) = ⊥
+IsServe (lines.Draw query) = ⊥
 IsServe lines.Canon = ⊥
 IsServe lines.Run = ⊥
 IsServe (lines.Serve service) = ⊤
 
 abbrev pub IsOfInput : Line → Type 0
 IsOfInput (lines.Caps seq query) = ⊤
+IsOfInput (lines.Draw query) = ⊤
 IsOfInput lines.Canon = ⊤
 IsOfInput lines.Run = ⊤
 IsOfInput (lines.Serve service) = ⊥

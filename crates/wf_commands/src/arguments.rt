@@ -5,7 +5,7 @@ ghost use Rattle.clap.specs.Simple.{app_of, shape_of, subcommand_of, subcommand_
 ghost use Rattle.clap.specs.Values.{kind_of};
 ghost use Rattle.clap.specs.Walk.{first_of, rows_of, rule_of};
 ghost use Rattle.clap.specs.declared.builder.command.Command.TheViews.{out-Command};
-ghost use Rattle.wf_commands.specs.CommandLine.{Asks, IsCacheOf, IsCapsOf, IsNumberOf, IsServeOf, IsServiceOf, IsWhyRefused, PlainCanonIsAsked, PlainCapsIsAsked, PlainRunIsAsked, program, caps_shape, canon_shape, run_shape, serve_shape, sequence_rule, query_rule, nodes_rule, port_rule, requests_rule, cache_rule, state_rule};
+ghost use Rattle.wf_commands.specs.CommandLine.{Asks, IsCacheOf, IsCapsOf, IsDrawOf, IsNumberOf, IsServeOf, IsServiceOf, IsWhyRejected, PlainCanonIsAsked, PlainCapsIsAsked, PlainDrawIsAsked, PlainRunIsAsked, program, caps_shape, draw_shape, canon_shape, run_shape, serve_shape, sequence_rule, query_rule, nodes_rule, port_rule, requests_rule, cache_rule, state_rule};
 ghost use Rattle.wf_commands.specs.Line.{IsInRange, IsNumber, IsSequence};
 ghost use Rattle.wf_commands.specs.declared.line.Line.{Line};
 ghost use Rattle.wf_serve.specs.declared.service.Service.{Service};
@@ -20,32 +20,49 @@ use wf_serve::Service;
 
 const VERSION: &str = "0.1.0";
 
-const CAPS_HELP: &str = "Limits: SEQ is at most 4096, the mapfile has at most 65,536 bytes
-Faults: map fault M1 to M12, read fault";
+const CAPS_HELP: &str =
+    "caps answers GetCapabilities; it does not support GetMap, which draw answers.
+A service exception is an answer: the status is 0.
 
-const CANON_HELP: &str = "Limits: the mapfile has at most 65,536 bytes, its canonical text 32,768
-Faults: map fault M1 to M12, canon fault K1 and K3, read fault";
+Limits: a mapfile has at most 65,536 bytes
+Errors (status 1): map fault M1 to M12, read fault";
 
-const RUN_HELP: &str =
-    "Lines: nodes N first; then map NAME, its lines, endmap; propose I NAME, retry I, catchup I,
-deliver I K .., stop I, restart I, torn I before E, torn I after E, pump, pump I .., skip;
-published, sent, proposal I, definition I S, same, get I QUERY, equal I J QUERY
-Limits: the script has at most 1,048,576 bytes, 10,000 lines and 64 maps
-Faults: script fault S1 to S4 with the line, read fault";
+const DRAW_HELP: &str =
+    "draw answers as a server that has published this map alone, as sequence 1: GetMap gets a pixmap (PPM, P6).
+A service exception is an answer: the status is 0.
 
-/// The most pictures that may be kept for each node.
+Limits: a mapfile has at most 65,536 bytes, a picture 1,024 by 1,024 pixels
+Errors (status 1): map fault M1 to M12, read fault";
+
+const CANON_HELP: &str =
+    "The canonical text is the one spelling of a map that nodes compare and store.
+
+Limits: a mapfile has at most 65,536 bytes, a canonical text 32,768
+Errors (status 1): map fault M1 to M12, canon fault K1 and K3, read fault";
+
+const RUN_HELP: &str = "The first line is nodes N; each later line is an order or a question.
+Orders: map NAME, the lines of a mapfile, endmap; propose I NAME, retry I, catchup I, deliver I K ..,
+  stop I, restart I, torn I before E, torn I after E, pump, pump I .., skip
+Questions: published, sent, proposal I, definition I S, same, get I QUERY, equal I J QUERY
+I and J are nodes, K is a message, S an update sequence, E an event without its node
+
+Limits: a script has at most 1,048,576 bytes, 10,000 lines and 64 maps
+Errors (status 1): script fault S1 to S4 with the line number, read fault";
+
+/// The most pictures that a node may keep.
 const MOST_CACHE: i64 = 64;
 
-/// How many pictures are kept for each node, where the command line doesn't say.
+/// The number of pictures that each node keeps, where the command line doesn't say.
 const DEFAULT_CACHE: u32 = 16;
 
 const SERVE_HELP: &str =
-    "Paths: GET /wms?QUERY, POST /publish with a mapfile as its body, GET /status
-Connection c, counted from 0, is served by node c mod N; P is 0 for any free port
-C pictures are kept for each node, of 3 MB each; where C isn't given, 16
-With DIR, which must be there, the nodes' tapes are its files node-0.tape and so on; else they are lost
-Limits: N and C from 1 to 64, K at most 1,000,000
-Faults: serve fault";
+    "GET /wms?QUERY answers a WMS request, POST /publish proposes the mapfile in its body, GET /status reports a node.
+Node c mod N serves connection c, counted from 0.
+A kept picture takes 3 MB.
+With --state the nodes' tapes are the files node-0.tape, node-1.tape and so on of the folder DIR, which must
+exist; without it the tapes are lost when the program ends.
+
+Errors (status 1): serve fault";
 
 static NO_WORDS: [&str; 0] = [];
 
@@ -55,10 +72,10 @@ fn seq_argument<'a>(alloc: Global) -> Arg<'a>
     ensures local { result.global ≡ false }
 {
     Arg::new(alloc, "SEQ")
-        .value_name("SEQ from 0 to 4096")
+        .value_name("SEQ")
         .required(true)
         .value_parser(clap::value_parser!(u16).range(..=4_096))
-        .help("The update sequence of the map")
+        .help("The update sequence of the map, 0 to 4096")
 }
 
 fn query_argument<'a>(alloc: Global) -> Arg<'a>
@@ -66,7 +83,7 @@ fn query_argument<'a>(alloc: Global) -> Arg<'a>
     ensures local { result.global ≡ false }
 {
     Arg::new(alloc, "QUERY").required(true).help(
-        "The query string of a WMS request, as SERVICE=WMS&REQUEST=GetCapabilities",
+        "The query string of a WMS request, such as SERVICE=WMS&REQUEST=GetCapabilities",
     )
 }
 
@@ -78,6 +95,16 @@ fn caps_command<'a>(alloc: Global) -> Result<Command<'a>, AllocError>
         .about("Answers a WMS request about the mapfile on standard input")
         .after_help(CAPS_HELP)
         .arg(seq_argument(alloc))?
+        .arg(query_argument(alloc))
+}
+
+// `draw QUERY`.
+fn draw_command<'a>(alloc: Global) -> Result<Command<'a>, AllocError>
+    ensures { IfOk result (λ command. (shape_of command ≡ draw_shape) × ((out-Command command).has_globals ≡ false)) }
+{
+    Command::new(alloc, "draw")
+        .about("Previews the mapfile on standard input: answers a WMS request, GetMap included")
+        .after_help(DRAW_HELP)
         .arg(query_argument(alloc))
 }
 
@@ -108,10 +135,10 @@ fn nodes_argument<'a>(alloc: Global) -> Arg<'a>
 {
     Arg::new(alloc, "nodes")
         .long("nodes")
-        .value_name("N from 1 to 64")
+        .value_name("N")
         .required(true)
         .value_parser(clap::value_parser!(u8).range(1..=64))
-        .help("How many nodes there are")
+        .help("The number of nodes, 1 to 64")
 }
 
 // `--port P`.
@@ -121,10 +148,10 @@ fn port_argument<'a>(alloc: Global) -> Arg<'a>
 {
     Arg::new(alloc, "port")
         .long("port")
-        .value_name("P from 0 to 65535")
+        .value_name("P")
         .required(true)
         .value_parser(clap::value_parser!(u16))
-        .help("The port on this machine's own address 127.0.0.1")
+        .help("The port at 127.0.0.1, 0 to 65535; 0 takes any free port")
 }
 
 // `--requests K`.
@@ -134,10 +161,10 @@ fn requests_argument<'a>(alloc: Global) -> Arg<'a>
 {
     Arg::new(alloc, "requests")
         .long("requests")
-        .value_name("K from 0 to 1000000")
+        .value_name("K")
         .required(true)
         .value_parser(clap::value_parser!(u32).range(..=1_000_000))
-        .help("How many connections are served before it ends")
+        .help("The number of connections after which the program ends, 0 to 1000000")
 }
 
 // `--cache C`.
@@ -147,9 +174,9 @@ fn cache_argument<'a>(alloc: Global) -> Arg<'a>
 {
     Arg::new(alloc, "cache")
         .long("cache")
-        .value_name("C from 1 to 64")
+        .value_name("C")
         .value_parser(clap::value_parser!(u8).range(1..=MOST_CACHE))
-        .help("How many pictures are kept for each node")
+        .help("The number of pictures that each node keeps, 1 to 64; 16 where it is absent")
 }
 
 // `--state DIR`.
@@ -160,7 +187,7 @@ fn state_argument<'a>(alloc: Global) -> Arg<'a>
     Arg::new(alloc, "state")
         .long("state")
         .value_name("DIR")
-        .help("The folder with the nodes' tapes")
+        .help("The folder of the nodes' tapes")
 }
 
 // `serve`, without what may be left out.
@@ -168,7 +195,7 @@ fn farm_command<'a>(alloc: Global) -> Result<Command<'a>, AllocError>
     ensures { IfOk result (λ command. (shape_of command ≡ record serve_shape { rules = nodes_rule ∷ port_rule ∷ requests_rule ∷ [] }) × ((out-Command command).has_globals ≡ false)) }
 {
     Command::new(alloc, "serve")
-        .about("Serves nodes over HTTP, one connection after the other")
+        .about("Serves a farm over HTTP, one connection after the other")
         .after_help(SERVE_HELP)
         .arg(nodes_argument(alloc))?
         .arg(port_argument(alloc))?
@@ -184,23 +211,32 @@ fn serve_command<'a>(alloc: Global) -> Result<Command<'a>, AllocError>
         .arg(state_argument(alloc))
 }
 
-// The commands about a mapfile.
-fn mapfile_commands<'a>(alloc: Global) -> Result<Command<'a>, AllocError>
-    ensures { IfOk result (λ command. app_of command ≡ record program { subs = caps_shape ∷ canon_shape ∷ [] }) }
+// The program with its first command alone.
+fn first_command<'a>(alloc: Global) -> Result<Command<'a>, AllocError>
+    ensures { IfOk result (λ command. app_of command ≡ record program { subs = caps_shape ∷ [] }) }
 {
     let caps = caps_command(alloc)?;
     Command::new(alloc, "wfarm")
         .version(VERSION)
-        .about("A farm of Web Map Service servers over one history of mapfiles")
+        .about("Runs a farm of Web Map Service servers that publish one history of maps")
         .no_binary_name(true)
         .subcommand_required(true)
-        .subcommand(caps)?
+        .subcommand(caps)
+}
+
+// The commands about a mapfile.
+fn mapfile_commands<'a>(alloc: Global) -> Result<Command<'a>, AllocError>
+    ensures { IfOk result (λ command. app_of command ≡ record program { subs = caps_shape ∷ draw_shape ∷ canon_shape ∷ [] }) }
+{
+    let draw = draw_command(alloc)?;
+    first_command(alloc)?
+        .subcommand(draw)?
         .subcommand(canon_command(alloc))
 }
 
 // The commands about an input.
 fn input_commands<'a>(alloc: Global) -> Result<Command<'a>, AllocError>
-    ensures { IfOk result (λ command. app_of command ≡ record program { subs = caps_shape ∷ canon_shape ∷ run_shape ∷ [] }) }
+    ensures { IfOk result (λ command. app_of command ≡ record program { subs = caps_shape ∷ draw_shape ∷ canon_shape ∷ run_shape ∷ [] }) }
 {
     mapfile_commands(alloc)?.subcommand(run_command(alloc))
 }
@@ -214,17 +250,17 @@ fn command<'a>(alloc: Global) -> Result<Command<'a>, AllocError>
 }
 
 // The usage, and that a command is missing.
-fn refusal(alloc: Global) -> Result<Error, AllocError>
+fn rejection(alloc: Global) -> Result<Error, AllocError>
     ensures { IfOk result (λ error. kind_of error ≡ ErrorKind.ValueValidation) }
 {
     let mut command = command(alloc)?;
-    let refusal = command.error(
+    let rejection = command.error(
         ErrorKind::ValueValidation,
         "a command is missing, or a value is out of range",
     );
     // A parse of nothing lets go of the command: to drop it here would have all of its parts proved once more.
     let _ = command.try_get_matches_from(NO_WORDS.as_slice());
-    refusal
+    rejection
 }
 
 // The update sequence that a word stands for.
@@ -248,6 +284,16 @@ fn caps<'a>(found: &ArgMatches<'a>) -> Option<Line<'a>>
     let query = found.get_str("QUERY")?;
     let seq = sequence(word)?;
     Some(Line::Caps { seq, query })
+}
+
+// The `draw` line of the words that were found.
+#[tactic(auto, using(crate::proofs::Named::word_in_row))]
+fn draw<'a>(found: &ArgMatches<'a>) -> Option<Line<'a>>
+    ensures some { IfSome result (IsDrawOf (rows_of (found_of found.now))) }
+    ensures none { IfNone result ((line : Line) → ¬ (IsDrawOf (rows_of (found_of found.now)) line)) }
+{
+    let word = found.get_str("QUERY")?;
+    Some(Line::Draw { query: word })
 }
 
 // The number from the least to the most that a word stands for.
@@ -318,6 +364,7 @@ fn asked<'a>(matches: &ArgMatches<'a>) -> Option<Line<'a>>
 {
     match matches.subcommand() {
         Some(("caps", found)) => caps(found),
+        Some(("draw", found)) => draw(found),
         Some(("canon", _)) => Some(Line::Canon),
         Some(("run", _)) => Some(Line::Run),
         Some(("serve", found)) => serve(found),
@@ -334,7 +381,7 @@ pub fn line<'a, S: AsStr>(alloc: Global, words: &'a [S]) -> Result<Line<'a>, Err
     ensures range { IfOk result IsInRange }
     ensures asked { IfOk result (Asks (subcommand_of program (map S.text words.entry.now))) }
     // Words that ask for a line are rejected for allocation failure alone.
-    ensures refused { IfErr result (λ error. IsWhyRefused (map S.text words.entry.now) (kind_of error)) }
+    ensures rejected { IfErr result (λ error. IsWhyRejected (map S.text words.entry.now) (kind_of error)) }
 {
     let matches = command(alloc)?.try_get_matches_from(words)?;
     let asked = asked(&matches);
@@ -342,14 +389,15 @@ pub fn line<'a, S: AsStr>(alloc: Global, words: &'a [S]) -> Result<Line<'a>, Err
     // The command line's parser has made sure of a line; its promise ends at a subcommand's door.
     match asked {
         Some(line) => Ok(line),
-        None => Err(refusal(alloc)?),
+        None => Err(rejection(alloc)?),
     }
 }
 
-/// `caps` with an update sequence and a query, `canon` alone and `run` alone ask for these lines, where no
+/// `caps` with an update sequence and a query, `draw` with a query, `canon` alone and `run` alone ask for these lines, where no
 /// word begins with a hyphen.
 pub fn plain_words_are_taken()
     ensures caps { PlainCapsIsAsked }
+    ensures draw { PlainDrawIsAsked }
     ensures canon { PlainCanonIsAsked }
     ensures run { PlainRunIsAsked }
 {}

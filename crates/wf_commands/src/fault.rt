@@ -7,13 +7,13 @@ use wf_script::ScriptFault;
 /// Why a run failed. The text is the line for standard error.
 #[derive(Clone, Copy, Debug, PartialEq, Eq, Error)]
 pub enum RunFault {
-    /// The input is no mapfile, or memory ran out.
+    /// The input is no mapfile, or an allocation failed.
     #[error("map fault {0}")]
     Map(MapFault),
-    /// The map's canonical text can't be had.
+    /// The map has no canonical text within the limit, or an allocation failed.
     #[error("canon fault {0}")]
     Canon(CanonFault),
-    /// The input is no script, or memory ran out while it was read or played.
+    /// The input is no script, or an allocation failed while it was read or played.
     #[error("script fault {0}")]
     Script(ScriptFault),
     /// The reader failed; nothing was judged.
@@ -22,7 +22,7 @@ pub enum RunFault {
     /// The writer failed; a part may be written.
     #[error("write fault")]
     Write,
-    /// No node is served: a tape doesn't open, the port can't be had, or memory ran out.
+    /// No node is served: a tape doesn't open, the port isn't free, or an allocation failed.
     #[error("serve fault")]
     Serve,
 }

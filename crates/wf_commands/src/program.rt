@@ -4,7 +4,7 @@ ghost use Rattle.std.specs.IoError.{error_kind};
 ghost use Rattle.clap.specs.Values.{kind_of};
 ghost use Rattle.std.specs.Process.{exit_status};
 ghost use Rattle.wf_commands.specs.Line.{IsInRange, IsOfInput};
-ghost use Rattle.wf_commands.specs.Ending.{run_status, told, refusal_status, unreadable_status};
+ghost use Rattle.wf_commands.specs.Ending.{run_status, reported, rejection_status, unreadable_status};
 
 use crate::arguments::line;
 use crate::fault::RunFault;
@@ -12,14 +12,16 @@ use crate::line::Line;
 use crate::run::run_line;
 use crate::serve::run_serve;
 use clap::error::ErrorKind;
+use std::fs::File;
 use std::net::{Net, TcpListener, TcpStream};
 use std::process::ExitCode;
 use std::rt::{Env, Files};
+use std::time::Clock;
 use std::{env, io};
 use wf_mapfile::fault::MapFault;
 use wf_stream::Stream;
 
-/// The status of a fault, and of a failed write.
+/// The status of an error, also of a failed write.
 const FAULT: u8 = 1;
 
 /// The status of a bad command line.
@@ -36,10 +38,14 @@ fn run_input<R: Input + Print + AllocGlobal>(rt: &R, line: Line<'_>) -> Result<(
 }
 
 // Does what the command line asks for.
-fn run<R: Input + Print + Files + Net<Listener = TcpListener, Stream = TcpStream> + AllocGlobal>(
-    rt: &R,
-    line: Line<'_>,
-) -> Result<(), RunFault>
+fn run<
+    R: Input
+        + Print
+        + Files<File = File>
+        + Clock
+        + Net<Listener = TcpListener, Stream = TcpStream>
+        + AllocGlobal,
+>(rt: &R, line: Line<'_>) -> Result<(), RunFault>
     requires { IsInRange line }
 {
     match line {
@@ -47,13 +53,13 @@ fn run<R: Input + Print + Files + Net<Listener = TcpListener, Stream = TcpStream
             let mut sink = Stream::new(io::writer(rt));
             run_serve(rt, &line, &mut sink)
         }
-        Line::Caps { .. } | Line::Canon | Line::Run => run_input(rt, line),
+        Line::Caps { .. } | Line::Draw { .. } | Line::Canon | Line::Run => run_input(rt, line),
     }
 }
 
-// The fault whose line is written: a failed write has none.
-fn told(outcome: Result<(), RunFault>) -> Option<RunFault>
-    ensures { result ≡ told outcome }
+// The error whose line is written: a failed write has none.
+fn reported(outcome: Result<(), RunFault>) -> Option<RunFault>
+    ensures { result ≡ reported outcome }
 {
     match outcome {
         Ok(()) | Err(RunFault::Write) => None,
@@ -65,7 +71,7 @@ fn told(outcome: Result<(), RunFault>) -> Option<RunFault>
 fn status<R: Eprint>(rt: &R, outcome: Result<(), RunFault>) -> ExitCode
     ensures { exit_status result ≡ run_status outcome }
 {
-    if let Some(fault) = told(outcome) {
+    if let Some(fault) = reported(outcome) {
         let _ = eprintln!(rt; "{fault}");
     }
     match outcome {
@@ -86,8 +92,8 @@ fn unreadable<R: Eprint>(rt: &R, error: &io::Error) -> ExitCode
 }
 
 // The status where no command was run, of whether the text was printed.
-fn refusal_status(kind: ErrorKind, printed: bool) -> u8
-    ensures { result ≡ refusal_status kind printed }
+fn rejection_status(kind: ErrorKind, printed: bool) -> u8
+    ensures { result ≡ rejection_status kind printed }
 {
     match kind {
         ErrorKind::OutOfMemory => FAULT,
@@ -97,14 +103,14 @@ fn refusal_status(kind: ErrorKind, printed: bool) -> u8
 }
 
 // A command line that asks for nothing that the program does, or for help.
-fn refusal<R: Print + Eprint>(rt: &R, error: &clap::Error) -> ExitCode
-    ensures { (printed : Bool) × (exit_status result ≡ refusal_status (kind_of error.now) printed) }
+fn rejection<R: Print + Eprint>(rt: &R, error: &clap::Error) -> ExitCode
+    ensures { (printed : Bool) × (exit_status result ≡ rejection_status (kind_of error.now) printed) }
 {
     if error.kind() == ErrorKind::OutOfMemory {
         return status(rt, Err(RunFault::Map(MapFault::Memory)));
     }
     let printed = error.print(rt).is_ok();
-    ExitCode::from(refusal_status(error.kind(), printed))
+    ExitCode::from(rejection_status(error.kind(), printed))
 }
 
 // The words of the command line, without the program's name.
@@ -112,14 +118,15 @@ fn words<R: Env + AllocGlobal>(rt: &R) -> io::Result<Vec<String>> {
     Ok(env::args(rt)?.skip(1).collect(rt.alloc())?)
 }
 
-/// Reads the command line, does what it asks for and answers the exit status: 0; 1 for a fault, with
+/// Reads the command line, does what it asks for and returns the exit status: 0; 1 for an error, with
 /// one line on standard error, but none for a failed write; 2 for a bad command line.
 pub fn program<
     R: Env
         + Input
         + Print
         + Eprint
-        + Files
+        + Files<File = File>
+        + Clock
         + Net<Listener = TcpListener, Stream = TcpStream>
         + AllocGlobal,
 >(rt: &R) -> ExitCode
@@ -136,7 +143,7 @@ pub fn program<
     let code = match line(rt.alloc(), &words) {
         Ok(line) => status(rt, run(rt, line)),
         Err(error) => {
-            let code = refusal(rt, &error);
+            let code = rejection(rt, &error);
             drop(error);
             code
         }

@@ -10,7 +10,8 @@ ghost use Rattle.wf_ballot.specs.Sequence.{last_sequence};
 ghost use Rattle.wf_commands.specs.Line.{IsInRange, IsOfInput};
 ghost use Rattle.wf_stream.specs.Reading.{TakesUpTo};
 ghost use Rattle.wf_script.specs.Lines.{most_script_bytes};
-ghost use Rattle.wf_commands.specs.Run.{most_input_bytes, most_read, judged, IsInputFault, IsMapFault, IsReadingFault, IsWriting, IsOutcome, IsOutcomeOf, IsPlayed, CountsReads, CountsWrites};
+ghost use Rattle.wf_commands.specs.Run.{most_input_bytes, most_read, judged, IsInputFault, IsMapFault, IsReadingFault, IsWriting, IsWritingOf, IsOutcome, IsOutcomeOf, IsCanonical, IsDescription, IsPreview, IsPlayed};
+ghost use Rattle.wf_commands.specs.Counting.{CountsReads, CountsWrites};
 
 use crate::fault::RunFault;
 use crate::line::Line;
@@ -20,9 +21,10 @@ use wf_ballot::SEQUENCES;
 use wf_canon::Canon;
 use wf_def::map::MapDef;
 use wf_mapfile::fault::MapFault;
-use wf_script::PlayFault;
+use wf_play::PlayFault;
 use wf_stream::{Sink, Source, read_up_to, write_all};
 use wf_wms::describe;
+use wf_wms::service::preview;
 
 /// How much of the input is read, in bytes: one more than the longest mapfile has.
 pub const MOST_INPUT_BYTES: usize = 65_537;
@@ -108,6 +110,23 @@ fn write_answer<K: Sink>(
     }
 }
 
+// Writes the answer of a server that has published a map alone.
+#[tactic(auto, using(crate::proofs::Outcome::one_written))]
+fn write_preview<K: Sink>(
+    alloc: Global,
+    map: &MapDef,
+    sink: &mut K,
+    query: &[u8],
+) -> Result<(), RunFault>
+    ensures written { IsWritingOf (IsPreview query.now map.now) (K.written sink.old) (K.written sink.new) result }
+    ensures writes { CountsWrites result (K.failures sink.old) (K.failures sink.new) }
+{
+    match preview(alloc, map, query) {
+        Ok(drawn) => write(sink, &drawn.bytes),
+        Err(_) => Err(RunFault::Map(MapFault::Memory)),
+    }
+}
+
 // Writes the canonical text of a map.
 fn write_canonical<K: Sink>(alloc: Global, map: &MapDef, sink: &mut K) -> Result<(), RunFault>
     ensures written { IsWriting (canon map.now) (λ fault. IsCauseOf fault map.now) (K.written sink.old) (K.written sink.new) result }
@@ -134,7 +153,7 @@ pub fn run_caps<S: Source, K: Sink>(
     query: &[u8],
 ) -> Result<(), RunFault>
     requires { seq ≤ last_sequence }
-    ensures outcome { IsOutcome (λ d. (description seq d query.now).bytes) (λ _ _. ⊥)
+    ensures outcome { IsOutcome (IsDescription seq query.now) (λ _ _. ⊥)
         (S.left source.old) (K.written sink.old) (K.written sink.new) result }
     ensures most { TakesUpTo most_input_bytes (S.left source.old) (S.left source.new) }
     ensures reads { CountsReads result (S.failures source.old) (S.failures source.new) }
@@ -150,6 +169,31 @@ pub fn run_caps<S: Source, K: Sink>(
     }
 }
 
+/// Reads a mapfile to its end, or to the byte that makes it too long, and writes the answer of a server that has published its map alone,
+/// at update sequence 1, to a query: a preview.
+#[tactic(auto, using(crate::proofs::Outcome::one_written_outcome, crate::proofs::Outcome::fault_outcome, crate::proofs::Outcome::no_more_reads_of_one, crate::proofs::Outcome::no_writes_yet))]
+pub fn run_draw<S: Source, K: Sink>(
+    alloc: Global,
+    source: &mut S,
+    sink: &mut K,
+    query: &[u8],
+) -> Result<(), RunFault>
+    ensures outcome { IsOutcome (IsPreview query.now) (λ _ _. ⊥)
+        (S.left source.old) (K.written sink.old) (K.written sink.new) result }
+    ensures most { TakesUpTo most_input_bytes (S.left source.old) (S.left source.new) }
+    ensures reads { CountsReads result (S.failures source.old) (S.failures source.new) }
+    ensures writes { CountsWrites result (K.failures sink.old) (K.failures sink.new) }
+{
+    match map(alloc, source) {
+        Ok(map) => {
+            let outcome = write_preview(alloc, &map, sink, query);
+            drop(map);
+            outcome
+        }
+        Err(fault) => Err(fault),
+    }
+}
+
 /// Reads a mapfile to its end, or to the byte that makes it too long, and writes its canonical text.
 #[tactic(auto, using(crate::proofs::Outcome::written_outcome, crate::proofs::Outcome::fault_outcome, crate::proofs::Outcome::no_more_reads, crate::proofs::Outcome::no_writes_yet))]
 pub fn run_canon<S: Source, K: Sink>(
@@ -157,7 +201,7 @@ pub fn run_canon<S: Source, K: Sink>(
     source: &mut S,
     sink: &mut K,
 ) -> Result<(), RunFault>
-    ensures outcome { IsOutcome canon IsCauseOf
+    ensures outcome { IsOutcome IsCanonical IsCauseOf
         (S.left source.old) (K.written sink.old) (K.written sink.new) result }
     ensures most { TakesUpTo most_input_bytes (S.left source.old) (S.left source.new) }
     ensures reads { CountsReads result (S.failures source.old) (S.failures source.new) }
@@ -174,7 +218,7 @@ pub fn run_canon<S: Source, K: Sink>(
 }
 
 /// Reads a script to its end, or to the byte that makes it too long, and plays it on a farm in memory: what its orders do and
-/// write, the contracts of `wf_script` say.
+/// write, the contracts of `wf_play` say.
 pub fn run_script<S: Source, K: Sink>(
     alloc: Global,
     source: &mut S,
@@ -187,7 +231,7 @@ pub fn run_script<S: Source, K: Sink>(
     ensures reads { CountsReads result (S.failures source.old) (S.failures source.new) }
     ensures writes { CountsWrites result (K.failures sink.old) (K.failures sink.new) }
 {
-    match wf_script::run_script(alloc, source, sink) {
+    match wf_play::run_script(alloc, source, sink) {
         Ok(()) => Ok(()),
         Err(PlayFault::Script(fault)) => Err(RunFault::Script(fault)),
         Err(PlayFault::Read) => Err(RunFault::Read),
@@ -212,6 +256,7 @@ pub fn run_line<S: Source, K: Sink>(
 {
     match line {
         Line::Caps { seq, query } => run_caps(alloc, source, sink, seq, query.as_bytes()),
+        Line::Draw { query } => run_draw(alloc, source, sink, query.as_bytes()),
         Line::Canon => run_canon(alloc, source, sink),
         Line::Run => run_script(alloc, source, sink),
         Line::Serve(_) => unreachable!(),

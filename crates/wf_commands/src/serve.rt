@@ -1,44 +1,45 @@
 //! The command `serve`.
 ghost use Rattle.wf_commands.specs.Line.{IsInRange, IsServe};
-ghost use Rattle.wf_commands.specs.Run.{CountsWrites, IsServed, IsServing};
+ghost use Rattle.wf_commands.specs.Counting.{CountsWrites};
+ghost use Rattle.wf_commands.specs.Serving.{IsServed, IsServing};
 ghost use Rattle.wf_serve.specs.Service.{IsService};
 
 use crate::fault::RunFault;
 use crate::line::Line;
+use std::fs::File;
 use std::net::{Net, TcpListener, TcpStream};
 use std::rt::Files;
+use std::time::Clock;
 use wf_serve::{ServeFault, Service, serve};
 use wf_stream::Sink;
 
 /// Serves the nodes that a `serve` line asks for, as [`wf_serve::serve`] says, and writes the line `listening P`: P is the
 /// line's port, or where that is 0 one that the system gives.
 ///
-/// `Serve` where a tape doesn't open, the port can't be had or memory ran out: nothing is written then. `Write` where the line
+/// `Serve` where a tape doesn't open, the port isn't free or an allocation failed: nothing is written then. `Write` where the line
 /// can't be written: a beginning of it may be.
-pub fn run_serve<R: Files + Net<Listener = TcpListener, Stream = TcpStream> + AllocGlobal, K: Sink>(
-    rt: &R,
-    line: &Line<'_>,
-    sink: &mut K,
-) -> Result<(), RunFault>
+pub fn run_serve<
+    R: Files<File = File> + Clock + Net<Listener = TcpListener, Stream = TcpStream> + AllocGlobal,
+    K: Sink,
+>(rt: &R, line: &Line<'_>, sink: &mut K) -> Result<(), RunFault>
     requires serve { IsServe line.now }
     requires range { IsInRange line.now }
-    ensures told { IsServed line.now (K.written sink.old) (K.written sink.new) result }
+    ensures written { IsServed line.now (K.written sink.old) (K.written sink.new) result }
     ensures writes { CountsWrites result (K.failures sink.old) (K.failures sink.new) }
 {
     match line {
         Line::Serve(service) => serve_by(rt, *service, sink),
-        Line::Caps { .. } | Line::Canon | Line::Run => unreachable!(),
+        Line::Caps { .. } | Line::Draw { .. } | Line::Canon | Line::Run => unreachable!(),
     }
 }
 
 // The same of what is to be served.
-fn serve_by<R: Files + Net<Listener = TcpListener, Stream = TcpStream> + AllocGlobal, K: Sink>(
-    rt: &R,
-    service: Service<'_>,
-    sink: &mut K,
-) -> Result<(), RunFault>
+fn serve_by<
+    R: Files<File = File> + Clock + Net<Listener = TcpListener, Stream = TcpStream> + AllocGlobal,
+    K: Sink,
+>(rt: &R, service: Service<'_>, sink: &mut K) -> Result<(), RunFault>
     requires { IsService service }
-    ensures told { IsServing service.entry.port (K.written sink.old) (K.written sink.new) result }
+    ensures written { IsServing service.entry.port (K.written sink.old) (K.written sink.new) result }
     ensures writes { CountsWrites result (K.failures sink.old) (K.failures sink.new) }
 {
     match serve(rt, service, sink) {

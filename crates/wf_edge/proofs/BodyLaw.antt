@@ -4,6 +4,8 @@ use Rattle.std.specs.Prelude.{Option, Some, None, IfSome}
 use Rattle.std.proofs.lemmas.Bool.{cases_lt}
 use Rattle.std.proofs.Math.Seq.{take-append-add}
 use Rattle.std.proofs.lemmas.List.{append-nil, length-append, length-take, take_all, take-append-le}
+use Rattle.wf_stream.specs.KnownLaws.{consumes_none, takes_all}
+use Rattle.wf_stream.specs.Reading.{TakesUpTo}
 use Rattle.wf_edge.specs.Request.{IsBody, IsBodyFault}
 use Rattle.wf_edge.specs.declared.refusal.Refusal.TheVariants as refusal
 use Rattle.wf_edge.specs.declared.fault.RequestFault.TheVariants as fault
@@ -64,3 +66,21 @@ pub body_cut : (left : Option (List ℕ)) (behind front rest : List ℕ) (bytes 
     → IfSome left (λ known. IsBodyFault (behind ++ known) bytes (fault.Refused refusal.BadRequest))
 body_cut None behind front rest bytes missing came misses read short = tt
 body_cut (Some known) behind front rest bytes missing came misses read short = (refl, cut_body behind known front rest bytes missing came misses read short)
+
+-- memory is needed for a body with a byte
+pub body_unheld : (left : Option (List ℕ)) (behind : List ℕ) (bytes : ℕ) → 0 < bytes → IfSome left (λ known. IsBodyFault (behind ++ known) bytes fault.Memory)
+body_unheld None behind bytes some = tt
+body_unheld (Some known) behind bytes some = some
+
+-- ---- how much is taken
+
+-- no more than what was missing behind the head
+pub missing_taken : (old new : Option (List ℕ)) (behind front : List ℕ) (bytes missing : ℕ) → front ≡ take (min (length behind) bytes) behind
+    → missing ≡ bytes - length front → TakesUpTo missing old new → TakesUpTo (bytes - length behind) old new
+missing_taken old new behind front bytes missing came misses (taken, short, consumed) =
+    let size = length-take (min (length behind) bytes) behind in
+    let same : length front ≡ length (take (min (length behind) bytes) behind) = ap length came in
+    (taken, omega arith, consumed)
+
+pub nothing_taken : (known : Option (List ℕ)) (limit : ℕ) → TakesUpTo limit known known
+nothing_taken known limit = takes_all known known [] limit (consumes_none known [] refl) (omega arith)

@@ -1,7 +1,7 @@
 -- From what the parser of heads answers to the head of an input.
-use Rattle.std.proofs.Common.{◌≡◌, ◌≢◌, ◌∙◌, ◌+◌, ◌≤◌, ◌<◌, ℕ, List, [], ◌∷◌, ◌++◌, length, take, drop, min, refl, sym, ap, subst, arith}
+use Rattle.std.proofs.Common.{◌≡◌, ◌≢◌, ◌∙◌, ◌+◌, ◌-◌, ◌≤◌, ◌<◌, ℕ, List, [], ◌∷◌, ◌++◌, length, take, drop, min, refl, sym, ap, subst, arith}
 use Rattle.std.specs.Prelude.{Option, Some, None, IfSome}
-use Rattle.std.specs.Io.KnownBytes.{Consumes, IsAtEnd}
+use Rattle.std.specs.Io.KnownBytes.{Consumes, Keeps, IsAtEnd}
 use Rattle.std.proofs.lemmas.List.{append-nil, take_at, take-append-drop, take-append-le, length-append, length-map, length-take, take_min}
 use Rattle.httparse.specs.Grammar.{RequestHead, ReadsRequest, HasNoRequest, print_request}
 use Rattle.httparse.specs.Spans.{IsRequestOf, RequestOverflows, name_and_value, header_bytes}
@@ -9,7 +9,7 @@ use Rattle.httparse.specs.declared.spans.HeaderSpan.{HeaderSpan}
 use Rattle.httparse.specs.declared.spans.RequestSpans.{RequestSpans}
 use Rattle.wf_edge.specs.Head.{Head, Begins, HasNoSmallRequest}
 use Rattle.wf_stream.specs.Reading.{ReadsPiece}
-use Rattle.wf_edge.specs.Request.{front_of, IsHeadRefusal, IsHeadFault, IsUnfinished}
+use Rattle.wf_edge.specs.Request.{front_of, IsHeadRefusal, IsHeadFault, IsUnfinished, TakesPiece, TakesHead}
 use Rattle.wf_edge.specs.declared.refusal.Refusal.{Refusal}
 use Rattle.wf_edge.specs.declared.refusal.Refusal.TheVariants as refusal
 use Rattle.wf_edge.specs.declared.fault.RequestFault.{RequestFault}
@@ -44,6 +44,57 @@ small bytes fields spans short room (h, at) = record {
 -- a head with too many fields isn't within the limits, whatever bytes follow
 pub overflows : (bytes : List ℕ) → RequestOverflows 32 bytes → (more : List ℕ) → HasNoSmallRequest (bytes ++ more)
 overflows bytes over more h rest reads within = let many = over more h rest reads in let few = within.fields in absurd (omega arith)
+
+-- ---- how much is taken
+
+-- a number that is at most another is so still where it is less
+still_small : (piece : Option ℕ) (count less : ℕ) → less ≤ count → IfSome piece (λ most. count ≤ most) → IfSome piece (λ most. less ≤ most)
+still_small None count less within small = tt
+still_small (Some most) count less within small = omega arith
+
+none_is_small : (piece : Option ℕ) → IfSome piece (λ most. 0 ≤ most)
+none_is_small None = tt
+none_is_small (Some most) = omega arith
+
+-- a call that fails takes nothing
+pub piece_kept : (piece : Option ℕ) (room : ℕ) (old new : Option (List ℕ)) → Keeps old new → TakesPiece piece room old new
+piece_kept piece room old new keeps = ([], omega arith, none_is_small piece, none old new keeps)
+  where
+    none : (old new : Option (List ℕ)) → Keeps old new → Consumes old new []
+    none None new keeps = tt
+    none (Some xs) None keeps = absurd keeps
+    none (Some xs) (Some ys) keeps = sym keeps
+
+-- a call takes what it gives
+pub piece_taken : (piece : Option ℕ) (room count : ℕ) (old new : Option (List ℕ)) (given : List ℕ) → Consumes old new (take count given) → count ≤ room
+    → IfSome piece (λ most. count ≤ most) → TakesPiece piece room old new
+piece_taken piece room count old new given taken within small =
+    let size : length (take count given) ≡ min count (length given) = length-take count given in
+    (take count given, omega arith, still_small piece count (length (take count given)) (omega arith) small, taken)
+
+-- a further piece is taken where no head is whole yet
+pub head_looked_for : (here piece : Option ℕ) (start old new : Option (List ℕ)) (bytes : List ℕ) → here ≡ piece → IsUnfinished bytes → length bytes < 8192
+    → Consumes start old bytes → TakesPiece here (8192 - length bytes) old new → TakesHead piece start new
+head_looked_for here piece start old new bytes same unfinished room first (more, within, small, second) = record {
+  before = bytes;
+  last = more;
+  unfinished = unfinished;
+  most = rw (length-append bytes more) (omega arith);
+  small = subst (λ p. IfSome p (λ most. length more ≤ most)) same small;
+  taken = consumes_more start old new bytes more first second;
+}
+
+-- no more is taken where as much was as a head may have
+pub taken_at_limit : (piece : Option ℕ) (start left : Option (List ℕ)) (bytes : List ℕ) → Consumes start left bytes → IsUnfinished bytes → length bytes ≤ 8192
+    → TakesHead piece start left
+taken_at_limit piece start left bytes taken unfinished within = record {
+  before = bytes;
+  last = [];
+  unfinished = unfinished;
+  most = rw (append-nil bytes) within;
+  small = none_is_small piece;
+  taken = subst (λ xs. Consumes start left xs) (sym (append-nil bytes)) taken;
+}
 
 -- ---- the input that was read from
 

@@ -1,5 +1,5 @@
 -- From why there is no request, and what is written of that, to its outcome.
-use Rattle.std.proofs.Common.{◌≡◌, ◌∙◌, ℕ, List, refl, sym, subst}
+use Rattle.std.proofs.Common.{◌≡◌, ℕ, List, sym, subst}
 use Rattle.std.specs.Prelude.{Option, Err, IfSome}
 use Rattle.wf_edge.specs.Request.{Request, IsRequestFault, CountsReads}
 use Rattle.wf_edge.specs.Response.{Response}
@@ -17,23 +17,15 @@ unheard input old new why said is written = record { why = why; is = is; written
 -- a response after which the reader is as it was
 pub calm_reads : (response : Response) (old new : Option (List ℕ)) (said : Outcome) (first last : ℕ) → last ≡ first → IsSaid response old new said
     → CountsHearing said first last
-calm_reads response old new (outcome.Sent status count) first last calm written = λ other. calm
-calm_reads response old new (outcome.WriteFailed status count) first last calm written = λ other. calm
+calm_reads response old new (outcome.Sent status count) first last calm written = calm
+calm_reads response old new (outcome.WriteFailed status count) first last calm written = calm
 calm_reads response old new outcome.ReadFailed first last calm written = absurd written
 calm_reads response old new outcome.NoRequest first last calm written = absurd written
-
--- a response with status 503
-unavailable_reads : (response : Response) (old new : Option (List ℕ)) (said : Outcome) (first last : ℕ) → response.status ≡ 503 → IsSaid response old new said
-    → CountsHearing said first last
-unavailable_reads response old new (outcome.Sent status count) first last is written = λ other. absurd (other (written.1 ∙ is))
-unavailable_reads response old new (outcome.WriteFailed status count) first last is written = λ other. absurd (other (written.1 ∙ is))
-unavailable_reads response old new outcome.ReadFailed first last is written = absurd written
-unavailable_reads response old new outcome.NoRequest first last is written = absurd written
 
 pub fault_reads : (why : RequestFault) (old new : Option (List ℕ)) (said : Outcome) (first last : ℕ) → IsFaultSaid why old new said
     → CountsReads {T = Request} (Err why) first last → CountsHearing said first last
 fault_reads (fault.Refused r) old new said first last written counted = calm_reads _ old new said first last counted written
-fault_reads fault.Memory old new said first last written counted = unavailable_reads _ old new said first last refl written
+fault_reads fault.Memory old new said first last written counted = calm_reads _ old new said first last counted written
 fault_reads fault.NoRequest old new said first last written counted =
     subst (λ o. CountsHearing o first last) (sym written.0) counted
 fault_reads fault.ReadFailed old new said first last written counted =

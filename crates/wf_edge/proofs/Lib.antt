@@ -6,5 +6,7 @@ mod HearingLaw
 mod NumberLaw
 mod PublishLaw
 mod RequestLaw
+mod Room
+mod ServiceLaw
 mod ServingLaw
 mod Written

@@ -1,15 +1,19 @@
 -- From a body to the step Propose, or to why there is none.
-use Rattle.std.proofs.Common.{◌≡◌, ◌≢◌, ◌∙◌, ℕ, ◌≤◌, Bool, true, false, cond, List, length, Vec, IsSome, refl, sym, ap, subst}
-use Rattle.std.specs.Prelude.{Result, Ok, Err, IfOk, IfErr, OnOk}
+use Rattle.std.proofs.Common.{◌≡◌, ◌≢◌, ◌∙◌, ℕ, ◌≤◌, ◌<◌, Bool, true, false, cond, ◌&&◌, nat_le, List, length, Vec, IsSome, refl, sym, ap, subst, inl, inr}
+use Rattle.std.specs.Prelude.{Result, Ok, Err, IfOk, IfErr, OnOk, Option, Some, None}
+use Rattle.std.specs.Str.{is_utf8}
+use Rattle.std.proofs.lemmas.Bool.{cases_lt, leb-true}
+use Rattle.std.proofs.lemmas.Option.{none-some}
 use Rattle.wf_canon.specs.Canon.{canon, most_canon_bytes}
 use Rattle.wf_canon.specs.Refusal.{IsCauseOf}
 use Rattle.wf_canon.specs.declared.fault.CanonFault.{CanonFault}
 use Rattle.wf_canon.specs.declared.fault.CanonFault.TheVariants as canonical
 use Rattle.wf_codec.specs.declared.message.Message.{Message}
 use Rattle.wf_def.specs.Definition.{Definition}
-use Rattle.wf_mapfile.specs.Meaning.{Means, MeansNothing}
-use Rattle.wf_mapfile.specs.Reading.{is_memory}
+use Rattle.wf_mapfile.specs.Meaning.{Means, MeansNothing, meaning, longest_mapfile}
+use Rattle.wf_mapfile.specs.Reading.{is_memory, IsNotUtf8}
 use Rattle.wf_mapfile.specs.declared.fault.MapFault.{MapFault}
+use Rattle.wf_mapfile.specs.declared.fault.MapFault.TheVariants as map
 use Rattle.wf_model.specs.Table.{Propose, store}
 use Rattle.wf_node.specs.Fault.{refused_by}
 use Rattle.wf_node.specs.Images.{AllStandFor, EachStandsFor}
@@ -20,25 +24,74 @@ use Rattle.wf_node.specs.declared.fault.NodeFault.TheVariants as node
 use Rattle.wf_tape.specs.Tape.{IsUnchanged, HasRisen}
 use Rattle.wf_edge.specs.Response.{Response}
 use Rattle.wf_edge.specs.Page.{accepted_page}
-use Rattle.wf_edge.specs.Publish.{IsMapOf, IsWhyNoMap, IsProposed, IsPublished, unwritten}
+use Rattle.wf_edge.specs.Publish.{IsMapOf, IsText, IsWhyNoMap, IsProposed, IsPublished, unwritten}
 use Rattle.wf_edge.specs.declared.publish_fault.PublishFault.{PublishFault}
 use Rattle.wf_edge.specs.declared.publish_fault.PublishFault.TheVariants as fault
 
 -- ---- the map of the body
 
+memory_alone : (why : MapFault) → is_memory why ≡ true → why ≡ map.Memory
+memory_alone map.Memory is = refl
+memory_alone map.TooLong is = let clash : false ≡ true = is in cc
+memory_alone (map.NotUtf8 place) is = let clash : false ≡ true = is in cc
+memory_alone (map.BadToken place) is = let clash : false ≡ true = is in cc
+memory_alone (map.UnexpectedWord place) is = let clash : false ≡ true = is in cc
+memory_alone (map.MissingEnd place) is = let clash : false ≡ true = is in cc
+memory_alone (map.BadNumber place) is = let clash : false ≡ true = is in cc
+memory_alone (map.OutOfRange place) is = let clash : false ≡ true = is in cc
+memory_alone map.Missing is = let clash : false ≡ true = is in cc
+memory_alone (map.Repeated place) is = let clash : false ≡ true = is in cc
+memory_alone map.TooMany is = let clash : false ≡ true = is in cc
+memory_alone (map.Trailing place) is = let clash : false ≡ true = is in cc
+
+abbrev rejected : MapFault → Result Definition MapFault
+rejected why = Err why
+
+same_fault : (why other : MapFault) → rejected why ≡ rejected other → why ≡ other
+same_fault why other is = cc
+
+-- whose fault is allocation failure is a text
+is_text : (body : List ℕ) (utf8 : Bool) → is_utf8 body ≡ utf8 → (longest_mapfile < length body → map.Memory ≡ map.TooLong)
+    → (length body ≤ longest_mapfile → utf8 ≡ false → ⊥) → IsText body
+is_text body utf8 is too_long not_utf8 = elim (cases_lt longest_mapfile (length body)) [
+  | inl over ↦ let clash = too_long over in cc
+  | inr within ↦ text utf8 is within (not_utf8 within)
+]
+  where
+    text : (utf8 : Bool) → is_utf8 body ≡ utf8 → length body ≤ longest_mapfile → (utf8 ≡ false → ⊥) → IsText body
+    text true is within not = record { within = within; utf8 = is }
+    text false is within not = absurd (not refl)
+
 unread_step : (body : List ℕ) (why : MapFault) (memory : Bool) → is_memory why ≡ memory → (memory ≡ false → MeansNothing body)
+    → (longest_mapfile < length body → why ≡ map.TooLong) → (length body ≤ longest_mapfile → is_utf8 body ≡ false → IsNotUtf8 (rejected why))
     → IsWhyNoMap body (cond memory fault.Memory (fault.Map why))
-unread_step body why true is nothing = tt
-unread_step body why false is nothing = (is, nothing refl)
+unread_step body why true is nothing too_long not_utf8 =
+    let same = memory_alone why is in
+    is_text body (is_utf8 body) refl (λ over. sym same ∙ too_long over) (λ within no. subst (λ w. IsNotUtf8 (rejected w)) same (not_utf8 within no))
+unread_step body why false is nothing too_long not_utf8 = record { own = is; means_nothing = nothing refl; too_long = too_long; not_utf8 = not_utf8 }
 
 pub why_unread : (body : List ℕ) (why : MapFault) (told : PublishFault) → told ≡ cond (is_memory why) fault.Memory (fault.Map why)
-    → (is_memory why ≡ false → MeansNothing body) → IsWhyNoMap body told
-why_unread body why told is nothing = subst (λ f. IsWhyNoMap body f) (sym is) (unread_step body why (is_memory why) refl nothing)
+    → (is_memory why ≡ false → MeansNothing body) → (longest_mapfile < length body → rejected why ≡ rejected map.TooLong)
+    → (length body ≤ longest_mapfile → is_utf8 body ≡ false → IsNotUtf8 (rejected why)) → IsWhyNoMap body told
+why_unread body why told is nothing too_long not_utf8 =
+    subst (λ f. IsWhyNoMap body f) (sym is)
+    (unread_step body why (is_memory why) refl nothing (λ over. same_fault why map.TooLong (too_long over)) not_utf8)
+
+-- what means a map is a text
+text_step : (body : List ℕ) (d : Definition) (meant : Option Definition) (within utf8 : Bool) → nat_le (length body) longest_mapfile ≡ within → is_utf8 body ≡ utf8
+    → cond (within && utf8) meant None ≡ Some d → IsText body
+text_step body d meant true true within utf8 means = record { within = leb-true (length body) longest_mapfile within; utf8 = utf8 }
+text_step body d meant true false within utf8 means = absurd (none-some d means)
+text_step body d meant false utf8 within is means = absurd (none-some d means)
+
+pub meant_text : (body : List ℕ) (d : Definition) → Means body d → IsText body
+unfolding meaning
+meant_text body d means = text_step body d _ (nat_le (length body) longest_mapfile) (is_utf8 body) refl refl means
 
 unwritten_step : (body : List ℕ) (d : Definition) (why : CanonFault) → Means body d → IsCauseOf why d → IsWhyNoMap body (unwritten why)
 unwritten_step body d canonical.TooBig means cause = (d, means, cause)
-unwritten_step body d canonical.NotCanonical means cause = tt
-unwritten_step body d canonical.Memory means cause = tt
+unwritten_step body d canonical.NotCanonical means cause = meant_text body d means
+unwritten_step body d canonical.Memory means cause = meant_text body d means
 
 pub why_unwritten : (body : List ℕ) (d : Definition) (why : CanonFault) (told : PublishFault) → Means body d → IsCauseOf why d → told ≡ unwritten why
     → IsWhyNoMap body told

@@ -1,11 +1,15 @@
 -- From a head and a body that were read to the request that the input begins with.
-use Rattle.std.proofs.Common.{◌≡◌, ◌∙◌, ℕ, List, ◌++◌, sym, ap, subst}
+use Rattle.std.proofs.Common.{◌≡◌, ◌∙◌, ◌-◌, ℕ, List, [], ◌∷◌, ◌++◌, length, sym, ap, subst, arith, inl, inr}
 use Rattle.std.specs.Prelude.{Option, Some, None, Ok, Err, IfSome}
-use Rattle.std.proofs.lemmas.List.{append_assoc}
+use Rattle.std.specs.Io.KnownBytes.{Consumes}
+use Rattle.std.proofs.lemmas.Bool.{cases_lt}
+use Rattle.std.proofs.lemmas.List.{append-nil, append_assoc, length-append}
 use Rattle.httparse.specs.Grammar.{print_request}
 use Rattle.wf_edge.specs.Head.{Head, Begins}
 use Rattle.wf_edge.specs.Checks.{judged}
-use Rattle.wf_edge.specs.Request.{Front, TakesFront, IsHeadFault, IsBody, IsBodyFault, IsRequestFault, by_head, by_check, by_body, BeginsWith, body_bytes}
+use Rattle.wf_stream.specs.KnownLaws.{consumes_more}
+use Rattle.wf_stream.specs.Reading.{TakesUpTo}
+use Rattle.wf_edge.specs.Request.{Front, TakesFront, TakesHead, TakesRequest, IsHeadFault, IsBody, IsBodyFault, IsRequestFault, by_head, by_check, by_body, BeginsWith, body_bytes}
 use Rattle.wf_edge.specs.declared.refusal.Refusal.{Refusal}
 use Rattle.wf_edge.specs.declared.resource.Asked.{Asked}
 use Rattle.wf_edge.specs.declared.fault.RequestFault.{RequestFault}
@@ -36,7 +40,7 @@ pub head_failed : (start : Option (List ℕ)) (why : RequestFault) → IfSome st
 head_failed None why failed = tt
 head_failed (Some input) fault.NoRequest failed = failed
 head_failed (Some input) fault.ReadFailed failed = failed
-head_failed (Some input) fault.Memory failed = failed
+head_failed (Some input) fault.Memory failed = absurd failed
 head_failed (Some input) (fault.Refused r) failed = by_head failed.0 failed.1
 
 pub check_failed : (start old : Option (List ℕ)) (front : Front) (r : Refusal) → TakesFront start old front → Err r ≡ judged front.head
@@ -49,7 +53,8 @@ body_fault : (input rest : List ℕ) (head : Head) (asked : Asked) (why : Reques
     → IsBodyFault rest (body_bytes asked) why → IsRequestFault input why
 body_fault input rest head asked fault.NoRequest begins asks failed = absurd failed
 body_fault input rest head asked fault.ReadFailed begins asks failed = tt
-body_fault input rest head asked fault.Memory begins asks failed = tt
+body_fault input rest head asked fault.Memory begins asks failed =
+    record { head = head; rest = rest; begins = begins; asked = asked; asks = asks; some = failed }
 body_fault input rest head asked (fault.Refused r) begins asks failed =
     by_body (record { head = head; rest = rest; begins = begins; asked = asked; asks = asks; short = failed.1; is = failed.0 })
 
@@ -73,3 +78,37 @@ request_read start old front asked bytes body taken asks count held =
       asks = sym asks;
       body = subst (λ n. IsBody (front.behind ++ left) n body) count here;
     })
+
+-- ---- how much is taken
+
+-- nothing more was taken
+taken_same : (a b c : Option (List ℕ)) (bytes rest : List ℕ) → length rest ≡ 0 → Consumes a b bytes → Consumes b c rest → Consumes a c bytes
+taken_same a b c bytes [] none first second = subst (λ xs. Consumes a c xs) (append-nil bytes) (consumes_more a b c bytes [] first second)
+taken_same a b c bytes (byte ∷ rest) none first second = absurd (omega arith)
+
+-- no more was taken behind a head than is missing of its body
+pub request_taken : (piece : Option ℕ) (start old new : Option (List ℕ)) (front : Front) (asked : Asked) (bytes : ℕ) (behind : List ℕ) → TakesHead piece start old
+    → TakesFront start old front → Ok asked ≡ judged front.head → bytes ≡ body_bytes asked → behind ≡ front.behind → TakesUpTo (bytes - length behind) old new
+    → TakesRequest piece start new
+request_taken piece start old new front asked bytes behind looked (read, taken, begins) asks count same (rest, short, more) =
+    let size : length behind ≡ length front.behind = ap length same in
+    elim (cases_lt (length front.behind) (body_bytes asked)) [
+      | inl part ↦ inr (record {
+        bytes = read ++ rest;
+        head = front.head;
+        behind = front.behind ++ rest;
+        asked = asked;
+        begins = begins_more read front.behind rest front.head begins;
+        asks = sym asks;
+        most = rw (length-append front.behind rest) (omega arith);
+        taken = consumes_more start old new read rest taken more;
+      })
+      | inr all ↦ inl (record {
+        before = looked.before;
+        last = looked.last;
+        unfinished = looked.unfinished;
+        most = looked.most;
+        small = looked.small;
+        taken = taken_same start old new (looked.before ++ looked.last) rest (omega arith) looked.taken more;
+      })
+    ]

@@ -47,7 +47,7 @@ module _ {T A : Type 0} (honest : Type 0) (content : T → List ℕ) (images : T
   published_moves body before after (Err (publish.Node why)) answer sent becomes told = Proposes becomes.0 (Err why) becomes.2 told.1
   published_moves body before after (Err (publish.Map why)) answer sent becomes told = Stays (record { same = becomes.1; quiet = told.1 })
   published_moves body before after (Err publish.TooBig) answer sent becomes told = Stays (record { same = becomes.1; quiet = told.1 })
-  published_moves body before after (Err publish.Memory) answer sent becomes told = Stays (record { same = becomes; quiet = told.1 })
+  published_moves body before after (Err publish.Memory) answer sent becomes told = Stays (record { same = becomes.1; quiet = told.1 })
 
   given_moves : (kind : Asked) (request : Request) (before after : Node T) (answer : Result Response Notice) (sent : Vec Message A)
       → GivesTo honest content images failures kind request before answer sent after → MovesOnce honest content images failures before sent after

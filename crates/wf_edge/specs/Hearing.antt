@@ -1,5 +1,5 @@
 -- What is heard of a request, or answered where there is none.
-use Rattle.std.specs.Prelude.{◌≡◌, ◌≢◌, ℕ, List, Option, IfSome}
+use Rattle.std.specs.Prelude.{◌≡◌, ℕ, List, Option, IfSome}
 use Rattle.wf_stream.specs.Reading.{Rises}
 use Rattle.wf_edge.specs.Request.{IsRequestFault}
 use Rattle.wf_edge.specs.Saying.{IsFaultSaid}
@@ -13,9 +13,9 @@ pub record IsUnheard (input old new : Option (List ℕ)) (said : Outcome) : Type
   pub is : IfSome input (λ bytes. IsRequestFault bytes why)
   pub written : IsFaultSaid why old new said
 
--- A failed read is told only where one has failed. A response tells that none has, but for 503: memory may have run out in a read.
+-- A failed read is told exactly where one has failed: any response, 503 too, tells that none has.
 abbrev pub CountsHearing : Outcome → ℕ → ℕ → Type 0
 CountsHearing outcome.ReadFailed old new = Rises old new
 CountsHearing outcome.NoRequest old new = new ≡ old
-CountsHearing (outcome.Sent status count) old new = status ≢ 503 → new ≡ old
-CountsHearing (outcome.WriteFailed status count) old new = status ≢ 503 → new ≡ old
+CountsHearing (outcome.Sent status count) old new = new ≡ old
+CountsHearing (outcome.WriteFailed status count) old new = new ≡ old

@@ -1,8 +1,10 @@
 pub mod Checks
+pub mod Contents
 pub mod Fields
 pub mod Growth
 pub mod Head
 pub mod Hearing
+pub mod Law
 pub mod Notice
 pub mod Page
 pub mod Publish

@@ -1,5 +1,5 @@
 -- What is told in one line of plain text: a notice allocates nothing (RFC 9110, section 15; RFC 6585, section 5).
-use Rattle.std.specs.Prelude.{◌≡◌, ℕ, List, ◌++◌, codes, Option, Some, None, Result, Ok, Err}
+use Rattle.std.specs.Prelude.{ℕ, List, ◌++◌, codes, Option, Some, None, Result, Ok, Err}
 use Rattle.wf_node.specs.declared.fault.NodeFault.{NodeFault}
 use Rattle.wf_node.specs.declared.fault.NodeFault.TheVariants as node
 use Rattle.wf_edge.specs.Response.{Response}
@@ -101,8 +101,3 @@ notice_of node.Nothing = notice.Unavailable
 abbrev pub response_of : Result Response Notice → Response
 response_of (Ok page) = page
 response_of (Err n) = notice_response n
-
--- the page is that response; it may only be missing for allocation failure
-abbrev pub IsGiven : Response → Result Response Notice → Type 0
-IsGiven response (Ok page) = page ≡ response
-IsGiven response (Err n) = n ≡ notice.Unavailable

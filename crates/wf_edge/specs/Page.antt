@@ -13,6 +13,10 @@ use Rattle.wf_edge.specs.Notice.{plain, text_line}
 use Rattle.wf_edge.specs.declared.notice.Notice.{Notice}
 use Rattle.wf_edge.specs.declared.notice.Notice.TheVariants as notice
 
+-- how long a line may be, in bytes: more than any has
+abbrev pub most_line_bytes : ℕ
+most_line_bytes = 128
+
 -- a page of one line
 abbrev pub line_page : ℕ → List ℕ → Response
 line_page status words = record { status = status; media = plain; allowed = None; body = text_line words }
@@ -29,7 +33,7 @@ pub record IsServicePage (history : List Definition) (query : List ℕ) (page : 
   pub is_answer : IsAnswerOf (length history) history query answer
   pub is_page : page ≡ service_page answer
 
--- that page is given; it may only be missing for allocation failure
+-- That page is given, or the map service found no memory. It alone answers a query: none is rejected before it is asked.
 abbrev pub IsServiceGiven : List Definition → List ℕ → Result Response Notice → Type 0
 IsServiceGiven history query (Ok page) = IsServicePage history query page
 IsServiceGiven history query (Err n) = n ≡ notice.Unavailable

@@ -1,19 +1,22 @@
 -- What becomes of a map that is published: the step Propose of the node, or a fault before it.
 use Rattle.std.specs.Prelude.{◌≡◌, ℕ, ◌<◌, ◌≤◌, true, false, List, length, Result, Ok, Err, Vec}
+use Rattle.std.specs.Str.{is_utf8}
 use Rattle.wf_canon.specs.Canon.{canon, most_canon_bytes}
 use Rattle.wf_canon.specs.declared.fault.CanonFault.{CanonFault}
 use Rattle.wf_canon.specs.declared.fault.CanonFault.TheVariants as canonical
 use Rattle.wf_codec.specs.declared.message.Message.{Message}
 use Rattle.wf_def.specs.Definition.{Definition}
-use Rattle.wf_mapfile.specs.Meaning.{Means, MeansNothing}
-use Rattle.wf_mapfile.specs.Reading.{is_memory}
+use Rattle.wf_mapfile.specs.Meaning.{Means, MeansNothing, longest_mapfile}
+use Rattle.wf_mapfile.specs.Reading.{is_memory, IsNotUtf8}
+use Rattle.wf_mapfile.specs.declared.fault.MapFault.{MapFault}
+use Rattle.wf_mapfile.specs.declared.fault.MapFault.TheVariants as map
 use Rattle.wf_model.specs.Table.{Propose}
 use Rattle.wf_node.specs.Node.{Node}
 use Rattle.wf_node.specs.Step.{IsStep}
 use Rattle.wf_node.specs.declared.fault.NodeFault.{NodeFault}
 use Rattle.wf_node.specs.declared.fault.NodeFault.TheVariants.{Halted}
 use Rattle.wf_edge.specs.Response.{Response}
-use Rattle.wf_edge.specs.Notice.{notice_of, IsGiven}
+use Rattle.wf_edge.specs.Notice.{notice_of}
 use Rattle.wf_edge.specs.Page.{accepted_page, bad_map_page}
 use Rattle.wf_edge.specs.declared.notice.Notice.{Notice}
 use Rattle.wf_edge.specs.declared.notice.Notice.TheVariants as notice
@@ -25,11 +28,24 @@ pub record IsMapOf (body : List ℕ) (d : Definition) : Type 0 where
   pub means : Means body d
   pub short : length (canon d) ≤ most_canon_bytes
 
--- why a body has no map to propose: it means none, or its canonical text is over the limit; or memory ran out
+-- The body has that fault, allocation failure aside, as far as the reader of mapfiles promises which: it means no map, one that is too long
+-- has this fault and no other, and another that is no UTF-8 has that one.
+pub record HasFault (body : List ℕ) (why : MapFault) : Type 0 where
+  pub own : is_memory why ≡ false
+  pub means_nothing : MeansNothing body
+  pub too_long : longest_mapfile < length body → why ≡ map.TooLong
+  pub not_utf8 : length body ≤ longest_mapfile → is_utf8 body ≡ false → IsNotUtf8 {X = Definition} (Err why)
+
+-- the body is within the limit of a mapfile, and UTF-8: else its fault is found without memory
+pub record IsText (body : List ℕ) : Type 0 where
+  pub within : length body ≤ longest_mapfile
+  pub utf8 : is_utf8 body ≡ true
+
+-- why a body has no map to propose: it has a fault, or its canonical text is over the limit; or memory ran out
 abbrev pub IsWhyNoMap : List ℕ → PublishFault → Type 0
-IsWhyNoMap body (fault.Map why) = (is_memory why ≡ false) × MeansNothing body
+IsWhyNoMap body (fault.Map why) = HasFault body why
 IsWhyNoMap body fault.TooBig = (d : Definition) × Means body d × (most_canon_bytes < length (canon d))
-IsWhyNoMap body fault.Memory = Unit {0}
+IsWhyNoMap body fault.Memory = IsText body
 IsWhyNoMap body (fault.Node why) = ⊥
 
 -- what a fault of writing the canonical text of a definition is told as
@@ -52,12 +68,12 @@ module _ {T A : Type 0} (honest : Type 0) (content : T → List ℕ) (images : T
   IsPublished body before (Err (fault.Node why)) after = (d : Definition) × IsMapOf body d × IsProposed before d (Err why) after
   IsPublished body before (Err (fault.Map why)) after = IsWhyNoMap body (fault.Map why) × (after ≡ before)
   IsPublished body before (Err fault.TooBig) after = IsWhyNoMap body fault.TooBig × (after ≡ before)
-  IsPublished body before (Err fault.Memory) after = after ≡ before
+  IsPublished body before (Err fault.Memory) after = IsWhyNoMap body fault.Memory × (after ≡ before)
 
--- How a fault is told: 400 for a body that is no map, or none with a canonical text; 409 where the step table rejects now; 503 for want of
--- memory, also of the page, and for a node that is halted or whose tape fails.
+-- How a fault is told: 400 for a body that is no map, or none with a canonical text; 409 where the step table rejects now; 503 for allocation
+-- failure, and for a node that is halted or whose tape fails. No page of these takes memory.
 abbrev pub TellsFault : PublishFault → Result Response Notice → Type 0
-TellsFault (fault.Map why) answer = IsGiven (bad_map_page why) answer
+TellsFault (fault.Map why) answer = answer ≡ Ok (bad_map_page why)
 TellsFault fault.TooBig answer = answer ≡ Err notice.TooBig
 TellsFault fault.Memory answer = answer ≡ Err notice.Unavailable
 TellsFault (fault.Node why) answer = answer ≡ Err (notice_of why)

@@ -1,12 +1,12 @@
 -- What is read of a request, and why none is.
-use Rattle.std.specs.Prelude.{◌≡◌, ◌≢◌, ◌≤◌, ◌<◌, ◌++◌, ℕ, List, [], length, map, take, drop, Option, Result, Ok, Err}
+use Rattle.std.specs.Prelude.{◌≡◌, ◌≢◌, ◌≤◌, ◌<◌, ◌⊎◌, ◌++◌, ℕ, List, [], length, map, take, drop, Option, Result, Ok, Err, IfSome}
 use Rattle.std.specs.Io.KnownBytes.{Consumes}
 use Rattle.httparse.specs.Grammar.{HasNoRequest}
 use Rattle.httparse.specs.Spans.{span_bytes, header_bytes}
 use Rattle.httparse.specs.declared.spans.HeaderSpan.{HeaderSpan}
 use Rattle.httparse.specs.declared.spans.RequestSpans.{RequestSpans}
 use Rattle.wf_stream.specs.Reading.{Rises}
-use Rattle.wf_edge.specs.Head.{Head, Begins, HasNoSmallRequest}
+use Rattle.wf_edge.specs.Head.{Head, Begins, HasNoSmallRequest, most_head_bytes}
 use Rattle.wf_edge.specs.Checks.{judged}
 use Rattle.wf_edge.specs.declared.refusal.Refusal.{Refusal}
 use Rattle.wf_edge.specs.declared.refusal.Refusal.TheVariants as refusal
@@ -45,6 +45,21 @@ IsUnfinished bytes = 0 < length bytes → HasNoRequest bytes
 abbrev pub TakesMore : Option (List ℕ) → Option (List ℕ) → List ℕ → List ℕ → Type 0
 TakesMore old new before after = (piece : List ℕ) × (0 < length piece) × Consumes old new piece × (after ≡ before ++ piece)
 
+-- some bytes were taken from the front of what is left: no more than there is room for, and than the reader gives a call, where that is known
+abbrev pub TakesPiece : Option ℕ → ℕ → Option (List ℕ) → Option (List ℕ) → Type 0
+TakesPiece piece room old new =
+    (bytes : List ℕ) × (length bytes ≤ room) × IfSome piece (λ most. length bytes ≤ most) × Consumes old new bytes
+
+-- A head was looked for in what was taken from the front: no more bytes than a head may have, and before the last piece of them no head was
+-- whole. A piece is no longer than what the reader gives a call, where that is known.
+pub record TakesHead (piece : Option ℕ) (old new : Option (List ℕ)) : Type 0 where
+  pub before : List ℕ
+  pub last : List ℕ
+  pub unfinished : IsUnfinished before
+  pub most : length (before ++ last) ≤ most_head_bytes
+  pub small : IfSome piece (λ most. length last ≤ most)
+  pub taken : Consumes old new (before ++ last)
+
 -- why a head is rejected: 400 where none stands at the front of the input, 431 where none within the limits does
 abbrev pub IsHeadRefusal : List ℕ → Refusal → Type 0
 IsHeadRefusal input refusal.BadRequest = HasNoRequest input
@@ -55,12 +70,12 @@ IsHeadRefusal input refusal.LengthRequired = ⊥
 IsHeadRefusal input refusal.ContentTooLarge = ⊥
 IsHeadRefusal input refusal.NotImplemented = ⊥
 
--- why no head is read: the input is empty, or its head is rejected
+-- why no head is read: the input is empty, or its head is rejected; no memory is needed
 abbrev pub IsHeadFault : List ℕ → RequestFault → Type 0
 IsHeadFault input fault.NoRequest = input ≡ []
 IsHeadFault input (fault.Refused r) = (input ≢ []) × IsHeadRefusal input r
 IsHeadFault input fault.ReadFailed = Unit {0}
-IsHeadFault input fault.Memory = Unit {0}
+IsHeadFault input fault.Memory = ⊥
 
 -- ---- the body
 
@@ -75,12 +90,12 @@ pub record IsBody (rest : List ℕ) (bytes : ℕ) (body : List ℕ) : Type 0 whe
   pub whole : bytes ≤ length rest
   pub first : body ≡ take bytes rest
 
--- why no body is read: it is cut short
+-- why no body is read: it is cut short; memory is needed where it has a byte
 abbrev pub IsBodyFault : List ℕ → ℕ → RequestFault → Type 0
 IsBodyFault rest bytes (fault.Refused r) = (r ≡ refusal.BadRequest) × (length rest < bytes)
 IsBodyFault rest bytes fault.NoRequest = ⊥
 IsBodyFault rest bytes fault.ReadFailed = Unit {0}
-IsBodyFault rest bytes fault.Memory = Unit {0}
+IsBodyFault rest bytes fault.Memory = 0 < bytes
 
 -- ---- the request
 
@@ -114,23 +129,49 @@ pub record EndsInBody (input : List ℕ) (r : Refusal) : Type 0 where
   pub short : length rest < body_bytes asked
   pub is : r ≡ refusal.BadRequest
 
+-- the head of the input asks for a body with a byte at least
+pub record HasBody (input : List ℕ) : Type 0 where
+  pub head : Head
+  pub rest : List ℕ
+  pub begins : Begins input head rest
+  pub asked : Asked
+  pub asks : judged head ≡ Ok asked
+  pub some : 0 < body_bytes asked
+
 -- why an input is rejected
 pub data IsRefused (input : List ℕ) (r : Refusal) : Type 0 where
   by_head : input ≢ [] → IsHeadRefusal input r → IsRefused input r
   by_check : FailsCheck input r → IsRefused input r
   by_body : EndsInBody input r → IsRefused input r
 
--- why there is no request
+-- why there is no request: for a body alone memory is needed
 abbrev pub IsRequestFault : List ℕ → RequestFault → Type 0
 IsRequestFault input fault.NoRequest = input ≡ []
 IsRequestFault input (fault.Refused r) = IsRefused input r
 IsRequestFault input fault.ReadFailed = Unit {0}
-IsRequestFault input fault.Memory = Unit {0}
+IsRequestFault input fault.Memory = HasBody input
 
--- a failed read is told only where one has failed, and a run whose reads have failed ends with that fault or for allocation failure
+-- ---- how much of the input is taken
+
+-- a head was taken, and of what stands behind it no more than the body that it asks for
+pub record TakesBody (old new : Option (List ℕ)) : Type 0 where
+  pub bytes : List ℕ
+  pub head : Head
+  pub behind : List ℕ
+  pub asked : Asked
+  pub begins : Begins bytes head behind
+  pub asks : judged head ≡ Ok asked
+  pub most : length behind ≤ body_bytes asked
+  pub taken : Consumes old new bytes
+
+-- Nothing behind the request is taken, but what came in one piece with the last of its head.
+abbrev pub TakesRequest : Option ℕ → Option (List ℕ) → Option (List ℕ) → Type 0
+TakesRequest piece old new = TakesHead piece old new ⊎ TakesBody old new
+
+-- a failed read is told exactly where one has failed
 abbrev pub CountsReads : {T : Type 0} → Result T RequestFault → ℕ → ℕ → Type 0
 CountsReads (Ok x) old new = new ≡ old
 CountsReads (Err fault.ReadFailed) old new = Rises old new
-CountsReads (Err fault.Memory) old new = Unit {0}
+CountsReads (Err fault.Memory) old new = new ≡ old
 CountsReads (Err fault.NoRequest) old new = new ≡ old
 CountsReads (Err (fault.Refused r)) old new = new ≡ old

@@ -8,7 +8,7 @@ use Rattle.wf_node.specs.declared.fault.NodeFault.{NodeFault}
 use Rattle.wf_edge.specs.Request.{Request, BeginsWith, IsRequestFault}
 use Rattle.wf_edge.specs.Response.{Response, response_bytes, IsCount, WritesPart}
 use Rattle.wf_edge.specs.Target.{query_of}
-use Rattle.wf_edge.specs.Notice.{response_of, IsGiven}
+use Rattle.wf_edge.specs.Notice.{response_of}
 use Rattle.wf_edge.specs.Page.{status_page, IsServiceGiven}
 use Rattle.wf_edge.specs.Publish.{IsProposed, IsPublished, TellsFault}
 use Rattle.wf_edge.specs.Saying.{IsSaid}
@@ -57,7 +57,7 @@ module _ {T A : Type 0} (honest : Type 0) (content : T → List ℕ) (images : T
   abbrev pub GivesTo : Asked → Request → Node T → Result Response Notice → Vec Message A → Node T → Type 0
   GivesTo asked.Wms request before answer sent after =
       IsServiceGiven before.parts.history (query_of request.head.target) answer × IsUnmoved before sent after
-  GivesTo asked.Status request before answer sent after = IsGiven (status_page before) answer × IsUnmoved before sent after
+  GivesTo asked.Status request before answer sent after = (answer ≡ Ok (status_page before)) × IsUnmoved before sent after
   GivesTo (asked.Publish bytes) request before answer sent after = GivesPublish request.body before answer sent after
 
   -- what is given to what was read: a rejection and allocation failure are told, and leave the node as it was

@@ -1,6 +1,5 @@
 //! What a node answers, and leaves itself as it is.
 ghost use Rattle.std.specs.Prelude.{◌≡◌, length, IfOk};
-ghost use Rattle.wf_edge.specs.Notice.{IsGiven};
 ghost use Rattle.wf_edge.specs.Page.{service_page, IsServiceGiven, status_page, accepted_page, bad_map_page};
 ghost use Rattle.wf_wms.specs.Answer.{IsAnswerOf};
 ghost use Rattle.wf_wms.specs.Kept.{AllKept};
@@ -8,7 +7,6 @@ ghost use Rattle.wf_wms.specs.Kept.{AllKept};
 use crate::line::{accepted_line, fault_line, status_line};
 use crate::notice::Notice;
 use crate::page::Page;
-use crate::telling::PLAIN;
 use http::StatusCode;
 use std::alloc::{AllocError, Global};
 use wf_ballot::Seq;
@@ -83,32 +81,24 @@ pub(crate) fn answer_query_by<T: Tape>(
     }
 }
 
-/// Where the node stands.
-pub(crate) fn tell_status<T: Tape>(alloc: Global, node: &Node<T>) -> Result<Page, Notice>
-    ensures { IsGiven (status_page node.now) result }
+/// Where the node stands. It takes no memory.
+pub(crate) fn tell_status<T: Tape>(node: &Node<T>) -> Page
+    ensures { result ≡ status_page node.now }
 {
-    match status_line(alloc, node.id(), node.published(), node.proposal()) {
-        Ok(line) => Ok(Page::new(StatusCode::OK, PLAIN, line)),
-        Err(_) => Err(Notice::Unavailable),
-    }
+    let line = status_line(node.id(), node.published(), node.proposal());
+    Page::of_line(StatusCode::OK, line)
 }
 
-/// That a map is accepted for the sequence after the last published.
-pub(crate) fn accept(alloc: Global, published: Seq) -> Result<Page, Notice>
-    ensures { IsGiven (accepted_page published) result }
+/// That a map is accepted for the sequence after the last published. It takes no memory.
+pub(crate) fn accept(published: Seq) -> Page
+    ensures { result ≡ accepted_page published }
 {
-    match accepted_line(alloc, published) {
-        Ok(line) => Ok(Page::new(StatusCode::ACCEPTED, PLAIN, line)),
-        Err(_) => Err(Notice::Unavailable),
-    }
+    Page::of_line(StatusCode::ACCEPTED, accepted_line(published))
 }
 
-/// Why a body is no map.
-pub(crate) fn tell_fault(alloc: Global, fault: MapFault) -> Result<Page, Notice>
-    ensures { IsGiven (bad_map_page fault) result }
+/// Why a body is no map. It takes no memory.
+pub(crate) fn tell_fault(fault: MapFault) -> Page
+    ensures { result ≡ bad_map_page fault }
 {
-    match fault_line(alloc, fault) {
-        Ok(line) => Ok(Page::new(StatusCode::BAD_REQUEST, PLAIN, line)),
-        Err(_) => Err(Notice::Unavailable),
-    }
+    Page::of_line(StatusCode::BAD_REQUEST, fault_line(fault))
 }

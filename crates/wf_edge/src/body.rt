@@ -1,6 +1,7 @@
 //! The body of a request.
-ghost use Rattle.std.specs.Prelude.{◌≡◌, ◌++◌, IfOk, IfErr, IfSome, IsOk};
+ghost use Rattle.std.specs.Prelude.{◌≡◌, ◌<◌, ◌-◌, ◌++◌, IfOk, IfErr, IfSome, IsOk, length};
 ghost use Rattle.wf_edge.specs.Request.{IsBody, IsBodyFault, CountsReads};
+ghost use Rattle.wf_stream.specs.Reading.{TakesUpTo};
 
 use crate::fault::RequestFault;
 use crate::refusal::Refusal;
@@ -17,19 +18,21 @@ fn join(alloc: Global, front: &[u8], rest: &[u8]) -> Result<Vec<u8>, AllocError>
 }
 
 // Reads a body of so many bytes, some of which may be among those behind the head.
-#[tactic(auto, using(crate::proofs::BodyLaw::body_joined, crate::proofs::BodyLaw::body_cut))]
+#[tactic(auto, using(crate::proofs::BodyLaw::body_joined, crate::proofs::BodyLaw::body_cut, crate::proofs::BodyLaw::body_unheld, crate::proofs::BodyLaw::missing_taken))]
 fn read_missing<S: Source>(
     alloc: Global,
     source: &mut S,
     behind: &[u8],
-    length: usize,
+    bytes: usize,
 ) -> Result<Vec<u8>, RequestFault>
-    ensures ok { IfOk result (λ body. IfSome (S.left source.old) (λ left. IsBody (behind.now ++ left) length body.items)) }
-    ensures err { IfErr result (λ fault. IfSome (S.left source.old) (λ left. IsBodyFault (behind.now ++ left) length fault)) }
+    requires { 0 < bytes }
+    ensures ok { IfOk result (λ body. IfSome (S.left source.old) (λ left. IsBody (behind.now ++ left) bytes body.items)) }
+    ensures err { IfErr result (λ fault. IfSome (S.left source.old) (λ left. IsBodyFault (behind.now ++ left) bytes fault)) }
+    ensures takes { TakesUpTo (bytes - length behind.now) (S.left source.old) (S.left source.new) }
     ensures reads { CountsReads result (S.failures source.old) (S.failures source.new) }
 {
-    let front = behind.split_at(behind.len().min(length)).0;
-    let missing = length - front.len();
+    let front = behind.split_at(behind.len().min(bytes)).0;
+    let missing = bytes - front.len();
     match read_up_to(alloc, source, missing) {
         Ok(rest) => {
             if rest.len() != missing {
@@ -45,21 +48,23 @@ fn read_missing<S: Source>(
     }
 }
 
-/// Reads a body of so many bytes, of which these came behind the head. A byte behind the body may be among them, and isn't looked at.
-/// A body of no bytes allocates nothing and reads nothing.
+/// Reads a body of so many bytes, of which these came behind the head. A byte behind the body may be among them, and isn't looked at;
+/// none is read that isn't: where all of the body came behind the head, nothing is read. A body of no bytes allocates nothing either.
+#[tactic(auto, using(crate::proofs::BodyLaw::nothing_taken))]
 pub fn read_body<S: Source>(
     alloc: Global,
     source: &mut S,
     behind: &[u8],
-    length: usize,
+    bytes: usize,
 ) -> Result<Vec<u8>, RequestFault>
-    ensures ok { IfOk result (λ body. IfSome (S.left source.old) (λ left. IsBody (behind.now ++ left) length body.items)) }
-    ensures err { IfErr result (λ fault. IfSome (S.left source.old) (λ left. IsBodyFault (behind.now ++ left) length fault)) }
+    ensures ok { IfOk result (λ body. IfSome (S.left source.old) (λ left. IsBody (behind.now ++ left) bytes body.items)) }
+    ensures err { IfErr result (λ fault. IfSome (S.left source.old) (λ left. IsBodyFault (behind.now ++ left) bytes fault)) }
+    ensures takes { TakesUpTo (bytes - length behind.now) (S.left source.old) (S.left source.new) }
     ensures reads { CountsReads result (S.failures source.old) (S.failures source.new) }
-    ensures empty { length ≡ 0 → IsOk result × (source.new ≡ source.old) }
+    ensures empty { bytes ≡ 0 → IsOk result × (source.new ≡ source.old) }
 {
-    if length == 0 {
+    if bytes == 0 {
         return Ok(Vec::new(alloc));
     }
-    read_missing(alloc, source, behind, length)
+    read_missing(alloc, source, behind, bytes)
 }

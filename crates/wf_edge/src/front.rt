@@ -1,11 +1,12 @@
 //! The front of a request: its head, and what came behind it.
-ghost use Rattle.std.specs.Prelude.{◌≡◌, ◌≢◌, ◌≤◌, ◌<◌, ◌++◌, ℕ, List, Option, None, Ok, length, IfOk, IfErr, IfSome, OnOk};
-ghost use Rattle.std.specs.Io.KnownBytes.{Consumes};
+ghost use Rattle.std.specs.Prelude.{◌≡◌, ◌≢◌, ◌≤◌, ◌<◌, ◌+◌, ◌-◌, ◌++◌, ℕ, List, Option, None, Ok, length, IfOk, IfErr, IfSome, OnOk};
+ghost use Rattle.std.specs.Io.KnownBytes.{Consumes, IsAtEnd};
 ghost use Rattle.httparse.specs.Grammar.{HasNoRequest};
 ghost use Rattle.wf_edge.specs.Head.{most_head_bytes, most_fields, Begins};
-ghost use Rattle.wf_edge.specs.Request.{front_of, TakesFront, TakesMore, IsUnfinished, IsHeadRefusal, IsHeadFault, CountsReads};
+ghost use Rattle.wf_edge.specs.Request.{front_of, TakesFront, TakesMore, TakesPiece, TakesHead, IsUnfinished, IsHeadRefusal, IsHeadFault, CountsReads};
 ghost use Rattle.wf_edge.specs.Checks.{judged, most_body_bytes};
-ghost use Rattle.wf_edge.specs.declared.fault.RequestFault.TheVariants.{ReadFailed};
+ghost use Rattle.wf_edge.specs.declared.fault.RequestFault.TheVariants.{ReadFailed, Memory};
+ghost use Rattle.wf_stream.specs.Reading.{Counts, ReadsPiece};
 
 use crate::check::{MOST_BODY_BYTES, judge};
 use crate::fault::RequestFault;
@@ -13,12 +14,12 @@ use crate::fields::Fields;
 use crate::refusal::Refusal;
 use crate::resource::Asked;
 use crate::span::covered;
+use arrayvec::ArrayVec;
 use httparse::spans::{EMPTY_HEADER_SPAN, HeaderSpan, RequestSpans, parse_request};
 use httparse::{Error, Status};
-use std::alloc::Global;
-use std::io::ErrorKind;
+use std::io;
 use std::marker::Model;
-use wf_stream::{Source, read_piece};
+use wf_stream::Source;
 
 /// How long a head may be, in bytes, with the empty lines before it.
 pub const MOST_HEAD_BYTES: usize = 8_192;
@@ -64,6 +65,7 @@ fn ended(bytes: &[u8]) -> RequestFault
     requires { IsUnfinished bytes.now }
     ensures fault { IsHeadFault bytes.now result }
     ensures calm { result ≢ ReadFailed }
+    ensures no_memory { result ≢ Memory }
 {
     if bytes.is_empty() {
         RequestFault::NoRequest
@@ -72,9 +74,47 @@ fn ended(bytes: &[u8]) -> RequestFault
     }
 }
 
+// What is read of a head, in place: it takes no memory.
+type HeadBytes = ArrayVec<u8, MOST_HEAD_BYTES>;
+
+// Puts a piece behind the bytes.
+#[tactic(auto, using(crate::proofs::Room::has_room, crate::proofs::Room::is_put, crate::proofs::Room::pushed))]
+fn extend(bytes: &mut HeadBytes, piece: &[u8])
+    requires { length bytes.old.items + length piece.now ≤ most_head_bytes }
+    ensures items { bytes.new.items ≡ bytes.old.items ++ piece.now }
+    ensures size { length bytes.new.items ≡ length bytes.old.items + length piece.now }
+{
+    bytes.try_extend_from_slice(piece).unwrap();
+}
+
+// One read of at most as many bytes as there is room for, put behind those that are there.
+#[tactic(auto, using(crate::proofs::HeadLaw::piece_kept, crate::proofs::HeadLaw::piece_taken))]
+fn read_on<S: Source>(source: &mut S, bytes: &mut HeadBytes) -> io::Result<usize>
+    requires { length bytes.old.items < most_head_bytes }
+    ensures read { IfOk result (λ count. ReadsPiece count (S.left source.old) (S.left source.new) bytes.old.items bytes.new.items) }
+    ensures within { OnOk result (length bytes.new.items ≤ most_head_bytes) }
+    ensures end { IfOk result (λ count. count ≡ 0 → IsAtEnd (S.left source.new)) }
+    ensures takes { TakesPiece (S.piece source.old) (most_head_bytes - length bytes.old.items) (S.left source.old) (S.left source.new) }
+    ensures piece { S.piece source.new ≡ S.piece source.old }
+    ensures cause { Counts result (S.failures source.old) (S.failures source.new) }
+{
+    let mut piece = [0u8; MOST_HEAD_BYTES];
+    let room = MOST_HEAD_BYTES - bytes.len();
+    match source.read(&mut piece[..room]) {
+        Ok(count) => {
+            extend(bytes, &piece[..count]);
+            Ok(count)
+        }
+        Err(error) => Err(error),
+    }
+}
+
 // Reads a further piece, and looks for a head in what has come.
-#[tactic(auto, using(crate::proofs::HeadLaw::fault_at_end, crate::proofs::HeadLaw::nothing_more, wf_stream::specs::KnownLaws::piece_length))]
-fn read_more<S: Source>(source: &mut S, bytes: &mut Vec<u8>) -> Result<Option<Parts>, RequestFault>
+#[tactic(auto, using(crate::proofs::HeadLaw::fault_at_end, crate::proofs::HeadLaw::nothing_more, crate::proofs::HeadLaw::head_looked_for, wf_stream::specs::KnownLaws::piece_length))]
+fn read_more<S: Source>(
+    source: &mut S,
+    bytes: &mut HeadBytes,
+) -> Result<Option<Parts>, RequestFault>
     requires room { length bytes.old.items < most_head_bytes }
     requires unfinished { IsUnfinished bytes.old.items }
     ensures taken { OnOk result (TakesMore (S.left source.old) (S.left source.new) bytes.old.items bytes.new.items) }
@@ -84,16 +124,18 @@ fn read_more<S: Source>(source: &mut S, bytes: &mut Vec<u8>) -> Result<Option<Pa
     ensures none { result ≡ Ok None → HasNoRequest bytes.new.items }
     ensures err { IfErr result (λ fault. (start : Option (List ℕ)) → Consumes start (S.left source.old) bytes.old.items
         → IfSome start (λ input. IsHeadFault input fault)) }
+    ensures takes { (piece : Option ℕ) (start : Option (List ℕ)) → S.piece source.old ≡ piece → Consumes start (S.left source.old) bytes.old.items
+        → TakesHead piece start (S.left source.new) }
+    ensures piece { S.piece source.new ≡ S.piece source.old }
+    ensures no_memory { IfErr result (λ fault. fault ≢ Memory) }
     ensures reads { CountsReads result (S.failures source.old) (S.failures source.new) }
 {
-    let room = MOST_HEAD_BYTES - bytes.len();
-    match read_piece(source, bytes, room) {
-        Ok(0) => Err(ended(bytes)),
-        Ok(_) => match parse(bytes) {
+    match read_on(source, bytes) {
+        Ok(0) => Err(ended(bytes.as_slice())),
+        Ok(_) => match parse(bytes.as_slice()) {
             Ok(found) => Ok(found),
             Err(refusal) => Err(RequestFault::Refused(refusal)),
         },
-        Err(error) if error.kind() == ErrorKind::OutOfMemory => Err(RequestFault::Memory),
         Err(_) => Err(RequestFault::ReadFailed),
     }
 }
@@ -101,7 +143,7 @@ fn read_more<S: Source>(source: &mut S, bytes: &mut Vec<u8>) -> Result<Option<Pa
 /// A head that was read, and the bytes that came behind it.
 #[derive(Drop)]
 pub struct Front {
-    bytes: Vec<u8>,
+    bytes: HeadBytes,
     parts: Parts,
 }
 
@@ -114,15 +156,17 @@ impl Model for Front {
 }
 
 impl Front {
-    /// Reads from the front of the input until a head is whole. It takes memory for what it reads, at most 8,192 bytes, and calls the
-    /// reader at most that often, since each call gives a byte, the end or a failure.
-    #[tactic(auto, using(crate::proofs::HeadLaw::fault_at_limit))]
-    pub fn read<S: Source>(alloc: Global, source: &mut S) -> Result<Self, RequestFault>
+    /// Reads from the front of the input until a head is whole, and no further: at most 8,192 bytes, in at most so many calls, since
+    /// each gives a byte, the end or a failure. It takes no memory.
+    #[tactic(auto, using(crate::proofs::HeadLaw::fault_at_limit, crate::proofs::HeadLaw::taken_at_limit))]
+    pub fn read<S: Source>(source: &mut S) -> Result<Self, RequestFault>
         ensures ok { IfOk result (TakesFront (S.left source.old) (S.left source.new)) }
         ensures err { IfErr result (λ fault. IfSome (S.left source.old) (λ input. IsHeadFault input fault)) }
+        ensures takes { TakesHead (S.piece source.old) (S.left source.old) (S.left source.new) }
+        ensures no_memory { IfErr result (λ fault. fault ≢ Memory) }
         ensures reads { CountsReads result (S.failures source.old) (S.failures source.new) }
     {
-        let mut bytes = Vec::new(alloc);
+        let mut bytes = ArrayVec::new();
         while bytes.len() < MOST_HEAD_BYTES {
             match read_more(source, &mut bytes) {
                 Ok(Some(parts)) => return Ok(Front { bytes, parts }),
@@ -137,7 +181,7 @@ impl Front {
     pub fn target(&self) -> &[u8]
         ensures { result.now ≡ self.now.head.target }
     {
-        covered(&self.bytes, self.parts.spans.path)
+        covered(self.bytes.as_slice(), self.parts.spans.path)
     }
 
     /// What came behind the head.
@@ -145,13 +189,13 @@ impl Front {
         ensures { result.now ≡ self.now.behind }
     {
         let length = self.parts.spans.len.min(self.bytes.len());
-        self.bytes.split_at(length).1
+        self.bytes.as_slice().split_at(length).1
     }
 
     fn method(&self) -> &[u8]
         ensures { result.now ≡ self.now.head.method }
     {
-        covered(&self.bytes, self.parts.spans.method)
+        covered(self.bytes.as_slice(), self.parts.spans.method)
     }
 
     #[tactic(auto, using(crate::proofs::HeadLaw::taken_within))]
@@ -159,7 +203,7 @@ impl Front {
         ensures { result ≡ self.now.head.fields }
     {
         let count = self.parts.spans.headers.min(self.parts.fields.len());
-        Fields::new(&self.bytes, self.parts.fields.split_at(count).0)
+        Fields::new(self.bytes.as_slice(), self.parts.fields.split_at(count).0)
     }
 
     /// What the head asks for, or the rejection of the first check that fails.

@@ -1,7 +1,7 @@
 //! A request is heard: read, or rejected at once.
 ghost use Rattle.std.specs.Prelude.{◌≡◌, Ok, IfOk, IfErr, OnOk, IfSome};
 ghost use Rattle.wf_edge.specs.Checks.{judged};
-ghost use Rattle.wf_edge.specs.Request.{BeginsWith};
+ghost use Rattle.wf_edge.specs.Request.{BeginsWith, TakesRequest};
 ghost use Rattle.wf_edge.specs.Saying.{CountsSaying};
 ghost use Rattle.wf_edge.specs.Hearing.{IsUnheard, CountsHearing};
 
@@ -11,8 +11,9 @@ use crate::saying::say_fault;
 use std::alloc::Global;
 use wf_stream::{Sink, Source};
 
-/// Reads the request at the front of the input. Where there is none to answer, its rejection is written, or 503 where memory ran out, and
-/// this is the outcome; nothing is written where the input is empty or a read failed.
+/// Reads the request at the front of the input, and nothing behind it but what came in one piece with the last of its head. Where there is
+/// none to answer, its rejection is written, or 503 where memory for its body ran out, and this is the outcome; nothing is written where
+/// the input is empty or a read failed.
 #[tactic(auto, using(crate::proofs::HearingLaw::unheard, crate::proofs::HearingLaw::fault_reads))]
 pub fn hear<S: Source, K: Sink>(
     alloc: Global,
@@ -23,6 +24,7 @@ pub fn hear<S: Source, K: Sink>(
     ensures ok { IfOk result (λ request. IfSome (S.left source.old) (λ input. BeginsWith input request)) }
     ensures quiet { OnOk result (sink.new ≡ sink.old) }
     ensures err { IfErr result (IsUnheard (S.left source.old) (K.written sink.old) (K.written sink.new)) }
+    ensures takes { TakesRequest (S.piece source.old) (S.left source.old) (S.left source.new) }
     ensures heard { OnOk result (S.failures source.new ≡ S.failures source.old) }
     ensures reads { IfErr result (λ said. CountsHearing said (S.failures source.old) (S.failures source.new)) }
     ensures writes { IfErr result (λ said. CountsSaying said (K.failures sink.old) (K.failures sink.new)) }

@@ -13,26 +13,33 @@
 //! `specs/Serving.antt`, with the pages in `specs/Page.antt` and a publish in `specs/Publish.antt`.
 //!
 //! It promises, of [`request::Request::read`], that the request is the one at the front of the input, that a rejection is for its head,
-//! for the first check that fails or for a body that is cut short, and that a failed read is told only where one has failed. Of
+//! for the first check that fails or for a body that is cut short, that a failed read is told exactly where one has failed, and that
+//! nothing behind the request is taken but what came in one piece with the last of its head: no read is made once it is whole. Of
 //! [`response::Response::write`] it promises that exactly the bytes of the response are written, or a beginning of them where the
 //! writer failed; of [`hearing::hear`], that the request is the one at the front of the input and nothing is written yet, or that the
 //! response of a reason why there is none is (`specs/Notice.antt`), and nothing where the input is empty or a read failed. Of
 //! [`serve::serve_one`] it promises that a response to the input is written, or a beginning of it, and how much of it; and, also of
 //! readers and writers that tell no bytes, that the node is as it was or made one step Propose, whose messages are handed out whatever
-//! became of the writing. With a cache it promises the same, and that the cache's pictures are still those of the node's maps.
+//! became of the writing. With a cache it promises the same, and that the cache's pictures are still those of the node's maps. [`law`]
+//! has what follows for two nodes: equal requests to the map service have equal responses.
 //!
-//! Where the text of a map is at fault, any fault of a mapfile but allocation failure may be told: which one is left to `wf_mapfile`. It
-//! doesn't promise that a reader ever gives its next byte, that memory is found, or that a message arrives.
+//! Memory is taken for a body, for an answer of the map service and for the step of a publish: 503 for allocation failure is never told of
+//! a request that its head rejects, of `/status`, or, once it is read, of a body that is no UTF-8. A body that means no map is told its fault, as far as `wf_mapfile`'s `read`
+//! promises which.
+//!
+//! It doesn't promise that a reader ever gives its next byte, that memory is found or was needed where it isn't, or that a message arrives.
 #![tactic(auto)]
 
 mod answering;
 pub mod body;
 pub mod check;
+mod contents;
 pub mod fault;
 pub mod fields;
 pub mod front;
 mod gathered;
 pub mod hearing;
+pub mod law;
 mod line;
 pub mod notice;
 pub mod outcome;

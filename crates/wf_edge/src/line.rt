@@ -1,114 +1,159 @@
 //! Lines of plain text.
-ghost use Rattle.std.specs.Prelude.{◌≡◌, ◌++◌, IfOk, OnOk, decimal};
+ghost use Rattle.std.specs.Prelude.{◌≡◌, ◌≤◌, ◌+◌, ◌++◌, [], decimal, length};
 ghost use Rattle.wf_edge.specs.Notice.{text_line};
-ghost use Rattle.wf_edge.specs.Page.{standing_words, status_words, accepted_words, at_place, fault_words};
+ghost use Rattle.wf_edge.specs.Page.{most_line_bytes, standing_words, status_words, accepted_words, at_place, fault_words};
 
+use arrayvec::ArrayVec;
 use itoa::Buffer;
-use std::alloc::{AllocError, Global};
-use wf_ballot::{NodeId, Seq};
+use wf_ballot::{NodeId, Seq, Slot};
 use wf_mapfile::fault::MapFault;
 use wf_proposer::Standing;
 
-fn push_text(text: &str, line: &mut Vec<u8>) -> Result<(), AllocError>
-    ensures { OnOk result (line.new.items ≡ line.old.items ++ text.now) }
-{
-    line.extend_from_slice(text.as_bytes())
+/// How long a line may be, in bytes: more than any has.
+const MOST_LINE_BYTES: usize = 128;
+
+/// A line of plain text, in place: it takes no memory.
+#[derive(Drop)]
+pub struct Line {
+    bytes: ArrayVec<u8, MOST_LINE_BYTES>,
 }
 
-fn push_number(number: usize, line: &mut Vec<u8>) -> Result<(), AllocError>
-    ensures { OnOk result (line.new.items ≡ line.old.items ++ decimal number) }
-{
-    let mut digits = Buffer::new();
-    line.extend_from_slice(digits.format(number).as_bytes())
-}
-
-// Appends how a proposal stands.
-fn push_standing(standing: Standing, line: &mut Vec<u8>) -> Result<(), AllocError>
-    ensures { OnOk result (line.new.items ≡ line.old.items ++ standing_words standing) }
-{
-    match standing {
-        Standing::None => push_text("none", line),
-        Standing::Running => push_text("running", line),
-        Standing::Published(slot) => {
-            push_text("published ", line)?;
-            push_number(usize::from(slot.number()), line)
+impl Line {
+    fn new() -> Self
+        ensures { result.bytes.items ≡ [] }
+    {
+        Line {
+            bytes: ArrayVec::new(),
         }
-        Standing::Overtaken(slot) => {
-            push_text("overtaken ", line)?;
-            push_number(usize::from(slot.number()), line)
+    }
+
+    /// The bytes of the line.
+    pub(crate) fn as_slice(&self) -> &[u8]
+        ensures { result.now ≡ self.now.bytes.items }
+    {
+        self.bytes.as_slice()
+    }
+
+    #[tactic(auto, using(crate::proofs::Room::has_room, crate::proofs::Room::is_put))]
+    fn push_bytes(&mut self, bytes: &[u8])
+        requires { length self.old.bytes.items + length bytes.now ≤ most_line_bytes }
+        ensures { self.new.bytes.items ≡ self.old.bytes.items ++ bytes.now }
+    {
+        self.bytes.try_extend_from_slice(bytes).unwrap();
+    }
+
+    #[tactic(auto, using(crate::proofs::Room::pushed))]
+    fn push_text(&mut self, text: &str)
+        requires { length self.old.bytes.items + length text.now ≤ most_line_bytes }
+        ensures text { self.new.bytes.items ≡ self.old.bytes.items ++ text.now }
+        ensures size { length self.new.bytes.items ≡ length self.old.bytes.items + length text.now }
+    {
+        self.push_bytes(text.as_bytes());
+    }
+
+    // A number has 20 digits at most.
+    #[tactic(auto, using(crate::proofs::Room::pushed))]
+    fn push_number(&mut self, number: usize)
+        requires { length self.old.bytes.items + 20 ≤ most_line_bytes }
+        ensures text { self.new.bytes.items ≡ self.old.bytes.items ++ decimal number }
+        ensures size { length self.new.bytes.items ≤ length self.old.bytes.items + 20 }
+    {
+        let mut digits = Buffer::new();
+        self.push_bytes(digits.format(number).as_bytes());
+    }
+
+    // Appends how a proposal stands.
+    fn push_standing(&mut self, standing: Standing)
+        requires { length self.old.bytes.items + 30 ≤ most_line_bytes }
+        ensures text { self.new.bytes.items ≡ self.old.bytes.items ++ standing_words standing }
+        ensures size { length self.new.bytes.items ≤ length self.old.bytes.items + 30 }
+    {
+        match standing {
+            Standing::None => self.push_text("none"),
+            Standing::Running => self.push_text("running"),
+            Standing::Published(slot) => self.push_slot("published ", slot),
+            Standing::Overtaken(slot) => self.push_slot("overtaken ", slot),
+        }
+    }
+
+    fn push_slot(&mut self, text: &str, slot: Slot)
+        requires { length self.old.bytes.items + length text.now + 20 ≤ most_line_bytes }
+        ensures text { self.new.bytes.items ≡ self.old.bytes.items ++ text.now ++ decimal slot }
+        ensures size { length self.new.bytes.items ≤ length self.old.bytes.items + length text.now + 20 }
+    {
+        self.push_text(text);
+        self.push_number(usize::from(slot.number()));
+    }
+
+    // Appends a fault's number and its place.
+    #[tactic(auto, unfolding(crate::specs::Page::at_place))]
+    fn push_at_place(&mut self, number: &str, place: usize)
+        requires { length self.old.bytes.items + length number.now + 21 ≤ most_line_bytes }
+        ensures text { self.new.bytes.items ≡ self.old.bytes.items ++ at_place number.now place }
+        ensures size { length self.new.bytes.items ≤ length self.old.bytes.items + length number.now + 21 }
+    {
+        self.push_text(number);
+        self.push_text(" ");
+        self.push_number(place);
+    }
+
+    // Appends a fault of a mapfile.
+    fn push_fault(&mut self, fault: MapFault)
+        requires { length self.old.bytes.items + 24 ≤ most_line_bytes }
+        ensures text { self.new.bytes.items ≡ self.old.bytes.items ++ fault_words fault }
+        ensures size { length self.new.bytes.items ≤ length self.old.bytes.items + 24 }
+    {
+        match fault {
+            MapFault::Memory => self.push_text("M1"),
+            MapFault::TooLong => self.push_text("M2"),
+            MapFault::NotUtf8(place) => self.push_at_place("M3", place),
+            MapFault::BadToken(place) => self.push_at_place("M4", place),
+            MapFault::UnexpectedWord(place) => self.push_at_place("M5", place),
+            MapFault::MissingEnd(place) => self.push_at_place("M6", place),
+            MapFault::BadNumber(place) => self.push_at_place("M7", place),
+            MapFault::OutOfRange(place) => self.push_at_place("M8", place),
+            MapFault::Missing => self.push_text("M9"),
+            MapFault::Repeated(place) => self.push_at_place("M10", place),
+            MapFault::TooMany => self.push_text("M11"),
+            MapFault::Trailing(place) => self.push_at_place("M12", place),
         }
     }
 }
 
 /// The line that tells where a node stands: its number, what it published last and how its proposal stands.
 #[tactic(auto, unfolding(crate::specs::Page::status_words))]
-pub(crate) fn status_line(
-    alloc: Global,
-    id: NodeId,
-    published: Seq,
-    standing: Standing,
-) -> Result<Vec<u8>, AllocError>
-    ensures { IfOk result (λ line. line.items ≡ text_line (status_words id published standing)) }
+pub(crate) fn status_line(id: NodeId, published: Seq, standing: Standing) -> Line
+    ensures { result.bytes.items ≡ text_line (status_words id published standing) }
 {
-    let mut line = Vec::new(alloc);
-    push_text("node ", &mut line)?;
-    push_number(usize::from(id.number()), &mut line)?;
-    push_text(" published ", &mut line)?;
-    push_number(usize::from(published.number()), &mut line)?;
-    push_text(" proposal ", &mut line)?;
-    push_standing(standing, &mut line)?;
-    push_text("\n", &mut line)?;
-    Ok(line)
+    let mut line = Line::new();
+    line.push_text("node ");
+    line.push_number(usize::from(id.number()));
+    line.push_text(" published ");
+    line.push_number(usize::from(published.number()));
+    line.push_text(" proposal ");
+    line.push_standing(standing);
+    line.push_text("\n");
+    line
 }
 
 /// The line that tells the sequence that a map is proposed for: the one after the last published.
 #[tactic(auto, unfolding(crate::specs::Page::accepted_words))]
-pub(crate) fn accepted_line(alloc: Global, published: Seq) -> Result<Vec<u8>, AllocError>
-    ensures { IfOk result (λ line. line.items ≡ text_line (accepted_words published)) }
+pub(crate) fn accepted_line(published: Seq) -> Line
+    ensures { result.bytes.items ≡ text_line (accepted_words published) }
 {
-    let mut line = Vec::new(alloc);
-    push_text("accepted for ", &mut line)?;
-    push_number(usize::from(published.number()) + 1, &mut line)?;
-    push_text("\n", &mut line)?;
-    Ok(line)
-}
-
-// Appends a fault's number and its place.
-#[tactic(auto, unfolding(crate::specs::Page::at_place))]
-fn push_at_place(number: &str, place: usize, line: &mut Vec<u8>) -> Result<(), AllocError>
-    ensures { OnOk result (line.new.items ≡ line.old.items ++ at_place number.now place) }
-{
-    push_text(number, line)?;
-    push_text(" ", line)?;
-    push_number(place, line)
-}
-
-// Appends a fault of a mapfile.
-fn push_fault(fault: MapFault, line: &mut Vec<u8>) -> Result<(), AllocError>
-    ensures { OnOk result (line.new.items ≡ line.old.items ++ fault_words fault) }
-{
-    match fault {
-        MapFault::Memory => push_text("M1", line),
-        MapFault::TooLong => push_text("M2", line),
-        MapFault::NotUtf8(place) => push_at_place("M3", place, line),
-        MapFault::BadToken(place) => push_at_place("M4", place, line),
-        MapFault::UnexpectedWord(place) => push_at_place("M5", place, line),
-        MapFault::MissingEnd(place) => push_at_place("M6", place, line),
-        MapFault::BadNumber(place) => push_at_place("M7", place, line),
-        MapFault::OutOfRange(place) => push_at_place("M8", place, line),
-        MapFault::Missing => push_text("M9", line),
-        MapFault::Repeated(place) => push_at_place("M10", place, line),
-        MapFault::TooMany => push_text("M11", line),
-        MapFault::Trailing(place) => push_at_place("M12", place, line),
-    }
+    let mut line = Line::new();
+    line.push_text("accepted for ");
+    line.push_number(usize::from(published.number()) + 1);
+    line.push_text("\n");
+    line
 }
 
 /// The line that tells the fault of a mapfile.
-pub(crate) fn fault_line(alloc: Global, fault: MapFault) -> Result<Vec<u8>, AllocError>
-    ensures { IfOk result (λ line. line.items ≡ text_line (fault_words fault)) }
+pub(crate) fn fault_line(fault: MapFault) -> Line
+    ensures { result.bytes.items ≡ text_line (fault_words fault) }
 {
-    let mut line = Vec::new(alloc);
-    push_fault(fault, &mut line)?;
-    push_text("\n", &mut line)?;
-    Ok(line)
+    let mut line = Line::new();
+    line.push_fault(fault);
+    line.push_text("\n");
+    line
 }

@@ -1,7 +1,12 @@
 //! What a node answers with a body of its own.
 ghost use Rattle.std.specs.Prelude.{◌≡◌, None};
+ghost use Rattle.wf_edge.specs.Contents.{bytes_of};
+ghost use Rattle.wf_edge.specs.Notice.{plain};
 
+use crate::contents::Contents;
+use crate::line::Line;
 use crate::response::Response;
+use crate::telling::PLAIN;
 use http::StatusCode;
 use std::marker::Model;
 
@@ -10,16 +15,26 @@ use std::marker::Model;
 pub(crate) struct Page {
     status: StatusCode,
     media: &'static str,
-    body: Vec<u8>,
+    body: Contents,
 }
 
 impl Model for Page {
     ghost use Rattle.std.specs.Prelude.{None};
+    ghost use Rattle.wf_edge.specs.Contents.{bytes_of};
     ghost use Rattle.wf_edge.specs.Response.{Response as ResponseValue};
 
     ghost Value = { ResponseValue };
 
-    ghost view = { λ p. record { status = p.status; media = p.media.now; allowed = None; body = p.body.items } };
+    ghost view = { λ p. record { status = p.status; media = p.media.now; allowed = None; body = bytes_of p.body } };
+}
+
+fn slice(contents: &Contents) -> &[u8]
+    ensures { result.now ≡ bytes_of contents.now }
+{
+    match contents {
+        Contents::Bytes(bytes) => bytes,
+        Contents::Line(line) => line.as_slice(),
+    }
 }
 
 impl Page {
@@ -30,7 +45,18 @@ impl Page {
         Page {
             status,
             media,
-            body,
+            body: Contents::Bytes(body),
+        }
+    }
+
+    /// A page of one line of plain text. It takes no memory.
+    pub(crate) fn of_line(status: StatusCode, line: Line) -> Self
+        ensures { result ≡ record { status = status; media = plain; allowed = None; body = line.bytes.items } }
+    {
+        Page {
+            status,
+            media: PLAIN,
+            body: Contents::Line(line),
         }
     }
 
@@ -38,6 +64,6 @@ impl Page {
     pub(crate) fn response(&self) -> Response<'_>
         ensures { result ≡ self.now }
     {
-        Response::new(self.status, self.media, None, &self.body)
+        Response::new(self.status, self.media, None, slice(&self.body))
     }
 }

@@ -89,7 +89,7 @@ fn propose<T: Tape>(
     node.step(alloc, Input::Propose(canon))
 }
 
-// Proposes a map. The page is made before, so that the step is the last that takes memory.
+// Proposes a map. The step is the last that takes memory.
 #[tactic(auto, using(crate::proofs::PublishLaw::accepted, crate::proofs::PublishLaw::node_fails))]
 fn publish_map<T: Tape>(
     alloc: Global,
@@ -100,10 +100,7 @@ fn publish_map<T: Tape>(
     requires { IsMapOf body.now canon }
     ensures { IsPublished T.honest T.content T.images T.failed body.now node.old result node.new }
 {
-    let Ok(page) = accept(alloc, node.published()) else {
-        drop(canon);
-        return Err(PublishFault::Memory);
-    };
+    let page = accept(node.published());
     match propose(alloc, node, canon) {
         Ok(messages) => Ok((page, messages)),
         Err(fault) => {
@@ -128,12 +125,12 @@ pub(crate) fn publish<T: Tape>(
     }
 }
 
-/// What is told of a map that isn't proposed.
-pub(crate) fn tell_publish_fault(alloc: Global, fault: PublishFault) -> Result<Page, Notice>
+/// What is told of a map that isn't proposed. It takes no memory.
+pub(crate) fn tell_publish_fault(fault: PublishFault) -> Result<Page, Notice>
     ensures { TellsFault fault result }
 {
     match fault {
-        PublishFault::Map(fault) => tell_fault(alloc, fault),
+        PublishFault::Map(fault) => Ok(tell_fault(fault)),
         PublishFault::TooBig => Err(Notice::TooBig),
         PublishFault::Memory => Err(Notice::Unavailable),
         PublishFault::Node(fault) => Err(notice_of(fault)),

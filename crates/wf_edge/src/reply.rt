@@ -33,7 +33,7 @@ fn reply_to_publish<T: Tape>(alloc: Global, node: &mut Node<T>, body: &[u8]) -> 
             messages,
         },
         Err(fault) => Reply {
-            answer: tell_publish_fault(alloc, fault),
+            answer: tell_publish_fault(fault),
             messages: Vec::new(alloc),
         },
     }
@@ -54,7 +54,7 @@ pub(crate) fn reply_to<T: Tape>(
             messages: Vec::new(alloc),
         },
         Asked::Status => Reply {
-            answer: tell_status(alloc, node),
+            answer: Ok(tell_status(node)),
             messages: Vec::new(alloc),
         },
         Asked::Publish(_) => reply_to_publish(alloc, node, request.body()),

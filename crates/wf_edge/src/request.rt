@@ -2,7 +2,7 @@
 ghost use Rattle.std.specs.Prelude.{◌≡◌, Ok, IfOk, IfErr, IfSome};
 ghost use Rattle.wf_edge.specs.Target.{query_of};
 ghost use Rattle.wf_edge.specs.Checks.{judged};
-ghost use Rattle.wf_edge.specs.Request.{body_bytes, BeginsWith, IsRequestFault, CountsReads};
+ghost use Rattle.wf_edge.specs.Request.{body_bytes, BeginsWith, IsRequestFault, TakesRequest, CountsReads};
 
 use crate::body::read_body;
 use crate::fault::RequestFault;
@@ -40,16 +40,17 @@ fn body_bytes(asked: Asked) -> usize
 }
 
 impl Request {
-    /// Reads a request: its head, the checks on that, and its body. What comes behind isn't looked at. A rejection is that of the first
-    /// check that fails.
-    #[tactic(auto, using(crate::proofs::RequestLaw::head_failed, crate::proofs::RequestLaw::check_failed, crate::proofs::RequestLaw::body_failed, crate::proofs::RequestLaw::request_read))]
+    /// Reads a request: its head, the checks on that, and its body. What comes behind isn't looked at, and isn't read but in one piece
+    /// with the last of the head. A rejection is that of the first check that fails. Only a body takes memory.
+    #[tactic(auto, using(crate::proofs::RequestLaw::head_failed, crate::proofs::RequestLaw::check_failed, crate::proofs::RequestLaw::body_failed, crate::proofs::RequestLaw::request_read, crate::proofs::RequestLaw::request_taken))]
     pub fn read<S: Source>(alloc: Global, source: &mut S) -> Result<Self, RequestFault>
         ensures asks { IfOk result (λ request. judged request.head ≡ Ok request.asked) }
         ensures ok { IfOk result (λ request. IfSome (S.left source.old) (λ input. BeginsWith input request)) }
         ensures err { IfErr result (λ fault. IfSome (S.left source.old) (λ input. IsRequestFault input fault)) }
+        ensures takes { TakesRequest (S.piece source.old) (S.left source.old) (S.left source.new) }
         ensures reads { CountsReads result (S.failures source.old) (S.failures source.new) }
     {
-        let front = match Front::read(alloc, source) {
+        let front = match Front::read(source) {
             Ok(front) => front,
             Err(fault) => return Err(fault),
         };

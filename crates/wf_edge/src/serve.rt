@@ -2,6 +2,7 @@
 ghost use Rattle.std.specs.Prelude.{◌≡◌};
 ghost use Rattle.wf_edge.specs.Hearing.{CountsHearing};
 ghost use Rattle.wf_edge.specs.Notice.{response_of};
+ghost use Rattle.wf_edge.specs.Request.{TakesRequest};
 ghost use Rattle.wf_edge.specs.Saying.{IsSaid, CountsSaying};
 ghost use Rattle.wf_edge.specs.Serving.{IsServed, IsOutcome, MovesOnce};
 ghost use Rattle.wf_wms.specs.Kept.{AllKept};
@@ -58,7 +59,8 @@ fn serve_request<K: Sink, T: Tape>(
     Served { outcome, messages }
 }
 
-/// Serves one request: reads it, answers it by the node, and writes the response. What is written is a beginning of the response, all of
+/// Serves one request: reads it and nothing behind it but what came in one piece with the last of its head, answers it by the node, and
+/// writes the response. What is written is a beginning of the response, all of
 /// it where `Sent`; where the reader failed or the input is empty, nothing is written. POST /publish whose checks pass, whose body is a
 /// map with a canonical text, and for whose answer there is memory, is the node's step Propose, and its messages are handed out whatever
 /// became of the write; anything else leaves the node as it was. Allocation failure is answered with 503; after the step of a publish no
@@ -72,6 +74,7 @@ pub fn serve_one<S: Source, K: Sink, T: Tape>(
 ) -> Served
     ensures outcome { IsOutcome T.honest T.content T.images T.failed (S.left source.old) (K.written sink.old) (K.written sink.new) node.old result.messages node.new result.outcome }
     ensures moves { MovesOnce T.honest T.content T.images T.failed node.old result.messages node.new }
+    ensures takes { TakesRequest (S.piece source.old) (S.left source.old) (S.left source.new) }
     ensures reads { CountsHearing result.outcome (S.failures source.old) (S.failures source.new) }
     ensures writes { CountsSaying result.outcome (K.failures sink.old) (K.failures sink.new) }
 {
@@ -125,6 +128,7 @@ pub fn serve_one_cached<S: Source, K: Sink, T: Tape>(
     requires { AllKept node.old.parts.history cache.old }
     ensures outcome { IsOutcome T.honest T.content T.images T.failed (S.left source.old) (K.written sink.old) (K.written sink.new) node.old result.messages node.new result.outcome }
     ensures moves { MovesOnce T.honest T.content T.images T.failed node.old result.messages node.new }
+    ensures takes { TakesRequest (S.piece source.old) (S.left source.old) (S.left source.new) }
     ensures reads { CountsHearing result.outcome (S.failures source.old) (S.failures source.new) }
     ensures writes { CountsSaying result.outcome (K.failures sink.old) (K.failures sink.new) }
     ensures kept { AllKept node.new.parts.history cache.new }

@@ -3,6 +3,7 @@ use Rattle.std.proofs.Common.{◌≡◌, ℕ, zero, suc, List, length, slice_get
 use Rattle.std.proofs.lemmas.Option.{none-some, same_Some}
 use Rattle.wf_def.specs.Definition.{Definition}
 use Rattle.wf_learner.specs.History.{map_at}
+use Rattle.wf_model.specs.Stored.{definition_at}
 use Rattle.wf_node.specs.Node.{Node, stored_of}
 use Rattle.wf_tape.specs.MemoryTape.{Kept}
 use Rattle.wf_wms.specs.Answer.{AnswerValue, EachQueryHasOneAnswer, IsAnswerOf, IsAnswerOn, IsMapAnswer, operation_of, or_own, subject}
@@ -14,6 +15,7 @@ use Rattle.wf_farm.specs.declared.place.Place.TheVariants.{Running, Stopped}
 use Rattle.wf_farm.specs.Agreement.{HasOneHistory, HasStored}
 use Rattle.wf_farm.specs.Answering.{Answers, AsksForMap, HasOneAnswer, HasOneMapAnswer, IsNoAnswer, sequence_at, sequence_in}
 use Rattle.wf_farm.specs.Farm.{Farm, running_in}
+use Rattle.wf_farm.specs.Leading.{HaveOneAnswer, HaveOneHistory, HaveOneMapAnswer}
 
 -- ---- an answer and a fault
 
@@ -39,14 +41,20 @@ running_stored None node runs = absurd (none-some node runs)
 running_stored (Some (Running held)) node runs = ap (λ (x : Node Kept). stored_of x) (sym (same_Some held node runs))
 running_stored (Some (Stopped tape)) node runs = absurd (none-some node runs)
 
--- the maps that two nodes have at a sequence are one
-one_map : (farm : Farm) (i j k : ℕ) (node other : Node Kept) (map another : Definition) → HasOneHistory farm →
+-- the maps that two lists have at a sequence are one, where their entries are
+one_map_of : (history other : List Definition) → ((s : ℕ) (c d : Definition) → definition_at history s ≡ Some c → definition_at other s ≡ Some d → c ≡ d) → (k : ℕ) (map another : Definition) →
+    map_at history k ≡ Some map → map_at other k ≡ Some another → map ≡ another
+unfolding map_at
+one_map_of history other agree zero map another here there = same_Some map another (sym here ∙ there)
+one_map_of history other agree (suc k) map another here there = agree (suc k) map another here there
+
+-- what two nodes published under one sequence is one definition
+one_entry : (farm : Farm) (i j k : ℕ) (node other : Node Kept) (map another : Definition) → HasOneHistory farm →
     running_in (slice_get farm.places i) ≡ Some node → running_in (slice_get farm.places j) ≡ Some other →
-    map_at node.parts.history k ≡ Some map → map_at other.parts.history k ≡ Some another → map ≡ another
-unfolding HasOneHistory map_at
-one_map farm i j zero node other map another one runs also here there = same_Some map another (sym here ∙ there)
-one_map farm i j (suc k) node other map another one runs also here there =
-    one i j (suc k) map another
+    definition_at node.parts.history k ≡ Some map → definition_at other.parts.history k ≡ Some another → map ≡ another
+unfolding HasOneHistory
+one_entry farm i j k node other map another one runs also here there =
+    one i j k map another
     (record { stored = stored_of node; has = running_stored (slice_get farm.places i) node runs; entry = here })
     (record { stored = stored_of other; has = running_stored (slice_get farm.places j) other also; entry = there })
 
@@ -56,15 +64,21 @@ its_map : (s : ℕ) (history : List Definition) (query : List ℕ) (answer : Ans
 unfolding IsAnswerOf subject
 its_map s history query answer is = (is.map, is.is_published)
 
+-- one answer at the sequence s, of two lists whose entries are one
+one_of : EachQueryHasOneAnswer → (history other : List Definition) → ((s : ℕ) (c d : Definition) → definition_at history s ≡ Some c → definition_at other s ≡ Some d → c ≡ d) →
+    (s : ℕ) (query : List ℕ) (answer another : AnswerValue) → IsAnswerOf s history query answer → IsAnswerOf s other query another → another ≡ answer
+one_of law history other agree s query answer another is is_other =
+    let here = its_map s history query answer is in
+    let there = its_map s other query another is_other in
+    let same : here.0 ≡ there.0 = one_map_of history other agree (subject s query) here.0 there.0 here.1 there.1 in
+    law s history other query answer another (here.1 ∙ ap (λ m. Some m) same ∙ sym there.1) is is_other
+
 -- one answer at the sequence s, of two nodes' lists
 one_at : EachQueryHasOneAnswer → (farm : Farm) → HasOneHistory farm → (i j s : ℕ) (node other : Node Kept) (query : List ℕ) (answer another : AnswerValue) →
     running_in (slice_get farm.places i) ≡ Some node → running_in (slice_get farm.places j) ≡ Some other →
     IsAnswerOf s node.parts.history query answer → IsAnswerOf s other.parts.history query another → another ≡ answer
 one_at law farm one i j s node other query answer another runs also is is_other =
-    let here = its_map s node.parts.history query answer is in
-    let there = its_map s other.parts.history query another is_other in
-    let same : here.0 ≡ there.0 = one_map farm i j (subject s query) node other here.0 there.0 one runs also here.1 there.1 in
-    law s node.parts.history other.parts.history query answer another (here.1 ∙ ap (λ m. Some m) same ∙ sym there.1) is is_other
+    one_of law node.parts.history other.parts.history (λ k map more here there. one_entry farm i j k node other map more one runs also here there) s query answer another is is_other
 
 pub one_answer : EachQueryHasOneAnswer → (farm : Farm) → HasOneHistory farm → HasOneAnswer farm
 unfolding HasOneAnswer
@@ -99,3 +113,17 @@ unfolding HasOneMapAnswer
 one_map_answer law farm one = λ i j s t m query answer another asks also first second.
     one_at law farm one i j s first.node second.node query answer another first.runs second.runs first.is_answer
     (answer_elsewhere s t m second.node.parts.history query another asks also second.is_answer)
+
+-- ---- the same of nodes that a caller holds
+
+module _ {T : Type 0} (law : EachQueryHasOneAnswer) (nodes : List (Node T)) (one : HaveOneHistory nodes) where
+  pub alike_answers : HaveOneAnswer nodes
+  unfolding HaveOneHistory HaveOneAnswer
+  alike_answers = λ i j s node other query answer another at there long also is is_other.
+      one_of law node.parts.history other.parts.history (λ k c d here beyond. one i j k node other c d at there here beyond) s query answer another is is_other
+
+  pub alike_map_answers : HaveOneMapAnswer nodes
+  unfolding HaveOneHistory HaveOneMapAnswer
+  alike_map_answers = λ i j s t m node other query answer another at there asks also long longer is is_other.
+      one_of law node.parts.history other.parts.history (λ k c d here beyond. one i j k node other c d at there here beyond) s query answer another is
+      (answer_elsewhere s t m other.parts.history query another asks also is_other)

@@ -1,8 +1,8 @@
--- A delivery to one of the nodes that a caller holds is an event of the world that they are, and so are many.
+-- A step of one of the nodes that a caller holds is an event of the world that they are; so is a delivery, and so are many.
 use Rattle.std.proofs.Common.{◌≡◌, ◌≢◌, ◌⊎◌, ℕ, zero, suc, ◌+◌, ◌<◌, ◌≤◌, nat_lt, Bool, true, false, List, [], ◌∷◌, ◌++◌, map, length, slice_get, slice_set, Option, Some, None, Result, Ok, Err, IfOk, IfErr, refl, sym, ap, subst, ◌∙◌, inl, inr, arith, length-append, length-set, if◌then◌else◌, ◌==◌, Vec}
-use Rattle.std.proofs.lemmas.Bool.{both_ways, cases_eq, false≢true}
+use Rattle.std.proofs.lemmas.Bool.{both_ways, cases_eq, false≢true, ltb-false, ltb-true}
 use Rattle.std.proofs.lemmas.List.{append-nil, length-map, map-append}
-use Rattle.std.proofs.lemmas.Option.{none-some, same_Some}
+use Rattle.std.proofs.lemmas.Option.{same_Some, slice_get_within}
 use Rattle.wf_ballot.specs.Ballot.{Ballot}
 use Rattle.wf_codec.specs.Message as message
 use Rattle.wf_codec.specs.declared.message.Message.{Message}
@@ -14,7 +14,7 @@ use Rattle.wf_model.specs.Stored as part
 use Rattle.wf_model.specs.Stored.{Stored, Record, published, with_record}
 use Rattle.wf_model.specs.Working.{Working}
 use Rattle.wf_model.specs.Table as table
-use Rattle.wf_model.specs.Table.{Input, Refusal, most_told, store}
+use Rattle.wf_model.specs.Table.{Action, Input, Refusal, most_told, store}
 use Rattle.wf_model.specs.World as world
 use Rattle.wf_model.specs.World.{World, Event, Turn, Deliver, Torn, Before, After, Kept, input_of, turn_of, turn, stored_after, kept_part, after_turn, after_torn, happens, steps}
 use Rattle.wf_node.specs.Fault as fault
@@ -25,12 +25,14 @@ use Rattle.wf_node.specs.Step.{row_of, refusal_at, IsRow, IsSameNode}
 use Rattle.wf_node.specs.declared.fault.NodeFault.{NodeFault}
 use Rattle.wf_node.specs.declared.fault.NodeFault.TheVariants as fault_case
 use Rattle.wf_farm.specs.declared.progress.Progress.{Progress}
+use Rattle.wf_farm.specs.Asking as asking
+use Rattle.wf_farm.specs.Asking.{Answers}
 use Rattle.wf_farm.specs.Delivering as delivering
-use Rattle.wf_farm.specs.Delivering.{AnyPart, StandFor, IsNodeBy, IsNode, AreNodes, Shows, StandAmong, StandInTurn, MayLeave, IsDelivery, AreDeliveries, IsLed, Lead, AreDelivered, Takes, TakeOne, KeepHalted, KeepTurn, IsOne, HaveCome, IsDelivered}
+use Rattle.wf_farm.specs.Delivering.{AnyPart, StandFor, IsNodeBy, IsNode, AreNodes, Shows, StandAmong, StandInTurn, MayLeave, IsDelivery, AreDeliveries, IsLed, Lead, AreDelivered, Takes, TakeOne, KeepHalted, KeepTurn, IsOne, IsEnd, IsHanded, AreHanded, First, Next, AreHandedOut, HaveCome, IsDelivered}
 use Rattle.wf_farm.specs.Progress.{next}
-use Rattle.wf_farm.specs.Pump.{most_deliveries}
+use Rattle.wf_farm.specs.Pump.{begun, most_deliveries}
 use Rattle.wf_farm.specs.Turn.{node_after, messages_of, node_torn}
-use Rattle.wf_farm.specs.DeliveringLaws.{keeps_turn, keeps_turn_itself, keeps_turn_twice}
+use Rattle.wf_farm.specs.DeliveringLaws.{halted_itself, halted_twice, keeps_turn, keeps_turn_itself, keeps_turn_twice}
 use Rattle.wf_farm.specs.PlaceLaws.{get_set_same, get_set_other, set_there}
 use Rattle.wf_farm.proofs.Events.{sent_message}
 use Rattle.wf_farm.proofs.Runs.{steps_more}
@@ -106,6 +108,58 @@ module _ {T A : Type 0} (honest : Type 0) (images : T → List ℕ → Type 0) (
   any_lost (Err fault_case.Halted) halted refused unchanged same spares halts torn = let other = neither fault_case.Halted refl refl in delivering.Keeps (unchanged other.0 other.1) refl
   any_lost (Err fault_case.Nothing) halted refused unchanged same spares halts torn = let other = neither fault_case.Nothing refl refl in delivering.Keeps (unchanged other.0 other.1) refl
 
+-- A step for which memory suffices is an answer.
+module _ {T : Type 0} (honest : Type 0) (images : T → List ℕ → Type 0) (node after : Node T) (input : Input Definition) where
+  rejects : (f : NodeFault) (why : Refusal) → fault.refusal_of f ≡ Some why → is_want f ≡ false → is_failure f ≡ false → node.halted ≡ false →
+      (node.halted ≡ false → fault.refusal_of f ≡ refusal_at node input) → (f ≢ fault_case.Memory → f ≢ fault_case.TapeFailed → after ≡ node) → Answers honest images input node after []
+  rejects f why tells want failure runs refused unchanged =
+      let other = neither f want failure in
+      asking.Rejects why runs (sym (refused runs) ∙ tells) (unchanged other.0 other.1) refl
+
+module _ {T A : Type 0} (honest : Type 0) (images : T → List ℕ → Type 0) (node after : Node T) (input : Input Definition) where
+  pub any_answered : (result : Result (Vec Message A) NodeFault) → (node.halted ≡ true → result ≡ Err fault_case.Halted) → (node.halted ≡ false → fault.refused_by result ≡ refusal_at node input) →
+      IfOk result (λ said. IsRow node (row_of node input) said.items after) → IfOk result (λ said. Answers honest images input node after said.items)
+  any_answered (Ok said) halted refused is =
+      let runs = runs_by {A = Vec Message A} (Ok said) node.halted refl halted in
+      asking.Steps runs (sym (refused runs)) is
+  any_answered (Err f) halted refused is = tt
+
+  pub any_rejected : (result : Result (Vec Message A) NodeFault) → (node.halted ≡ true → result ≡ Err fault_case.Halted) → (result ≡ Err fault_case.Halted → node.halted ≡ true) →
+      (node.halted ≡ false → fault.refused_by result ≡ refusal_at node input) →
+      IfErr result (λ f. f ≢ fault_case.Memory → f ≢ fault_case.TapeFailed → after ≡ node) → IfErr result (λ f. IsSameNode node after) → (result ≡ Err fault_case.TapeFailed → after.halted ≡ true) →
+      (honest → result ≡ Err fault_case.TapeFailed → EachStandsFor (stored_of node) (store (stored_of node) (row_of node input).entry) (images after.tape)) →
+      IfErr result (λ f. f ≢ fault_case.Memory → Answers honest images input node after [])
+  any_rejected (Ok said) halted running refused unchanged same halts torn = tt
+  any_rejected (Err fault_case.Memory) halted running refused unchanged same halts torn = λ sufficed. absurd (sufficed refl)
+  any_rejected (Err fault_case.TapeFailed) halted running refused unchanged same halts torn = λ sufficed.
+      let runs = runs_by {A = Vec Message A} (Err fault_case.TapeFailed) node.halted refl halted in
+      asking.Fails runs (sym (refused runs)) (halts refl) same (λ h. torn h refl) refl
+  any_rejected (Err fault_case.Halted) halted running refused unchanged same halts torn = λ sufficed.
+      let other = neither fault_case.Halted refl refl in asking.Halts (running refl) (unchanged other.0 other.1) refl
+  any_rejected (Err fault_case.Busy) halted running refused unchanged same halts torn = λ sufficed.
+      rejects honest images node after input fault_case.Busy table.Busy refl refl refl (runs_by {A = Vec Message A} (Err fault_case.Busy) node.halted refl halted) refused unchanged
+  any_rejected (Err fault_case.SequenceFull) halted running refused unchanged same halts torn = λ sufficed.
+      rejects honest images node after input fault_case.SequenceFull table.SequenceFull refl refl refl (runs_by {A = Vec Message A} (Err fault_case.SequenceFull) node.halted refl halted) refused unchanged
+  any_rejected (Err fault_case.RoundsFull) halted running refused unchanged same halts torn = λ sufficed.
+      rejects honest images node after input fault_case.RoundsFull table.RoundsFull refl refl refl (runs_by {A = Vec Message A} (Err fault_case.RoundsFull) node.halted refl halted) refused unchanged
+  any_rejected (Err fault_case.Nothing) halted running refused unchanged same halts torn = λ sufficed.
+      rejects honest images node after input fault_case.Nothing table.NothingToRetry refl refl refl (runs_by {A = Vec Message A} (Err fault_case.Nothing) node.halted refl halted) refused unchanged
+
+-- What comes of a fault where memory sufficed: nothing is said.
+module _ {T A E : Type 0} (honest : Type 0) (images : T → List ℕ → Type 0) (node after : Node T) (input : Input Definition) (f : NodeFault) where
+  pub quiet_takes : (result : Result (Vec Message A) E) → IfOk result (λ said. (said.items ≡ []) × (f ≢ fault_case.Memory)) → Takes honest images input node after [] → IfOk result (λ said. Takes honest images input node after said.items)
+  quiet_takes (Ok said) is takes = subst (λ ms. Takes honest images input node after ms) (sym is.0) takes
+  quiet_takes (Err e) is takes = tt
+
+  pub quiet_answers : (result : Result (Vec Message A) E) → IfOk result (λ said. (said.items ≡ []) × (f ≢ fault_case.Memory)) → (f ≢ fault_case.Memory → Answers honest images input node after []) →
+      IfOk result (λ said. Answers honest images input node after said.items)
+  quiet_answers (Ok said) is answers = subst (λ ms. Answers honest images input node after ms) (sym is.0) (answers is.1)
+  quiet_answers (Err e) is answers = tt
+
+pub quiet_few : {A E : Type 0} (f : NodeFault) (result : Result (Vec Message A) E) → IfOk result (λ said. (said.items ≡ []) × (f ≢ fault_case.Memory)) → IfOk result (λ said. length said.items ≤ most_told)
+quiet_few f (Ok said) is = let none : length said.items ≡ 0 = ap length is.0 in omega (arith, none)
+quiet_few f (Err e) is = tt
+
 -- No step says more than eight messages.
 module _ {T A : Type 0} (node after : Node T) (input : Input Definition) where
   pub any_short : RowsAreShort Definition → (result : Result (Vec Message A) NodeFault) → IfOk result (λ said. IsRow node (row_of node input) said.items after) → IfOk result (λ said. length said.items ≤ most_told)
@@ -117,11 +171,9 @@ module _ {T A : Type 0} (node after : Node T) (input : Input Definition) where
 pub lost_by : {T : Type 0} (honest : Type 0) (images : T → List ℕ → Type 0) (input : Input Definition) (node : Node T) (said : List Message) → said ≡ [] → Takes honest images input node node said
 lost_by honest images input node said quiet = delivering.Keeps refl quiet
 
--- ---- lists with one entry set
-
 -- ---- beginnings of published lists
 
-begins_itself : {A : Type 0} (xs : List A) → IsBeginning xs xs
+pub begins_itself : {A : Type 0} (xs : List A) → IsBeginning xs xs
 begins_itself xs = ([], append-nil xs)
 
 module _ (stored : Stored Definition) where
@@ -152,7 +204,7 @@ module _ (stored : Stored Definition) where
 abbrev node_of : Stored Definition → Option (Working Definition) → world.Node Definition
 node_of stored working = record { stored = stored; working = working }
 
-node_eq : (stored others : Stored Definition) (working held : Option (Working Definition)) → stored ≡ others → working ≡ held → node_of stored working ≡ node_of others held
+pub node_eq : (stored others : Stored Definition) (working held : Option (Working Definition)) → stored ≡ others → working ≡ held → node_of stored working ≡ node_of others held
 node_eq stored others working held e h = ap (λ s. node_of s working) e ∙ ap (λ x. node_of others x) h
 
 module _ {T : Type 0} where
@@ -170,7 +222,7 @@ module _ {T : Type 0} where
     is_running : (node : Node T) (x : world.Node Definition) → node.halted ≡ false → IsNode stands node x → x ≡ shown_of node
     is_running node x runs is = subst (λ b. IsNodeBy b stands node x) runs is
 
-    running_is : (node : Node T) (x : world.Node Definition) → node.halted ≡ false → x ≡ shown_of node → IsNode stands node x
+    pub running_is : (node : Node T) (x : world.Node Definition) → node.halted ≡ false → x ≡ shown_of node → IsNode stands node x
     running_is node x runs is = subst (λ b. IsNodeBy b stands node x) (sym runs) is
 
     -- A node that is as it was but for its tape, and runs.
@@ -189,7 +241,13 @@ module _ {T : Type 0} where
         subst (λ b. IsNodeBy b stands after (node_of stored None)) (sym halts)
         (refl, subst (λ (ds : List Definition). IsBeginning ds stored.history) (sym (ap (λ (y : Node T). y.parts.history) same)) begins, has)
 
--- ---- one delivery
+-- ---- one step
+
+-- The nodes and the messages show the world still; or what the action of node i leads to, whole, or torn within.
+pub data IsActed {T : Type 0} (stands : ℕ → Stored Definition → Type 0) (i : ℕ) (action : Action Definition ℕ) (w : World Definition) (nodes : List (Node T)) (sent : List Message) : Type 0 where
+  Stays : Shows stands nodes sent w → IsActed stands i action w nodes sent
+  Acts : Shows stands nodes sent (after_turn w i (turn definition_eq w i action)) → IsActed stands i action w nodes sent
+  Tears : (kept : Kept) → Shows stands nodes sent (after_torn w i kept (turn definition_eq w i action)) → IsActed stands i action w nodes sent
 
 module _ {T : Type 0} (stands : ℕ → Stored Definition → Type 0) (nodes : List (Node T)) where
   -- node i is another one of the model's now
@@ -228,16 +286,18 @@ module _ {T : Type 0} (stands : ℕ → Stored Definition → Type 0) (nodes : L
     ];
   }
 
-  module _ (sent : List Message) (i k : ℕ) (node after : Node T) (m : Message) (at : slice_get nodes i ≡ Some node) (there : slice_get sent k ≡ Some m) (turns : StandInTurn nodes) where
-    abbrev input : Input Definition
-    input = table.Deliver (message.view m)
+  -- Where nothing is said, the messages are as they were.
+  nothing_more : {after : List (Node T)} {sent said : List Message} {w : World Definition} → said ≡ [] → Shows stands after sent w → Shows stands after (sent ++ said) w
+  nothing_more {after} {sent} {said} {w} quiet shows = subst (λ ms. Shows stands after ms w) (sym (ap (λ ms. sent ++ ms) quiet ∙ append-nil sent)) shows
 
+  module _ (sent : List Message) (i : ℕ) (node after : Node T) (action : Action Definition ℕ) (input : Input Definition) (at : slice_get nodes i ≡ Some node)
+      (given : input_of (map message.view sent) action ≡ Some input) (turns : StandInTurn nodes) where
     -- The turn of the world's node is that of the node.
-    turn_here : (w : World Definition) → Shows stands nodes sent w → node.halted ≡ false → refusal_at node input ≡ None → turn definition_eq w i (table.Deliver k) ≡ Some (the_turn node input)
+    turn_here : (w : World Definition) → Shows stands nodes sent w → node.halted ≡ false → refusal_at node input ≡ None → turn definition_eq w i action ≡ Some (the_turn node input)
     unfolding StandAmong
     turn_here w shows runs goes =
         let here = shows.nodes_are.node_is i node at in
-        turn_is definition_eq w (length nodes) i here.0 (table.Deliver k) input shows.nodes_are.as_many here.1 (ap (λ ms. input_of ms (table.Deliver k)) shows.messages ∙ sent_message sent k m there)
+        turn_is definition_eq w (length nodes) i here.0 action input shows.nodes_are.as_many here.1 (ap (λ ms. input_of ms action) shows.messages ∙ given)
         ∙ ap (λ x. turn_of definition_eq (length nodes) i (Some x) (Some input)) (is_running (stands i) node here.0 runs here.2)
         ∙ ap (λ n. turn_of definition_eq n i (Some (shown_of node)) (Some input)) (sym (turns i node at).1)
         ∙ ap (λ j. turn_of definition_eq node.n j (Some (shown_of node)) (Some input)) (sym (turns i node at).0)
@@ -248,8 +308,8 @@ module _ {T : Type 0} (stands : ℕ → Stored Definition → Type 0) (nodes : L
     keeps_shown w keeps shows = record { nodes_are = set_same_nodes w.nodes i node after at shows.nodes_are keeps; messages = shows.messages }
 
     steps_shown : (w : World Definition) (said : List Message) → node.halted ≡ false → refusal_at node input ≡ None → IsRow node (row_of node input) said after → Shows stands nodes sent w →
-        Shows stands (slice_set nodes i after) (sent ++ said) (happens definition_eq w (Deliver i k))
-    unfolding happens node_after messages_of
+        Shows stands (slice_set nodes i after) (sent ++ said) (after_turn w i (turn definition_eq w i action))
+    unfolding node_after messages_of
     steps_shown w said runs goes is shows =
         let here = shows.nodes_are.node_is i node at in
         let t = the_turn node input in
@@ -262,8 +322,8 @@ module _ {T : Type 0} (stands : ℕ → Stored Definition → Type 0) (nodes : L
     -- A step within which the tape failed is torn: the one part or the other was kept.
     torn_shown : (w : World Definition) (kept : Kept) → node.halted ≡ false → refusal_at node input ≡ None → after.halted ≡ true → IsSameNode node after →
         IsBeginning (stored_of node).history (kept_part kept (the_turn node input)).history → stands i (kept_part kept (the_turn node input)) → Shows stands nodes sent w →
-        Shows stands (slice_set nodes i after) sent (happens definition_eq w (Torn i (table.Deliver k) kept))
-    unfolding happens node_torn
+        Shows stands (slice_set nodes i after) sent (after_torn w i kept (turn definition_eq w i action))
+    unfolding node_torn
     torn_shown w kept runs goes halts same begins has shows =
         let here = shows.nodes_are.node_is i node at in
         let t = the_turn node input in
@@ -273,40 +333,35 @@ module _ {T : Type 0} (stands : ℕ → Stored Definition → Type 0) (nodes : L
           messages = shows.messages;
         })
 
-    fails_shown : (w : World Definition) → node.halted ≡ false → refusal_at node input ≡ None → after.halted ≡ true → IsSameNode node after →
-        stands i (stored_of node) ⊎ stands i (store (stored_of node) (row_of node input).entry) → Shows stands nodes sent w →
-        (event : Event Definition) × IsDelivery event × Shows stands (slice_set nodes i after) sent (happens definition_eq w event)
+    fails_shown : (w : World Definition) (said : List Message) → node.halted ≡ false → refusal_at node input ≡ None → after.halted ≡ true → IsSameNode node after → said ≡ [] →
+        stands i (stored_of node) ⊎ stands i (store (stored_of node) (row_of node input).entry) → Shows stands nodes sent w → IsActed stands i action w (slice_set nodes i after) (sent ++ said)
     unfolding kept_part stored_after
-    fails_shown w runs goes halts same (inl before) shows =
-        (Torn i (table.Deliver k) Before, tt, torn_shown w Before runs goes halts same (begins_itself (stored_of node).history) before shows)
-    fails_shown w runs goes halts same (inr later) shows =
-        (Torn i (table.Deliver k) After, tt, torn_shown w After runs goes halts same (store_begins (stored_of node) (row_of node input).entry) later shows)
+    fails_shown w said runs goes halts same quiet (inl before) shows =
+        Tears Before (nothing_more quiet (torn_shown w Before runs goes halts same (begins_itself (stored_of node).history) before shows))
+    fails_shown w said runs goes halts same quiet (inr later) shows =
+        Tears After (nothing_more quiet (torn_shown w After runs goes halts same (store_begins (stored_of node) (row_of node input).entry) later shows))
 
-    -- Whatever a node does that is handed a message, no event leads to it, or one delivery.
-    pub takes_one : (honest : Type 0) (images : T → List ℕ → Type 0) (said : List Message) → Takes honest images input node after said →
+    -- Whatever a node does that is handed the action's input, the world stays, or acts so.
+    pub takes_acts : (honest : Type 0) (images : T → List ℕ → Type 0) (said : List Message) → Takes honest images input node after said →
         (after.halted ≡ true → (honest → EachStandsFor (stored_of node) (store (stored_of node) (row_of node input).entry) (images after.tape)) → stands i (stored_of node) ⊎ stands i (store (stored_of node) (row_of node input).entry)) →
-        TakeOne stands nodes sent (slice_set nodes i after) (sent ++ said)
-    unfolding TakeOne
-    takes_one honest images said (delivering.Keeps same quiet) torn = λ w shows.
-        inl (subst (λ ms. Shows stands (slice_set nodes i after) ms w) (sym (ap (λ ms. sent ++ ms) quiet ∙ append-nil sent)) (keeps_shown w (λ x is. subst (λ n. IsNode (stands i) n x) (sym same) is) shows))
-    takes_one honest images said (delivering.Spares runs runs_after same quiet) torn = λ w shows.
-        inl (subst (λ ms. Shows stands (slice_set nodes i after) ms w) (sym (ap (λ ms. sent ++ ms) quiet ∙ append-nil sent)) (keeps_shown w (λ x is. spared_is (stands i) node after x runs runs_after same is) shows))
-    takes_one honest images said (delivering.Steps runs goes is) torn = λ w shows.
-        inr (Deliver i k, tt, steps_shown w said runs goes is shows)
-    takes_one honest images said (delivering.Fails runs goes halts same each quiet) torn = λ w shows.
-        let led = fails_shown w runs goes halts same (torn halts each) shows in
-        inr (led.0, led.1, subst (λ ms. Shows stands (slice_set nodes i after) ms (happens definition_eq w led.0)) (sym (ap (λ ms. sent ++ ms) quiet ∙ append-nil sent)) led.2)
+        (w : World Definition) → Shows stands nodes sent w → IsActed stands i action w (slice_set nodes i after) (sent ++ said)
+    takes_acts honest images said (delivering.Keeps same quiet) torn w shows =
+        Stays (nothing_more quiet (keeps_shown w (λ x is. subst (λ n. IsNode (stands i) n x) (sym same) is) shows))
+    takes_acts honest images said (delivering.Spares runs runs_after same quiet) torn w shows =
+        Stays (nothing_more quiet (keeps_shown w (λ x is. spared_is (stands i) node after x runs runs_after same is) shows))
+    takes_acts honest images said (delivering.Steps runs goes is) torn w shows = Acts (steps_shown w said runs goes is shows)
+    takes_acts honest images said (delivering.Fails runs goes halts same each quiet) torn w shows = fails_shown w said runs goes halts same quiet (torn halts each) shows
 
 -- ---- what stays
 
 module _ {T : Type 0} (honest : Type 0) (images : T → List ℕ → Type 0) (node after : Node T) (input : Input Definition) (said : List Message) where
-  stays_halted : Takes honest images input node after said → node.halted ≡ true → after ≡ node
+  pub stays_halted : Takes honest images input node after said → node.halted ≡ true → after ≡ node
   stays_halted (delivering.Keeps same quiet) halted = same
   stays_halted (delivering.Spares runs runs_after same quiet) halted = absurd (both_ways node.halted runs halted)
   stays_halted (delivering.Steps runs goes is) halted = absurd (both_ways node.halted runs halted)
   stays_halted (delivering.Fails runs goes halts same each quiet) halted = absurd (both_ways node.halted runs halted)
 
-  stays_itself : Takes honest images input node after said → (after.id ≡ node.id) × (after.n ≡ node.n) × IsGrown node.parts.history after.parts.history
+  pub stays_itself : Takes honest images input node after said → (after.id ≡ node.id) × (after.n ≡ node.n) × IsGrown node.parts.history after.parts.history
   stays_itself (delivering.Keeps same quiet) =
       (ap (λ (y : Node T). y.id) same, ap (λ (y : Node T). y.n) same, subst (λ (y : Node T). IsGrown node.parts.history y.parts.history) (sym same) (grown_itself node.parts.history))
   stays_itself (delivering.Spares runs runs_after same quiet) = (ap (λ (y : Node T). y.id) same, ap (λ (y : Node T). y.n) same, same_grown node after same)
@@ -314,7 +369,7 @@ module _ {T : Type 0} (honest : Type 0) (images : T → List ℕ → Type 0) (no
   stays_itself (delivering.Fails runs goes halts same each quiet) = (ap (λ (y : Node T). y.id) same, ap (λ (y : Node T). y.n) same, same_grown node after same)
 
 module _ {T : Type 0} (nodes : List (Node T)) (i : ℕ) (node after : Node T) (at : slice_get nodes i ≡ Some node) where
-  keeps_halted : (node.halted ≡ true → after ≡ node) → KeepHalted nodes (slice_set nodes i after)
+  pub keeps_halted : (node.halted ≡ true → after ≡ node) → KeepHalted nodes (slice_set nodes i after)
   unfolding KeepHalted
   keeps_halted stays = λ j n e halted. elim (cases_eq j i) [
     | inl same ↦
@@ -325,28 +380,50 @@ module _ {T : Type 0} (nodes : List (Node T)) (i : ℕ) (node after : Node T) (a
   ]
 
 -- what may be left of a failed node's tape, where it stands
-left_here : {T : Type 0} (images : T → List ℕ → Type 0) (nodes : List (Node T)) (left : ℕ → List ℕ) (i : ℕ) (node after : Node T) → slice_get nodes i ≡ Some node → MayLeave images (slice_set nodes i after) left →
+pub left_here : {T : Type 0} (images : T → List ℕ → Type 0) (nodes : List (Node T)) (left : ℕ → List ℕ) (i : ℕ) (node after : Node T) → slice_get nodes i ≡ Some node → MayLeave images (slice_set nodes i after) left →
     after.halted ≡ true → images after.tape (left i)
 unfolding MayLeave
 left_here images nodes left i node after at may halts = may i after (set_there nodes i after node at) halts
 
--- One delivery to one of the nodes.
-pub one_delivery : {T : Type 0} (honest : Type 0) (images : T → List ℕ → Type 0) (nodes : List (Node T)) (sent : List Message) (i k : ℕ) (node after : Node T) (m : Message) (said : List Message) →
-    slice_get nodes i ≡ Some node → slice_get sent k ≡ Some m → StandInTurn nodes → Takes honest images (table.Deliver (message.view m)) node after said → IsOne honest images nodes sent (slice_set nodes i after) (sent ++ said)
-one_delivery honest images nodes sent i k node after m said at there turns takes = record {
-  any = takes_one AnyPart nodes sent i k node after m at there turns honest images said takes (λ halts each. inl tt);
-  on_tape = λ h left may. takes_one (StandFor left) nodes sent i k node after m at there turns honest images said takes (λ halts each. each h (left i) (left_here images nodes left i node after at may halts));
-  halted = keeps_halted nodes i node after at (stays_halted honest images node after (table.Deliver (message.view m)) said takes);
-  turn = keeps_turn nodes i node after at (stays_itself honest images node after (table.Deliver (message.view m)) said takes);
-}
+-- ---- one delivery
+
+-- No event leads to what a delivery leaves, or that delivery.
+delivered_one : {T : Type 0} (stands : ℕ → Stored Definition → Type 0) (i k : ℕ) (w : World Definition) (nodes : List (Node T)) (sent : List Message) → IsActed stands i (table.Deliver k) w nodes sent →
+    Shows stands nodes sent w ⊎ ((event : Event Definition) × IsDelivery event × Shows stands nodes sent (happens definition_eq w event))
+unfolding happens
+delivered_one stands i k w nodes sent (Stays shows) = inl shows
+delivered_one stands i k w nodes sent (Acts shows) = inr (Deliver i k, tt, shows)
+delivered_one stands i k w nodes sent (Tears kept shows) = inr (Torn i (table.Deliver k) kept, tt, shows)
+
+module _ {T : Type 0} (honest : Type 0) (images : T → List ℕ → Type 0) (nodes : List (Node T)) (sent : List Message) (i k : ℕ) (node after : Node T) (m : Message) (said : List Message)
+    (at : slice_get nodes i ≡ Some node) (there : slice_get sent k ≡ Some m) (turns : StandInTurn nodes) where
+  abbrev heard : Input Definition
+  heard = table.Deliver (message.view m)
+
+  takes_one : (stands : ℕ → Stored Definition → Type 0) → Takes honest images heard node after said →
+      (after.halted ≡ true → (honest → EachStandsFor (stored_of node) (store (stored_of node) (row_of node heard).entry) (images after.tape)) → stands i (stored_of node) ⊎ stands i (store (stored_of node) (row_of node heard).entry)) →
+      TakeOne stands nodes sent (slice_set nodes i after) (sent ++ said)
+  unfolding TakeOne
+  takes_one stands takes torn = λ w shows.
+      delivered_one stands i k w (slice_set nodes i after) (sent ++ said)
+      (takes_acts stands nodes sent i node after (table.Deliver k) heard at (sent_message sent k m there) turns honest images said takes torn w shows)
+
+  -- One delivery to one of the nodes.
+  pub one_delivery : Takes honest images heard node after said → IsOne honest images nodes sent (slice_set nodes i after) (sent ++ said)
+  one_delivery takes = record {
+    any = takes_one AnyPart takes (λ halts each. inl tt);
+    on_tape = λ h left may. takes_one (StandFor left) takes (λ halts each. each h (left i) (left_here images nodes left i node after at may halts));
+    halted = keeps_halted nodes i node after at (stays_halted honest images node after heard said takes);
+    turn = keeps_turn nodes i node after at (stays_itself honest images node after heard said takes);
+  }
 
 -- No delivery at all.
 pub no_delivery : {T : Type 0} (honest : Type 0) (images : T → List ℕ → Type 0) (nodes : List (Node T)) (sent : List Message) → IsOne honest images nodes sent nodes sent
-unfolding TakeOne KeepHalted
+unfolding TakeOne
 no_delivery honest images nodes sent = record {
   any = λ w shows. inl shows;
   on_tape = λ h left may w shows. inl shows;
-  halted = λ i node at halted. at;
+  halted = halted_itself nodes;
   turn = keeps_turn_itself nodes;
 }
 
@@ -386,9 +463,26 @@ module _ {T : Type 0} (stands : ℕ → Stored Definition → Type 0) (done : �
       led_on stands w done middle after said more led (takes (steps definition_eq w led.events) led.shows)
 
 -- Bytes that may be left of the tapes that failed may have been left before a delivery: such a tape stays as it is.
-left_before : {T : Type 0} (images : T → List ℕ → Type 0) (nodes after : List (Node T)) (left : ℕ → List ℕ) → KeepHalted nodes after → MayLeave images after left → MayLeave images nodes left
+pub left_before : {T : Type 0} (images : T → List ℕ → Type 0) (nodes after : List (Node T)) (left : ℕ → List ℕ) → KeepHalted nodes after → MayLeave images after left → MayLeave images nodes left
 unfolding MayLeave KeepHalted
 left_before images nodes after left keeps may = λ i node at halted. may i node (keeps i node at halted) halted
+
+-- ---- in which order
+
+-- Where no message is left, each went to each node.
+pub none_left : (p : Progress) (sent : List Message) → p.whole + begun p.some ≤ length sent → length sent ≤ p.whole → IsEnd false p sent
+none_left p sent within all = none_left_by p.some refl
+  where
+    none_left_by : (some : ℕ) → p.some ≡ some → IsEnd false p sent
+    none_left_by zero is = (is, omega (arith, all, subst (λ k. p.whole + begun k ≤ length sent) is within))
+    none_left_by (suc k) is = absurd (omega (arith, all, subst (λ j. p.whole + begun j ≤ length sent) is within))
+
+pub whether_left : (p : Progress) (sent : List Message) → p.whole + begun p.some ≤ length sent → IsEnd (nat_lt p.whole (length sent)) p sent
+whether_left p sent within = whether_by (nat_lt p.whole (length sent)) refl
+  where
+    whether_by : (left : Bool) → nat_lt p.whole (length sent) ≡ left → IsEnd left p sent
+    whether_by true is = ltb-true p.whole (length sent) is
+    whether_by false is = none_left p sent within (ltb-false p.whole (length sent) is)
 
 -- how far the deliveries are after one more, where a round is whole by it or isn't
 abbrev next_by : Bool → Progress → Progress
@@ -401,6 +495,17 @@ part_by count p false some part = grind (arith, some, part)
 part_on : (count : ℕ) (p : Progress) → p.some < count → (next count p).some < count
 part_on count p part = part_by count p (p.some + 1 == count) refl part
 
+begun_most : (some : ℕ) → begun some ≤ 1
+begun_most zero = omega arith
+begun_most (suc some) = omega arith
+
+within_by : (p : Progress) (whole : Bool) (count : ℕ) → p.whole < count → (next_by whole p).whole + begun (next_by whole p).some ≤ count
+within_by p true count there = omega (arith, there)
+within_by p false count there = omega (arith, there, begun_most (p.some + 1))
+
+within_on : (round : ℕ) (p : Progress) (count : ℕ) → p.whole < count → (next round p).whole + begun (next round p).some ≤ count
+within_on round p count there = within_by p (p.some + 1 == round) count there
+
 done_by : (p : Progress) (whole : Bool) → (next_by whole p).done ≡ p.done + 1
 done_by p true = refl
 done_by p false = refl
@@ -409,26 +514,38 @@ done_on : (count : ℕ) (p : Progress) → (next count p).done ≡ p.done + 1
 done_on count p = done_by p (p.some + 1 == count)
 
 module _ {T : Type 0} (honest : Type 0) (images : T → List ℕ → Type 0) (nodes : List (Node T)) (messages : List Message) where
+  -- a message that was handed out is there afterwards
+  one_more_there : (middle after : List (Node T)) (i k : ℕ) (said more : List Message) → IsHanded honest images i k middle said after more → k < length more
+  one_more_there middle after i k said more handed =
+      omega (arith, slice_get_within said k handed.handed handed.there, ap length handed.sent_are, length-append said handed.said)
+
   -- Nothing is delivered yet.
   pub come_start : 0 < length nodes → HaveCome honest images nodes messages (record { whole = 0; some = 0; done = 0 }) nodes messages
   come_start some = record {
     any = leads_nowhere AnyPart nodes messages;
     on_tape = λ h left may. leads_nowhere (StandFor left) nodes messages;
+    halted = halted_itself nodes;
     turn = keeps_turn_itself nodes;
+    order = First;
     part = some;
+    within = omega arith;
     most = omega arith;
   }
 
   module _ (p : Progress) (middle after : List (Node T)) (said more : List Message) where
     -- One delivery more.
-    pub come_on : HaveCome honest images nodes messages p middle said → p.done < most_deliveries → IsOne honest images middle said after more → HaveCome honest images nodes messages (next (length nodes) p) after more
-    come_on come may one = record {
+    pub come_on : HaveCome honest images nodes messages p middle said → p.done < most_deliveries → IsOne honest images middle said after more → IsHanded honest images p.some p.whole middle said after more →
+        HaveCome honest images nodes messages (next (length nodes) p) after more
+    come_on come may one handed = record {
       any = subst (λ d. Lead AnyPart d nodes messages after more) (sym (done_on (length nodes) p)) (leads_on AnyPart p.done nodes middle after messages said more come.any one.any);
       on_tape = λ h left left_after.
           subst (λ d. Lead (StandFor left) d nodes messages after more) (sym (done_on (length nodes) p))
           (leads_on (StandFor left) p.done nodes middle after messages said more (come.on_tape h left (left_before images middle after left one.halted left_after)) (one.on_tape h left left_after));
+      halted = halted_twice nodes middle after come.halted one.halted;
       turn = keeps_turn_twice nodes middle after come.turn one.turn;
+      order = Next p middle after said more come.order handed;
       part = part_on (length nodes) p come.part;
+      within = within_on (length nodes) p (length more) (one_more_there middle after p.some p.whole said more handed);
       most = omega (arith, done_on (length nodes) p, may);
     }
 
@@ -437,14 +554,20 @@ module _ {T : Type 0} (honest : Type 0) (images : T → List ℕ → Type 0) (no
   come_done p after more come = record {
     any = record { sent = more; lead = come.any };
     on_tape = λ h left may. record { sent = more; lead = come.on_tape h left may };
+    halted = come.halted;
     turn = come.turn;
     most = come.most;
   }
+
+  pub handed_out : (p : Progress) (after : List (Node T)) (more : List Message) → HaveCome honest images nodes messages p after more → (stopped : Bool) → IsEnd stopped p more →
+      AreHandedOut honest images nodes messages p.done stopped after
+  handed_out p after more come stopped ended = record { come = p; sent = more; handed = come.order; count = refl; ended = ended }
 
   pub none_delivered : IsDelivered honest images nodes messages 0 nodes
   none_delivered = record {
     any = record { sent = messages; lead = leads_nowhere AnyPart nodes messages };
     on_tape = λ h left may. record { sent = messages; lead = leads_nowhere (StandFor left) nodes messages };
+    halted = halted_itself nodes;
     turn = keeps_turn_itself nodes;
     most = omega arith;
   }

@@ -17,8 +17,8 @@ use Rattle.wf_farm.specs.Cluster.{AreNodes, Shows, AreMembers, KeepMembers, IsAc
 use Rattle.wf_farm.specs.Fault.{told}
 use Rattle.wf_farm.specs.Place.{IsNode, IsMember, Stays, IsStepped, IsTornAt, KeepsMember, Stops, Restarts, Steps, DeniesStep, Tears, DeniesTear, number_in, turn_at}
 use Rattle.wf_farm.specs.Turn.{node_after, messages_of, node_torn, node_stopped, node_restarted}
-use Rattle.wf_farm.proofs.Turns.{set_same, turn_is, turn_absent, turn_unsent, refused_is, refused_absent, refused_unsent, turn_sets, torn_sets, stop_sets, restart_sets}
-use Rattle.wf_farm.specs.PlaceLaws.{get_set_same, get_set_other}
+use Rattle.wf_farm.proofs.Turns.{turn_is, turn_absent, turn_unsent, refused_is, refused_absent, refused_unsent, turn_sets, torn_sets, stop_sets, restart_sets}
+use Rattle.wf_farm.specs.PlaceLaws.{get_set_same, get_set_other, set_same}
 
 -- ---- places and nodes
 

@@ -15,7 +15,7 @@ use Rattle.wf_farm.specs.Farm.{running_in}
 use Rattle.wf_farm.specs.Place.{IsMember, IsStepped, TellsWhyNot, Steps, number_in}
 use Rattle.wf_farm.proofs.Events.{absent_acts, absent_torn, member_at, place_acts, tear_acts, unsent_acts, unsent_torn}
 use Rattle.wf_farm.proofs.Steps.{refused_step, same_member, step_stops, still_stopped, stopped_steps}
-use Rattle.wf_farm.proofs.Turns.{set_same}
+use Rattle.wf_farm.specs.PlaceLaws.{set_same}
 
 module _ (places : List Place) (sent : List Message) (i : ℕ) (action : Action Definition ℕ) (members : AreMembers places) where
   -- A step that changes nothing at its place and says nothing changes nothing.

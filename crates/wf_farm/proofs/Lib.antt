@@ -9,3 +9,4 @@ mod Rounds
 mod Pumping
 mod Answered
 pub mod Deliveries
+mod OneRun

@@ -30,6 +30,7 @@ use Rattle.wf_tape.specs.Tape.{HasRisen, IsBeginning}
 use Rattle.wf_farm.specs.declared.place.Place.{Place}
 use Rattle.wf_farm.specs.declared.place.Place.TheVariants.{Running, Stopped}
 use Rattle.wf_farm.specs.Fault.{number_of, told}
+use Rattle.wf_farm.specs.Leading.{IsFresh}
 use Rattle.wf_farm.specs.Place.{IsNode, IsMember, IsChanged, Stays, turn_at, IsStepped, IsTornAt, number_in, IsDenied, IsDeniedTorn, KeepsMember, Stops, Restarts, Steps, DeniesStep, Tears, DeniesTear, TellsWhyNot}
 use Rattle.wf_farm.specs.Start.{fresh_node}
 use Rattle.wf_farm.specs.Turn.{node_after, messages_of, node_torn, node_stopped, working_restarted, node_restarted}
@@ -277,9 +278,15 @@ unfolding fold fold_from
 fold_none = refl
 
 -- From an empty tape nothing is stored.
-pub opened_empty : IsReadAsNone → (node : Node tape.Kept) → IsFoldOf (stored_of node) [] → working_of node ≡ Idle → IsNode (Running node) fresh_node
-opened_empty none node fold_of idle =
-    node_eq _ _ _ _ (same_Some nothing_stored (stored_of node) (sym fold_none ∙ ap fold (sym (none fold_of.records (fold_of.rest, fold_of.tape.reads))) ∙ fold_of.folds)) (ap Some (sym idle))
+pub opened_fresh : IsReadAsNone → (node : Node tape.Kept) → node.halted ≡ false → IsFoldOf (stored_of node) [] → working_of node ≡ Idle → IsFresh node
+opened_fresh none node runs fold_of idle = record {
+  runs = runs;
+  stored = sym (same_Some nothing_stored (stored_of node) (sym fold_none ∙ ap fold (sym (none fold_of.records (fold_of.rest, fold_of.tape.reads))) ∙ fold_of.folds));
+  working = idle;
+}
+
+pub fresh_shown : (node : Node tape.Kept) → IsFresh node → IsNode (Running node) fresh_node
+fresh_shown node is = node_eq _ _ _ _ (sym is.stored) (ap Some (sym is.working))
 
 -- ---- crashes within a step
 

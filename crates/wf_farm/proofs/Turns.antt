@@ -1,19 +1,13 @@
 -- Turns of the farm's model: what an event does to the world, said of its node alone.
-use Rattle.std.proofs.Common.{◌≡◌, ℕ, zero, suc, Bool, List, [], ◌∷◌, ◌++◌, length, slice_get, slice_set, Option, Some, None, refl, sym, ap, ◌∙◌}
+use Rattle.std.proofs.Common.{◌≡◌, ℕ, Bool, List, [], ◌++◌, length, slice_get, slice_set, Option, Some, None, refl, sym, ap, ◌∙◌}
 use Rattle.std.proofs.lemmas.List.{append-nil}
-use Rattle.std.proofs.lemmas.Option.{same_Some}
 use Rattle.wf_model.specs.Message.{Message}
 use Rattle.wf_model.specs.Stored.{Stored}
 use Rattle.wf_model.specs.Working.{Working}
 use Rattle.wf_model.specs.Table.{Action, Input, Refusal, refusal, row}
 use Rattle.wf_model.specs.World.{Node, World, Turn, Kept, input_of, refusal_running, refusal_of, refused_at, with_node, after_turn, after_torn, stop_running, after_stop, restart_stopped, after_restart, turn_running, turn_of, turn}
+use Rattle.wf_farm.specs.PlaceLaws.{set_same}
 use Rattle.wf_farm.specs.Turn.{node_after, messages_of, node_torn, node_stopped, working_restarted, node_restarted}
-
--- what stands at a place, set there again
-pub set_same : {A : Type 0} (xs : List A) (i : ℕ) (x : A) → slice_get xs i ≡ Some x → slice_set xs i x ≡ xs
-set_same [] i x e = refl
-set_same (y ∷ xs) zero x e = ap (λ z. z ∷ xs) (sym (same_Some y x e))
-set_same (y ∷ xs) (suc i) x e = ap (λ zs. y ∷ zs) (set_same xs i x e)
 
 abbrev pub world_of : {V : Type 0} → List (Node V) → List (Message V) → World V
 world_of nodes sent = record { nodes = nodes; sent = sent }

@@ -1,5 +1,5 @@
 -- Messages are delivered to nodes that a caller holds, over tapes of any kind: which world of the model the nodes are, and what the deliveries do to it.
-use Rattle.std.specs.Prelude.{◌≡◌, ◌⊎◌, ◌≤◌, ◌<◌, ℕ, Bool, true, false, ⊤, List, [], ◌∷◌, length, map, slice_get, Some, None}
+use Rattle.std.specs.Prelude.{◌≡◌, ◌⊎◌, ◌≤◌, ◌<◌, ◌+◌, ℕ, Bool, true, false, ⊤, List, [], ◌∷◌, ◌++◌, length, map, slice_get, slice_set, Some, None}
 use Rattle.wf_codec.specs.Message as message
 use Rattle.wf_codec.specs.declared.message.Message.{Message}
 use Rattle.wf_def.specs.Definition.{Definition}
@@ -15,7 +15,8 @@ use Rattle.wf_node.specs.Images.{StandsFor, EachStandsFor}
 use Rattle.wf_node.specs.Node.{Node, stored_of, working_of}
 use Rattle.wf_node.specs.Step.{row_of, refusal_at, IsRow, IsSameNode}
 use Rattle.wf_farm.specs.declared.progress.Progress.{Progress}
-use Rattle.wf_farm.specs.Pump.{most_deliveries}
+use Rattle.wf_farm.specs.Progress.{next}
+use Rattle.wf_farm.specs.Pump.{begun, most_deliveries}
 
 -- ---- nodes and a world
 
@@ -96,17 +97,53 @@ pub record AreDelivered {T : Type 0} (stands : ℕ → Stored Definition → Typ
   pub sent : List Message
   pub lead : Lead stands most nodes messages nodes_after sent
 
--- ---- for the crate's own contracts: one node, and one delivery
+-- ---- one node, and how far the deliveries came
 
 module _ {T : Type 0} (honest : Type 0) (images : T → List ℕ → Type 0) where
-  -- What a node does that is handed an input. It is lost: the node is halted, and as it was. It is lost for allocation failure: the node is as it was
-  -- but for its tape. It steps. Or its tape fails within the step, nothing is said, and each image stands for what was stored before or after.
+  -- What a node does that is handed an input. The input is lost, or the node rejects it, as a halted one does: the node is as it was. It is lost for allocation failure
+  -- within the step: the node is as it was but for its tape. It steps. Or its tape fails within the step, nothing is said, and each image stands for what was stored
+  -- before or after.
   pub data Takes (input : Input Definition) (before after : Node T) (said : List Message) : Type 0 where
     Keeps : after ≡ before → said ≡ [] → Takes input before after said
     Spares : before.halted ≡ false → after.halted ≡ false → IsSameNode before after → said ≡ [] → Takes input before after said
     Steps : before.halted ≡ false → refusal_at before input ≡ None → IsRow before (row_of before input) said after → Takes input before after said
     Fails : before.halted ≡ false → refusal_at before input ≡ None → after.halted ≡ true → IsSameNode before after
         → (honest → EachStandsFor (stored_of before) (store (stored_of before) (row_of before input).entry) (images after.tape)) → said ≡ [] → Takes input before after said
+
+-- How the deliveries ended: each message that there is by then went to each node; or they stopped, and some were left.
+abbrev pub IsEnd : Bool → Progress → List Message → Type 0
+IsEnd false p sent = (p.some ≡ 0) × (p.whole ≡ length sent)
+IsEnd true p sent = p.whole < length sent
+
+module _ {T : Type 0} (honest : Type 0) (images : T → List ℕ → Type 0) where
+  -- Message k was handed to node i, and what the node said was sent.
+  pub record IsHanded (i k : ℕ) (nodes : List (Node T)) (sent : List Message) (nodes_after : List (Node T)) (sent_after : List Message) : Type 0 where
+    pub node : Node T
+    pub after : Node T
+    pub handed : Message
+    pub said : List Message
+    pub at : slice_get nodes i ≡ Some node
+    pub there : slice_get sent k ≡ Some handed
+    pub takes : Takes honest images (table.Deliver (message.view handed)) node after said
+    pub nodes_are : nodes_after ≡ slice_set nodes i after
+    pub sent_are : sent_after ≡ sent ++ said
+
+  -- The messages were handed to each node in turn, ascending, one message after the other, as far as this: so many went to all nodes, and the next one to the first
+  -- `some`.
+  pub data AreHanded (nodes : List (Node T)) (messages : List Message) : Progress → List (Node T) → List Message → Type 0 where
+    First : AreHanded nodes messages (record { whole = 0; some = 0; done = 0 }) nodes messages
+    Next : (p : Progress) (middle after : List (Node T)) (said more : List Message) → AreHanded nodes messages p middle said → IsHanded p.some p.whole middle said after more
+        → AreHanded nodes messages (next (length nodes) p) after more
+
+  -- So many deliveries were made, in that order, and this is how they ended.
+  pub record AreHandedOut (nodes : List (Node T)) (messages : List Message) (done : ℕ) (stopped : Bool) (nodes_after : List (Node T)) : Type 0 where
+    pub come : Progress
+    pub sent : List Message
+    pub handed : AreHanded nodes messages come nodes_after sent
+    pub count : come.done ≡ done
+    pub ended : IsEnd stopped come sent
+
+-- ---- one delivery, and what it leaves as it was
 
 -- No event, or one delivery, leads from any world that is shown to what is shown afterwards.
 unfoldable pub TakeOne : {T : Type 0} → (ℕ → Stored Definition → Type 0) → List (Node T) → List Message → List (Node T) → List Message → Type 0
@@ -129,24 +166,28 @@ pub record KeepTurn {T : Type 0} (before after : List (Node T)) : Type 0 where
   pub lists : EachGrows before after
 
 module _ {T : Type 0} (honest : Type 0) (images : T → List ℕ → Type 0) where
-  -- one delivery to one of the nodes, or none
+  -- for the crate's own contracts: one delivery to one of the nodes, or none
   pub record IsOne (nodes : List (Node T)) (sent : List Message) (nodes_after : List (Node T)) (sent_after : List Message) : Type 0 where
     pub any : TakeOne AnyPart nodes sent nodes_after sent_after
     pub on_tape : honest → (left : ℕ → List ℕ) → MayLeave images nodes_after left → TakeOne (StandFor left) nodes sent nodes_after sent_after
     pub halted : KeepHalted nodes nodes_after
     pub turn : KeepTurn nodes nodes_after
 
-  -- so far the deliveries have come
+  -- for the crate's own contracts: so far the deliveries have come
   pub record HaveCome (nodes : List (Node T)) (messages : List Message) (p : Progress) (nodes_after : List (Node T)) (sent : List Message) : Type 0 where
     pub any : Lead AnyPart p.done nodes messages nodes_after sent
     pub on_tape : honest → (left : ℕ → List ℕ) → MayLeave images nodes_after left → Lead (StandFor left) p.done nodes messages nodes_after sent
+    pub halted : KeepHalted nodes nodes_after
     pub turn : KeepTurn nodes nodes_after
+    pub order : AreHanded honest images nodes messages p nodes_after sent
     pub part : p.some < length nodes
+    pub within : p.whole + begun p.some ≤ length sent
     pub most : p.done ≤ most_deliveries
 
   -- what became of the deliveries: so many were made
   pub record IsDelivered (nodes : List (Node T)) (messages : List Message) (done : ℕ) (nodes_after : List (Node T)) : Type 0 where
     pub any : AreDelivered AnyPart done nodes messages nodes_after
     pub on_tape : honest → (left : ℕ → List ℕ) → MayLeave images nodes_after left → AreDelivered (StandFor left) done nodes messages nodes_after
+    pub halted : KeepHalted nodes nodes_after
     pub turn : KeepTurn nodes nodes_after
     pub most : done ≤ most_deliveries

@@ -1,10 +1,10 @@
--- A node that stays itself keeps its turn among the others, and each list of published maps is there still.
+-- A node that stays itself keeps its turn among the others, and each list of published maps is there still; a node whose tape failed stays as it is.
 use Rattle.std.proofs.Common.{◌≡◌, ℕ, List, slice_get, slice_set, Some, length-set, refl, sym, ap, subst, ◌∙◌, inl, inr}
 use Rattle.std.proofs.lemmas.Bool.{cases_eq}
 use Rattle.std.proofs.lemmas.Option.{same_Some}
 use Rattle.wf_node.specs.Growth.{IsGrown, grown_itself, grown_twice}
 use Rattle.wf_node.specs.Node.{Node}
-use Rattle.wf_farm.specs.Delivering.{EachGrows, StandAmong, KeepTurn}
+use Rattle.wf_farm.specs.Delivering.{EachGrows, StandAmong, KeepHalted, KeepTurn}
 use Rattle.wf_farm.specs.PlaceLaws.{get_set_same, get_set_other, set_there}
 
 -- ---- the lists
@@ -32,6 +32,16 @@ one_grows nodes i node after at grown = λ j other there. elim (cases_eq j i) [
       )
   | inr differs ↦ (other, get_set_other nodes i j after differs ∙ there, grown_itself other.parts.history)
 ]
+
+-- ---- the nodes whose tapes failed
+
+pub halted_itself : {T : Type 0} (nodes : List (Node T)) → KeepHalted nodes nodes
+unfolding KeepHalted
+halted_itself nodes = λ i node at halted. at
+
+pub halted_twice : {T : Type 0} (nodes middle after : List (Node T)) → KeepHalted nodes middle → KeepHalted middle after → KeepHalted nodes after
+unfolding KeepHalted
+halted_twice nodes middle after first second = λ i node at halted. second i node (first i node at halted) halted
 
 -- ---- the turn
 

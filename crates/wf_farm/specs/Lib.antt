@@ -12,3 +12,5 @@ pub mod Answering
 pub mod Delivering
 pub mod PlaceLaws
 pub mod DeliveringLaws
+pub mod Leading
+pub mod Asking

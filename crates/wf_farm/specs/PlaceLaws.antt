@@ -1,5 +1,5 @@
 -- What stands where in a list of which one entry is set.
-use Rattle.std.proofs.Common.{◌≡◌, ℕ, zero, suc, List, [], ◌∷◌, slice_get, slice_set, Some, refl, ap}
+use Rattle.std.proofs.Common.{◌≡◌, ℕ, zero, suc, List, [], ◌∷◌, slice_get, slice_set, Some, refl, sym, ap}
 use Rattle.std.proofs.lemmas.Option.{none-some, same_Some}
 
 -- the entry that was set is the one that is there
@@ -21,3 +21,9 @@ pub set_there : {A : Type 0} (xs : List A) (i : ℕ) (x y : A) → slice_get xs 
 set_there [] i x y e = absurd (none-some y e)
 set_there (z ∷ xs) zero x y e = refl
 set_there (z ∷ xs) (suc i) x y e = set_there xs i x y e
+
+-- what stands at a place, set there again
+pub set_same : {A : Type 0} (xs : List A) (i : ℕ) (x : A) → slice_get xs i ≡ Some x → slice_set xs i x ≡ xs
+set_same [] i x e = refl
+set_same (y ∷ xs) zero x e = ap (λ z. z ∷ xs) (sym (same_Some y x e))
+set_same (y ∷ xs) (suc i) x e = ap (λ zs. y ∷ zs) (set_same xs i x e)

@@ -1,10 +1,11 @@
 //! Messages are delivered to nodes that a caller holds, over tapes of any kind.
 
-ghost use Rattle.std.specs.Prelude.{◌≡◌, ◌<◌, ◌≤◌, ℕ, List, [], length, IfOk, IfErr, OnErr};
+ghost use Rattle.std.specs.Prelude.{◌≡◌, ◌≢◌, ◌<◌, ◌≤◌, ℕ, false, List, [], length, IfOk, IfErr, OnOk, OnErr};
 ghost use Rattle.wf_codec.specs.Message.{view as view_message};
 ghost use Rattle.wf_model.specs.Table.{most_told, Deliver};
 ghost use Rattle.wf_node.specs.Input.{view};
-ghost use Rattle.wf_farm.specs.Delivering.{AnyPart, AreDelivered, EachGrows, IsDelivered, IsOne, MayLeave, StandFor, StandInTurn, Takes};
+ghost use Rattle.wf_farm.specs.Asking.{Answers};
+ghost use Rattle.wf_farm.specs.Delivering.{AnyPart, AreDelivered, AreHandedOut, EachGrows, IsDelivered, IsHanded, IsOne, KeepHalted, MayLeave, StandFor, StandInTurn, Takes};
 ghost use Rattle.wf_farm.specs.Pump.{most_deliveries};
 
 use crate::happening::{MOST_SAID, send};
@@ -39,6 +40,9 @@ pub fn deliver_all<T: Tape>(alloc: Global, nodes: &mut [Node<T>], messages: Vec<
     requires in_turn { StandInTurn nodes.old }
     ensures delivered { AreDelivered AnyPart result.deliveries nodes.old messages.items nodes.new }
     ensures on_tape { T.honest → (left : ℕ → List ℕ) → MayLeave T.images nodes.new left → AreDelivered (StandFor left) result.deliveries nodes.old messages.items nodes.new }
+    ensures handed { 0 < length nodes.old → AreHandedOut T.honest T.images nodes.old messages.items result.deliveries result.stopped nodes.new }
+    ensures none { nodes.old ≡ [] → result ≡ record { deliveries = 0; stopped = false } }
+    ensures halted { KeepHalted nodes.old nodes.new }
     ensures in_turn { StandInTurn nodes.new }
     ensures size { length nodes.new ≡ length nodes.old }
     ensures lists { EachGrows nodes.old nodes.new }
@@ -58,7 +62,8 @@ pub fn deliver_all<T: Tape>(alloc: Global, nodes: &mut [Node<T>], messages: Vec<
 fn deliver_each<T: Tape>(alloc: Global, nodes: &mut [Node<T>], messages: Vec<Message>) -> Pumped
     requires some { 0 < length nodes.old }
     requires in_turn { StandInTurn nodes.old }
-    ensures { IsDelivered T.honest T.images nodes.old messages.items result.deliveries nodes.new }
+    ensures delivered { IsDelivered T.honest T.images nodes.old messages.items result.deliveries nodes.new }
+    ensures handed { AreHandedOut T.honest T.images nodes.old messages.items result.deliveries result.stopped nodes.new }
 {
     let mut sent = messages;
     let pumped = deliver_more(alloc, nodes, &mut sent);
@@ -70,7 +75,8 @@ fn deliver_each<T: Tape>(alloc: Global, nodes: &mut [Node<T>], messages: Vec<Mes
 fn deliver_more<T: Tape>(alloc: Global, nodes: &mut [Node<T>], sent: &mut Vec<Message>) -> Pumped
     requires some { 0 < length nodes.old }
     requires in_turn { StandInTurn nodes.old }
-    ensures { IsDelivered T.honest T.images nodes.old sent.old.items result.deliveries nodes.new }
+    ensures delivered { IsDelivered T.honest T.images nodes.old sent.old.items result.deliveries nodes.new }
+    ensures handed { AreHandedOut T.honest T.images nodes.old sent.old.items result.deliveries result.stopped nodes.new }
 {
     let count = nodes.len();
     let mut progress = Progress::start();
@@ -110,6 +116,7 @@ fn deliver_one<T: Tape>(
     requires number { number < length sent.old.items }
     requires in_turn { StandInTurn nodes.old }
     ensures one { IsOne T.honest T.images nodes.old sent.old.items nodes.new sent.new.items }
+    ensures handed { OnOk result (IsHanded T.honest T.images node number nodes.old sent.old.items nodes.new sent.new.items) }
     ensures none { OnErr result (nodes.new ≡ nodes.old) }
 {
     if sent.reserve(MOST_SAID).is_err() {
@@ -132,14 +139,46 @@ fn hand<T: Tape>(alloc: Global, node: &mut Node<T>, message: &Message) -> Vec<Me
     }
 }
 
-/// What a node says to an input; nothing where it rejects.
+/// What a node says to an input; nothing where it rejects, and where memory is wanted.
 fn hear<T: Tape>(alloc: Global, node: &mut Node<T>, input: Input) -> Vec<Message>
     ensures takes { Takes T.honest T.images (view input) node.old node.new result.items }
     ensures few { length result.items ≤ most_told }
 {
-    match step(alloc, node, input) {
+    match ask(alloc, node, input) {
         Ok(said) => said,
         Err(_) => Vec::new(alloc),
+    }
+}
+
+/// What a node says to an input, nothing where it rejects; an error where memory is wanted, and then it has said nothing.
+pub(crate) fn ask<T: Tape>(
+    alloc: Global,
+    node: &mut Node<T>,
+    input: Input,
+) -> Result<Vec<Message>, AllocError>
+    ensures takes { IfOk result (λ said. Takes T.honest T.images (view input) node.old node.new said.items) }
+    ensures lost { OnErr result (Takes T.honest T.images (view input) node.old node.new []) }
+    ensures answers { IfOk result (λ said. Answers T.honest T.images (view input) node.old node.new said.items) }
+    ensures few { IfOk result (λ said. length said.items ≤ most_told) }
+{
+    match step(alloc, node, input) {
+        Ok(said) => Ok(said),
+        Err(fault) => rejected(alloc, fault),
+    }
+}
+
+/// What a node has said that didn't take a step: nothing; an error where memory was wanted.
+fn rejected(alloc: Global, fault: NodeFault) -> Result<Vec<Message>, AllocError>
+    ensures { IfOk result (λ said. (said.items ≡ []) × (fault ≢ NodeFault.Memory)) }
+{
+    match fault {
+        NodeFault::Memory => Err(AllocError),
+        NodeFault::Busy
+        | NodeFault::SequenceFull
+        | NodeFault::RoundsFull
+        | NodeFault::Halted
+        | NodeFault::TapeFailed
+        | NodeFault::Nothing => Ok(Vec::new(alloc)),
     }
 }
 
@@ -147,6 +186,8 @@ fn hear<T: Tape>(alloc: Global, node: &mut Node<T>, input: Input) -> Vec<Message
 fn step<T: Tape>(alloc: Global, node: &mut Node<T>, input: Input) -> Result<Vec<Message>, NodeFault>
     ensures taken { IfOk result (λ said. Takes T.honest T.images (view input) node.old node.new said.items) }
     ensures lost { IfErr result (λ _. Takes T.honest T.images (view input) node.old node.new []) }
+    ensures answers { IfOk result (λ said. Answers T.honest T.images (view input) node.old node.new said.items) }
+    ensures rejects { IfErr result (λ fault. fault ≢ NodeFault.Memory → Answers T.honest T.images (view input) node.old node.new []) }
     ensures few { IfOk result (λ said. length said.items ≤ most_told) }
 {
     // The law of the model: no row hands out more than eight messages.

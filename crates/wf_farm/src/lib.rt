@@ -14,13 +14,23 @@
 //! ([`Farm::answer`]), and two that stand at one sequence, or that are asked for one map, answer the same query with the
 //! same bytes: [`Farm::answers_agree`]. The four laws are those of `wf_law`, at the program's definitions.
 //!
-//! Nodes that a caller holds itself, over tapes of any kind, hear one another by [`deliver_all`]: whatever world of the
-//! model they and their messages were, they are one that at most so many deliveries lead to (`specs/Delivering.antt`).
+//! Nodes that a caller holds itself, over tapes of any kind, hear one another by [`deliver_all`]: each message goes to each
+//! of them in turn, until none is left, or it tells that it stopped; and whatever world of the model they and their messages
+//! were, they are one that at most so many deliveries lead to (`specs/Delivering.antt`). They ask for what they missed by
+//! [`catch_up`] (`specs/Asking.antt`).
 //!
-//! It doesn't know time, nor whether anything is ever published, nor that a rejection for memory was needed.
+//! What is done to such nodes, one call after the other, is one run of the model, by laws: a step of one of them, and the
+//! deliveries of what it said, lead on from whatever world they were, however much was sent before ([`a_step_leads_on`],
+//! [`deliveries_lead_on`], [`leading_goes_on`]; `specs/Leading.antt`); nodes that were opened on empty tapes are the model's
+//! start ([`open_fresh`], [`fresh_nodes_are_reached`]), and what the start leads to is led on to such ([`reached_stays`]). So
+//! such nodes agree and answer as a farm's do: [`reached_nodes_agree`], [`reached_nodes_answer_alike`].
+//!
+//! It doesn't know time, nor whether anything is ever published, nor that a rejection for memory was needed, nor which
+//! deliveries of `deliver_all` an allocation failure lost.
 #![tactic(auto)]
 
 mod answering;
+mod asking;
 mod cluster;
 mod delivering;
 mod event;
@@ -28,6 +38,7 @@ mod farm;
 mod fault;
 mod happening;
 mod law;
+mod leading;
 mod lending;
 mod place;
 mod progress;
@@ -38,8 +49,14 @@ mod stepping;
 mod targets;
 mod tearing;
 
+pub use asking::catch_up;
 pub use delivering::{Pumped, deliver_all};
 pub use event::{Action, Event, Kept};
 pub use farm::Farm;
 pub use fault::FarmFault;
 pub use law::{agreement, kept_promises, limits_are_as_defined, own_ballots, promised_majority};
+pub use leading::{
+    a_step_leads_on, deliveries_lead_on, fresh_nodes_are_reached, leading_goes_on,
+    reached_nodes_agree, reached_nodes_answer_alike, reached_stays,
+};
+pub use starting::open_fresh;

@@ -3,6 +3,7 @@
 ghost use Rattle.std.specs.Prelude.{◌≡◌, ◌<◌, ◌≤◌, ◌+◌, [], length, IfOk, OnOk};
 ghost use Rattle.wf_model.specs.World.{start};
 ghost use Rattle.wf_farm.specs.Cluster.{AreMembers, Shows};
+ghost use Rattle.wf_farm.specs.Leading.{IsFresh};
 ghost use Rattle.wf_farm.specs.Place.{IsMember, IsNode};
 ghost use Rattle.wf_farm.specs.Start.{fresh_node, AreFresh};
 
@@ -56,17 +57,32 @@ fn add_node(alloc: Global, places: &mut Vec<Place>, id: NodeId, n: u8) -> Result
 }
 
 /// Node `id` of n, with an empty tape.
-#[tactic(auto, using(crate::proofs::Steps::opened_empty))]
+#[tactic(auto, using(crate::proofs::Steps::fresh_shown))]
 fn first_node(alloc: Global, id: NodeId, n: u8) -> Result<Place, AllocError>
     requires most { n ≤ 64 }
     requires member { id < n }
     ensures node { IfOk result (λ place. IsNode place fresh_node) }
     ensures member { IfOk result (IsMember n id) }
 {
+    match open_fresh(alloc, id, n) {
+        Ok(node) => Ok(Place::Running(node)),
+        Err(fault) => Err(fault),
+    }
+}
+
+/// Node `id` of n, on an empty tape in memory: it runs, with all parts empty. An error where a growth was rejected.
+#[tactic(auto, using(crate::proofs::Steps::opened_fresh))]
+pub fn open_fresh(alloc: Global, id: NodeId, n: u8) -> Result<Node<MemoryTape>, AllocError>
+    requires most { n ≤ 64 }
+    requires member { id < n }
+    ensures fresh { IfOk result IsFresh }
+    ensures id { IfOk result (λ node. node.id ≡ id) }
+    ensures n { IfOk result (λ node. node.n ≡ n) }
+{
     // The law of the tape: no bytes are read as no record.
     records_are_read_one_way();
     match Node::open(alloc, MemoryTape::new(Vec::new(alloc)), id, n) {
-        Ok(node) => Ok(Place::Running(node)),
+        Ok(node) => Ok(node),
         // An empty tape is rejected for allocation failure alone.
         Err((tape, _)) => {
             drop(tape);

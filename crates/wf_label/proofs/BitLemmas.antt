@@ -118,7 +118,7 @@ in_bits-none label f none k m = bit_none f none (bit_at label.scale label.left k
 
 -- ---- a row of a character
 
-no_fourth : (row column : ℕ) → 3 ≤ column → has_bit row column ≡ false
+pub no_fourth : (row column : ℕ) → 3 ≤ column → has_bit row column ≡ false
 unfolding has_bit
 no_fourth row column far = grind (arith, nat_tests)
 
@@ -129,7 +129,7 @@ row_so_far place up row column a b = nat_lt (a % 4) column && row_bits place up 
 pub row_none : (place up row a b : ℕ) → row_so_far place up row 0 a b ≡ false
 row_none place up row a b = grind (arith, nat_tests)
 
-split_four : (a : ℕ) → 4 * (a / 4) + a % 4 ≡ a
+pub split_four : (a : ℕ) → 4 * (a / 4) + a % 4 ≡ a
 split_four a = omega arith
 
 pub row_bit : (place up row column a b : ℕ) → column < 4 → has_bit row column ≡ true →
@@ -169,7 +169,7 @@ row_up-outside : (rows : List ℕ) (up : ℕ) → (nat_le 1 up && nat_le up 5) �
 unfolding row_up
 row_up-outside rows up outside = rw outside refl
 
-outside_empty : (c up column : ℕ) → (nat_le 1 up && nat_le up 5) ≡ false → has_bit (row_up (glyph c) up) column ≡ false
+pub outside_empty : (c up column : ℕ) → (nat_le 1 up && nat_le up 5) ≡ false → has_bit (row_up (glyph c) up) column ≡ false
 outside_empty c up column outside = ap (λ (row : ℕ). has_bit row column) (row_up-outside (glyph c) up outside) ∙ empty_row column
 
 -- the first rows of the character

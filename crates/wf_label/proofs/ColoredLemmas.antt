@@ -57,7 +57,7 @@ module _ (color : Color) (a b c : PixmapValue) where
 
 -- ---- a row
 
--- the pixels from one place to before another got the colour
+-- the pixels from one index to before another got the colour
 pub record IsRun (start end : ℕ) (color : Color) (old new : PixmapValue) : Type 0 where
   pub width : new.width ≡ old.width
   pub height : new.height ≡ old.height
@@ -99,7 +99,7 @@ IsRun-end start left end stop color a b last run = record {
 pub same_width : (w : ℕ) → w ≤ w
 same_width w = omega arith
 
--- on two rows of a grid the places of a run in the one are those of that row, between its ends
+-- on two rows of a grid the indices of a run in one row are those of that row, between its ends
 pub run_in_row : (q m line w left end : ℕ) → m < w → end ≤ w → (nat_le (line * w + left) (q * w + m) && nat_lt (q * w + m) (line * w + end)) ≡ (q == line && (nat_le left m && nat_lt m end))
 run_in_row q m line w left end inside most = elim (cases_order q line) [
   | inl same ↦ rw same (grind (arith, nat_tests))

@@ -13,8 +13,8 @@ pub IsInked-none : (p : PixmapValue) → IsInked [] p p
 unfolding inked ink_of
 IsInked-none p = record { width = refl; height = refl; pixels = λ i within. refl }
 
--- the first label shows where it inks, else those behind it
-inked-first : (label : PlacedValue) (labels : List PlacedValue) (below : Color) (column row : ℤ) →
+-- the first label shows where it inks, else those after it
+pub inked-first : (label : PlacedValue) (labels : List PlacedValue) (below : Color) (column row : ℤ) →
     inked (label ∷ labels) below column row ≡ cond (inks label column row) label.color (inked labels below column row)
 unfolding inked ink_of
 inked-first label labels below column row = by_test (inks label column row) refl where
@@ -22,7 +22,7 @@ inked-first label labels below column row = by_test (inks label column row) refl
   by_test true here = rw here refl
   by_test false other = rw other refl
 
--- one label drawn over those behind it
+-- one label drawn over those after it
 IsInked-more : (label : PlacedValue) (labels : List PlacedValue) (a b c : PixmapValue) → IsInked labels a b →
     IsColored (λ column row. inks label (pos column) (pos row)) label.color b c → IsInked (label ∷ labels) a c
 IsInked-more label labels a b c before drawn = record {
@@ -35,7 +35,7 @@ IsInked-more label labels a b c before drawn = record {
       here ∙ ap (λ (below : Color). cond (inks label k m) label.color below) (before.pixels i within) ∙ sym (inked-first label labels (pixel_at a.bytes i) k m);
 }
 
--- the same by the code's labels, of which the one before this place is drawn
+-- the same by the code's labels, of which the one before this index is drawn
 pub label_drawn : (labels : List Placed) (place : ℕ) (d : Placed) (a b c : PixmapValue) → 0 < place → place ≤ length labels → IsInked (placed_values (drop place labels)) a b →
     IsColored (λ column row. inks (placed_value (get_or labels (place - 1) d)) (pos column) (pos row)) (get_or labels (place - 1) d).color b c →
     IsInked (placed_values (drop (place - 1) labels)) a c

@@ -26,7 +26,7 @@ pub with_priority-some : (label : LabelDefinition) (text : List ℕ) (anchor : A
 with_priority-some label [] anchor some = absurd (omega arith)
 with_priority-some label (b ∷ text) anchor some = refl
 
--- the same, told in parts
+-- the same, in parts
 pub with_priority-at : (found : Option LabelDefinition) (label : LabelDefinition) (text : List ℕ) (somewhere : Option Anchor) (anchor : Anchor) (priority : ℕ) (placed : PlacedValue) →
     found ≡ Some label → somewhere ≡ Some anchor → 0 < length text → priority ≡ label.priority → placed ≡ at_anchor label text anchor →
     Some (record { priority = priority; label = placed }) ≡ with_priority found text somewhere
@@ -43,21 +43,21 @@ with_priority-empty label (b ∷ text) anchor none = absurd (omega (arith, none)
 -- ---- one list, item by item
 
 module _ {X W Y : Type 0} (value : W → Y) (at_item : X → Option Y) (xs : List X) (i : ℕ) (x d : X) (within : i < length xs) (here : x ≡ get_or xs i d) where
-  -- what one item more gives
+  -- what one item more appends
   filter_map-more : filter_map at_item (take (i + 1) xs) ≡ filter_map at_item (take i xs) ++ cons_option (at_item x) []
   filter_map-more =
       ap (filter_map at_item) (take_more xs i d within) ∙ filter_map-append at_item (take i xs) (get_or xs i d ∷ [])
       ∙ ap (λ (y : X). filter_map at_item (take i xs) ++ cons_option (at_item y) []) (sym here)
 
   module _ (old : List Y) (found : List W) (so_far : map value found ≡ old ++ filter_map at_item (take i xs)) where
-    -- the item gives nothing
+    -- the item appends nothing
     pub item_skipped : at_item x ≡ None → map value found ≡ old ++ filter_map at_item (take (i + 1) xs)
     item_skipped none =
         let same : filter_map at_item (take (i + 1) xs) ≡ filter_map at_item (take i xs) =
         filter_map-more ∙ ap (λ (o : Option Y). filter_map at_item (take i xs) ++ cons_option o []) none ∙ append-nil (filter_map at_item (take i xs)) in
         so_far ∙ ap (λ (rest : List Y). old ++ rest) (sym same)
 
-    -- the item gives something, which is pushed
+    -- the item has a value, which is pushed
     pub item_pushed : (w : W) → at_item x ≡ Some (value w) → map value (found ++ w ∷ []) ≡ old ++ filter_map at_item (take (i + 1) xs)
     item_pushed w some =
         let more : filter_map at_item (take (i + 1) xs) ≡ filter_map at_item (take i xs) ++ value w ∷ [] =
@@ -106,7 +106,7 @@ labelled-some : (b : Bool) (label : LabelDefinition) (c : ℕ) (text : List ℕ)
 labelled-some true label c text anchor = refl
 labelled-some false label c text anchor = refl
 
--- what a label of a priority says is what a label of whatever priority says, if it is of that one
+-- the label of a priority is the label of any priority, if its priority is that one
 same_label : (priority : ℕ) (found : Option LabelDefinition) (text : List ℕ) (anchor : Option Anchor) →
     labelled (of_priority priority found) text anchor ≡ if_some priority (with_priority found text anchor)
 same_label priority None text anchor = refl

@@ -7,3 +7,6 @@ pub mod BitLemmas
 pub mod InkLemmas
 pub mod TakenLemmas
 pub mod SaidLemmas
+pub mod SortedLemmas
+pub mod OrderLemmas
+pub mod LetterLemmas

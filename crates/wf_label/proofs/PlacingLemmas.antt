@@ -27,7 +27,7 @@ marked-append (true ∷ marks) more (x ∷ xs) ys same = ap (λ (rest : List Pla
 marked-append (false ∷ marks) more (x ∷ xs) ys same = marked-append marks more xs ys (omega (arith, same))
 
 module _ (view : ViewValue) (labels : List PlacedValue) (members : List Bool) (is : IsPlacedSet view labels members) (label : PlacedValue) where
-  -- the mark that the label gets behind the others
+  -- the mark that the label gets after the others
   abbrev mark : Bool
   mark = stands view (items_where_true members labels) label
 
@@ -60,7 +60,7 @@ module _ (view : ViewValue) (labels : List PlacedValue) (members : List Bool) (i
     ];
   }
 
-  -- its members are those before, and the label if it stands
+  -- its members are those before, and the label if it may be placed
   pub members-more : items_where_true (members ++ mark ∷ []) (labels ++ label ∷ []) ≡ items_where_true members labels ++ items_where_true (mark ∷ []) (label ∷ [])
   members-more = marked-append members (mark ∷ []) labels (label ∷ []) is.size
 
@@ -68,7 +68,7 @@ pub IsPlacing-none : (view : ViewValue) → IsPlacing view [] []
 IsPlacing-none view = ([], record { size = refl; each = λ i d within. absurd (omega arith) }, refl)
 
 module _ (view : ViewValue) (labels placed : List PlacedValue) (label : PlacedValue) (placing : IsPlacing view labels placed) where
-  -- the label stands, and is placed behind the others
+  -- the label may be placed, and is placed after the others
   pub IsPlacing-placed : stands view placed label ≡ true → IsPlacing view (labels ++ label ∷ []) (placed ++ label ∷ [])
   IsPlacing-placed stays =
       let is = placing.1 in
@@ -77,7 +77,7 @@ module _ (view : ViewValue) (labels placed : List PlacedValue) (label : PlacedVa
       members-more view labels placing.0 is label ∙ rw (here, ← placing.2) refl in
       (placing.0 ++ stands view (items_where_true placing.0 labels) label ∷ [], IsPlacedSet-more view labels placing.0 is label, sym all)
 
-  -- the label doesn't stand, and isn't placed
+  -- the label may not be placed, and isn't
   pub IsPlacing-left : stands view placed label ≡ false → IsPlacing view (labels ++ label ∷ []) placed
   IsPlacing-left goes =
       let is = placing.1 in
@@ -93,7 +93,7 @@ module _ (view : ViewValue) (labels placed : List PlacedValue) (label : PlacedVa
     by_test true placed_here = rw placed_here (IsPlacing-placed placed_here)
     by_test false left_out = rw left_out (IsPlacing-left left_out)
 
--- the same by the code's labels, of which the next is judged
+-- the same by the code's labels, of which the next is placed or not
 pub placing_next : (view : ViewValue) (labels : List Placed) (i : ℕ) (d : Placed) (placed after : List PlacedValue) → i < length labels → IsPlacing view (placed_values (take i labels)) placed →
     after ≡ (if stands view placed (placed_value (get_or labels i d)) then placed ++ placed_value (get_or labels i d) ∷ [] else placed) → IsPlacing view (placed_values (take (i + 1) labels)) after
 placing_next view labels i d placed after within placing is =
@@ -101,7 +101,7 @@ placing_next view labels i d placed after within placing is =
 
 -- ---- there is one
 
--- labels that are judged one after the other, behind those that are placed so far
+-- labels that are placed or not, one after the other, after those that are placed so far
 IsPlacing-after : (view : ViewValue) (labels placed rest : List PlacedValue) → IsPlacing view labels placed → IsPlacing view (labels ++ rest) (placed_after view placed rest)
 IsPlacing-after view labels placed [] placing = rw (append-nil labels) placing
 IsPlacing-after view labels placed (label ∷ rest) placing =
@@ -116,12 +116,12 @@ placed_is_the_placing view labels = IsPlacing-after view [] [] labels (IsPlacing
 
 -- ---- there is no other
 
--- a label like any other, for a place behind the list
+-- an arbitrary label, for an index past the end of the list
 nowhere : PlacedValue
 nowhere = record { left = pos 0; bottom = pos 0; scale = 1; buffer = 0; force = false; color = record { r = 0; g = 0; b = 0 }; text = [] }
 
 module _ (view : ViewValue) (labels : List PlacedValue) (first second : List Bool) (is : IsPlacedSet view labels first) (also : IsPlacedSet view labels second) where
-  -- two placed sets agree on the first labels: what stands there depends on those before it alone
+  -- two placed sets agree on the first labels: whether a label is placed depends on those before it alone
   same_front : (i : ℕ) → i ≤ length labels → take i first ≡ take i second
   same_front zero within = refl
   same_front (suc i) within =

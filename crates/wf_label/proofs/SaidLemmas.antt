@@ -1,4 +1,4 @@
--- Each label of a map says something, so its box has a pixel.
+-- Each label of a map has a text that isn't empty, so its box has a pixel.
 use Rattle.std.proofs.Common.{◌≡◌, ℕ, zero, suc, ◌<◌, true, not, ◌||◌, List, [], ◌∷◌, length, reverse, Option, Some, None, slice_get, ℤ, pos, sym, ap, arith}
 use Rattle.std.proofs.Math.Nat.{mul-pos}
 use Rattle.std.proofs.lemmas.Bool.{and_parts}
@@ -63,7 +63,7 @@ says_at labels i d within all =
     let here = all i (placed_value d) (omega (arith, length-map labels placed_value)) in
     rw (get_or-map placed_value labels i d (placed_value d) within) at here
 
--- ---- boxes of labels that say something
+-- ---- boxes of labels whose text isn't empty
 
 some_characters : (cs text : List ℕ) → encode_utf8_all cs ≡ text → 0 < length text → 0 < length cs
 some_characters [] text is some = absurd (let none : length text ≡ 0 = ap length (sym is) in omega arith)
@@ -84,7 +84,7 @@ pub further : (a : ℤ) (n : ℕ) → 0 < n → is_less a (plus a (pos n)) ≡ t
 unfolding is_less plus
 further a n some = grind (arith, ints)
 
--- a label that stands is shown
+-- a label that may be placed has a box with a pixel, whole in the view
 pub shown_from : (view : ViewValue) (before : List PlacedValue) (label : PlacedValue) → stands view before label ≡ true → IsSolid (frame_of label) → IsShown view label
 unfolding stands
 shown_from view before label is solid = record { solid = solid; whole = (and_parts (is_whole_in view (frame_of label)) (label.force || not (list_any (meets label) before)) is).0 }

@@ -1,4 +1,4 @@
--- Boxes of labels meet exactly where they have a pixel of the view in common.
+-- Boxes of labels overlap exactly where they have a pixel of the view in common.
 use Rattle.std.proofs.Common.{◌≡◌, ℕ, zero, suc, ◌+◌, ◌-◌, ◌*◌, ◌<◌, ◌≤◌, ◌==◌, max, Bool, true, false, not, ◌&&◌, ◌||◌, List, [], ◌∷◌, ◌++◌, length, get_or, ℤ, pos, nat_abs, inl, inr, refl, sym, ap, ◌∙◌, arith}
 use Rattle.std.specs.Prelude.{nat_le, nat_lt}
 use Rattle.std.proofs.Common.{set, ◌⊎◌, replicate, take}
@@ -40,7 +40,7 @@ spans_meet : (a b c d : ℤ) (k : ℕ) → is_between a b k ≡ true → is_betw
 unfolding spans_overlap is_between is_less
 spans_meet a b c d k first second = grind (arith, ints)
 
--- what a box that lies whole in the view says of each side
+-- what a box that lies whole in the view means for each side
 record IsWithin (view : ViewValue) (f : Frame) : Type 0 where
   left : is_less f.left (pos 0) ≡ false
   right : is_less (pos view.width) f.right ≡ false
@@ -55,7 +55,7 @@ within_from view f whole =
     let one = and_parts (not (is_less f.left (pos 0))) (not (is_less (pos view.width) f.right)) two.0 in
     record { left = not-true _ one.0; right = not-true _ one.1; bottom = not-true _ two.1; top = not-true _ three.1 }
 
--- boxes that meet have a pixel of the view in common, where one of them lies whole in it
+-- boxes that overlap have a pixel of the view in common, where one of them lies whole in it
 record IsShared (view : ViewValue) (f g : Frame) : Type 0 where
   column : ℕ
   row : ℕ
@@ -93,7 +93,7 @@ widened_solid by f solid = record { wide = moved_apart by f.left f.right solid.w
 abbrev meets_one : Frame → List PlacedValue → Bool
 meets_one f placed = list_any (λ other. overlap f (frame_of other)) placed
 
--- the box doesn't meet a label of which it holds no pixel of the view
+-- the box doesn't overlap a label's box of which it holds no pixel of the view
 one_apart : (view : ViewValue) (f : Frame) (o : PlacedValue) → IsSolid f → IsShown view o →
     ((k m : ℕ) → k < view.width → m < view.height → is_in f k m ≡ true → is_in (frame_of o) k m ≡ false) → overlap f (frame_of o) ≡ false
 one_apart view f o solid shown free = by_test (overlap f (frame_of o)) refl where
@@ -103,7 +103,7 @@ one_apart view f o solid shown free = by_test (overlap f (frame_of o)) refl wher
       absurd (both_ways _ (free at.column at.row at.wide at.high at.first) at.second)
   by_test false apart = refl
 
--- a box in which no pixel of the view is taken meets none
+-- a box in which no pixel of the view is taken overlaps no label's box
 none_met : (view : ViewValue) (f : Frame) (placed : List PlacedValue) → IsSolid f → All (IsShown view) placed →
     ((k m : ℕ) → k < view.width → m < view.height → is_in f k m ≡ true → is_taken placed k m ≡ false) → meets_one f placed ≡ false
 unfolding is_taken
@@ -112,7 +112,7 @@ none_met view f (o ∷ placed) solid shown free =
     or_from _ _ (one_apart view f o solid (All-head (IsShown view) o placed shown) (λ k m wide high inside. (or_parts _ _ (free k m wide high inside)).0))
     (none_met view f placed solid (All-tail (IsShown view) o placed shown) (λ k m wide high inside. (or_parts _ _ (free k m wide high inside)).1))
 
--- a box in which a pixel is taken meets one
+-- a box in which a pixel is taken overlaps a label's box
 some_met : (f : Frame) (placed : List PlacedValue) (k m : ℕ) → is_in f k m ≡ true → is_taken placed k m ≡ true → meets_one f placed ≡ true
 unfolding is_taken
 some_met f [] k m inside taken = absurd (false≢true taken)
@@ -134,10 +134,10 @@ module _ (view : ViewValue) (f : Frame) (placed : List PlacedValue) (marks : Lis
   meets_is true free met = met_meets (met refl)
   meets_is false free met = free_meets (free refl)
 
--- ---- places marked
+-- ---- indices marked
 
 module _ (marks old : List ℕ) (start place n : ℕ) (some : start ≤ place) (within : place < length marks) where
-  -- one place more
+  -- one index more
   pub marked_more : is_marked marks n ≡ ((nat_le start n && nat_lt n place) || is_marked old n) → is_marked (set marks place 1) n ≡ ((nat_le start n && nat_lt n (place + 1)) || is_marked old n)
   unfolding is_marked
   marked_more so_far = elim (cases_eq n place) [
@@ -222,7 +222,7 @@ module _ (f : Frame) (bottom top width height : ℕ) (low : IsCut height bottom 
       let up : (nat_le bottom m && nat_lt m top) ≡ (nat_le bottom m && nat_lt m row) = grind (arith, nat_tests) in
       ap (λ (there : Bool). is_between f.left f.right k && there) (between_cuts height bottom top f.bottom f.top m low high within ∙ up)
 
--- a marked place in a row of the box is a pixel that it meets
+-- a marked index in a row of the box is a pixel that the box overlaps
 pub row_met : (view : ViewValue) (f : Frame) (marks : List ℕ) (left right bottom top row : ℕ) → IsCut view.width left f.left → IsCut view.width right f.right → IsCut view.height bottom f.bottom → IsCut view.height top f.top →
     right ≤ view.width → top ≤ view.height → bottom ≤ row → row < top → IsMarkedWithin marks (row * view.width + left) (row * view.width + right) → IsMet view f marks
 unfolding is_in
@@ -279,7 +279,7 @@ IsTaken-more view placed label old new one taken same marked_too = record {
       marked_too k m wide high ∙ ap (λ (t : Bool). is_in (frame_of label) k m || t) (taken.each k m wide high) ∙ sym (taken-push placed label k m);
 }
 
--- what the greatest of all says
+-- what the greatest of all bytes means
 pub greatest_within : (marks : List ℕ) (start end place : ℕ) → place ≡ max end start → IsMarkedWithin marks start place → IsMarkedWithin marks start end
 greatest_within marks start end place last at = record { place = at.place; from = at.from; before = omega (arith, at.before, at.from); marked = at.marked }
 

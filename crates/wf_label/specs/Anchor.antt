@@ -36,11 +36,11 @@ bounds_of view p rest = record {
 
 -- ---- its middle
 
--- halfway between two places on an axis, rounded down
+-- halfway between two positions on an axis, rounded down
 unfoldable pub middle : ℤ → ℤ → ℤ
 middle low high = quotient (plus low high) (pos 2)
 
--- which pixel a place on an axis is in, 16 sixteenths each
+-- the pixel that holds a position on an axis: a pixel is 16 sixteenths
 unfoldable pub pixel_of : ℤ → ℤ
 pixel_of place = quotient place (pos 16)
 
@@ -62,7 +62,7 @@ anchor_of view (part ∷ parts) = part_anchor view part
 
 -- ---- limits
 
--- places of a view
+-- positions of a view
 pub record IsBounds (b : Bounds) : Type 0 where
   pub left : IsNear b.left
   pub right : IsNear b.right

@@ -30,7 +30,7 @@ is_in f column row = is_between f.left f.right column && is_between f.bottom f.t
 unfoldable pub is_in_row : ℕ → ℕ → ℕ → ℕ → ℕ → Bool
 is_in_row line left right column row = row == line && (nat_le left column && nat_lt column right)
 
--- on one axis of so many pixels, those before the cut are those before the side of a box
+-- on an axis of `most` pixels, those before the cut are those before the side of a box
 abbrev pub IsCut : ℕ → ℕ → ℤ → Type 0
 IsCut most cut side = (pixel : ℕ) → pixel < most → nat_lt pixel cut ≡ is_less (pos pixel) side
 
@@ -45,7 +45,8 @@ is_bit bits None up = false
 is_bit bits (Some across) None = false
 is_bit bits (Some across) (Some up) = bits across up
 
--- the pixel lies in one of the bits of a label that the function names, columns of bits counted from its left and rows from its bottom
+-- the pixel lies in one of the bits of a label that the function names, columns of bits counted from its left and rows from its
+-- bottom
 unfoldable pub is_in_bits : PlacedValue → (ℕ → ℕ → Bool) → ℕ → ℕ → Bool
 is_in_bits label bits column row = is_bit bits (bit_at label.scale label.left column) (bit_at label.scale label.bottom row)
 

@@ -23,7 +23,7 @@ frame_of p = record {
   top = plus p.bottom (pos (text_height p.scale));
 }
 
--- the box with so many pixels more on each side
+-- the box with `by` pixels more on each side
 unfoldable pub widened : ℕ → Frame → Frame
 widened by f = record {
   left = difference f.left (pos by);

@@ -1,4 +1,4 @@
--- Which labels a map has, where each stands, and in which order.
+-- Which labels a map has, where their boxes are, and in which order they come.
 use Rattle.std.specs.Prelude.{ℕ, ◌/◌, ◌==◌, zero, suc, List, [], ◌∷◌, ◌++◌, reverse, Option, Some, None, ℤ, pos, slice_get, if◌then◌else◌}
 use Rattle.std.specs.List.{filter_map, flat_map}
 use Rattle.std.specs.Option.{unwrap_or}
@@ -15,15 +15,15 @@ use Rattle.wf_label.specs.Frame.{text_width, text_height}
 use Rattle.wf_label.specs.Placed.{PlacedValue, scale_of}
 use Rattle.wf_label.specs.declared.anchor.Anchor.{Anchor}
 
--- ---- what a label says
+-- ---- the text of a label
 
 -- the feature's value under the layer's LABELITEM where there is one, else its own text
 unfoldable pub text_of : LayerDefinition → FeatureDefinition → List ℕ
 text_of layer feature = unwrap_or (attribute layer.items feature.items layer.label_item) feature.text
 
--- ---- where it stands
+-- ---- where its box is
 
--- the first column of a box so many pixels wide: it ends before the anchor's column, has it in its middle, or begins behind it
+-- the first column of a box `width` pixels wide: it ends before the anchor's column, has it in its middle, or begins after it
 abbrev pub left_of : LabelPosition → ℤ → ℕ → ℤ
 left_of UpperLeft column width = difference column (pos width)
 left_of CenterLeft column width = difference column (pos width)
@@ -35,7 +35,7 @@ left_of UpperRight column width = plus column (pos 1)
 left_of CenterRight column width = plus column (pos 1)
 left_of LowerRight column width = plus column (pos 1)
 
--- the first row of a box so many pixels high: it begins above the anchor's row, has it in its middle, or ends below it
+-- the first row of a box `height` pixels high: it begins above the anchor's row, has it in its middle, or ends below it
 abbrev pub bottom_of : LabelPosition → ℤ → ℕ → ℤ
 bottom_of UpperLeft row height = plus row (pos 1)
 bottom_of UpperCenter row height = plus row (pos 1)
@@ -70,14 +70,14 @@ abbrev pub class_label : Option ClassDefinition → Option LabelDefinition
 class_label None = None
 class_label (Some class) = class.label
 
--- a label says something somewhere: an empty text and a shape without a point have none
+-- a label has a text and an anchor: an empty text and a shape without a point have no label
 abbrev pub labelled : Option LabelDefinition → List ℕ → Option Anchor → Option PlacedValue
 labelled None text anchor = None
 labelled (Some label) [] anchor = None
 labelled (Some label) (b ∷ rest) None = None
 labelled (Some label) (b ∷ rest) (Some anchor) = Some (at_anchor label (b ∷ rest) anchor)
 
--- what the feature's class says of its label, if that is of the priority
+-- the label style of the feature's class, if it is of the priority
 unfoldable pub label_of : ℕ → LayerDefinition → FeatureDefinition → Option LabelDefinition
 label_of priority layer feature = of_priority priority (class_label (class_at layer (class_of layer feature)))
 
@@ -96,7 +96,7 @@ abbrev pub entry_labels : ViewValue → ℕ → Option (List ℕ × LayerDefinit
 entry_labels view priority None = []
 entry_labels view priority (Some entry) = layer_labels view priority entry.1
 
--- of one priority: the layer requested last comes first; each is named by its place in the map
+-- of one priority: the layer requested last comes first; a layer is its index in the map
 unfoldable pub labels_of : Definition → List ℕ → ViewValue → ℕ → List PlacedValue
 labels_of map layers view priority = flat_map (λ i. entry_labels view priority (slice_get map.layers i)) (reverse layers)
 

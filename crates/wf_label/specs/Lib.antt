@@ -8,3 +8,5 @@ pub mod Ink
 pub mod Colored
 pub mod Walk
 pub mod Taken
+pub mod Order
+pub mod Letters

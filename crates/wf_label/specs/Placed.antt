@@ -1,12 +1,13 @@
--- Labels with their places in a view.
+-- Labels with their positions in a view.
 use Rattle.std.specs.Prelude.{ℕ, Bool, List, map, ℤ}
 use Rattle.wf_def.specs.declared.color.Color.{Color}
 use Rattle.wf_def.specs.declared.choice.LabelSize.{LabelSize}
 use Rattle.wf_def.specs.declared.choice.LabelSize.TheVariants.{Tiny, Small, Medium, Large, Giant}
 use Rattle.wf_label.specs.declared.placed.Placed.{Placed}
 
--- The first column and row of its box, columns from the left of the view and rows from its bottom; how many pixels wide and high a bit
--- of its letters is; how many pixels around it are to be free; whether it stands all the same; its colour, and its text in UTF-8.
+-- The first column and row of its box, columns from the left of the view and rows from its bottom; how many pixels wide and high
+-- a bit of its letters is; how many pixels around it are to be free; whether it is placed even where it overlaps another; its
+-- colour, and its text in UTF-8.
 pub record PlacedValue : Type 0 where
   pub left : ℤ
   pub bottom : ℤ
@@ -24,7 +25,7 @@ scale_of Medium = 3
 scale_of Large = 4
 scale_of Giant = 5
 
--- what the code's labels say
+-- the values of the code's labels
 abbrev pub placed_value : Placed → PlacedValue
 placed_value p = record { left = p.left; bottom = p.bottom; scale = scale_of p.scale; buffer = p.buffer; force = p.force; color = p.color; text = p.text.now }
 

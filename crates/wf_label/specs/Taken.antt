@@ -22,7 +22,7 @@ pub record IsShown (view : ViewValue) (label : PlacedValue) : Type 0 where
 unfoldable pub is_taken : List PlacedValue → ℕ → ℕ → Bool
 is_taken placed column row = list_any (λ other. is_in (frame_of other) column row) placed
 
--- the pixel in this place is marked: its byte isn't 0
+-- the pixel at this index is marked: its byte isn't 0
 unfoldable pub is_marked : List ℕ → ℕ → Bool
 is_marked marks place = not (slice_index marks place == 0)
 
@@ -41,7 +41,7 @@ pub record IsMet (view : ViewValue) (f : Frame) (marks : List ℕ) : Type 0 wher
   pub inside : is_in f column row ≡ true
   pub marked : is_marked marks (row * view.width + column) ≡ true
 
--- a place from one to before another is marked
+-- an index from `start` to before `end` is marked
 pub record IsMarkedWithin (marks : List ℕ) (start end : ℕ) : Type 0 where
   pub place : ℕ
   pub from : start ≤ place

@@ -15,21 +15,21 @@ pub record CandidateValue : Type 0 where
   pub priority : ℕ
   pub label : PlacedValue
 
--- what the code's candidates say
+-- the values of the code's candidates
 abbrev pub candidate_value : Candidate → CandidateValue
 candidate_value c = record { priority = c.priority; label = placed_value c.label }
 
 abbrev pub candidate_values : List Candidate → List CandidateValue
 candidate_values candidates = map candidate_value candidates
 
--- a label says something somewhere: an empty text and a shape without a point have none
+-- a label has a text and an anchor: an empty text and a shape without a point have no label
 abbrev pub with_priority : Option LabelDefinition → List ℕ → Option Anchor → Option CandidateValue
 with_priority None text anchor = None
 with_priority (Some label) [] anchor = None
 with_priority (Some label) (b ∷ rest) None = None
 with_priority (Some label) (b ∷ rest) (Some anchor) = Some (record { priority = label.priority; label = at_anchor label (b ∷ rest) anchor })
 
--- the label of a feature, of whatever priority
+-- the label of a feature, of any priority
 unfoldable pub candidate_of : ViewValue → LayerDefinition → FeatureDefinition → Option CandidateValue
 candidate_of view layer feature =
     with_priority (class_label (class_at layer (class_of layer feature))) (text_of layer feature) (anchor_of view feature.parts)
@@ -42,7 +42,7 @@ abbrev pub entry_candidates : ViewValue → Option (List ℕ × LayerDefinition)
 entry_candidates view None = []
 entry_candidates view (Some entry) = layer_candidates view entry.1
 
--- of all layers: the layer requested last comes first; each is named by its place in the map
+-- of all layers: the layer requested last comes first; a layer is its index in the map
 unfoldable pub walk : Definition → List ℕ → ViewValue → List CandidateValue
 walk map layers view = flat_map (λ i. entry_candidates view (slice_get map.layers i)) (reverse layers)
 

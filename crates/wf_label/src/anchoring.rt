@@ -22,7 +22,7 @@ pub(crate) fn anchor_of(view: &View, parts: &[Part]) -> Option<Anchor>
     }
 }
 
-/// That of one part.
+/// The same of one part.
 fn part_anchor(view: &View, points: &[Point]) -> Option<Anchor>
     ensures value { result ≡ part_anchor view.now points.now }
     ensures within { IfSome result IsAnchor }
@@ -45,7 +45,7 @@ fn bounds_of(view: &View, first: &Point, rest: &[Point]) -> Bounds
     bounds
 }
 
-/// The box around one place.
+/// The box around one position.
 fn about(place: Place) -> Bounds
     ensures value { result ≡ record { left = place.x; right = place.x; bottom = place.y; top = place.y } }
     ensures within { IsBounds result }
@@ -58,7 +58,7 @@ fn about(place: Place) -> Bounds
     }
 }
 
-/// The box around that one and one more place.
+/// The smallest box around this box and one more position.
 fn widened(bounds: Bounds, place: Place) -> Bounds
     requires { IsBounds bounds }
     ensures left { result.left ≡ int_min bounds.left place.x }
@@ -75,7 +75,7 @@ fn widened(bounds: Bounds, place: Place) -> Bounds
     }
 }
 
-/// The lesser of two places on an axis.
+/// The lesser of two positions on an axis.
 fn lesser(a: i64, b: i64) -> i64
     requires a { IsNear a }
     requires b { IsNear b }
@@ -85,7 +85,7 @@ fn lesser(a: i64, b: i64) -> i64
     a.min(b)
 }
 
-/// The greater of two places on an axis.
+/// The greater of two positions on an axis.
 fn greater(a: i64, b: i64) -> i64
     requires a { IsNear a }
     requires b { IsNear b }
@@ -107,7 +107,7 @@ fn middle_of(bounds: Bounds) -> Anchor
     }
 }
 
-/// Halfway between two places on an axis, rounded down.
+/// Halfway between two positions on an axis, rounded down.
 #[tactic(auto, unfolding(crate::specs::Anchor::middle, wf_paint::specs::Exact::plus, wf_paint::specs::Exact::quotient))]
 fn middle(low: i64, high: i64) -> i64
     requires low { IsNear low }
@@ -118,7 +118,7 @@ fn middle(low: i64, high: i64) -> i64
     (low + high).div_euclid(2)
 }
 
-/// Which pixel a place on one axis is in: 16 sixteenths are one.
+/// The pixel that holds a position on one axis: a pixel is 16 sixteenths.
 #[tactic(auto, unfolding(crate::specs::Anchor::pixel_of, wf_paint::specs::Exact::quotient))]
 fn pixel_of(place: i64) -> i64
     requires { IsNear place }

@@ -1,6 +1,6 @@
-//! The box around some places of a view.
+//! The box around some positions of a view.
 
-/// The box around some places, in sixteenths of a pixel: the least and the greatest on each axis.
+/// The box around some positions, in sixteenths of a pixel: the least and the greatest on each axis.
 #[derive(Clone, Copy, PartialEq, Eq)]
 pub struct Bounds {
     pub left: i64,

@@ -2,7 +2,7 @@
 
 use crate::placed::Placed;
 
-/// A label with its place in a view, and its priority: the higher is placed first.
+/// A label with its position in a view, and its priority: the higher is placed first.
 #[derive(Clone, Copy)]
 pub(crate) struct Candidate<'a> {
     pub(crate) priority: u8,

@@ -21,9 +21,9 @@ use wf_def::limits::MOST_PRIORITY;
 use wf_def::map::MapDef;
 use wf_paint::view::View;
 
-/// The labels of the layers in these places of the map, placed or not, in the order in which they are placed (MapServer mapfile
-/// reference, LABEL PRIORITY): the higher priority first; of one priority the layer that is listed later, and of one layer the
-/// features in their order. Where each stands is in pixels of the view. Allocation failure is the only error.
+/// The labels of the map's layers at these indices, placed or not, in label order (MapServer mapfile reference, LABEL PRIORITY):
+/// the higher priority first; within a priority the layer that is listed later first; within a layer the features in their
+/// order. Positions are in pixels of the view. Allocation failure is the only error.
 #[tactic(auto, unfolding(crate::specs::Label::candidates))]
 pub fn candidates<'a>(
     alloc: Global,
@@ -59,8 +59,7 @@ fn push_priority<'a>(
     Ok(())
 }
 
-/// The labels in the order in which one walk meets them: the layer that is listed later first, and of one layer the features in their
-/// order.
+/// The labels in the order of one walk: the layer that is listed later first; within a layer the features in their order.
 #[tactic(auto, unfolding(crate::specs::Walk::walk))]
 fn walk<'a>(
     alloc: Global,
@@ -97,7 +96,7 @@ fn push_layer<'a>(
     Ok(())
 }
 
-/// The label that a feature has.
+/// The label of a feature, if it has one.
 #[tactic(auto, unfolding(crate::specs::Walk::candidate_of))]
 fn candidate_of<'a>(view: &View, layer: &Layer, feature: &'a Feature) -> Option<Candidate<'a>>
     ensures { option_map candidate_value result ≡ candidate_of view.now layer.now feature.now }
@@ -114,7 +113,7 @@ fn candidate_of<'a>(view: &View, layer: &Layer, feature: &'a Feature) -> Option<
     })
 }
 
-/// What the feature's class says of its label.
+/// The label style of the feature's class, if it has one.
 fn label_of(layer: &Layer, feature: &Feature) -> Option<Label>
     ensures { result ≡ class_label (class_at layer.now (class_of layer.now feature.now)) }
 {

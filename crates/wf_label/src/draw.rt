@@ -14,8 +14,8 @@ use crate::placed::Placed;
 use crate::scale::scale_of;
 use wf_paint::pixmap::Pixmap;
 
-/// Draws the letters of the labels over the picture of their view: each pixel that a letter inks gets the colour of the first label
-/// that inks it, and no other pixel changes. It allocates nothing.
+/// Draws the letters of the labels over the picture of their view: each pixel that a letter inks gets the colour of the first
+/// label that inks it, and no other pixel changes. It allocates nothing.
 pub fn draw_labels(pixmap: &mut Pixmap, labels: &[Placed])
     ensures { IsInked (placed_values labels.now) pixmap.old pixmap.new }
 {
@@ -33,7 +33,7 @@ fn draw_label(pixmap: &mut Pixmap, label: &Placed)
     }
 }
 
-/// Draws one character of the label, which has this place in its text.
+/// Draws one character of the label, at this index of its text.
 fn draw_character(pixmap: &mut Pixmap, label: &Placed, place: usize, character: char)
     ensures { IsColored (is_in_bits (placed_value label.now) (character_bits place character)) label.now.color pixmap.old pixmap.new }
 {
@@ -43,7 +43,7 @@ fn draw_character(pixmap: &mut Pixmap, label: &Placed, place: usize, character: 
     }
 }
 
-/// Draws one row of a character, so many rows of bits up in its cell.
+/// Draws one row of a character, `up` rows of bits up in its cell.
 fn draw_row(pixmap: &mut Pixmap, label: &Placed, place: usize, up: u8, row: u8)
     ensures { IsColored (is_in_bits (placed_value label.now) (row_bits place up row)) label.now.color pixmap.old pixmap.new }
 {
@@ -54,7 +54,7 @@ fn draw_row(pixmap: &mut Pixmap, label: &Placed, place: usize, up: u8, row: u8)
     }
 }
 
-/// Draws one bit, which is so many bits to the right in the label's box, and so many up.
+/// Draws one bit, which is `across` bits to the right in the label's box and `up` bits up.
 fn draw_bit(pixmap: &mut Pixmap, label: &Placed, across: u128, up: u8)
     requires { across ≤ 2 ^ 70 }
     ensures { IsColored (is_in_bits (placed_value label.now) (one_bit across up)) label.now.color pixmap.old pixmap.new }
@@ -62,7 +62,7 @@ fn draw_bit(pixmap: &mut Pixmap, label: &Placed, across: u128, up: u8)
     fill(pixmap, &bit_frame(label, across, up), label.color);
 }
 
-/// The box of that bit.
+/// The box of one bit.
 #[tactic(auto, unfolding(crate::specs::Colored::bit_frame))]
 fn bit_frame(label: &Placed, across: u128, up: u8) -> Frame
     requires { across ≤ 2 ^ 70 }

@@ -7,7 +7,7 @@ use crate::frame::Frame;
 use wf_def::color::Color;
 use wf_paint::pixmap::Pixmap;
 
-/// Gives the pixels in the box the colour, as far as the picture goes.
+/// Gives the pixels of the picture that lie in the box the colour.
 pub(crate) fn fill(pixmap: &mut Pixmap, frame: &Frame, color: Color)
     ensures { IsColored (is_in frame.now) color pixmap.old pixmap.new }
 {
@@ -20,7 +20,7 @@ pub(crate) fn fill(pixmap: &mut Pixmap, frame: &Frame, color: Color)
     }
 }
 
-/// Where a side of a box is in a picture that has so many pixels on that axis.
+/// A side of a box, clamped to a picture of `most` pixels on that axis.
 #[tactic(auto, unfolding(wf_paint::specs::Exact::is_less))]
 pub(crate) fn cut(side: i128, most: u32) -> u32
     ensures most { result ≤ most }
@@ -35,7 +35,7 @@ pub(crate) fn cut(side: i128, most: u32) -> u32
     }
 }
 
-/// Gives the pixels of a row from a column to before another the colour.
+/// Gives the pixels of a row from column `left` to before column `right` the colour.
 fn fill_row(pixmap: &mut Pixmap, row: u32, left: u32, right: u32, color: Color)
     requires row { row < pixmap.old.height }
     requires right { right ≤ pixmap.old.width }

@@ -1,6 +1,7 @@
 //! Boxes of pixels.
 
-/// A box of pixels: the columns from `left` to before `right`, the rows from `bottom` to before `top`. It may lie beside the view.
+/// A box of pixels: the columns from `left` to before `right`, the rows from `bottom` to before `top`. It may lie outside the
+/// view.
 #[derive(Clone, Copy, PartialEq, Eq)]
 pub struct Frame {
     pub left: i128,

@@ -2,7 +2,7 @@
 ghost use Rattle.std.specs.Prelude.{◌≡◌};
 ghost use Rattle.wf_label.specs.Ink.{has_bit, row_up};
 
-/// The row of a glyph that lies so many rows up in a cell.
+/// The row of a glyph that lies `up` rows up in a cell.
 #[tactic(auto, unfolding(crate::specs::Ink::row_up))]
 pub(crate) fn row_up(rows: [u8; 5], up: u8) -> u8
     ensures { result ≡ row_up rows up }
@@ -14,7 +14,7 @@ pub(crate) fn row_up(rows: [u8; 5], up: u8) -> u8
     }
 }
 
-/// Whether the row has the bit in this column: three of four columns hold one, the highest first.
+/// Whether the row has the bit of this column set: three of a cell's four columns hold a bit, the highest first.
 #[tactic(auto, unfolding(crate::specs::Ink::has_bit))]
 pub(crate) fn has_bit(row: u8, column: u8) -> bool
     ensures { result ≡ has_bit row column }

@@ -27,7 +27,7 @@ pub(crate) fn frame_of(label: &Placed) -> Frame
     }
 }
 
-/// A side moved by so many pixels to the right or upward.
+/// A side moved by `by` pixels to the right or upward.
 #[tactic(auto, unfolding(wf_paint::specs::Exact::plus))]
 pub(crate) fn plus(side: i128, by: u128) -> i128
     requires side { nat_abs side ≤ 2 ^ 100 }
@@ -38,7 +38,7 @@ pub(crate) fn plus(side: i128, by: u128) -> i128
     side + by as i128
 }
 
-/// A side moved by so many pixels to the left or downward.
+/// A side moved by `by` pixels to the left or downward.
 #[tactic(auto, unfolding(wf_paint::specs::Exact::difference))]
 fn minus(side: i128, by: u8) -> i128
     requires { nat_abs side ≤ 2 ^ 100 }
@@ -47,7 +47,7 @@ fn minus(side: i128, by: u8) -> i128
     side - i128::from(by)
 }
 
-/// The box with so many pixels more on each side.
+/// The box with `by` pixels more on each side.
 #[tactic(auto, unfolding(crate::specs::Frame::widened))]
 pub(crate) fn widened(by: u8, frame: &Frame) -> Frame
     requires { IsFrame frame.now }

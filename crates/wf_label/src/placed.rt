@@ -1,10 +1,10 @@
-//! Labels that have a place in a view.
+//! Labels that have a position in a view.
 
 use wf_def::choice::LabelSize;
 use wf_def::color::Color;
 
-/// A label with its place in a view. Columns of pixels count from the left of the view, rows from its bottom; the box of a label that
-/// isn't placed may lie beside the view.
+/// A label with its position in a view. Columns of pixels count from the left of the view, rows from its bottom. The box of a
+/// label that isn't placed may lie outside the view.
 #[derive(Clone, Copy)]
 pub struct Placed<'a> {
     /// The first column of the box.
@@ -15,10 +15,10 @@ pub struct Placed<'a> {
     pub scale: LabelSize,
     /// How many pixels around the box are to be free of labels placed before.
     pub buffer: u8,
-    /// Whether the label is placed even where another stands.
+    /// Whether the label is placed even where it overlaps another.
     pub force: bool,
     /// The colour of the letters.
     pub color: Color,
-    /// What the label says.
+    /// The label's text.
     pub text: &'a str,
 }

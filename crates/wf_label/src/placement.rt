@@ -16,9 +16,9 @@ use std::alloc::{AllocError, Global};
 use wf_def::map::MapDef;
 use wf_paint::view::View;
 
-/// The labels of the layers in these places of the map that are placed in the view, in label order (MapServer mapfile reference, LABEL
-/// FORCE, BUFFER): those whose box lies whole in the view and that are forced, or whose box with its free space around it has no pixel
-/// in common with the box of a label placed before. Allocation failure is the only error.
+/// The placed labels of the map's layers at these indices, in label order (MapServer mapfile reference, LABEL FORCE, BUFFER):
+/// those whose box lies whole in the view and that are forced, or whose box widened by the buffer has no pixel in common with the
+/// box of a label placed before. Allocation failure is the only error.
 pub fn place<'a>(
     alloc: Global,
     map: &'a MapDef,
@@ -39,7 +39,7 @@ struct Placing<'a> {
     marks: Vec<u8>,
 }
 
-/// The placed ones of labels that stand in label order.
+/// The placed ones of some labels, which are given in label order.
 fn placed_among<'a>(
     alloc: Global,
     labels: &[Placed<'a>],
@@ -69,7 +69,7 @@ fn none_placed<'a>(alloc: Global, view: &View) -> Result<Placing<'a>, AllocError
     })
 }
 
-/// Places the label, if it may stand.
+/// Places the label, if it may be placed.
 fn place_label<'a>(
     placing: &mut Placing<'a>,
     view: &View,
@@ -99,7 +99,7 @@ fn add<'a>(placing: &mut Placing<'a>, view: &View, label: &Placed<'a>) -> Result
     Ok(())
 }
 
-/// Whether the label may stand where those before it are placed.
+/// Whether the label may be placed, given the labels placed before it.
 #[tactic(auto, unfolding(crate::specs::Placing::stands, crate::specs::Frame::meets))]
 fn stands(placing: &Placing, view: &View, label: &Placed) -> bool
     requires text { 0 < length label.now.text.now }

@@ -1,4 +1,4 @@
-//! Where a label's box stands to its anchor.
+//! The position of a label's box relative to its anchor.
 ghost use Rattle.std.specs.Prelude.{◌≡◌, ◌≤◌, pos, length};
 ghost use Rattle.wf_def.specs.Limit.{most_text_bytes};
 ghost use Rattle.wf_paint.specs.Exact.{plus, difference};
@@ -31,7 +31,7 @@ pub(crate) fn at_anchor<'a>(label: &Label, text: &'a str, anchor: Anchor) -> Pla
     }
 }
 
-/// The first column of a box so many pixels wide.
+/// The first column of a box `width` pixels wide.
 fn left_of(position: LabelPosition, column: i64, width: u32) -> i64
     requires { IsNear column }
     ensures { result ≡ left_of position column width }
@@ -49,7 +49,7 @@ fn left_of(position: LabelPosition, column: i64, width: u32) -> i64
     }
 }
 
-/// The first row of a box so many pixels high.
+/// The first row of a box `height` pixels high.
 fn bottom_of(position: LabelPosition, row: i64, height: u32) -> i64
     requires { IsNear row }
     ensures { result ≡ bottom_of position row height }
@@ -67,7 +67,7 @@ fn bottom_of(position: LabelPosition, row: i64, height: u32) -> i64
     }
 }
 
-/// So many pixels to the left, or down.
+/// The pixel `by` pixels to the left, or down.
 #[tactic(auto, unfolding(wf_paint::specs::Exact::difference))]
 fn minus(pixel: i64, by: u32) -> i64
     requires { IsNear pixel }

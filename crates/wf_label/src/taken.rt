@@ -8,7 +8,7 @@ use crate::fill::cut;
 use crate::frame::Frame;
 use wf_paint::view::View;
 
-/// The columns and rows of a view that a box holds: from the first to before the last.
+/// The columns and rows of a view that a box covers: `left` to before `right`, `bottom` to before `top`.
 #[derive(Clone, Copy)]
 struct Block {
     left: usize,
@@ -17,7 +17,7 @@ struct Block {
     top: usize,
 }
 
-/// What of the box is in the view.
+/// The part of the box that lies in the view.
 fn block_of(view: &View, frame: &Frame) -> Block
     ensures left { IsCut view.now.width result.left frame.now.left }
     ensures right { IsCut view.now.width result.right frame.now.right }
@@ -40,8 +40,8 @@ fn block_of(view: &View, frame: &Frame) -> Block
     }
 }
 
-/// Marks the pixels of the view that lie in the box. There is a byte a pixel, row by row from the bottom; those that are marked are
-/// not 0.
+/// Marks the pixels of the view that lie in the box. `marks` has a byte a pixel, row by row from the bottom; a marked pixel's
+/// byte isn't 0.
 pub(crate) fn mark(marks: &mut [u8], view: &View, frame: &Frame)
     requires { length marks.old ≡ view.now.width * view.now.height }
     ensures { (column row : ℕ) → column < view.now.width → row < view.now.height →
@@ -54,7 +54,7 @@ pub(crate) fn mark(marks: &mut [u8], view: &View, frame: &Frame)
     }
 }
 
-/// Marks the places from one to before another.
+/// Marks the indices from `start` to before `end`.
 fn mark_run(marks: &mut [u8], start: usize, end: usize)
     requires { end ≤ length marks.old }
     ensures { (place : ℕ) → is_marked marks.new place ≡ ((nat_le start place && nat_lt place end) || is_marked marks.old place) }
@@ -81,8 +81,8 @@ pub(crate) fn meets_marked(marks: &[u8], view: &View, frame: &Frame) -> bool
     false
 }
 
-/// The greatest of the bytes from one place to before another; 0 where there is none. It looks at each of them, which a processor does
-/// for many at once.
+/// The greatest of the bytes at indices `start` to before `end`; 0 where there is none. It reads every byte, so that a processor
+/// can do many at once.
 fn greatest(marks: &[u8], start: usize, end: usize) -> u8
     requires { end ≤ length marks.now }
     ensures none { result ≡ 0 → (place : ℕ) → start ≤ place → place < end → is_marked marks.now place ≡ false }

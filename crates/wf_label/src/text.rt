@@ -1,4 +1,4 @@
-//! What labels say, and how large that is.
+//! The texts of labels, and how large they are.
 ghost use Rattle.std.specs.Prelude.{◌≡◌, ◌≤◌, ◌^◌, length};
 ghost use Rattle.std.specs.Str.{chars, IsUtf8};
 ghost use Rattle.wf_def.specs.Limit.{most_text_bytes};
@@ -11,8 +11,8 @@ use wf_def::choice::LabelSize;
 use wf_def::feature::Feature;
 use wf_def::layer::Layer;
 
-/// What a feature's label says (MapServer mapfile reference, LABELITEM, TEXT): the feature's value under the layer's LABELITEM where
-/// there is one, else its own text.
+/// The text of a feature's label (MapServer mapfile reference, LABELITEM, TEXT): the feature's value under the layer's LABELITEM
+/// where there is one, else the feature's own text.
 #[tactic(auto, unfolding(crate::specs::Label::text_of))]
 pub(crate) fn text_of<'a>(layer: &Layer, feature: &'a Feature) -> &'a str
     ensures value { result.now ≡ text_of layer.now feature.now }
@@ -25,7 +25,7 @@ pub(crate) fn text_of<'a>(layer: &Layer, feature: &'a Feature) -> &'a str
     }
 }
 
-/// What is known to be UTF-8 as a `str`.
+/// Bytes that are known to be UTF-8, as a `str`.
 fn str_of(bytes: &[u8]) -> &str
     requires { IsUtf8 bytes.now }
     ensures { result.now ≡ bytes.now }

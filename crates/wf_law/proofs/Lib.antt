@@ -11,3 +11,4 @@ mod Worlds
 mod Core
 mod Growing
 mod Theorems
+mod Earlier

@@ -1,1 +1,2 @@
+pub mod Earlier
 pub mod Laws

@@ -1,6 +1,7 @@
 -- Which pixels of a row the line along a segment covers.
-use Rattle.std.proofs.Common.{◌≡◌, Bool, true, false, ℕ, ◌+◌, ◌*◌, ◌<◌, ◌||◌, List, [], take, length, get_or, ℤ, pos, ◌+ℤ◌, ◌-ℤ◌, ◌*ℤ◌, neg_ℤ, refl, sym, ap, ◌∙◌, arith}
+use Rattle.std.proofs.Common.{◌≡◌, Bool, true, false, ℕ, ◌+◌, ◌*◌, ◌<◌, ◌||◌, List, [], take, length, get_or, ℤ, pos, negsuc, ◌+ℤ◌, ◌-ℤ◌, ◌*ℤ◌, ◌≤ℤ◌, neg_ℤ, refl, sym, ap, ◌∙◌, arith}
 use Rattle.std.proofs.lemmas.Int.{ints}
+use Rattle.std.proofs.Math.Nat.{mul_comm}
 use Rattle.std.proofs.lemmas.Bool.{and_left}
 use Rattle.std.proofs.lemmas.List.Folds.{list_any_more}
 use Rattle.std.specs.List.{list_any}
@@ -90,6 +91,13 @@ band_upward width row most a b span levels = record {
   within = levels.within;
   passed = λ u within. band_level width (turned (centre (pos u) (pos row))) a b ∙ ap (is_in_margin (margin width a b)) (deviation_upward u (pos row) a b) ∙ levels.passed u within;
 }
+
+-- with the axes exchanged the band is as many columns wide as the line is pixels
+pub width_upward : (along : ℤ) (width : ℕ) → pos 1 ≤ℤ product (pos 16) along →
+    product (product (pos 16) along) (pos width) ≡ plus (product (pos (8 * width)) along) (product (pos (8 * width)) along)
+unfolding product plus
+width_upward (pos n) width some = ap pos (omega (arith, mul_comm n width))
+width_upward (negsuc n) width some = absurd (omega (arith, ints))
 
 -- ---- a row
 

@@ -1,9 +1,13 @@
 -- Where a number that changes by one step from pixel to pixel lies below a bound.
-use Rattle.std.proofs.Common.{◌≡◌, ℕ, zero, suc, ◌*◌, not, ℤ, pos, negsuc, ◌*ℤ◌, neg_ℤ, sym, ap, ◌∙◌, arith}
+use Rattle.std.proofs.Common.{◌≡◌, ℕ, zero, suc, ◌+◌, ◌-◌, ◌*◌, ◌<◌, ◌≤◌, min, not, nat_lt, ℤ, pos, negsuc, ◌+ℤ◌, ◌*ℤ◌, neg_ℤ, refl, sym, ap, ◌∙◌, arith}
 use Rattle.std.proofs.lemmas.Int.{ints}
 use Rattle.std.proofs.Math.IntN.{zero-*ℤ, negsuc-*ℤ-pos, pos-*ℤ-pos, neg_ℤ-neg_ℤ}
 use Rattle.wf_paint.specs.Exact.{plus, difference, product, opposite, is_less}
-use Rattle.wf_paint.specs.Level.{level}
+use Rattle.wf_paint.specs.Level.{level, is_in_margin}
+use Rattle.wf_paint.specs.Span.{IsSpanOf}
+use Rattle.wf_paint.specs.declared.span.Span.{Span}
+use Rattle.wf_paint.proofs.SpanLemmas.{IsSpanOf-ends}
+use Rattle.wf_paint.proofs.StepsLemmas.{fewer_counted, counted_from}
 
 -- ---- one pixel
 
@@ -42,3 +46,43 @@ level_still start u = omega (arith, ints)
 pub not_above : (high z : ℤ) → not (is_less high z) ≡ is_less z (plus high (pos 1))
 unfolding is_less plus
 not_above high z = grind (arith, ints)
+
+-- ---- a row of pixels
+
+-- where levels rise, the pixels within a margin begin behind the steps to its lower border and end behind those to its upper one
+pub rising_span : (start step margin : ℤ) (most : ℕ) (span : Span) → span.to ≤ most →
+    ((u : ℕ) → u < most → is_less (product step (pos u)) (difference (opposite margin) start) ≡ nat_lt u span.from) →
+    ((u : ℕ) → u < most → is_less (product step (pos u)) (difference margin start) ≡ nat_lt u span.to) →
+    IsSpanOf (λ u. is_in_margin margin (level start step (pos u))) most span
+unfolding is_in_margin
+rising_span start step margin most span within from to =
+    IsSpanOf-ends (λ u. is_less (level start step (pos u)) (opposite margin)) (λ u. is_less (level start step (pos u)) margin)
+    (λ u. is_in_margin margin (level start step (pos u))) most span within
+    (λ u below. rising_level start step (pos u) (opposite margin) ∙ from u below)
+    (λ u below. rising_level start step (pos u) margin ∙ to u below)
+    (λ u. refl)
+
+-- ---- a margin of whole steps
+
+step_sum : (step : ℤ) (u across : ℕ) → step *ℤ pos (u + across) ≡ step *ℤ pos u +ℤ step *ℤ pos across
+step_sum step u across = omega (arith, ints)
+
+less_moved : (p q twice margin start : ℤ) → q ≡ p +ℤ twice → twice ≡ plus margin margin → is_less p (difference (opposite margin) start) ≡ is_less q (difference margin start)
+unfolding is_less difference opposite plus
+less_moved p q twice margin start moved double = grind (arith, ints)
+
+-- so many pixels further on, a level is twice the margin higher
+steps_moved : (start step margin : ℤ) (u across : ℕ) → product step (pos across) ≡ plus margin margin →
+    is_less (product step (pos u)) (difference (opposite margin) start) ≡ is_less (product step (pos (u + across))) (difference margin start)
+unfolding product
+steps_moved start step margin u across double =
+    less_moved (step *ℤ pos u) (step *ℤ pos (u + across)) (step *ℤ pos across) margin start (step_sum step u across) double
+
+-- so the pixels within the margin begin as many before their end
+pub whole_span : (start step margin : ℤ) (most across end : ℕ) → product step (pos across) ≡ plus margin margin →
+    ((u : ℕ) → u < most + across → is_less (product step (pos u)) (difference margin start) ≡ nat_lt u end) →
+    IsSpanOf (λ u. is_in_margin margin (level start step (pos u))) most (record { from = end - across; to = min end most })
+whole_span start step margin most across end double counted =
+    rising_span start step margin most (record { from = end - across; to = min end most }) (omega arith)
+    (λ u below. steps_moved start step margin u across double ∙ counted (u + across) (omega arith) ∙ counted_from u end across)
+    (λ u below. counted u (omega arith) ∙ fewer_counted u end most below)

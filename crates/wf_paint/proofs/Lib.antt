@@ -6,6 +6,7 @@ pub mod CellsLemmas
 pub mod CanvasLemmas
 pub mod ShownLemmas
 pub mod ColoredLemmas
+pub mod WidthLemmas
 pub mod StylesLemmas
 pub mod SpanLemmas
 pub mod LevelLemmas

@@ -147,7 +147,7 @@ module _ {X : Type 0} (f : X → List OperationValue) where
       subst (λ (rest : List X). IsShown (flat_map f rest) c c) (sym none) (IsShown-none c)
 
   -- the operations of one element more
-  operations_more : (xs : List X) (next : ℕ) (x d : X) → 0 < next → next ≤ length xs → x ≡ get_or xs (next - 1) d →
+  pub operations_more : (xs : List X) (next : ℕ) (x d : X) → 0 < next → next ≤ length xs → x ≡ get_or xs (next - 1) d →
       flat_map f (drop (next - 1) xs) ≡ f x ++ flat_map f (drop next xs)
   operations_more xs next x d some within here = ap (flat_map f) (drop_before xs next x d some within here)
 

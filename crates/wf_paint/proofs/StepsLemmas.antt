@@ -1,5 +1,5 @@
 -- Which multiples of a step lie below a bound: those up to a quotient.
-use Rattle.std.proofs.Common.{◌≡◌, ℕ, ◌+◌, ◌-◌, ◌*◌, ◌/◌, ◌<◌, ◌≤◌, nat_lt, ℤ, pos, negsuc, ◌-ℤ◌, ◌≤ℤ◌, ◌<ℤ◌, unsigned_abs, refl, arith}
+use Rattle.std.proofs.Common.{◌≡◌, ℕ, ◌+◌, ◌-◌, ◌*◌, ◌/◌, ◌<◌, ◌≤◌, min, nat_lt, ℤ, pos, negsuc, ◌-ℤ◌, ◌≤ℤ◌, ◌<ℤ◌, unsigned_abs, refl, arith}
 use Rattle.std.proofs.lemmas.Bool.Decides.{same_from_decides, Decides-ltb, Decides-like}
 use Rattle.std.proofs.lemmas.Int.{ints}
 use Rattle.std.proofs.Math.Nat.{le-div_iff_mul-le, mul_comm}
@@ -16,6 +16,14 @@ multiples_counted step bound u some positive =
     less_alike (step * u) bound u ((bound - 1) / step + 1)
     (λ below. let up : u ≤ (bound - 1) / step = (le-div_iff_mul-le least).1 (omega (arith, mul_comm step u)) in omega arith)
     (λ counted. let up : u * step ≤ bound - 1 = (le-div_iff_mul-le least).0 (omega arith) in omega (arith, mul_comm step u))
+
+-- of the first numbers as many are below a bound as of more of them
+pub fewer_counted : (u end most : ℕ) → u < most → nat_lt u end ≡ nat_lt u (min end most)
+fewer_counted u end most within = less_alike u end u (min end most) (λ below. omega arith) (λ below. omega arith)
+
+-- so much further on are those up to so much before the end
+pub counted_from : (u end across : ℕ) → nat_lt (u + across) end ≡ nat_lt u (end - across)
+counted_from u end across = less_alike (u + across) end u (end - across) (λ below. omega arith) (λ below. omega arith)
 
 -- of a positive step and bound the sizes are compared
 pub positive_multiples : (step bound : ℤ) (u : ℕ) → pos 1 ≤ℤ step → pos 0 <ℤ bound →

@@ -7,11 +7,12 @@ ghost use Rattle.wf_paint.specs.Coverage.{run, rise, is_along, is_in_band, is_ac
 ghost use Rattle.wf_paint.specs.Operation.{in_color, LineOf};
 ghost use Rattle.wf_paint.specs.Shown.{IsShown, IsColored};
 ghost use Rattle.wf_paint.specs.Span.{IsSpanOf, shared};
+ghost use Rattle.wf_paint.specs.View.{most_pixels};
 
 use crate::canvas::Canvas;
 use crate::coverage::{deviation, is_steep, margin, rise, run};
 use crate::exact::{is_less, opposite, product};
-use crate::level::{centres_between, pixels_within};
+use crate::level::{centres_between, pixels_within, pixels_within_steps};
 use crate::place::Place;
 use crate::segment::Segment;
 use crate::span::Span;
@@ -201,11 +202,13 @@ fn draw_rows_upward(canvas: &mut Canvas, width: u8, low: Place, high: Place, col
 /// The columns of the first `most` in which the pixels of a row lie within half the width of the line; the places have their axes
 /// exchanged.
 fn band_upward(width: u8, low: Place, high: Place, row: u32, most: u32) -> Span
+    requires { most ≤ most_pixels }
     ensures { IsSpanOf (λ u. is_in_band width (turned (centre (pos u) (pos row))) low high) most result }
 {
     let start = deviation(Place::centre(0, row).turned(), low, high);
     let step = product(16, run(low, high));
-    pixels_within(start, step, margin(width, low, high), most)
+    let margin = margin(width, low, high);
+    pixels_within_steps(start, step, margin, most, u32::from(width))
 }
 
 /// What two spans have in common.

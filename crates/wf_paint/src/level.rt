@@ -1,16 +1,18 @@
 //! Levels: numbers that change by one step from each pixel of a row to the next.
 ghost use Rattle.std.specs.Prelude.{◌≡◌, ℕ, ◌≤◌, ◌<◌, ◌^◌, ◌&&◌, not, nat_lt, pos, negsuc, ◌≤ℤ◌, nat_abs};
 ghost use Rattle.wf_paint.specs.Near.{IsNear, IsArea};
-ghost use Rattle.wf_paint.specs.Exact.{plus, difference, is_less};
+ghost use Rattle.wf_paint.specs.Exact.{plus, difference, product, is_less};
 ghost use Rattle.wf_paint.specs.Place.{middle};
 ghost use Rattle.wf_paint.specs.Level.{level, is_in_margin};
 ghost use Rattle.wf_paint.specs.Span.{IsSpanOf};
+ghost use Rattle.wf_paint.specs.View.{most_pixels};
 
 use crate::exact::{is_less_area, opposite};
 use crate::span::Span;
 use crate::steps::{centres_below, steps_below};
 
 /// The pixels, of the first `most`, at which the level lies within the margin about 0.
+#[inline(always)]
 pub(crate) fn pixels_within(start: i128, step: i128, margin: i128, most: u32) -> Span
     requires start { nat_abs start ≤ 2 ^ 109 }
     requires step { IsArea step }
@@ -30,6 +32,33 @@ pub(crate) fn pixels_within(start: i128, step: i128, margin: i128, most: u32) ->
         }
     } else {
         level_within(start, margin, most)
+    }
+}
+
+/// The same, where twice the margin is exactly `across` steps of a level that rises. One division tells where the pixels end, and
+/// they begin as many before.
+pub(crate) fn pixels_within_steps(
+    start: i128,
+    step: i128,
+    margin: i128,
+    most: u32,
+    across: u32,
+) -> Span
+    requires start { nat_abs start ≤ 2 ^ 109 }
+    requires step { IsArea step }
+    requires margin { IsArea margin }
+    requires steps { pos 1 ≤ℤ step → product step (pos across) ≡ plus margin margin }
+    requires most { most ≤ most_pixels }
+    requires across { across ≤ most_pixels }
+    ensures { IsSpanOf (λ u. is_in_margin margin (level start step (pos u))) most result }
+{
+    if step <= 0 {
+        return pixels_within(start, step, margin, most);
+    }
+    let end = steps_below(step, room_above(start, margin), most + across);
+    Span {
+        from: end.saturating_sub(across),
+        to: end.min(most),
     }
 }
 

@@ -2,7 +2,7 @@
 //!
 //! It paints from the last operation to the first: a pixel has the colour of the first operation that covers it then, and whatever
 //! lies under painted pixels costs nothing.
-ghost use Rattle.std.specs.Prelude.{◌≡◌, ◌<◌, ◌+◌, None, cond, length, drop, slice_index, OnOk, IfOk};
+ghost use Rattle.std.specs.Prelude.{◌≡◌, ◌<◌, ◌≤◌, ◌+◌, None, is_some, cond, max, length, drop, slice_index, OnOk, IfOk};
 ghost use Rattle.std.specs.Bool.{Decides};
 ghost use Rattle.std.specs.List.{All, Contains, flat_map};
 ghost use Rattle.wf_paint.specs.Operation.{operations, layer_operations, feature_operations, class_operations, squares, part_squares, color_at};
@@ -149,7 +149,8 @@ fn draw_class(
     }
 }
 
-/// Paints polygons by the styles from the last to the first: the border of each, and the inside once, since all fill the same.
+/// Paints polygons by the styles from the last to the first, until the canvas is full: the inside once, since all fill the same, and
+/// the border of each that is wider than the later ones.
 fn draw_polygons(
     alloc: Global,
     canvas: &mut Canvas,
@@ -159,11 +160,18 @@ fn draw_polygons(
     ensures { OnOk result (IsShown (flat_map (filled_and_outlined edges.now) styles.now) canvas.old canvas.new) }
 {
     let mut filled = false;
+    let mut widest = 0;
     for index in (0..styles.len()).rev() {
+        if canvas.is_full() {
+            return Ok(());
+        }
         let style = &styles[index];
-        draw_along(canvas, style.width.get(), edges, style.outline_color);
+        let width = style.width.get();
+        let border = line_color(style.outline_color, width, widest);
+        draw_along(canvas, width, edges, border);
         draw_inside(alloc, canvas, edges, inner_color(style, filled))?;
         filled |= style.color.is_some();
+        widest = widest_line(style.outline_color, width, widest);
     }
     Ok(())
 }
@@ -175,21 +183,52 @@ fn inner_color(style: &Style, filled: bool) -> Option<Color>
     if filled { None } else { style.color }
 }
 
-/// Paints lines along the segments by the styles from the last to the first.
-fn draw_lines(canvas: &mut Canvas, segments: &[Segment], styles: &[Style])
-    ensures { IsShown (flat_map (line_along segments.now) styles.now) canvas.old canvas.new }
+/// The colour of a line of this width, and none where it isn't wider than the widest later line along the same segments, which
+/// covers all that it does.
+fn line_color(color: Option<Color>, width: u8, widest: u8) -> Option<Color>
+    ensures hidden { width ≤ widest → result ≡ None }
+    ensures visible { widest < width → result ≡ color }
 {
-    for index in (0..styles.len()).rev() {
-        let style = &styles[index];
-        draw_along(canvas, style.width.get(), segments, style.color);
+    if width <= widest { None } else { color }
+}
+
+/// How wide the widest line along the segments is, 0 without one, once a line of this width has been painted where it has a colour.
+fn widest_line(color: Option<Color>, width: u8, widest: u8) -> u8
+    ensures { result ≡ cond (is_some color) (max widest width) widest }
+{
+    if color.is_some() {
+        widest.max(width)
+    } else {
+        widest
     }
 }
 
-/// Paints squares about the points by the styles from the last to the first.
+/// Paints lines along the segments by the styles from the last to the first, until the canvas is full: each that is wider than the
+/// later ones.
+fn draw_lines(canvas: &mut Canvas, segments: &[Segment], styles: &[Style])
+    ensures { IsShown (flat_map (line_along segments.now) styles.now) canvas.old canvas.new }
+{
+    let mut widest = 0;
+    for index in (0..styles.len()).rev() {
+        if canvas.is_full() {
+            return;
+        }
+        let style = &styles[index];
+        let width = style.width.get();
+        let color = line_color(style.color, width, widest);
+        draw_along(canvas, width, segments, color);
+        widest = widest_line(style.color, width, widest);
+    }
+}
+
+/// Paints squares about the points by the styles from the last to the first, until the canvas is full.
 fn draw_markers(canvas: &mut Canvas, view: &View, parts: &[Part], styles: &[Style])
     ensures { IsShown (flat_map (λ style. squares view.now style parts.now) styles.now) canvas.old canvas.new }
 {
     for index in (0..styles.len()).rev() {
+        if canvas.is_full() {
+            return;
+        }
         draw_squares(canvas, view, parts, &styles[index]);
     }
 }

@@ -13,7 +13,7 @@ use Rattle.wf_picture.specs.Picture.{crop}
 
 -- ---- pixels
 
--- the bytes from a pixel on are its three, and those behind it
+-- the bytes from a pixel on are its three, and those after it
 three_more : (bytes : List ℕ) (index : ℕ) → 3 * index + 3 ≤ length bytes → drop (3 * index) bytes ≡ color_bytes (pixel_at bytes index) ++ drop (3 * (index + 1)) bytes
 unfolding pixel_at
 three_more bytes index within =
@@ -30,7 +30,7 @@ take_three count color rest =
     let more : 3 * suc count ≡ suc (suc (suc (3 * count))) = omega arith in
     ap (λ (n : ℕ). take n (color_bytes color ++ rest)) more
 
--- so many pixels have the colours that the function gives for them, the bytes are those colours
+-- where `count` pixels have the colours that the function gives for them, the bytes are those colours
 pub colors_shown : (bytes : List ℕ) (color : ℕ → Color) (first k count : ℕ) → 3 * (first + k + count) ≤ length bytes →
     ((j : ℕ) → j < k + count → pixel_at bytes (first + j) ≡ color j) →
     take (3 * count) (drop (3 * (first + k)) bytes) ≡ flat_map (λ j. color_bytes (color j)) (range_with_len k count)
@@ -56,7 +56,7 @@ module _ (p : PixmapValue) (corner : Corner) (width row : ℕ) (across : corner.
   abbrev above : ℕ
   above = p.height - 1 - (corner.row + row)
 
-  -- the place of the row's first pixel
+  -- the index of the row's first pixel
   abbrev first : ℕ
   first = above * p.width + corner.column
 

@@ -21,8 +21,8 @@ use Rattle.wf_picture.specs.declared.size.Size.{Size}
 unfoldable pub placed : Definition → List ℕ → ViewValue → List PlacedValue
 placed map layers view = placed_of view (candidates map layers view)
 
--- the picture of the whole view: the colour of the first placed label that inks the pixel, else of the last operation that covers it,
--- else the background
+-- the picture of the whole view: the colour of the first placed label that inks the pixel, else of the last operation that covers
+-- it, else the background
 unfoldable pub labelled : Definition → List ℕ → ViewValue → Color → ℤ → ℤ → Color
 labelled map layers view background column row =
     inked (placed map layers view) (color_at (operations map layers view) background column row) column row

@@ -6,7 +6,7 @@ use Rattle.wf_paint.specs.Grid.{least_cell}
 use Rattle.wf_paint.specs.View.{most_pixels}
 use Rattle.wf_picture.specs.declared.size.Size.{Size}
 
--- the layers by their places among the map's, the lowest in the picture first; the box; the size in pixels; the colour of what no layer
+-- the layers as indices into the map's, the lowest in the picture first; the box; the size in pixels; the colour of what no layer
 -- covers
 pub record RequestValue : Type 0 where
   pub layers : List ℕ

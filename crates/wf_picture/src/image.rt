@@ -10,7 +10,7 @@ use std::alloc::{AllocError, Global};
 use wf_paint::corner::Corner;
 use wf_paint::pixmap::Pixmap;
 
-/// The file of the part of a picture that begins at the corner: a header, then three bytes a pixel (Netpbm, PPM, raw form).
+/// The file of a part of a picture, from its lower left corner: a header, then three bytes a pixel (Netpbm, PPM, raw form).
 #[tactic(auto, unfolding(crate::specs::Image::image))]
 pub(crate) fn image(
     alloc: Global,
@@ -29,12 +29,12 @@ pub(crate) fn image(
     Ok(file)
 }
 
-/// How many bytes the file of a part of the picture has, in this size.
+/// How many bytes the file of a part of the picture of this size has.
 fn file_size(pixmap: &Pixmap, width: u32, height: u32) -> usize
     requires columns { width ≤ pixmap.now.width }
     requires rows { height ≤ pixmap.now.height }
 {
-    // The picture tells that its sides are within their limit.
+    // `area` ensures that the picture's sides are within their limit.
     let _ = pixmap.area();
     "P6\n \n255\n".len() + digits(width) + digits(height) + 3 * (width * height) as usize
 }
@@ -83,7 +83,7 @@ fn push_rows(
     Ok(())
 }
 
-/// Adds a row of that part, which is counted from the corner's upward.
+/// Adds a row of that part. Rows count upward from the corner's.
 fn push_row(
     file: &mut Vec<u8>,
     pixmap: &Pixmap,
@@ -100,7 +100,7 @@ fn push_row(
     Ok(())
 }
 
-/// The place of the row's first pixel, the places counted row by row from the picture's upper left.
+/// The index of the row's first pixel, counted row by row from the picture's upper left.
 fn first_of(pixmap: &Pixmap, corner: Corner, row: u32) -> usize
     requires column { corner.column ≤ pixmap.now.width }
     requires row { corner.row + row < pixmap.now.height }
@@ -110,7 +110,7 @@ fn first_of(pixmap: &Pixmap, corner: Corner, row: u32) -> usize
     above as usize * pixmap.width() as usize + corner.column as usize
 }
 
-/// The bytes of so many pixels from a place on.
+/// The bytes of `count` pixels from index `first` on.
 fn pixels_from(pixmap: &Pixmap, first: usize, count: u32) -> &[u8]
     requires { first + count ≤ pixmap.now.width * pixmap.now.height }
     ensures value { result.now ≡ take (3 * count) (drop (3 * first) pixmap.now.bytes) }

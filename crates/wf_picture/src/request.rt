@@ -7,9 +7,9 @@ use std::marker::Model;
 use wf_def::color::Color;
 use wf_def::extent::Extent;
 
-/// What a picture of a map shows and how large it is: the layers by their places among the map's, the lowest first; the box, in the axes
-/// of the map's EXTENT, with sides of at least a thousandth of a unit; the size, 1 to 1,024 pixels each way; and the colour of what no
-/// layer covers.
+/// What a picture of a map shows and how large it is: the layers as indices into the map's, the lowest first; the box, in the
+/// axes of the map's EXTENT, with sides of at least a thousandth of a unit; the size, 1 to 1,024 pixels each way; and the colour
+/// of what no layer covers.
 #[derive(Drop)]
 pub struct PictureRequest {
     layers: Vec<usize>,
@@ -43,7 +43,7 @@ impl PictureRequest {
         }
     }
 
-    /// The layers by their places among the map's, the lowest in the picture first.
+    /// The layers as indices into the map's, the lowest in the picture first.
     pub fn layers(&self) -> &[usize]
         ensures value { result.now ≡ self.now.layers }
         ensures within { IsRequest self.now }

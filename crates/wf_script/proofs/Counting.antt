@@ -91,7 +91,7 @@ feeds_within (byte ∷ next ∷ rest) =
     let feeds = feed_more byte (next ∷ rest) in
     omega arith
 
--- a byte stands on one of the lines
+-- a byte is on one of the lines
 pub line_within : (bytes : List ℕ) (k : ℕ) → k < length bytes → line_at bytes k ≤ length (lines bytes)
 line_within [] k below = absurd (omega arith)
 line_within (byte ∷ []) zero below = let one = one_line byte in omega arith

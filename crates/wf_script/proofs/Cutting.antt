@@ -131,6 +131,6 @@ last_line bytes some end =
     let all = whole bytes (none_of (drop (prefix_len is_in_line bytes) bytes) end) in
     alone bytes (take (prefix_len is_in_line bytes) bytes) (subst InLine all (front_in_line bytes)) all (grind (arith, common_steps))
 
--- the line that is given is one of those that were left
+-- the line that is returned is one of those that were left
 pub one_less : (line : List ℕ) (old new : Lines) → IsNext line old new → total new ≡ total old
 one_less line old new next = let shorter = ap length next.left in let later = next.number in omega arith

@@ -1,4 +1,4 @@
--- What one line says, and those behind it.
+-- What one line means, and the lines after it.
 use Rattle.std.proofs.Common.{◌≡◌, ◌∙◌, ℕ, ◌+◌, true, false, List, [], ◌∷◌, ◌++◌, Option, Some, None, refl, sym, ap}
 use Rattle.std.specs.Prelude.{Result, Ok, Err}
 use Rattle.wf_script.specs.Fault.{fault_of, is_memory}
@@ -11,7 +11,7 @@ use Rattle.wf_script.specs.declared.fault.ScriptFault.TheVariants as fault
 use Rattle.wf_script.specs.declared.fault.Wrong.{Wrong}
 use Rattle.wf_script.specs.declared.fault.Wrong.TheVariants as wrongs
 
--- a fault wants memory where what is wrong with the line does
+-- an error of a script is allocation failure where the error of the line is
 pub same_want : (wrong : Wrong) (line : ℕ) → is_memory (fault_of wrong line) ≡ wants_memory wrong
 same_want wrongs.Memory line = refl
 same_want wrongs.BadLine line = refl
@@ -56,7 +56,7 @@ pub line_skipped : (s : State) (line : List ℕ) (ls : Lines) → is_skipped lin
 unfolding line_on line_says
 line_skipped s line ls is = rw is refl
 
--- what is said first, in the head of a script
+-- the head of a script
 pub head_line : (line : List ℕ) (old new : Lines) → IsNext line old new → is_skipped line ≡ false → head_from old ≡ at_line new.number (nodes_of line) >>= (λ nodes. Ok (nodes, new))
 unfolding head_from head
 head_line line old new next isnt =

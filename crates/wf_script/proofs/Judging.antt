@@ -1,4 +1,4 @@
--- Of an input no more than a beginning is judged: that says what the whole says.
+-- No more than the beginning of an input is read: it means what the whole input means.
 use Rattle.std.proofs.Common.{◌≡◌, ◌∙◌, ◌+◌, ◌<◌, ◌≤◌, zero, suc, ℕ, Bool, true, false, List, [], ◌∷◌, Option, Some, None, length, take, min, nat_lt, sym, ap, subst, refl, arith}
 use Rattle.std.specs.Prelude.{Result, if◌then◌else◌}
 use Rattle.std.proofs.lemmas.Bool.Decides.{nat_tests}
@@ -22,7 +22,7 @@ lines_of_part (suc (suc k)) (byte ∷ next ∷ rest) =
     let all = line_more byte next rest in
     omega (arith, fewer, more, all)
 
--- more lines behind the byte over the limit don't matter
+-- more lines after the byte over the limit don't matter
 lesser_same : (x a b : ℕ) (few many : Bool) → nat_lt most_lines a ≡ few → nat_lt most_lines b ≡ many → x ≤ a → a ≤ b
     → lesser (Some x) (if few then Some (most_lines + 1) else None) ≡ lesser (Some x) (if many then Some (most_lines + 1) else None)
 lesser_same x a b true true is are there fewer = refl
@@ -45,7 +45,7 @@ over_the_same part whole long longer same fewer =
     ∙ lesser_same (line_at whole most_script_bytes) (length (lines part)) (length (lines whole)) _ _ refl refl there fewer
     ∙ ap (λ first. lesser first (over_lines whole)) (sym (over_the_bytes whole longer))
 
--- a text over a limit says nothing else
+-- a text over a limit means nothing else
 some_line_over : (x : ℕ) (second : Option ℕ) → lesser (Some x) second ≡ None → ⊥
 some_line_over x None is = absurd (cc)
 some_line_over x (Some y) is = absurd (cc)

@@ -1,4 +1,3 @@
-mod Comparing
 mod Counting
 mod Cutting
 mod Faults
@@ -8,10 +7,4 @@ mod Listing
 mod Naming
 mod Numbers
 mod Parting
-mod Performing
-mod Playing
-mod Running
-mod Telling
 mod Whole
-mod WholeInput
-mod Worlds

@@ -9,7 +9,7 @@ use Rattle.wf_script.specs.Words.{number}
 use Rattle.wf_script.specs.declared.fault.Wrong.{Wrong}
 use Rattle.wf_script.specs.declared.fault.Wrong.TheVariants.{BadLine}
 
--- the numbers so far, and those that the words left are
+-- the numbers so far, and those of the words that are left
 abbrev pub with_numbers : List ℕ → Result (List ℕ) Wrong → Result (List ℕ) Wrong
 with_numbers so_far (Err wrong) = Err wrong
 with_numbers so_far (Ok others) = Ok (so_far ++ others)

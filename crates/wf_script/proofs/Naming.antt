@@ -1,4 +1,4 @@
--- A map is found by its name, or by what it means.
+-- A map is found by its name, or by its definition.
 use Rattle.std.proofs.Common.{◌≡◌, ◌∙◌, ℕ, ◌+◌, suc, not, Bool, cond, List, [], ◌∷◌, length, map, nat_lt, slice_get, sym, Some, None, refl, ap}
 use Rattle.std.specs.List.{position, prefix_len}
 use Rattle.std.specs.Option.{option_and_then, option_map}
@@ -10,7 +10,7 @@ use Rattle.wf_def.specs.Equality.{definition_eq}
 use Rattle.wf_script.specs.Naming.{name}
 use Rattle.wf_script.specs.Orders.{place_of}
 use Rattle.wf_script.specs.Script.{definition}
-use Rattle.wf_script.specs.Telling.{place_with}
+use Rattle.wf_script.specs.Script.{place_with}
 use Rattle.wf_script.specs.declared.maps.Named as maps
 
 module _ {X Y : Type 0} (view : X → Y) (test : Y → Bool) where
@@ -34,7 +34,7 @@ found_by_name named word = first_viewed name (λ other. bytes_eq other word) nam
 pub found_by_meaning : (named : List maps.Named) (d : Definition) → position (λ m. definition_eq (definition m) d) named ≡ place_with (map definition named) d
 found_by_meaning named d = first_viewed definition (λ other. definition_eq other d) named
 
--- its name is the one at its place
+-- its name is the one at its index
 pub named_there : (named : List maps.Named) (d : Definition) (found : Option ℕ) → found ≡ position (λ m. definition_eq (definition m) d) named
     → option_map name (option_and_then (slice_get named) found) ≡ option_and_then (slice_get (map name named)) (place_with (map definition named) d)
 named_there named d found is =

@@ -11,7 +11,7 @@ use Rattle.wf_script.specs.Words.{value}
 digit_is_small : (digit : ℕ) → is_ascii_digit digit ≡ true → digit - 48 < 10
 digit_is_small digit is = grind (arith, nat_tests, common_steps)
 
--- digits behind a number below a power of ten give one below a greater power
+-- digits appended to a number below a power of ten give one below a greater power
 below_power : (n k : ℕ) (digits : List ℕ) → n < 10 ^ k → list_all is_ascii_digit digits ≡ true → fold (λ n digit. 10 * n + (digit - 48)) n digits < 10 ^ (k + length digits)
 below_power n k [] small all =
     let same : k ≡ k + 0 = omega arith in

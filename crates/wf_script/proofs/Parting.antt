@@ -1,4 +1,4 @@
--- How a line is parted into its words.
+-- How a line is split into its words.
 use Rattle.std.proofs.Common.{◌≡◌, ◌∙◌, ℕ, ◌+◌, suc, Bool, true, false, cond, List, [], ◌∷◌, length, refl, sym, ap, arith, take, drop, subst, not}
 use Rattle.std.specs.Prelude.{◌==◌, filter}
 use Rattle.std.specs.List.{prefix_len}
@@ -18,7 +18,7 @@ pub spaces_skipped : (line : List ℕ) → words (drop (prefix_len is_space line
 spaces_skipped [] = refl
 spaces_skipped (byte ∷ rest) = skip_of (byte == 32) byte (prefix_len is_space rest) rest refl (spaces_skipped rest)
 
--- the first piece ends at a space, and what follows gives the other words
+-- the first piece ends at a space, and what follows has the other words
 record First (line : List ℕ) (n : ℕ) : Type 0 where
   others : List (List ℕ)
   parts : pieces line ≡ take n line ∷ others
@@ -40,14 +40,14 @@ filtered : (piece : List ℕ) (others : List (List ℕ)) → (length piece == 0)
 filtered [] others some = absurd (cc)
 filtered (byte ∷ rest) others some = refl
 
--- a word, and the words behind it
+-- a word, and the words after it
 pub word_parted : (line : List ℕ) → (length (take (prefix_len is_in_word line) line) == 0) ≡ false → words line ≡ take (prefix_len is_in_word line) line ∷ words (drop (prefix_len is_in_word line) line)
 unfolding words
 word_parted line some =
     let one = first line in
     ap (filter is_word) one.parts ∙ filtered (take (prefix_len is_in_word line) line) one.others some ∙ ap (λ ws. take (prefix_len is_in_word line) line ∷ ws) one.words_of
 
--- no word is left where a line begins with none behind its spaces
+-- no word is left where a line has none after its leading spaces
 none_from : (t : Bool) (n : ℕ) (byte : ℕ) (rest : List ℕ) → t ≡ true → (length (take (cond t (1 + n) 0) (byte ∷ rest)) == 0) ≡ true → ⊥
 none_from true n byte rest is none =
     let one : 1 + n ≡ suc n = omega arith in

@@ -1,4 +1,4 @@
--- What all the lines of a text say.
+-- What all the lines of a text mean.
 use Rattle.std.proofs.Common.{◌≡◌, ◌∙◌, ℕ, List, Some, None, sym, ap, subst}
 use Rattle.std.specs.Prelude.{Result, Ok, Err, false}
 use Rattle.wf_script.specs.Fault.{is_memory}
@@ -9,7 +9,7 @@ use Rattle.wf_script.specs.Text.{State, ended, head_from, nothing_said, on_from,
 use Rattle.wf_script.specs.declared.fault.ScriptFault.{ScriptFault}
 use Rattle.wf_script.specs.declared.fault.ScriptFault.TheVariants.{OverLimit}
 
--- the lines of a text, before the first is given
+-- the lines of a text, before the first is returned
 pub record AreLinesOf (text : List ℕ) (ls : Lines) : Type 0 where
   pub number : ls.number ≡ 0
   pub left : ls.left ≡ lines text

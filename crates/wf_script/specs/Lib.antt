@@ -9,9 +9,3 @@ pub mod Drafting
 pub mod Naming
 pub mod Fault
 pub mod Reading
-pub mod Running
-pub mod Session
-pub mod Performing
-pub mod Comparison
-pub mod Telling
-pub mod Law

@@ -15,8 +15,8 @@ abbrev pub before : ℕ → List (List ℕ) → List (List ℕ)
 before byte [] = (byte ∷ []) ∷ []
 before byte (line ∷ rest) = (byte ∷ line) ∷ rest
 
--- The lines of a text. A line feed ends a line, and the last line may end without one; a carriage return right before a line feed is
--- dropped.
+-- The lines of a text. A line feed ends a line, and the last line may end without one; a carriage return right before a line feed
+-- is dropped.
 unfoldable pub lines : List ℕ → List (List ℕ)
 lines [] = []
 lines (byte ∷ rest) = if byte == 10 then [] ∷ lines rest else (if byte == 13 && is_line_end rest then lines rest else before byte (lines rest))
@@ -31,16 +31,16 @@ without_return (byte ∷ next ∷ rest) = byte ∷ without_return (next ∷ rest
 abbrev pub is_in_line : ℕ → Bool
 is_in_line byte = not (byte == 10)
 
--- the number of the last line that was given, and the lines that are left
+-- the number of the last line that was returned, and the lines that are left
 pub record Lines : Type 0 where
   pub number : ℕ
   pub left : List (List ℕ)
 
--- how many lines they are with those that were given
+-- how many lines they are with those that were returned
 abbrev pub total : Lines → ℕ
 total ls = ls.number + length ls.left
 
--- this line is given
+-- this line is returned
 pub record IsNext (line : List ℕ) (old new : Lines) : Type 0 where
   pub left : old.left ≡ line ∷ new.left
   pub number : new.number ≡ old.number + 1
@@ -49,7 +49,7 @@ pub record IsNext (line : List ℕ) (old new : Lines) : Type 0 where
 abbrev pub most_script_bytes : ℕ
 most_script_bytes = 1048576
 
--- what is judged in place of an input: its beginning, a byte longer than the longest script
+-- what is read of an input: its beginning, up to a byte more than the longest script
 abbrev pub judged : List ℕ → List ℕ
 judged input = take (most_script_bytes + 1) input
 
@@ -61,7 +61,7 @@ most_lines = 10000
 abbrev pub most_maps : ℕ
 most_maps = 64
 
--- the number of the line on which byte k stands; lines are counted from 1
+-- the number of the line that byte k is on; lines are counted from 1
 abbrev pub line_at : List ℕ → ℕ → ℕ
 line_at bytes k = line_feeds (take k bytes) + 1
 

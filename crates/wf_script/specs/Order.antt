@@ -1,6 +1,6 @@
--- What a line of a script asks for, in numbers and lists.
+-- What a line of a script does or asks, in numbers and lists.
 use Rattle.std.specs.Prelude.{ℕ, List}
-use Rattle.wf_farm.specs.declared.event.Kept as kept
+use Rattle.wf_script.specs.declared.order.Side as side
 use Rattle.wf_script.specs.declared.order.Step as step
 use Rattle.wf_script.specs.declared.order.Question as question
 use Rattle.wf_script.specs.declared.order.Order as code
@@ -12,7 +12,7 @@ pub data Order : Type 0 where
   Deliver : (node : ℕ) (messages : List ℕ) → Order
   Stop : (node : ℕ) → Order
   Restart : (node : ℕ) → Order
-  Torn : (node : ℕ) (step : step.Step) (kept : kept.Kept) → Order
+  Torn : (node : ℕ) (step : step.Step) (side : side.Side) → Order
   Pump : (nodes : List ℕ) → Order
   Skip : Order
   Ask : (question : question.Question) → Order
@@ -25,7 +25,7 @@ view (order.Step node step) = Step node step
 view (order.Deliver node messages) = Deliver node messages.items
 view (order.Stop node) = Stop node
 view (order.Restart node) = Restart node
-view (order.Torn node step kept) = Torn node step kept
+view (order.Torn node step side) = Torn node step side
 view (order.Pump nodes) = Pump nodes.items
 view order.Skip = Skip
 view (order.Ask question) = Ask question

@@ -3,13 +3,13 @@ use Rattle.std.specs.Prelude.{ℕ, List, [], ◌∷◌, codes, Option, Result, O
 use Rattle.std.specs.List.{position}
 use Rattle.std.specs.Option.{ok_or}
 use Rattle.std.specs.Str.{bytes_eq}
-use Rattle.wf_farm.specs.declared.event.Kept.{Kept}
-use Rattle.wf_farm.specs.declared.event.Kept.TheVariants as kept
 use Rattle.wf_script.specs.Order.{Order}
 use Rattle.wf_script.specs.Order as order
 use Rattle.wf_script.specs.Reading.{◌>>=◌}
 use Rattle.wf_script.specs.Verb.{verb_of}
 use Rattle.wf_script.specs.Words.{a_number, a_text, a_word, no_word, number}
+use Rattle.wf_script.specs.declared.order.Side.{Side}
+use Rattle.wf_script.specs.declared.order.Side.TheVariants as side
 use Rattle.wf_script.specs.declared.fault.Wrong.{Wrong}
 use Rattle.wf_script.specs.declared.fault.Wrong.TheVariants.{BadLine}
 use Rattle.wf_script.specs.declared.order.Question.TheVariants as question
@@ -18,7 +18,7 @@ use Rattle.wf_script.specs.declared.order.Step.TheVariants as step
 use Rattle.wf_script.specs.declared.verb.Verb.{Verb}
 use Rattle.wf_script.specs.declared.verb.Verb.TheVariants as verb
 
--- the map of this name, by its place among the names
+-- the map of this name, by its index among the names
 abbrev pub place_of : List (List ℕ) → List ℕ → Option ℕ
 place_of names name = position (λ other. bytes_eq other name) names
 
@@ -42,17 +42,17 @@ unfoldable pub some_numbers : List (List ℕ) → Result (List ℕ) Wrong
 some_numbers [] = Err BadLine
 some_numbers (word ∷ rest) = numbers (word ∷ rest)
 
--- what of a crash within a step is kept
-abbrev pub kept_of : List ℕ → Result Kept Wrong
-kept_of word = if bytes_eq word (codes "before") then Ok kept.Before else if bytes_eq word (codes "after") then Ok kept.After else Err BadLine
+-- on which side of its record a node crashes within a step
+abbrev pub side_of : List ℕ → Result Side Wrong
+side_of word = if bytes_eq word (codes "before") then Ok side.Before else if bytes_eq word (codes "after") then Ok side.After else Err BadLine
 
-unfoldable pub a_kept : List (List ℕ) → Result (Kept × List (List ℕ)) Wrong
-a_kept words = do
+unfoldable pub a_side : List (List ℕ) → Result (Side × List (List ℕ)) Wrong
+a_side words = do
   word ← a_text words
-  part ← kept_of word.0
+  part ← side_of word.0
   Ok (part, word.1)
 
--- the step that a verb and the words behind it are, of a node that is named already: what may be torn
+-- the step that a verb and the words after it make, of a node whose number has been read: the node may crash within it
 unfoldable pub step_by : List (List ℕ) → Verb → List (List ℕ) → Result (Step × List (List ℕ)) Wrong
 step_by names verb.Propose words = do
   map ← a_map names words
@@ -70,7 +70,7 @@ a_step names words = do
   verb ← ok_or (verb_of word.0) BadLine
   step_by names verb word.1
 
--- an order about a node: the node's number, and what stands behind it
+-- an order about a node: the node's number, and what follows it
 unfoldable pub step_order : List (List ℕ) → Verb → List (List ℕ) → Result (Order × List (List ℕ)) Wrong
 step_order names verb words = do
   node ← a_number words
@@ -86,7 +86,7 @@ deliver_order words = do
 unfoldable pub torn_order : List (List ℕ) → List (List ℕ) → Result (Order × List (List ℕ)) Wrong
 torn_order names words = do
   node ← a_number words
-  part ← a_kept node.1
+  part ← a_side node.1
   step ← a_step names part.1
   Ok (order.Torn node.0 step.0 part.0, step.1)
 
@@ -129,7 +129,7 @@ restart_order words = do
   node ← a_number words
   Ok (order.Restart node.0, node.1)
 
--- The order that a verb and the words behind it are, and what is left of them. A map is named among those so far.
+-- The order that a verb and the words after it make, and what is left of them. A map is named among those so far.
 unfoldable pub order_by : List (List ℕ) → Verb → List (List ℕ) → Result (Order × List (List ℕ)) Wrong
 order_by names verb.Map words = Err BadLine
 order_by names verb.Propose words = step_order names verb.Propose words

@@ -1,5 +1,5 @@
 -- Which script a text is: its lines are read one after the other.
-use Rattle.std.specs.Prelude.{◌==◌, ◌&&◌, ◌+◌, not, ℕ, Bool, List, [], ◌∷◌, ◌++◌, length, map, nat_le, nat_lt, codes, Option, Some, None, Result, Ok, Err, if◌then◌else◌}
+use Rattle.std.specs.Prelude.{◌≡◌, ◌==◌, ◌&&◌, ◌+◌, not, ℕ, Bool, List, [], ◌∷◌, ◌++◌, length, map, nat_le, nat_lt, codes, Option, Some, None, Result, Ok, Err, if◌then◌else◌}
 use Rattle.std.specs.Char.{is_ascii_alphanumeric}
 use Rattle.std.specs.List.{list_all}
 use Rattle.std.specs.Option.{ok_or}
@@ -8,7 +8,7 @@ use Rattle.wf_ballot.specs.Node.{most_nodes}
 use Rattle.wf_canon.specs.Canon.{canon, most_canon_bytes}
 use Rattle.wf_def.specs.Definition.{Definition}
 use Rattle.wf_mapfile.specs.Meaning.{meaning}
-use Rattle.wf_script.specs.Lines.{Lines, lines, most_maps, over_limit}
+use Rattle.wf_script.specs.Lines.{Lines, judged, lines, most_maps, over_limit}
 use Rattle.wf_script.specs.Naming.{name}
 use Rattle.wf_script.specs.Orders.{order_of, place_of}
 use Rattle.wf_script.specs.Reading.{◌>>=◌, at_line}
@@ -24,7 +24,7 @@ use Rattle.wf_script.specs.declared.order.Numbered as orders
 use Rattle.wf_script.specs.declared.verb.Verb.{Verb}
 use Rattle.wf_script.specs.declared.verb.Verb.TheVariants as verb
 
--- what was said so far: the maps' names and what they mean, and the orders with their lines
+-- what was read so far: the maps' names and definitions, and the orders with their lines
 pub record State : Type 0 where
   pub names : List (List ℕ)
   pub maps : List Definition
@@ -40,7 +40,7 @@ pub record Begun : Type 0 where
 abbrev pub begins : ℕ → List ℕ → Begun
 begins n name = record { line = n; name = name; text = [] }
 
--- what the code's parts say
+-- the state that the code's parts hold
 abbrev pub state : List maps.Named → List orders.Numbered → State
 state named orders = record { names = map name named; maps = map definition named; orders = map numbered orders }
 
@@ -89,7 +89,7 @@ with_order n s verb words = do
 abbrev pub outside : {E : Type 0} → State → Result (Option Begun × State) E
 outside s = Ok (None, s)
 
--- what the words behind a verb say, on a line of this number: a map begins, or there is an order
+-- what the words after a verb mean, on a line of this number: a map begins, or there is an order
 unfoldable pub said_by : ℕ → State → Verb → List (List ℕ) → Result (Option Begun × State) Wrong
 said_by n s verb.Map words = do
   name ← a_new_name s.names words
@@ -102,29 +102,29 @@ said n s words = do
   verb ← ok_or (verb_of word.0) wrongs.BadLine
   said_by n s verb word.1
 
--- What a line of this number says, outside of a map and within one. Nothing is skipped within a map: each of its lines is a line of its
--- text, with a line feed behind it. What is wrong with a map is told at the line where it begins.
+-- What a line of this number means, outside of a map and within one. Nothing is skipped within a map: each of its lines is a line
+-- of its text, followed by a line feed. An error of a map is reported at the line where it begins.
 unfoldable pub line_says : Option Begun → ℕ → State → List ℕ → Result (Option Begun × State) ScriptFault
 line_says None n s line = if is_skipped line then outside s else at_line n (said n s (words line))
 line_says (Some begun) n s line =
     if ends_map line then at_line begun.line (closed begun.name begun.text s) >>= outside
     else Ok (Some (record { line = begun.line; name = begun.name; text = begun.text ++ line ++ 10 ∷ [] }), s)
 
--- what the lines from this number on say; a map that was begun has an end
+-- what the lines from this number on mean; a map that was begun has an end
 unfoldable pub read_on : Option Begun → ℕ → State → List (List ℕ) → Result State ScriptFault
 read_on None n s [] = Ok s
 read_on (Some begun) n s [] = Err (fault.BadLine begun.line)
 read_on begun n s (line ∷ rest) = line_says begun n s line >>= (λ t. read_on t.0 (n + 1) t.1 rest)
 
--- what the lines that are left say
+-- what the lines that are left mean
 unfoldable pub on_from : Option Begun → State → Lines → Result State ScriptFault
 on_from begun s ls = read_on begun (ls.number + 1) s ls.left
 
--- what the line that was given says, and those that are left
+-- what the line that was returned means, and those that are left
 unfoldable pub line_on : Option Begun → State → List ℕ → Lines → Result State ScriptFault
 line_on begun s line ls = line_says begun ls.number s line >>= (λ t. on_from t.0 t.1 ls)
 
--- a map begins with the words behind its verb, on the line that was given, and goes on in the lines that are left
+-- a map begins with the words after its verb, on the line that was returned, and continues in the lines that are left
 unfoldable pub map_on : State → List (List ℕ) → Lines → Result State ScriptFault
 map_on s words ls = at_line ls.number (a_new_name s.names words) >>= (λ name. on_from (Some (begins ls.number name)) s ls)
 
@@ -136,8 +136,8 @@ nodes_of line = do
   end ← no_word n.1
   if not (n.0 == 0) && nat_le n.0 most_nodes then Ok n.0 else Err wrongs.BadLine
 
--- The number of nodes, which the first line that isn't skipped says, and the lines behind that. Where there is none, the first line is a bad
--- one.
+-- The number of nodes, from the first line that isn't skipped, and the lines after that. Where there is none, the first line is a
+-- bad one.
 unfoldable pub head : ℕ → List (List ℕ) → Result (ℕ × Lines) ScriptFault
 head n [] = Err (fault.BadLine 1)
 head n (line ∷ rest) = if is_skipped line then head (n + 1) rest else at_line n (nodes_of line) >>= (λ nodes. Ok (nodes, record { number = n; left = rest }))
@@ -145,15 +145,15 @@ head n (line ∷ rest) = if is_skipped line then head (n + 1) rest else at_line 
 unfoldable pub head_from : Lines → Result (ℕ × Lines) ScriptFault
 head_from ls = head (ls.number + 1) ls.left
 
--- nothing was said
+-- nothing was read
 abbrev pub nothing_said : State
 nothing_said = record { names = []; maps = []; orders = [] }
 
--- the script that was said, for so many nodes
+-- the script that was read, for `nodes` nodes
 abbrev pub ended : ℕ → State → Result Script ScriptFault
 ended nodes s = Ok (record { nodes = nodes; names = s.names; maps = s.maps; orders = s.orders })
 
--- what all the lines say
+-- what all the lines mean
 unfoldable pub script : Lines → Result Script ScriptFault
 script ls = do
   first ← head_from ls
@@ -164,6 +164,10 @@ abbrev pub unless_over : Option ℕ → Result Script ScriptFault → Result Scr
 unless_over None meant = meant
 unless_over (Some line) meant = Err (fault.OverLimit line)
 
--- The script that a text is, or the fault for which it is none. That it is over a limit comes before all else.
+-- The script that a text is, or the error for which it is none. That it is over a limit comes before all else.
 unfoldable pub script_of : List ℕ → Result Script ScriptFault
 script_of text = unless_over (over_limit text) (script (record { number = 0; left = lines text }))
+
+-- Of an input no more than a beginning is judged: that is judged as the whole is.
+abbrev pub JudgedAlike : Type 0
+JudgedAlike = (text : List ℕ) → script_of (judged text) ≡ script_of text

@@ -8,7 +8,7 @@ use Rattle.wf_script.specs.Reading.{◌>>=◌}
 use Rattle.wf_script.specs.declared.fault.Wrong.{Wrong}
 use Rattle.wf_script.specs.declared.fault.Wrong.TheVariants.{BadLine}
 
--- what stands between spaces, empty where there is nothing between two
+-- the pieces between spaces; a piece is empty where there is nothing between two spaces
 unfoldable pub pieces : List ℕ → List (List ℕ)
 pieces [] = [] ∷ []
 pieces (byte ∷ rest) = if byte == 32 then [] ∷ pieces rest else before byte (pieces rest)
@@ -17,11 +17,11 @@ abbrev pub is_word : List ℕ → Bool
 is_word [] = false
 is_word (byte ∷ rest) = true
 
--- the words of a line, which spaces part
+-- the words of a line, which spaces separate
 unfoldable pub words : List ℕ → List (List ℕ)
 words line = filter is_word (pieces line)
 
--- whether a byte is a space, and whether it stands in a word
+-- whether a byte is a space, and whether it is in a word
 abbrev pub is_space : ℕ → Bool
 is_space byte = byte == 32
 
@@ -44,7 +44,7 @@ number word = if not (length word == 0) && nat_le (length word) most_digits && l
 unfoldable pub text_of : List ℕ → Result (List ℕ) Wrong
 text_of word = if is_utf8 word then Ok word else Err BadLine
 
--- the first word and those behind it; a word that is a text; a number; and no word at all: another line is a bad one
+-- the first word and those after it; a word that is a text; a number; and no word at all: another line is a bad one
 unfoldable pub a_word : List (List ℕ) → Result (List ℕ × List (List ℕ)) Wrong
 a_word [] = Err BadLine
 a_word (word ∷ rest) = Ok (word, rest)

@@ -1,4 +1,4 @@
-//! A script while it is read: what its lines said so far.
+//! A script while it is read: its maps and orders so far.
 
 ghost use Rattle.std.specs.Prelude.{◌≡◌, ◌≤◌, ◌+◌, [], length, map, IfErr, Some, None};
 ghost use Rattle.wf_script.specs.Drafting.{Closes};
@@ -33,7 +33,7 @@ impl Draft {
         }
     }
 
-    /// Takes in the lines that are left.
+    /// Reads the lines that are left.
     #[tactic(auto, using(crate::proofs::Faults::wrong_at, crate::proofs::Going::same_want, crate::proofs::Going::one_line, crate::proofs::Going::no_line))]
     pub(crate) fn take_lines(
         &mut self,
@@ -53,7 +53,7 @@ impl Draft {
         Ok(())
     }
 
-    /// Takes in the line that was given last; where a map begins there, those of the map too.
+    /// Reads the line that was returned last; where a map begins there, the lines of the map too.
     #[tactic(auto, unfolding(crate::specs::Text::line_on, crate::specs::Text::line_says, crate::specs::Text::said, crate::specs::Text::said_by, crate::specs::Text::map_on))]
     fn take_line(&mut self, alloc: Global, line: &[u8], lines: &mut Lines<'_>) -> Result<(), Wrong>
         ensures value { GoesOn lines.old.number result (line_on None (state self.old.maps.named.items self.old.orders.items) line.now lines.old) (on_from None (state self.new.maps.named.items self.new.orders.items) lines.new) }
@@ -72,7 +72,7 @@ impl Draft {
         }
     }
 
-    /// Takes in an order, at the line of this number.
+    /// Reads an order, on the line of this number.
     #[tactic(auto, unfolding(crate::specs::Text::with_order))]
     fn take_order(
         &mut self,
@@ -93,7 +93,7 @@ impl Draft {
         Ok(())
     }
 
-    /// Takes in a map: its name, and its lines up to `endmap`.
+    /// Reads a map: its name, and its lines up to `endmap`.
     #[tactic(auto, unfolding(crate::specs::Text::map_on))]
     fn take_map(
         &mut self,

@@ -1,21 +1,10 @@
-//! The laws on a farm on which scripts are played.
+//! The theorem about long inputs.
 
-ghost use Rattle.wf_farm.specs.Agreement.{HasOneHistory, IsOneWorld};
-ghost use Rattle.wf_script.specs.Law.{HasKeptPromises, HasOwnBallots, HasPromisedMajorities};
+ghost use Rattle.wf_script.specs.Text.{JudgedAlike};
 
-use wf_farm::{Farm, kept_promises, own_ballots, promised_majority};
-
-/// The farm's laws, of the farm as it is, whatever led to it.
-#[tactic(auto, using(crate::proofs::Worlds::own_ballots_there, crate::proofs::Worlds::kept_promises_there, crate::proofs::Worlds::promised_majorities_there))]
-pub(crate) fn farm_obeys_laws(farm: &Farm)
-    ensures agree { HasOneHistory farm.now }
-    ensures world { IsOneWorld farm.now }
-    ensures ballots { HasOwnBallots farm.now }
-    ensures promises { HasKeptPromises farm.now }
-    ensures majorities { HasPromisedMajorities farm.now }
-{
-    farm.agree();
-    own_ballots();
-    kept_promises();
-    promised_majority();
-}
+/// The first bytes of an input, one more than a script may have, are judged as the whole input is: a caller needs to read no
+/// further. A theorem: the call does nothing.
+#[tactic(auto, using(crate::proofs::Judging::judged_alike))]
+pub fn a_beginning_is_judged_alike()
+    ensures { JudgedAlike }
+{}

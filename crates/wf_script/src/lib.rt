@@ -1,7 +1,7 @@
-//! Scripts: what happens to a farm in memory, a line each, and what is asked of it.
+//! Scripts that play a farm of nodes in memory: a line for each event, and for each question about the farm.
 //!
-//! A [`Script`] is read whole before anything happens. A line feed ends a line, and a carriage return before it is
-//! dropped. Empty lines and lines that begin with `#` are skipped, but not within a map. Spaces part words. The first
+//! A [`Script`] is read whole before its first order is performed. A line feed ends a line, and a carriage return before it is
+//! dropped. Empty lines and lines that begin with `#` are skipped, but not within a map. Spaces separate words. The first
 //! line is `nodes N`. A number has 1 to 9 digits.
 //!
 //! ```text
@@ -9,7 +9,7 @@
 //! propose I NAME, retry I, catchup I     a step of node I
 //! deliver I K ..                         message K to node I, for each K in turn
 //! stop I, restart I                      node I stops, or comes back
-//! torn I before E, torn I after E        node I stops within E: propose NAME, retry, catchup or deliver K
+//! torn I before E, torn I after E        node I crashes within E: propose NAME, retry, catchup or deliver K
 //! pump, pump I ..                        messages that aren't pumped yet go to each node, or to those named
 //! skip                                   all messages so far count as pumped
 //! published, sent, proposal I, definition I S, same
@@ -17,35 +17,17 @@
 //! equal I J QUERY                        whether nodes I and J answer the same; QUERY is one word
 //! ```
 //!
-//! A [`Session`] is the farm on which a script is played, an order after the other; [`run_script`] does both over any reader
-//! and writer.
+//! A text is read in stages: `lines`, `words` of a line, the `verb` that is the first word, the `order` that the other words make,
+//! and `draft`, which collects maps and orders. `wf_play` plays what is read here.
 //!
-//! The way through a text: `lines`, `words` of a line, the `verb` that the first word is, the `order` that the others are, and
-//! `draft`, which holds what was said so far.
+//! Contracts see a script as its number of nodes, its maps with their names and definitions, and its orders with their lines.
 //!
-//! Its model: of a script, how many nodes it has, its maps' names and what they mean, and its orders with their lines; of a
-//! session, its script and its farm.
-//!
-//! It promises of each order that the farm is what that order does: a step, a stop, a restart or a crash within a step is one event of
-//! the model, deliveries are theirs in turn, a pump is the farm's own, `skip` and questions leave the world as it is; and
-//! where memory was wanted, that is told at exactly the order's line ([`Session::perform`]). It promises what each order writes,
-//! too (`Writes` of `specs/Telling.antt`): of an event its rejection, of a question its answer. Whatever an order is, the farm
-//! has gone on by some events of the model, no node's list lost a map, and the farm's nodes agree, with the laws beneath
-//! that: ballots belong to their nodes, promises are kept, and each Accept has a majority of promises behind it. So two
-//! running nodes never publish different maps ([`Session::differ`]), and two that stand at one sequence, or that are asked
-//! for one map, answer a client equally ([`Session::equal`]).
-//!
-//! Of a script it promises that what is read is exactly the script that the text is, or the fault for which it is none, with its
-//! line, unless memory is wanted (`script_of` of `specs/Text.antt`, on [`Script::read`]): its nodes, each of its maps by its name
-//! and what it means, and each of its orders with its line. Allocation failure is told at a line that there is, too, and never hides
-//! that a text is over a limit. Of a run it promises that a fault of the reader or the writer comes for that cause, that nothing
-//! is written where the input is no script, which is told by the input's own fault, and that where the run succeeds, the whole
-//! input is a script, each of its orders was performed in turn on a new farm, and exactly what they write was written
-//! (`PlaysInput` of `specs/Running.antt`, on [`run_script`]).
+//! [`Script::read`] returns exactly the script that the text is, or exactly the error for which it is none, with its line, unless
+//! allocation fails (`script_of` of `specs/Text.antt`). An allocation failure is reported at a line of the text, and never hides
+//! that a text is over a limit. [`a_beginning_is_judged_alike`]: the first bytes of a long input, one more than a script may have,
+//! are judged as the whole input is.
 #![tactic(auto)]
 
-mod answer;
-mod delivery;
 mod draft;
 mod fault;
 mod law;
@@ -53,16 +35,13 @@ mod limit;
 mod lines;
 mod maps;
 mod order;
-mod request;
-mod run;
 mod script;
-mod session;
 mod verb;
 mod words;
 
-pub use fault::{PlayFault, ScriptFault};
+pub use fault::ScriptFault;
+pub use law::a_beginning_is_judged_alike;
 pub use limit::{MOST_LINES, MOST_SCRIPT_BYTES};
 pub use maps::MOST_MAPS;
-pub use run::run_script;
+pub use order::{Numbered, Order, Question, Side, Step};
 pub use script::Script;
-pub use session::Session;

@@ -6,7 +6,7 @@ ghost use Rattle.wf_script.specs.Lines.{line_feeds, lines, without_return, is_in
 
 use std::marker::Model;
 
-/// The lines that are left, and the number of the last one that was given.
+/// The lines that are left, and the number of the last one that was returned.
 #[derive(Drop)]
 pub(crate) struct Lines<'a> {
     rest: &'a [u8],
@@ -37,7 +37,7 @@ impl<'a> Lines<'a> {
         }
     }
 
-    /// The number of the last line that was given, counted from 1; 0 before the first.
+    /// The number of the last line that was returned, counted from 1; 0 before the first.
     pub(crate) fn number(&self) -> usize
         ensures { result ≡ self.now.number }
     {
@@ -71,7 +71,7 @@ impl<'a> Lines<'a> {
     }
 }
 
-/// How many bytes stand before the first line feed.
+/// How many bytes come before the first line feed.
 fn length_of_line(bytes: &[u8]) -> usize
     ensures value { result ≡ prefix_len is_in_line bytes.now }
     ensures most { result ≤ length bytes.now }

@@ -41,7 +41,7 @@ pub(crate) struct Maps {
 impl Maps {
     ghost use Rattle.std.specs.Prelude.{◌++◌, ◌∷◌, [], OnOk, map};
     ghost use Rattle.wf_script.specs.Orders.{place_of};
-    ghost use Rattle.wf_script.specs.Telling.{place_with};
+    ghost use Rattle.wf_script.specs.Script.{place_with};
 
     pub(crate) fn new(alloc: Global) -> Maps
         ensures { result.named.items ≡ [] }
@@ -58,7 +58,7 @@ impl Maps {
         self.named.len() == MOST_MAPS
     }
 
-    /// Adds a map behind the others.
+    /// Adds a map after the others.
     pub(crate) fn add(&mut self, alloc: Global, name: &str, canon: Canon) -> Result<(), AllocError>
         requires { length self.old.named.items < most_maps }
         ensures names { OnOk result (map name_of self.new.named.items ≡ map name_of self.old.named.items ++ name.now ∷ []) }
@@ -94,7 +94,7 @@ impl Maps {
         }
     }
 
-    /// The name of the first map that means this.
+    /// The name of the first map with this definition.
     pub(crate) fn name_of(&self, meant: &MapDef) -> Option<&str>
         ensures { option_copied result ≡ option_and_then (slice_get (map name_of self.now.named.items)) (place_with (map definition self.now.named.items) meant.now) }
     {
@@ -109,7 +109,7 @@ fn number_of(maps: &[Named], name: &str) -> Option<usize>
     maps.iter().position(|map| is_named(map, name))
 }
 
-/// The name of the first map that means this.
+/// The name of the first map with this definition.
 fn name_of<'m>(maps: &'m [Named], meant: &MapDef) -> Option<&'m str>
     ensures { option_copied result ≡ option_map name_of (option_and_then (slice_get maps.now) (position (λ named. definition_eq (definition named) meant.now) maps.now)) }
 {
@@ -119,14 +119,14 @@ fn name_of<'m>(maps: &'m [Named], meant: &MapDef) -> Option<&'m str>
     }
 }
 
-/// The number of the first map that means this, counted from 0.
+/// The number of the first map with this definition, counted from 0.
 fn number_with(maps: &[Named], meant: &MapDef) -> Option<usize>
     ensures { result ≡ position (λ named. definition_eq (definition named) meant.now) maps.now }
 {
     maps.iter().position(|named| means(named, meant))
 }
 
-/// Does the map mean this?
+/// Has the map this definition?
 fn means(named: &Named, meant: &MapDef) -> bool
     ensures { result ≡ definition_eq (definition named.now) meant.now }
 {

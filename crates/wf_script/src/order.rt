@@ -1,9 +1,9 @@
-//! What a line of a script asks for.
+//! Orders: what a line of a script does or asks.
 
 ghost use Rattle.std.specs.Prelude.{◌≡◌, [], OnOk, map};
 ghost use Rattle.wf_script.specs.Naming.{name};
 ghost use Rattle.wf_script.specs.Order.{view};
-ghost use Rattle.wf_script.specs.Orders.{a_kept, a_map, a_step, definition_order, deliver_order, equal_order, get_order, numbers, order_by, order_of, proposal_order, pump_order, restart_order, some_numbers, step_by, step_order, stop_order, torn_order};
+ghost use Rattle.wf_script.specs.Orders.{a_map, a_side, a_step, definition_order, deliver_order, equal_order, get_order, numbers, order_by, order_of, proposal_order, pump_order, restart_order, some_numbers, step_by, step_order, stop_order, torn_order};
 ghost use Rattle.wf_script.specs.Reading.{Gives};
 ghost use Rattle.wf_script.specs.Words.{a_word};
 
@@ -12,18 +12,17 @@ use crate::maps::Maps;
 use crate::verb::Verb;
 use crate::words::{Words, number};
 use std::alloc::Global;
-use wf_farm::Kept;
 
 /// An order, and the number of its line.
 #[derive(Drop)]
-pub(crate) struct Numbered {
-    pub(crate) line: usize,
-    pub(crate) order: Order,
+pub struct Numbered {
+    pub line: usize,
+    pub order: Order,
 }
 
-/// What a line asks for. A node, a message and a sequence are their numbers, a map is its number in the script.
+/// What a line does or asks. A node, a message and a sequence are their numbers, a map is its number in the script.
 #[derive(Drop)]
-pub(crate) enum Order {
+pub enum Order {
     /// A step of the node.
     Step(usize, Step),
     /// The messages go to the node, one after the other.
@@ -32,37 +31,44 @@ pub(crate) enum Order {
     Stop(usize),
     /// The stopped node comes back.
     Restart(usize),
-    /// The node stops within a step.
-    Torn(usize, Step, Kept),
+    /// The node crashes within a step.
+    Torn(usize, Step, Side),
     /// The messages that aren't pumped yet go to these nodes; to each, where none is named.
     Pump(Vec<usize>),
     /// All messages so far count as pumped.
     Skip,
-    /// Something is asked of the farm, which it doesn't change.
+    /// A question about the farm, which doesn't change it.
     Ask(Question),
-    /// What does the node answer to this query of a client? That changes nothing either.
+    /// What does the node answer to this query of a client? It changes nothing either.
     Get(usize, Vec<u8>),
     /// Do the two nodes answer this query equally?
     Equal(usize, usize, Vec<u8>),
 }
 
-/// A step of a node that can be torn.
+/// When a node crashes within a step: before its record is on the tape, or after.
 #[derive(Clone, Copy)]
-pub(crate) enum Step {
+pub enum Side {
+    Before,
+    After,
+}
+
+/// A step of a node, within which the node can crash.
+#[derive(Clone, Copy)]
+pub enum Step {
     Propose(usize),
     Retry,
     CatchUp,
     Deliver(usize),
 }
 
-/// What is asked of a farm.
+/// A question about a farm.
 #[derive(Clone, Copy)]
-pub(crate) enum Question {
+pub enum Question {
     /// What did each node publish last?
     Published,
     /// How many messages were sent?
     Sent,
-    /// How does the node's proposal stand?
+    /// What is the state of the node's proposal?
     Proposal(usize),
     /// Which map did the node publish at the sequence?
     Definition(usize, usize),
@@ -70,7 +76,7 @@ pub(crate) enum Question {
     Same,
 }
 
-/// The order that a verb and all the words behind it are.
+/// The order that a verb and all the words after it make.
 #[tactic(auto, unfolding(crate::specs::Orders::order_of))]
 pub(crate) fn read_order(
     alloc: Global,
@@ -90,7 +96,7 @@ pub(crate) fn read_order(
     }
 }
 
-/// The order that a verb and the words behind it are.
+/// The order that a verb and the words after it make.
 #[tactic(auto, unfolding(crate::specs::Orders::order_by))]
 fn order_by(alloc: Global, maps: &Maps, verb: Verb, words: &mut Words<'_>) -> Result<Order, Wrong>
     ensures { Gives (λ o. (view o, words.new)) result (order_by (map name maps.now.named.items) verb words.old) }
@@ -168,23 +174,23 @@ fn torn(maps: &Maps, words: &mut Words<'_>) -> Result<Order, Wrong>
     ensures { Gives (λ o. (view o, words.new)) result (torn_order (map name maps.now.named.items) words.old) }
 {
     let node = words.number()?;
-    let kept = part_kept(words)?;
+    let side = torn_side(words)?;
     let step = step_after(maps, words)?;
-    Ok(Order::Torn(node, step, kept))
+    Ok(Order::Torn(node, step, side))
 }
 
-#[tactic(auto, unfolding(crate::specs::Orders::a_kept))]
-fn part_kept(words: &mut Words<'_>) -> Result<Kept, Wrong>
-    ensures { Gives (λ kept. (kept, words.new)) result (a_kept words.old) }
+#[tactic(auto, unfolding(crate::specs::Orders::a_side))]
+fn torn_side(words: &mut Words<'_>) -> Result<Side, Wrong>
+    ensures { Gives (λ side. (side, words.new)) result (a_side words.old) }
 {
     match words.text()? {
-        "before" => Ok(Kept::Before),
-        "after" => Ok(Kept::After),
+        "before" => Ok(Side::Before),
+        "after" => Ok(Side::After),
         _ => Err(Wrong::BadLine),
     }
 }
 
-/// A step of a node that is named already.
+/// A step of a node whose number has been read.
 #[tactic(auto, unfolding(crate::specs::Orders::a_step))]
 fn step_after(maps: &Maps, words: &mut Words<'_>) -> Result<Step, Wrong>
     ensures { Gives (λ step. (step, words.new)) result (a_step (map name maps.now.named.items) words.old) }
@@ -195,7 +201,7 @@ fn step_after(maps: &Maps, words: &mut Words<'_>) -> Result<Step, Wrong>
     }
 }
 
-/// The step that a verb and the words behind it are.
+/// The step that a verb and the words after it make.
 #[tactic(auto, unfolding(crate::specs::Orders::step_by))]
 fn step_by(maps: &Maps, verb: Verb, words: &mut Words<'_>) -> Result<Step, Wrong>
     ensures { Gives (λ step. (step, words.new)) result (step_by (map name maps.now.named.items) verb words.old) }

@@ -27,7 +27,7 @@ pub struct Script {
     pub(crate) orders: Vec<Numbered>,
 }
 
-// By hand: a crate above proves one call where it drops a script, and not each part of one anew.
+// Not derived, so that a crate above proves one call where it drops a script, and not each part of one anew.
 impl Drop for Script {
     fn drop(self) {
         let Script {
@@ -68,12 +68,12 @@ impl Model for Script {
 impl Script {
     ghost use Rattle.std.specs.Prelude.{Some};
     ghost use Rattle.wf_script.specs.Script.{numbered};
-    ghost use Rattle.wf_script.specs.Telling.{name_of};
+    ghost use Rattle.wf_script.specs.Script.{name_of};
 
-    /// Reads a script. A byte or a line over the limit is judged first (S3), then the lines in order, a map at the line
+    /// Reads a script. The limits of bytes and lines are checked first (S3), then the lines in order, a map at the line
     /// where it begins; on one line S2 comes before S3 before S4. A script without a line that isn't skipped is S2 at line 1.
-    /// Allocation failure is S1, at the line that wants it, whatever the text is otherwise. Each fault is at a line of the bytes, or
-    /// at line 1 where they have none.
+    /// Allocation failure is S1, at the line where it happens, whatever the text is otherwise. Each error is at a line of the
+    /// bytes, or at line 1 where they have none.
     #[tactic(auto, using(crate::proofs::Counting::over_at, crate::proofs::Counting::bytes_fit, crate::proofs::Counting::lines_fit))]
     pub fn read(alloc: Global, bytes: &[u8]) -> Result<Script, ScriptFault>
         ensures value { Tells (λ s. s) result (script_of bytes.now) }
@@ -113,14 +113,14 @@ impl Script {
     }
 
     /// The order of that number, counted from 0, with its line.
-    pub(crate) fn order(&self, number: usize) -> Option<&Numbered>
+    pub fn order(&self, number: usize) -> Option<&Numbered>
         ensures { option_map (λ n. numbered n.now) result ≡ slice_get self.now.orders number }
     {
         self.orders.get(number)
     }
 
-    /// The name of the first map that means this; `?` where there is none.
-    pub(crate) fn name_of(&self, meant: &MapDef) -> &str
+    /// The name of the first map with this definition; `?` where there is none.
+    pub fn name_of(&self, meant: &MapDef) -> &str
         ensures { result.now ≡ name_of self.now (Some meant.now) }
     {
         match self.maps.name_of(meant) {
@@ -129,8 +129,8 @@ impl Script {
         }
     }
 
-    /// What the map of that number means, counted from 0.
-    pub(crate) fn map(&self, number: usize) -> Option<&Canon>
+    /// The definition of the map of that number, counted from 0.
+    pub fn map(&self, number: usize) -> Option<&Canon>
         ensures { option_copied result ≡ slice_get self.now.maps number }
     {
         self.maps.canon(number)
@@ -163,7 +163,7 @@ fn read_lines(alloc: Global, bytes: &[u8]) -> Result<Script, ScriptFault>
     }
 }
 
-/// The number of nodes, which the first line that isn't skipped tells.
+/// The number of nodes, from the first line that isn't skipped.
 #[tactic(auto, using(crate::proofs::Faults::wrong_at, crate::proofs::Going::same_want, crate::proofs::Going::head_line, crate::proofs::Going::head_skipped, crate::proofs::Going::no_head))]
 fn first_line(lines: &mut Lines<'_>) -> Result<u8, ScriptFault>
     ensures value { Tells (λ nodes. (nodes, lines.new)) result (head_from lines.old) }

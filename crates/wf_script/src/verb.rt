@@ -1,4 +1,4 @@
-//! The first words of lines: what a line is about.
+//! Verbs: the first words of lines.
 
 ghost use Rattle.std.specs.Prelude.{◌≡◌};
 ghost use Rattle.wf_script.specs.Verb.{verb_of};

@@ -12,7 +12,7 @@ use std::marker::Model;
 /// The most digits that a number has.
 const MOST_DIGITS: usize = 9;
 
-/// The words that are left of a line. Spaces part them.
+/// The words that are left of a line. Spaces separate them.
 #[derive(Drop)]
 pub(crate) struct Words<'a> {
     rest: &'a [u8],

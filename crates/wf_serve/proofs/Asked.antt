@@ -1,15 +1,14 @@
--- A node that is asked for a step: what it answers, and that it stays itself.
-use Rattle.std.proofs.Common.{◌≡◌, ◌≢◌, ◌∙◌, ℕ, Bool, true, false, List, Vec, IsSome, refl, sym, ap, subst}
-use Rattle.std.specs.Prelude.{Result, Ok, Err, IfOk, IfErr, OnOk}
+-- A node that is asked for a step: what it answers.
+use Rattle.std.proofs.Common.{◌≡◌, ◌≢◌, ◌∙◌, ℕ, true, false, List, Vec, IsSome, sym, subst}
+use Rattle.std.specs.Prelude.{Result, Err, IfOk, IfErr, OnOk}
 use Rattle.std.specs.declared.alloc.Global.{Global}
 use Rattle.wf_codec.specs.declared.message.Message.{Message}
 use Rattle.wf_def.specs.Definition.{Definition}
 use Rattle.wf_model.specs.Table.{Input, store}
 use Rattle.wf_node.specs.Fault.{refused_by}
-use Rattle.wf_node.specs.Growth.{IsGrown, grown_itself, step_grown}
 use Rattle.wf_node.specs.Images.{AllStandFor, EachStandsFor}
 use Rattle.wf_node.specs.Node.{Node, stored_of}
-use Rattle.wf_node.specs.Step.{IsRow, IsSameNode, IsStep, TakesMemory, row_of, refusal_at}
+use Rattle.wf_node.specs.Step.{IsRow, IsSameNode, TakesMemory, row_of, refusal_at}
 use Rattle.wf_node.specs.declared.fault.NodeFault.{NodeFault}
 use Rattle.wf_node.specs.declared.fault.NodeFault.TheVariants as fault
 use Rattle.wf_tape.specs.Tape.{IsUnchanged, HasRisen}
@@ -61,24 +60,3 @@ module _ {T : Type 0} (honest : Type 0) (content : T → List ℕ) (images : T �
       torn = torn;
     };
   }
-
-  stepped_same : (answer : Result (Vec Message Global) NodeFault) → IsStep honest content images failures before input answer after → (after.id ≡ before.id) × (after.n ≡ before.n)
-  stepped_same (Ok said) step = (step.done.id, step.done.n)
-  stepped_same (Err why) step = (ap (λ (x : Node T). x.id) step.same, ap (λ (x : Node T). x.n) step.same)
-
-  same_by : (halted : Bool) → before.halted ≡ halted → (answer : Result (Vec Message Global) NodeFault) → IsAnswer honest content images failures input before answer after → (after.id ≡ before.id) × (after.n ≡ before.n)
-  same_by true is answer answers = (ap (λ (x : Node T). x.id) (answers.refused is).1, ap (λ (x : Node T). x.n) (answers.refused is).1)
-  same_by false is answer answers = stepped_same answer (answers.steps is)
-
-  pub answered_id : (answer : Result (Vec Message Global) NodeFault) → IsAnswer honest content images failures input before answer after → after.id ≡ before.id
-  answered_id answer answers = (same_by before.halted refl answer answers).0
-
-  pub answered_n : (answer : Result (Vec Message Global) NodeFault) → IsAnswer honest content images failures input before answer after → after.n ≡ before.n
-  answered_n answer answers = (same_by before.halted refl answer answers).1
-
-  grown_by : (halted : Bool) → before.halted ≡ halted → (answer : Result (Vec Message Global) NodeFault) → IsAnswer honest content images failures input before answer after → IsGrown before.parts.history after.parts.history
-  grown_by true is answer answers = subst (IsGrown before.parts.history) (sym (ap (λ (x : Node T). x.parts.history) (answers.refused is).1)) (grown_itself before.parts.history)
-  grown_by false is answer answers = step_grown before after honest content images failures input answer (answers.steps is)
-
-  pub answered_grown : (answer : Result (Vec Message Global) NodeFault) → IsAnswer honest content images failures input before answer after → IsGrown before.parts.history after.parts.history
-  answered_grown answer answers = grown_by before.halted refl answer answers

@@ -1,3 +1,5 @@
 mod Asked
 mod Caches
+mod Come
+mod Led
 mod Opened

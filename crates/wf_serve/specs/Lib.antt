@@ -3,3 +3,6 @@ pub mod Service
 pub mod Fault
 pub mod Listening
 pub mod Serving
+pub mod Connections
+pub mod Folder
+pub mod Agreeing

@@ -1,9 +1,18 @@
 -- What is told of the port that is listened at.
-use Rattle.std.specs.Prelude.{◌≡◌, ◌≢◌, ◌≤◌, ◌++◌, ℕ, List, codes, decimal, take, Option, Result, Ok, Err}
+use Rattle.std.specs.Prelude.{◌≡◌, ◌≢◌, ◌≤◌, ◌++◌, ℕ, List, [], ◌∷◌, codes, decimal, take, Option, Result, Ok, Err}
 use Rattle.std.specs.Io.KnownBytes.{Appends, Keeps}
+use Rattle.std.specs.Net.Addr.{ipv4_octets}
+use Rattle.std.specs.Net.Socket.{v4_ip, v4_port}
+use Rattle.std.specs.declared.net.socket_addr.SocketAddr.{SocketAddr}
+use Rattle.std.specs.declared.net.socket_addr.SocketAddr.TheVariants.{V4, V6}
 use Rattle.wf_serve.specs.Service.{last_port}
 use Rattle.wf_serve.specs.declared.fault.ServeFault.{ServeFault}
 use Rattle.wf_serve.specs.declared.fault.ServeFault.TheVariants as faults
+
+-- The address is a port of 127.0.0.1, which this machine alone reaches (RFC 1122, 3.2.1.3).
+abbrev pub IsHere : ℕ → SocketAddr → Type 0
+IsHere port (V4 address) = (ipv4_octets (v4_ip address) ≡ 127 ∷ 0 ∷ 0 ∷ 1 ∷ []) × (v4_port address ≡ port)
+IsHere port (V6 address) = ⊥
 
 -- the line that names a port
 abbrev pub port_line : ℕ → List ℕ
@@ -12,6 +21,7 @@ port_line port = codes "listening " ++ decimal port ++ codes "\n"
 -- The port that is listened at: the one that was asked for, any where that is 0.
 pub record IsPortFor (asked port : ℕ) : Type 0 where
   pub is : asked ≢ 0 → port ≡ asked
+  pub least : 1 ≤ port
   pub most : port ≤ last_port
 
 -- the bytes were written, or a beginning of them where the writer failed

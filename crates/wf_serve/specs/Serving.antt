@@ -1,14 +1,14 @@
 -- What one connection does to the nodes: one of them serves a request, the nodes hear what it says, and where its proposal still runs then, it
 -- begins that anew.
-use Rattle.std.specs.Prelude.{◌≡◌, ◌≢◌, ◌⊎◌, ℕ, true, false, List, slice_get, slice_set, Option, Some, Result, Err, Vec}
+use Rattle.std.specs.Prelude.{◌≡◌, ◌≢◌, ◌⊎◌, ◌<◌, ℕ, zero, suc, Bool, true, false, List, length, slice_get, slice_set, Option, Some, Result, Err, Vec}
 use Rattle.std.specs.declared.alloc.Global.{Global}
 use Rattle.wf_codec.specs.declared.message.Message.{Message}
 use Rattle.wf_def.specs.Definition.{Definition}
 use Rattle.wf_edge.specs.Page.{standing_at}
 use Rattle.wf_edge.specs.Serving.{HandsOut, IsOutcome, MovesOnce}
 use Rattle.wf_edge.specs.declared.outcome.Outcome.{Outcome}
-use Rattle.wf_farm.specs.Delivering.{IsDelivered}
-use Rattle.wf_model.specs.Table.{Input, Retry}
+use Rattle.wf_farm.specs.Delivering.{AreHandedOut, IsDelivered}
+use Rattle.wf_model.specs.Table.{CatchUp, Input, Retry}
 use Rattle.wf_node.specs.Node.{Node}
 use Rattle.wf_node.specs.Step.{IsStep}
 use Rattle.wf_node.specs.declared.fault.NodeFault.{NodeFault}
@@ -34,6 +34,9 @@ module _ {T : Type 0} (honest : Type 0) (images : T → List ℕ → Type 0) whe
     -- how many deliveries were made
     pub deliveries : ℕ
     pub delivered : IsDelivered honest images nodes said.items deliveries nodes_after
+    -- each message went to each node, until none was left, or the deliveries were stopped
+    pub stopped : Bool
+    pub handed : 0 < length nodes → AreHandedOut honest images nodes said.items deliveries stopped nodes_after
 
 module _ {T : Type 0} (honest : Type 0) (content : T → List ℕ) (images : T → List ℕ → Type 0) (failures : T → ℕ) where
   -- The node at the place served the request that came in, and handed out these messages.
@@ -66,14 +69,23 @@ module _ {T : Type 0} (honest : Type 0) (content : T → List ℕ) (images : T �
     pub changed : IsChangedAt place nodes before after nodes_after
     pub asked : IsAsked input before said after
 
-  -- The proposal of the node at the place ran; the node was asked to begin it anew, and the nodes heard what it said.
-  pub record IsBegunAnew (place : ℕ) (nodes nodes_after : List (Node T)) : Type 0 where
-    pub runs : RunsAt place nodes
+  -- The node at the place was asked so, and the nodes heard what it said.
+  pub record IsAskedAndHeard (place : ℕ) (input : Input Definition) (nodes nodes_after : List (Node T)) : Type 0 where
     -- what the node said, and the nodes by then
     pub said : Vec Message Global
     pub asked : List (Node T)
-    pub retry : IsAskedAt place Retry nodes said asked
+    pub step : IsAskedAt place input nodes said asked
     pub heard : AreHeard honest images asked said nodes_after
+
+  -- The nodes from place 0 on, so many, were asked to catch up, one after the other, and the nodes heard what each said before the next was asked.
+  unfoldable pub HaveCaughtUp : ℕ → List (Node T) → List (Node T) → Type 0
+  HaveCaughtUp zero nodes nodes_after = nodes_after ≡ nodes
+  HaveCaughtUp (suc count) nodes nodes_after = (middle : List (Node T)) × HaveCaughtUp count nodes middle × IsAskedAndHeard count CatchUp middle nodes_after
+
+  -- The proposal of the node at the place ran; the node was asked to begin it anew, and the nodes heard what it said.
+  pub record IsBegunAnew (place : ℕ) (nodes nodes_after : List (Node T)) : Type 0 where
+    pub runs : RunsAt place nodes
+    pub anew : IsAskedAndHeard place Retry nodes nodes_after
 
   -- A proposal that ran was begun anew; where none did, nothing happened.
   abbrev pub IsRetried : ℕ → List (Node T) → List (Node T) → Type 0

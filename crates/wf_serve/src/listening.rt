@@ -1,36 +1,59 @@
 //! The nodes open, catch up and tell their port, and the connections come.
-ghost use Rattle.std.specs.Prelude.{◌≡◌, ◌<◌, length, IfSome};
-ghost use Rattle.std.specs.String.{string_bytes};
-ghost use Rattle.wf_farm.specs.Delivering.{StandInTurn};
+ghost use Rattle.std.specs.Prelude.{◌≡◌, ◌<◌, length, Some, None};
+ghost use Rattle.wf_farm.specs.Delivering.{AnyPart, StandInTurn};
+ghost use Rattle.wf_farm.specs.Leading.{AreLedOn, AreReached, HaveOneHistory};
 ghost use Rattle.wf_serve.specs.Caching.{AreKept};
+ghost use Rattle.wf_serve.specs.Connections.{IfTold, IsServing};
 ghost use Rattle.wf_serve.specs.Fault.{CountsWrites};
-ghost use Rattle.wf_serve.specs.Listening.{IsPortFor, IsTold, IsWriting, port_line};
+ghost use Rattle.wf_serve.specs.Listening.{IsTold};
 ghost use Rattle.wf_serve.specs.Service.{IsService};
 
 use crate::caching::caches_for;
+use crate::connections::serve_connections;
 use crate::fault::ServeFault;
+use crate::holding::hold;
 use crate::opening::{in_files, in_memory};
+use crate::port::{listen, tell_port};
 use crate::service::Service;
-use crate::serving::{catch_up, serve_connections};
-use std::alloc::Global;
-use std::net::{Ipv4Addr, Net, SocketAddr, TcpListener, TcpStream};
+use crate::serving::{agree_still, catch_up};
+use std::fs::File;
+use std::net::{Net, TcpListener, TcpStream};
 use std::rt::Files;
+use std::time::Clock;
+use wf_farm::leading_goes_on;
 use wf_node::Node;
-use wf_stream::{Sink, write_all};
+use wf_stream::Sink;
 use wf_tape::Tape;
 use wf_wms::cache::Cache;
 
 /// Serves nodes at a port of 127.0.0.1, to as many connections as the service says, one after the other: connection c, counted
-/// from 0, by node c mod N. The line `listening P` with the port is written before the first; before that the nodes open, with
-/// what their tapes stand for, each asks for what it missed, and they hear one another. After each connection the nodes hear
-/// what its node has said; where its proposal still runs, it begins that anew, once. For each node so many pictures are kept as
-/// the service says.
+/// from 0, by node c mod N. The port comes first: where it can't be had, no tape is opened. Then it goes on as [`serve_at`] says.
 ///
-/// `Start` where a tape doesn't open, the port can't be had or memory ran out: nothing of the line is written then. `Write`
+/// `Start` where the port or the folder can't be had, a tape doesn't open or memory ran out: nothing of the line is written then. `Write`
 /// where the line can't be written: a beginning of it may be. The port is the service's; where that is 0, one that the system
-/// gives. A connection that can't be accepted counts as one without a request.
-pub fn serve<R: Files + Net<Listener = TcpListener, Stream = TcpStream> + AllocGlobal, K: Sink>(
+/// gives.
+pub fn serve<
+    R: Files<File = File> + Clock + Net<Listener = TcpListener, Stream = TcpStream> + AllocGlobal,
+    K: Sink,
+>(rt: &R, service: Service<'_>, sink: &mut K) -> Result<(), ServeFault>
+    requires { IsService service }
+    ensures told { IsTold service.entry.port (K.written sink.old) (K.written sink.new) result }
+    ensures writes { CountsWrites result (K.failures sink.old) (K.failures sink.new) }
+{
+    let Ok(listener) = listen(rt, service.port) else {
+        return Err(ServeFault::Start);
+    };
+    let outcome = serve_at(rt, &listener, service, sink);
+    drop(listener);
+    outcome
+}
+
+/// Serves nodes at a listener: they open, with what their tapes in the service's folder stand for, or anew in memory where there is no
+/// folder; and it goes on as [`serve_nodes`] says. A folder is taken first: where another program has it, no tape is opened. The errors
+/// are those of [`serve`].
+pub fn serve_at<R: Files<File = File> + Clock + AllocGlobal, K: Sink>(
     rt: &R,
+    listener: &TcpListener,
     service: Service<'_>,
     sink: &mut K,
 ) -> Result<(), ServeFault>
@@ -39,64 +62,97 @@ pub fn serve<R: Files + Net<Listener = TcpListener, Stream = TcpStream> + AllocG
     ensures writes { CountsWrites result (K.failures sink.old) (K.failures sink.new) }
 {
     match service.state {
-        Some(folder) => serve_files(rt, service, folder, sink),
-        None => serve_memory(rt, service, sink),
+        Some(folder) => serve_files(rt, listener, service, folder, sink),
+        None => serve_memory(rt, listener, service, sink),
     }
 }
 
-/// Serves nodes on tapes in memory.
-fn serve_memory<R: Net<Listener = TcpListener, Stream = TcpStream> + AllocGlobal, K: Sink>(
+/// Serves nodes on tapes in memory, where no folder was asked for.
+fn serve_memory<R: Clock + AllocGlobal, K: Sink>(
     rt: &R,
+    listener: &TcpListener,
     service: Service<'_>,
     sink: &mut K,
 ) -> Result<(), ServeFault>
-    requires { IsService service }
+    requires service { IsService service }
+    requires memory { service.state ≡ None }
     ensures told { IsTold service.entry.port (K.written sink.old) (K.written sink.new) result }
     ensures writes { CountsWrites result (K.failures sink.old) (K.failures sink.new) }
 {
     match in_memory(rt.alloc(), service.nodes) {
-        Ok(nodes) => serve_opened(rt, service, nodes, sink),
+        Ok(nodes) => serve_opened(rt, listener, service, nodes, sink),
         Err(_) => Err(ServeFault::Start),
     }
 }
 
-/// Serves nodes on tapes in the files of a folder.
-fn serve_files<R: Files + Net<Listener = TcpListener, Stream = TcpStream> + AllocGlobal, K: Sink>(
+/// Serves nodes on tapes in the files of the folder that was asked for, which no other program has meanwhile.
+fn serve_files<R: Files<File = File> + Clock + AllocGlobal, K: Sink>(
     rt: &R,
+    listener: &TcpListener,
     service: Service<'_>,
     folder: &str,
     sink: &mut K,
 ) -> Result<(), ServeFault>
-    requires { IsService service }
+    requires service { IsService service }
+    requires files { service.state ≡ Some folder }
+    ensures told { IsTold service.entry.port (K.written sink.old) (K.written sink.new) result }
+    ensures writes { CountsWrites result (K.failures sink.old) (K.failures sink.new) }
+{
+    let Ok(held) = hold(rt, folder) else {
+        return Err(ServeFault::Start);
+    };
+    let outcome = serve_tapes(rt, listener, service, folder, sink);
+    drop(held);
+    outcome
+}
+
+/// The same where the folder is taken.
+fn serve_tapes<R: Files + Clock + AllocGlobal, K: Sink>(
+    rt: &R,
+    listener: &TcpListener,
+    service: Service<'_>,
+    folder: &str,
+    sink: &mut K,
+) -> Result<(), ServeFault>
+    requires service { IsService service }
+    requires files { service.state ≡ Some folder }
     ensures told { IsTold service.entry.port (K.written sink.old) (K.written sink.new) result }
     ensures writes { CountsWrites result (K.failures sink.old) (K.failures sink.new) }
 {
     match in_files(rt, service.nodes, folder) {
-        Ok(nodes) => serve_opened(rt, service, nodes, sink),
+        Ok(nodes) => serve_opened(rt, listener, service, nodes, sink),
         Err(_) => Err(ServeFault::Start),
     }
 }
 
 /// Serves nodes that are open, and closes them.
-fn serve_opened<
-    R: Net<Listener = TcpListener, Stream = TcpStream> + AllocGlobal,
-    K: Sink,
-    T: Tape + Drop,
->(rt: &R, service: Service<'_>, mut nodes: Vec<Node<T>>, sink: &mut K) -> Result<(), ServeFault>
+fn serve_opened<R: Clock + AllocGlobal, K: Sink, T: Tape + Drop>(
+    rt: &R,
+    listener: &TcpListener,
+    service: Service<'_>,
+    mut nodes: Vec<Node<T>>,
+    sink: &mut K,
+) -> Result<(), ServeFault>
     requires service { IsService service }
     requires some { 0 < length nodes.items }
     requires in_turn { StandInTurn nodes.items }
     ensures told { IsTold service.entry.port (K.written sink.old) (K.written sink.new) result }
     ensures writes { CountsWrites result (K.failures sink.old) (K.failures sink.new) }
 {
-    let outcome = serve_nodes(rt, service, nodes.as_mut_slice(), sink);
+    let outcome = serve_nodes(rt, listener, service, nodes.as_mut_slice(), sink);
     drop(nodes);
     outcome
 }
 
-/// Serves nodes that a caller holds: they catch up, the port is told, and the connections come.
-fn serve_nodes<R: Net<Listener = TcpListener, Stream = TcpStream> + AllocGlobal, K: Sink, T: Tape>(
+/// Serves nodes that a caller holds at a listener: each asks for what it missed, and they hear one another; the line `listening P` with
+/// the listener's port is written; and then the connections come, as [`serve_connections`] says. For each node so many pictures are kept
+/// as the service says; its numbers of nodes and its folder aren't looked at.
+///
+/// `Start` where the listener's port isn't the service's, which 0 leaves open, or memory ran out: nothing of the line is written then.
+/// `Write` where the line can't be written: a beginning of it may be. In both cases no connection is served.
+pub fn serve_nodes<R: Clock + AllocGlobal, K: Sink, T: Tape>(
     rt: &R,
+    listener: &TcpListener,
     service: Service<'_>,
     nodes: &mut [Node<T>],
     sink: &mut K,
@@ -106,19 +162,27 @@ fn serve_nodes<R: Net<Listener = TcpListener, Stream = TcpStream> + AllocGlobal,
     requires in_turn { StandInTurn nodes.old }
     ensures told { IsTold service.entry.port (K.written sink.old) (K.written sink.new) result }
     ensures writes { CountsWrites result (K.failures sink.old) (K.failures sink.new) }
+    ensures served { IsServing T.honest T.content T.images T.failed service.entry.requests nodes.old result nodes.new }
+    ensures led { AreLedOn T.honest T.images nodes.old nodes.new }
+    ensures reached { AreReached AnyPart nodes.old → AreReached AnyPart nodes.new }
+    ensures agree { AreReached AnyPart nodes.old → HaveOneHistory nodes.new }
 {
+    leading_goes_on::<T>();
     catch_up(rt.alloc(), nodes);
     let Ok(mut caches) = caches_for(rt.alloc(), nodes, service.cache) else {
+        agree_still(nodes);
         return Err(ServeFault::Start);
     };
-    let outcome = serve_kept(rt, service, nodes, caches.as_mut_slice(), sink);
+    let outcome = serve_kept(rt, listener, service, nodes, caches.as_mut_slice(), sink);
     drop(caches);
+    agree_still(nodes);
     outcome
 }
 
-/// The same with the nodes' caches.
-fn serve_kept<R: Net<Listener = TcpListener, Stream = TcpStream> + AllocGlobal, K: Sink, T: Tape>(
+/// The port is told, and the connections come.
+fn serve_kept<R: Clock + AllocGlobal, K: Sink, T: Tape>(
     rt: &R,
+    listener: &TcpListener,
     service: Service<'_>,
     nodes: &mut [Node<T>],
     caches: &mut [Cache],
@@ -129,70 +193,15 @@ fn serve_kept<R: Net<Listener = TcpListener, Stream = TcpStream> + AllocGlobal, 
     requires kept { AreKept nodes.old caches.old }
     ensures told { IsTold service.entry.port (K.written sink.old) (K.written sink.new) result }
     ensures writes { CountsWrites result (K.failures sink.old) (K.failures sink.new) }
+    ensures come { IfTold T.honest T.content T.images T.failed service.entry.requests nodes.old result nodes.new }
+    ensures led { AreLedOn T.honest T.images nodes.old nodes.new }
 {
-    let address = SocketAddr::from((Ipv4Addr::LOCALHOST, service.port));
-    let Ok(listener) = TcpListener::bind(rt, address) else {
-        return Err(ServeFault::Start);
-    };
-    let outcome = tell_port(rt.alloc(), &listener, service.port, sink);
-    if outcome.is_ok() {
-        serve_connections(rt.alloc(), &listener, nodes, caches, service.requests);
-    }
-    drop(listener);
-    outcome
-}
-
-/// Writes the line that names the port.
-fn tell_port<K: Sink>(
-    alloc: Global,
-    listener: &TcpListener,
-    asked: u16,
-    sink: &mut K,
-) -> Result<(), ServeFault>
-    ensures told { IsTold asked (K.written sink.old) (K.written sink.new) result }
-    ensures writes { CountsWrites result (K.failures sink.old) (K.failures sink.new) }
-{
-    let Some(port) = port_of(listener, asked) else {
-        return Err(ServeFault::Start);
-    };
-    let Some(line) = line_of(alloc, port) else {
-        return Err(ServeFault::Start);
-    };
-    let outcome = put(sink, line.as_bytes());
-    drop(line);
-    outcome
-}
-
-/// The port that is listened at: the asked one, and where that is 0 the one that the system has given.
-fn port_of(listener: &TcpListener, asked: u16) -> Option<u16>
-    ensures { IfSome result (IsPortFor asked) }
-{
-    if asked != 0 {
-        return Some(asked);
-    }
-    match listener.local_addr() {
-        Ok(address) => Some(address.port()),
-        Err(_) => None,
-    }
-}
-
-/// The line that names a port. None where there is no memory for it.
-fn line_of(alloc: Global, port: u16) -> Option<String>
-    ensures { IfSome result (λ line. string_bytes line ≡ port_line port) }
-{
-    match format!(in alloc; "listening {port}\n") {
-        Ok(line) => Some(line),
-        Err(_) => None,
-    }
-}
-
-/// Writes all the bytes.
-fn put<K: Sink>(sink: &mut K, bytes: &[u8]) -> Result<(), ServeFault>
-    ensures written { IsWriting bytes.now (K.written sink.old) (K.written sink.new) result }
-    ensures writes { CountsWrites result (K.failures sink.old) (K.failures sink.new) }
-{
-    match write_all(sink, bytes) {
-        Ok(()) => Ok(()),
-        Err(_) => Err(ServeFault::Write),
+    leading_goes_on::<T>();
+    match tell_port(rt.alloc(), listener, service.port, sink) {
+        Ok(()) => {
+            serve_connections(rt, listener, nodes, caches, service.requests);
+            Ok(())
+        }
+        Err(fault) => Err(fault),
     }
 }

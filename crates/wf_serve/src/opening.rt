@@ -1,10 +1,13 @@
 //! The nodes that are served open.
-ghost use Rattle.std.specs.Prelude.{◌≡◌, ◌<◌, ◌≤◌, ◌+◌, length, IfOk, OnOk};
-ghost use Rattle.wf_farm.specs.Delivering.{StandAmong};
+ghost use Rattle.std.specs.Prelude.{◌≡◌, ◌<◌, ◌≤◌, ◌+◌, length, IfOk, IfSome, OnOk, string_bytes};
+ghost use Rattle.wf_farm.specs.Delivering.{AnyPart, StandAmong};
+ghost use Rattle.wf_farm.specs.Leading.{AreFresh, AreReached, IsFresh};
+ghost use Rattle.wf_serve.specs.Folder.{tape_path};
 
 use std::alloc::Global;
 use std::rt::Files;
 use wf_ballot::NodeId;
+use wf_farm::{fresh_nodes_are_reached, open_fresh};
 use wf_node::Node;
 use wf_tape::{FileTape, MemoryTape, Tape};
 
@@ -12,21 +15,17 @@ use wf_tape::{FileTape, MemoryTape, Tape};
 #[derive(Clone, Copy)]
 pub(crate) struct Unopened;
 
-/// n nodes on tapes in memory, with all parts empty.
+/// n nodes on tapes in memory, with all parts empty: the model's start.
 pub(crate) fn in_memory(alloc: Global, n: u8) -> Result<Vec<Node<MemoryTape>>, Unopened>
     requires { n ≤ 64 }
     ensures size { IfOk result (λ nodes. length nodes.items ≡ n) }
     ensures in_turn { IfOk result (λ nodes. StandAmong n nodes.items) }
+    ensures reached { IfOk result (λ nodes. AreReached AnyPart nodes.items) }
 {
+    fresh_nodes_are_reached::<MemoryTape>();
     let mut nodes = Vec::new(alloc);
     for number in 0..n {
-        match add(
-            alloc,
-            &mut nodes,
-            MemoryTape::new(Vec::new(alloc)),
-            number,
-            n,
-        ) {
+        match add_fresh(alloc, &mut nodes, number, n) {
             Ok(()) => {}
             Err(_) => {
                 drop(nodes);
@@ -37,7 +36,29 @@ pub(crate) fn in_memory(alloc: Global, n: u8) -> Result<Vec<Node<MemoryTape>>, U
     Ok(nodes)
 }
 
-/// n nodes on the tapes in a folder, which are made where they are absent: the files `node-0.tape` and so on.
+/// Adds the node of this number, of n, on a tape in memory, with all parts empty.
+fn add_fresh(
+    alloc: Global,
+    nodes: &mut Vec<Node<MemoryTape>>,
+    number: u8,
+    n: u8,
+) -> Result<(), Unopened>
+    requires most { n ≤ 64 }
+    requires member { number < n }
+    requires next { length nodes.old.items ≡ number }
+    requires in_turn { StandAmong n nodes.old.items }
+    requires fresh { AreFresh nodes.old.items }
+    ensures in_turn { OnOk result (StandAmong n nodes.new.items) }
+    ensures size { OnOk result (length nodes.new.items ≡ number + 1) }
+    ensures fresh { OnOk result (AreFresh nodes.new.items) }
+{
+    match open_fresh(alloc, id_of(number), n) {
+        Ok(node) => put(nodes, node, n),
+        Err(_) => Err(Unopened),
+    }
+}
+
+/// n nodes on the tapes in a folder, each on its own, `node-0.tape` and so on, which is made where it is absent.
 pub(crate) fn in_files<'a, R: Files + AllocGlobal>(
     rt: &'a R,
     n: u8,
@@ -60,7 +81,7 @@ pub(crate) fn in_files<'a, R: Files + AllocGlobal>(
     Ok(nodes)
 }
 
-/// Adds the node of this number, of n, with what its tape in a folder stands for.
+/// Adds the node of this number, of n, with what its own tape in a folder stands for.
 fn add_file<'a, R: Files + AllocGlobal>(
     rt: &'a R,
     nodes: &mut Vec<Node<FileTape<&'a R>>>,
@@ -75,25 +96,43 @@ fn add_file<'a, R: Files + AllocGlobal>(
     ensures in_turn { OnOk result (StandAmong n nodes.new.items) }
     ensures size { OnOk result (length nodes.new.items ≡ number + 1) }
 {
-    match tape(rt, number, folder) {
-        Ok(tape) => add(rt.alloc(), nodes, tape, number, n),
-        Err(fault) => Err(fault),
+    let Some(path) = path_of(rt.alloc(), folder, number) else {
+        return Err(Unopened);
+    };
+    let added = add_at(rt, nodes, number, n, folder, path.as_str());
+    drop(path);
+    added
+}
+
+/// The path of a node's tape in a folder. None where there is no memory for it.
+fn path_of(alloc: Global, folder: &str, number: u8) -> Option<String>
+    ensures { IfSome result (λ path. string_bytes path ≡ tape_path folder.now number) }
+{
+    match format!(in alloc; "{folder}/node-{number}.tape") {
+        Ok(path) => Some(path),
+        Err(_) => None,
     }
 }
 
-/// The tape of a node in a folder.
-fn tape<'a, R: Files + AllocGlobal>(
+/// Adds the node of this number, of n, with what the tape at its path in a folder stands for.
+fn add_at<'a, R: Files + AllocGlobal>(
     rt: &'a R,
+    nodes: &mut Vec<Node<FileTape<&'a R>>>,
     number: u8,
+    n: u8,
     folder: &str,
-) -> Result<FileTape<&'a R>, Unopened> {
-    let Ok(path) = format!(in rt.alloc(); "{folder}/node-{number}.tape") else {
-        return Err(Unopened);
-    };
-    let tape = FileTape::open(rt.alloc(), rt, path.as_str());
-    drop(path);
-    match tape {
-        Ok(tape) => Ok(tape),
+    path: &str,
+) -> Result<(), Unopened>
+    requires most { n ≤ 64 }
+    requires member { number < n }
+    requires next { length nodes.old.items ≡ number }
+    requires in_turn { StandAmong n nodes.old.items }
+    requires own { path.now ≡ tape_path folder.now number }
+    ensures in_turn { OnOk result (StandAmong n nodes.new.items) }
+    ensures size { OnOk result (length nodes.new.items ≡ number + 1) }
+{
+    match FileTape::open(rt.alloc(), rt, path) {
+        Ok(tape) => add(rt.alloc(), nodes, tape, number, n),
         Err(_) => Err(Unopened),
     }
 }
@@ -113,9 +152,7 @@ fn add<T: Tape + Drop>(
     ensures in_turn { OnOk result (StandAmong n nodes.new.items) }
     ensures size { OnOk result (length nodes.new.items ≡ number + 1) }
 {
-    // The number is below 64, so it is a node's.
-    let id = NodeId::new(number).unwrap();
-    match Node::open(alloc, tape, id, n) {
+    match Node::open(alloc, tape, id_of(number), n) {
         Ok(node) => put(nodes, node, n),
         Err((tape, _)) => {
             drop(tape);
@@ -124,14 +161,23 @@ fn add<T: Tape + Drop>(
     }
 }
 
+/// The node of this number.
+fn id_of(number: u8) -> NodeId
+    requires { number < 64 }
+    ensures { result ≡ number }
+{
+    NodeId::new(number).unwrap()
+}
+
 /// Puts the next node of n behind the others.
-#[tactic(auto, using(crate::proofs::Opened::one_more))]
+#[tactic(auto, using(crate::proofs::Opened::one_more, crate::proofs::Opened::one_more_fresh))]
 fn put<T: Tape + Drop>(nodes: &mut Vec<Node<T>>, node: Node<T>, n: u8) -> Result<(), Unopened>
     requires next { node.id ≡ length nodes.old.items }
     requires of { node.n ≡ n }
     requires in_turn { StandAmong n nodes.old.items }
     ensures in_turn { OnOk result (StandAmong n nodes.new.items) }
     ensures size { OnOk result (length nodes.new.items ≡ length nodes.old.items + 1) }
+    ensures fresh { OnOk result (IsFresh node → AreFresh nodes.old.items → AreFresh nodes.new.items) }
 {
     match nodes.push(node) {
         Ok(()) => Ok(()),

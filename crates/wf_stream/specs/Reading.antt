@@ -1,5 +1,5 @@
 -- What the calls of a reader or a writer do to known bytes, and how they count their failures.
-use Rattle.std.specs.Prelude.{◌≡◌, ◌≢◌, ◌+◌, ◌-◌, ◌^◌, ◌≤◌, ◌++◌, ℕ, min, List, length, Option, Result, MatchResult}
+use Rattle.std.specs.Prelude.{◌≡◌, ◌≢◌, ◌+◌, ◌-◌, ◌^◌, ◌≤◌, ◌++◌, ℕ, min, List, length, Option, Result, MatchResult, IfOk, IfSome}
 use Rattle.std.specs.IoError.{error_kind}
 use Rattle.std.specs.Io.KnownBytes.{Consumes}
 use Rattle.std.specs.declared.io.Error.{Error}
@@ -16,6 +16,14 @@ Counts result old new = MatchResult result (λ _. new ≡ old) (λ _. Rises old 
 -- an error of reading into memory: memory ran out, or the reader has failed
 abbrev pub IsReadError : ℕ → ℕ → Error → Type 0
 IsReadError old new error = error_kind error ≢ OutOfMemory → Rises old new
+
+-- `OutOfMemory` is never a reader's own error: memory for what was read ran out, and no read has failed
+abbrev pub IsMemoryAlone : ℕ → ℕ → Error → Type 0
+IsMemoryAlone old new error = error_kind error ≡ OutOfMemory → new ≡ old
+
+-- a call gives no more bytes than the reader gives at most, where that is known, and this stays as it is
+abbrev pub GivesUpTo : {E : Type 0} → Option ℕ → Option ℕ → Result ℕ E → Type 0
+GivesUpTo old new result = (new ≡ old) × IfOk result (λ count. IfSome old (λ most. count ≤ most))
 
 -- at most so many bytes were taken from the front of what is left
 abbrev pub TakesUpTo : ℕ → Option (List ℕ) → Option (List ℕ) → Type 0

@@ -4,12 +4,13 @@
 //! writers of std, [`Bytes`] and [`Output`] are over memory. [`read_piece`] reads once, [`read_up_to`] to the end or so many
 //! bytes, and [`write_all`] writes all of them.
 //!
-//! Its model: of a source, the bytes that it still gives, and of a sink, the bytes that it was given, both where they are
-//! known; of each, how many calls have failed. What a call does to these says `specs/Reading.antt`.
+//! Its model: of a source, the bytes that it still gives and how many of them a call gives at most, and of a sink, the bytes that
+//! it was given, each where it is known; of each, how many calls have failed. What a call does to these says `specs/Reading.antt`.
 //!
 //! It promises that what is read is taken from the front of what is left, and no more than was asked for; that what is
-//! written is all of the bytes, or so many of them where a call failed; and that the count rises where a call failed and
-//! nowhere else. It doesn't promise that a reader ever gives its next byte, nor what becomes of bytes behind a writer of std.
+//! written is all of the bytes, or so many of them where a call failed; that the count rises where a call failed and
+//! nowhere else; that a call which a signal interrupts isn't told as failed; and that an error of a reader is never told as
+//! allocation failure. That no other failed call is made again is tested (`wf_cases_edge`). It doesn't promise that a reader ever gives its next byte, nor what becomes of bytes behind a writer of std.
 #![tactic(auto)]
 
 mod memory;

@@ -1,5 +1,6 @@
 //! A reader and a writer over memory.
-ghost use Rattle.std.specs.Prelude.{◌≡◌, ◌<◌, [], false, true, length, min, take, drop, Some, None};
+ghost use Rattle.std.specs.Prelude.{◌≡◌, ◌<◌, [], length, min, take, drop, Some};
+ghost use Rattle.wf_stream.specs.Memory.{is_due, one_fewer};
 ghost use Rattle.wf_stream.specs.Reading.{Rises};
 
 use crate::stream::{Sink, Source};
@@ -8,7 +9,7 @@ use std::io;
 use std::io::ErrorKind;
 use std::marker::Model;
 
-/// A reader of bytes in memory, which gives them in pieces. One call may fail.
+/// A reader of bytes in memory, which gives them in pieces. From some call on each may fail.
 #[derive(Drop)]
 pub struct Bytes<'b> {
     rest: &'b [u8],
@@ -29,7 +30,7 @@ impl<'b> Model for Bytes<'b> {
 }
 
 impl<'b> Bytes<'b> {
-    /// A reader that gives at most `piece` bytes a call. With `until_failure` the call after that many fails.
+    /// A reader that gives at most `piece` bytes a call. With `until_failure` each call after that many fails.
     pub fn new(bytes: &'b [u8], piece: usize, until_failure: Option<u64>) -> Self
         requires { 0 < piece }
         ensures { result ≡ record { left = bytes.now; piece = piece; until_failure = until_failure; failures = 0 } }
@@ -42,11 +43,12 @@ impl<'b> Bytes<'b> {
         }
     }
 
-    // Whether this is the call that fails. It is counted.
+    // Whether this call fails. It is counted.
     fn fails(&mut self) -> bool
-        ensures fails { self.old.until_failure ≡ Some 0 → result ≡ true }
-        ensures never { self.old.until_failure ≡ None → result ≡ false }
+        ensures fails { result ≡ is_due self.old.until_failure }
+        ensures counts { self.new.until_failure ≡ one_fewer self.old.until_failure }
         ensures left { self.new.left ≡ self.old.left }
+        ensures piece { self.new.piece ≡ self.old.piece }
         ensures failures { self.new.failures ≡ self.old.failures }
     {
         match self.until_failure {
@@ -64,6 +66,7 @@ impl<'b> Bytes<'b> {
         ensures count { result ≡ min (min (length self.old.left) (length buf.old)) self.old.piece }
         ensures given { take result buf.new ≡ take result self.old.left }
         ensures left { self.new.left ≡ drop result self.old.left }
+        ensures piece { self.new.piece ≡ self.old.piece }
         ensures failures { self.new.failures ≡ self.old.failures }
     {
         let count = self.rest.len().min(buf.len()).min(self.piece);
@@ -76,6 +79,8 @@ impl<'b> Bytes<'b> {
 
 impl<'b> Source for Bytes<'b> {
     ghost left = { λ b. Some b.left };
+
+    ghost piece = { λ b. Some b.piece };
 
     ghost failures = { λ b. b.failures };
 

@@ -1,8 +1,9 @@
 //! Readers and writers that count their failures.
-ghost use Rattle.std.specs.Prelude.{◌≡◌, ◌<◌, ◌≤◌, ℕ, List, None, Option, IfErr, IfOk, IfSome, OnErr, OnOk, length, take};
+ghost use Rattle.std.specs.Prelude.{◌≡◌, ◌≢◌, ◌<◌, ◌≤◌, ℕ, List, None, Option, IfErr, IfOk, IfSome, OnErr, OnOk, length, take};
 ghost use Rattle.std.specs.Io.{ReadsAtMost, WritesAtMost};
 ghost use Rattle.std.specs.Io.KnownBytes.{Appends, Consumes, IsAtEnd, ReadConsumes, WriteAppends};
-ghost use Rattle.wf_stream.specs.Reading.{Counts, IsReadError, ReadsPiece, Rises, TakesUpTo};
+ghost use Rattle.std.specs.IoError.{error_kind};
+ghost use Rattle.wf_stream.specs.Reading.{Counts, GivesUpTo, IsMemoryAlone, IsReadError, ReadsPiece, Rises, TakesUpTo};
 
 use std::alloc::Global;
 use std::io;
@@ -13,6 +14,9 @@ pub trait Source {
     /// The bytes that reads will give from here on, where they are known.
     ghost left: { Self → Option (List ℕ) } = { λ _. None };
 
+    /// How many bytes a call gives at most, where that is known.
+    ghost piece: { Self → Option ℕ } = { λ _. None };
+
     /// How many calls have failed.
     ghost failures: { Self → ℕ };
 
@@ -20,6 +24,7 @@ pub trait Source {
     fn read(&mut self, buf: &mut [u8]) -> io::Result<usize>
         ensures bound { ReadsAtMost result buf.new }
         ensures bytes { ReadConsumes (left self.old) (left self.new) result buf.new }
+        ensures most { GivesUpTo (piece self.old) (piece self.new) result }
         ensures cause { Counts result (failures self.old) (failures self.new) };
 }
 
@@ -66,11 +71,12 @@ impl<S> Stream<S> {
     }
 }
 
-/// One read, again where a signal interrupted it.
+/// One read, again where a signal interrupted it, and at no other error.
 #[tactic(auto, using(crate::specs::KnownLaws::keeps_same, crate::specs::KnownLaws::keeps_twice, crate::specs::KnownLaws::reads_after))]
 fn read_again<R: Read>(reader: &mut R, buf: &mut [u8]) -> io::Result<usize>
     ensures bound { ReadsAtMost result buf.new }
     ensures bytes { ReadConsumes (R.remaining reader.old) (R.remaining reader.new) result buf.new }
+    ensures retried { IfErr result (λ error. error_kind error ≢ ErrorKind.Interrupted) }
 {
     for _ in 0..u64::MAX {
         match reader.read(buf) {
@@ -103,6 +109,7 @@ fn write_again<W: Write>(writer: &mut W, buf: &[u8]) -> io::Result<usize>
     ensures bound { WritesAtMost result buf.now }
     ensures some { IfOk result (λ count. 0 < length buf.now → 0 < count) }
     ensures bytes { WriteAppends (W.contents writer.old) (W.contents writer.new) result buf.now }
+    ensures retried { IfErr result (λ error. error_kind error ≢ ErrorKind.Interrupted) }
 {
     for _ in 0..u64::MAX {
         match writer.write(buf) {
@@ -133,7 +140,19 @@ impl<W: Write> Sink for Stream<W> {
 /// How many bytes are read at once.
 const PIECE_BYTES: usize = 8_192;
 
-/// One read of at most so many bytes, put behind those that are there. None is read only at the end.
+/// The error of a failed read. What the reader itself calls `OutOfMemory` isn't the want of memory for what was read.
+fn failed_read(error: io::Error) -> io::Error
+    ensures { error_kind result ≢ ErrorKind.OutOfMemory }
+{
+    if error.kind() == ErrorKind::OutOfMemory {
+        io::Error::from(ErrorKind::Other)
+    } else {
+        error
+    }
+}
+
+/// One read of at most so many bytes, put behind those that are there. None is read only at the end. An error is a failed read's, or
+/// `OutOfMemory` where there is no memory for what was read.
 pub fn read_piece<S: Source>(source: &mut S, bytes: &mut Vec<u8>, room: usize) -> io::Result<usize>
     requires { 0 < room }
     ensures read { IfOk result (λ count. ReadsPiece count (S.left source.old) (S.left source.new) bytes.old.items bytes.new.items) }
@@ -142,15 +161,19 @@ pub fn read_piece<S: Source>(source: &mut S, bytes: &mut Vec<u8>, room: usize) -
     ensures end { IfOk result (λ count. count ≡ 0 → IsAtEnd (S.left source.new)) }
     ensures calm { OnOk result (S.failures source.new ≡ S.failures source.old) }
     ensures cause { IfErr result (IsReadError (S.failures source.old) (S.failures source.new)) }
+    ensures memory { IfErr result (IsMemoryAlone (S.failures source.old) (S.failures source.new)) }
 {
     let mut buf = [0u8; PIECE_BYTES];
     let room = room.min(PIECE_BYTES);
-    let count = source.read(&mut buf[..room])?;
+    let count = match source.read(&mut buf[..room]) {
+        Ok(count) => count,
+        Err(error) => return Err(failed_read(error)),
+    };
     bytes.extend_from_slice(&buf[..count])?;
     Ok(count)
 }
 
-/// Reads to the end, or so many bytes. An error is a failed read's, or `OutOfMemory`.
+/// Reads to the end, or so many bytes. An error is a failed read's, or `OutOfMemory` where there is no memory for what was read.
 pub fn read_up_to<S: Source>(alloc: Global, source: &mut S, limit: usize) -> io::Result<Vec<u8>>
     // Where the bytes are known, what is read is their beginning.
     ensures first { IfOk result (λ bytes. IfSome (S.left source.old) (λ known. bytes.items ≡ take limit known)) }
@@ -160,6 +183,7 @@ pub fn read_up_to<S: Source>(alloc: Global, source: &mut S, limit: usize) -> io:
     ensures most { TakesUpTo limit (S.left source.old) (S.left source.new) }
     ensures calm { OnOk result (S.failures source.new ≡ S.failures source.old) }
     ensures cause { IfErr result (IsReadError (S.failures source.old) (S.failures source.new)) }
+    ensures memory { IfErr result (IsMemoryAlone (S.failures source.old) (S.failures source.new)) }
 {
     let mut bytes = Vec::new(alloc);
     while bytes.len() < limit {

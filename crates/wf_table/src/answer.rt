@@ -1,9 +1,9 @@
-//! The answer to a question, as it is written.
+//! The answer to a question, while it is written.
 use std::alloc::{AllocError, Global};
 use std::fmt::Display;
 
-/// What is appended so far. Where an append finds no memory, the answer remembers that, and [`Answer::written`] says so: the calls that
-/// append need not.
+/// What is appended so far. Where an allocation fails in an append, the answer remembers that and [`Answer::written`] returns it;
+/// the calls that append return no error.
 pub struct Answer {
     pub(crate) text: Vec<u8>,
     pub(crate) is_cut: bool,
@@ -37,7 +37,7 @@ impl Answer {
         self.bytes(text.as_bytes());
     }
 
-    /// Appends texts, one behind the other.
+    /// Appends texts, one after the other.
     pub fn texts(&mut self, texts: &[&str]) {
         for text in texts {
             self.text(*text);
@@ -83,17 +83,17 @@ impl Answer {
         self.is_cut = false;
     }
 
-    /// Remembers that memory ran out.
+    /// Remembers that an allocation failed.
     pub fn cut(&mut self) {
         self.is_cut = true;
     }
 
-    /// Where a call appends by itself.
+    /// The buffer, for a call that appends by itself.
     pub fn target(&mut self) -> &mut Vec<u8> {
         &mut self.text
     }
 
-    /// What was appended, unless memory ran out.
+    /// What was appended, unless an allocation failed.
     pub fn written(&self) -> Result<&[u8], AllocError> {
         if self.is_cut {
             Err(AllocError)

@@ -1,9 +1,9 @@
-//! What a question is given.
+//! What a question receives.
 use crate::questions::Unanswered;
 use crate::words::Words;
 use std::alloc::Global;
 
-/// The words that stand behind `ask`, or those of them that are left, escapes and all; and the input.
+/// The words after `ask`, or those of them that are left, with their escapes; and the input.
 #[derive(Clone, Copy)]
 pub struct Asked<'a> {
     pub alloc: Global,

@@ -8,7 +8,7 @@ pub struct Counts {
     pub cases: u64,
     /// Those of them whose answer was another one.
     pub differing: u64,
-    /// Faults of the table: lines that can't be read, and cases that can't be asked.
+    /// Errors of the table: lines that can't be read, and cases that can't be asked.
     pub faults: u64,
 }
 
@@ -19,7 +19,7 @@ impl Counts {
         faults: 0,
     };
 
-    /// Counts a case, and answers whether the answer is the expected one.
+    /// Counts a case, and returns whether the answer is the expected one.
     pub(crate) fn compare(&mut self, expected: &[u8], given: &[u8]) -> bool
         ensures same { result ≡ true → expected.now ≡ given.now }
         ensures counted { result ≡ false → 0 < self.new.differing }
@@ -35,7 +35,7 @@ impl Counts {
         false
     }
 
-    /// Counts a fault of the table.
+    /// Counts an error of the table.
     pub(crate) fn count_fault(&mut self)
         ensures counted { 0 < self.new.faults }
         ensures kept { self.new.differing ≡ self.old.differing }

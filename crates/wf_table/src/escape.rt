@@ -4,7 +4,7 @@ ghost use Rattle.std.specs.Prelude.{◌<◌, IfSome};
 use crate::answer::Answer;
 use crate::questions::Unanswered;
 
-// Where the reader of a spelled text stands.
+// The state of the reader of a spelled text.
 #[derive(Clone, Copy)]
 enum Place {
     Outside,
@@ -25,7 +25,7 @@ pub fn digit(byte: u8) -> Option<u8>
     }
 }
 
-// Takes a byte that no backslash stands before.
+// Reads a byte that follows no backslash.
 fn take_plain(byte: u8, out: &mut Answer) -> Place {
     if byte == b'\\' {
         return Place::BehindBackslash;
@@ -34,7 +34,7 @@ fn take_plain(byte: u8, out: &mut Answer) -> Place {
     Place::Outside
 }
 
-// The byte that a letter behind a backslash stands for.
+// The byte that a backslash and this letter spell.
 fn letter(byte: u8) -> Option<u8> {
     match byte {
         b'n' => Some(b'\n'),
@@ -81,7 +81,7 @@ fn take(place: Place, byte: u8, out: &mut Answer) -> Result<Place, Unanswered> {
     }
 }
 
-/// Appends the bytes that a text spells. Where a backslash begins no escape, it is rejected with a part appended.
+/// Appends the bytes that a text spells. Returns an error where a backslash begins no escape; then a part is appended.
 pub fn unescape(text: &str, out: &mut Answer) -> Result<(), Unanswered> {
     let mut place = Place::Outside;
     for byte in text.as_bytes() {

@@ -1,11 +1,11 @@
-//! What can be wrong with a table.
+//! Errors of a table.
 use crate::questions::Unanswered;
 use std::alloc::AllocError;
 
-/// Why a line of a table can't be taken, or why a case can't be asked.
+/// Why a line of a table can't be read, or why a case can't be asked.
 #[derive(Clone, Copy)]
 pub enum Fault {
-    /// Memory ran out: nothing is wrong with the table.
+    /// An allocation failed: this is no error of the table.
     Memory,
     /// The line begins with no word that a line begins with.
     UnknownLine,
@@ -21,7 +21,7 @@ pub enum Fault {
     UnknownText,
     /// A second text of one name.
     NameTaken,
-    /// A line that means nothing at its place.
+    /// A line that may not come at this point of the table.
     Misplaced,
     /// A case without `ask`.
     NoQuestion,
@@ -29,12 +29,12 @@ pub enum Fault {
     NoAnswer,
     /// A question that the program doesn't know.
     UnknownQuestion,
-    /// A question whose further words, or whose input, it can't be asked with.
+    /// A question that can't be asked with its further words, or with its input.
     BadWords,
 }
 
 impl Fault {
-    /// The fault in words.
+    /// The error in words.
     pub(crate) fn words(self) -> &'static str {
         match self {
             Fault::Memory => "memory ran out",

@@ -1,18 +1,18 @@
-//! Tables of cases, and the runner that asks them.
+//! Tables of test cases, and the runner that asks them.
 //!
-//! A table is a text of lines. `case NAME` begins a case, `ask WORDS` says the question that is put, `<` lines give its input and `>` lines
-//! the answer that is expected; `for INPUT => ANSWER` is a whole case in one line. [`line`] has all that a line can be, and
-//! [`escape`] how bytes are spelled in it. What the questions are is the program's own affair: it implements [`Questions`].
+//! A table is a text of lines. `case NAME` begins a case, `ask WORDS` is its question, `<` lines are its input and `>` lines the
+//! expected answer; `for INPUT => ANSWER` is a whole case in one line. [`line`] has every form of a line, and [`escape`] how
+//! bytes are spelled in it. The program defines the questions: it implements [`Questions`].
 //!
-//! [`run_table`] puts each case's question and appends to a report each case whose answer differs, each line of the table that is at
-//! fault, and in the end how many cases there were. [`run_program`] does that from standard input to standard output: it is all that the `main`
-//! of such a program calls.
+//! [`run_table`] asks each case's question and appends to a report each case whose answer differs, each line of the table that
+//! has an error, and in the end the number of cases. [`run_program`] does that from standard input to standard output; the `main`
+//! of such a program calls nothing else.
 //!
-//! A question is answered by what is appended to an [`Answer`], which remembers allocation failure, so that no call of it has to be asked for
-//! that. [`Words`] reads the question's words.
+//! A question appends its answer to an [`Answer`], which remembers an allocation failure, so that a call that appends returns no
+//! error. [`Words`] reads the question's words.
 //!
-//! It promises that an answer other than the expected one is counted as such, and that a count never falls: so `0 differ` is told
-//! only where no answer that was compared differed. It promises nothing of what the cases show.
+//! An answer other than the expected one is counted as a difference, and a count never falls. So the report ends in `0 differ`
+//! only where no answer that was compared differed. No contract says what the cases show.
 #![tactic(auto)]
 
 mod answer;

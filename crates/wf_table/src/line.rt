@@ -1,10 +1,10 @@
-//! What a line of a table can be.
+//! The forms of a line of a table.
 //!
 //! ```text
 //! # WORDS             a comment; so is an empty line
 //! text NAME           begins a named text, whose content follows
-//! case NAME           begins a case; NAME says what it shows
-//! ask WORDS           the question that the case puts
+//! case NAME           begins a case; NAME describes what it shows
+//! ask WORDS           the question of the case
 //! < T                 content of the input: T and a line feed
 //! <. T                T alone
 //! <* N T              T, N times
@@ -39,7 +39,7 @@ pub(crate) enum Line<'a> {
     Expected(Content<'a>),
 }
 
-// What stands behind a word and a space; nothing where the word stands alone.
+// What follows a word and a space; nothing where the word is the whole line.
 fn behind<'a>(line: &'a str, word: &str) -> Option<&'a str> {
     let rest = line.strip_prefix(word)?;
     if rest.is_empty() {
@@ -58,7 +58,7 @@ fn read_times(rest: &str) -> Result<Content<'_>, Fault> {
     }
 }
 
-// The content that a line adds, from behind its first character.
+// The content that a line adds, from after its first character.
 fn read_content(rest: &str) -> Result<Content<'_>, Fault> {
     if let Some(text) = behind(rest, ".") {
         return Ok(Content::Piece(text));

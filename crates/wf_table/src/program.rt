@@ -6,7 +6,7 @@ use std::alloc::{AllocError, Global};
 use std::io;
 use std::process::ExitCode;
 
-// Puts the cases of a table, appends the report, and answers whether each case's answer is the expected one.
+// Asks the cases of a table, appends the report, and returns whether each case's answer is the expected one.
 fn is_right<Q: Questions>(
     alloc: Global,
     questions: &Q,
@@ -24,7 +24,7 @@ fn print_report<R: Print>(rt: &R, report: &Answer) -> io::Result<()> {
     io::Write::write_all(&mut writer, report.written()?)
 }
 
-// Puts the cases of the table, and prints the report.
+// Asks the cases of the table, and prints the report.
 fn run<R: Input + Print + AllocGlobal, Q: Questions>(rt: &R, questions: &Q) -> io::Result<bool> {
     let table = io::read_to_string(rt.alloc(), rt.reader())?;
     let mut report = Answer::new(rt.alloc());
@@ -33,8 +33,8 @@ fn run<R: Input + Print + AllocGlobal, Q: Questions>(rt: &R, questions: &Q) -> i
     Ok(is_right)
 }
 
-/// Puts the cases of the table that comes from standard input, writes the report to standard output, and succeeds where nothing differs and
-/// nothing is wrong with the table.
+/// Asks the cases of the table on standard input, writes the report to standard output, and succeeds iff no answer differs and
+/// the table has no error.
 pub fn run_program<R: Input + Print + AllocGlobal, Q: Questions>(
     rt: &R,
     questions: &Q,

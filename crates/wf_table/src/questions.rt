@@ -1,4 +1,4 @@
-//! What a program of cases can be asked.
+//! The questions of a program of cases.
 use crate::answer::Answer;
 use crate::asked::Asked;
 use std::alloc::AllocError;
@@ -6,7 +6,7 @@ use std::alloc::AllocError;
 /// Why there is no answer.
 #[derive(Clone, Copy)]
 pub enum Unanswered {
-    /// Memory ran out.
+    /// An allocation failed.
     Memory,
     /// The words name no question.
     UnknownQuestion,

@@ -134,7 +134,7 @@ impl<'a> Runner<'a> {
         }
     }
 
-    // Counts a fault and reports it; allocation failure is none of the table's.
+    // Counts an error and reports it; allocation failure is no error of the table.
     fn report_fault(
         &mut self,
         number: u64,
@@ -152,7 +152,7 @@ impl<'a> Runner<'a> {
         Ok(())
     }
 
-    // Reports why a line can't be taken, where it can't.
+    // Reports why a line can't be read, where it can't.
     fn settle(
         &mut self,
         number: u64,
@@ -182,7 +182,7 @@ impl<'a> Runner<'a> {
         write_escaped("  given:    ", given, report);
     }
 
-    // Judges what is written of an answer, unless memory ran out.
+    // Compares the answer that was written, unless an allocation failed.
     fn judge_written(
         &mut self,
         number: u64,
@@ -218,7 +218,7 @@ impl<'a> Runner<'a> {
         }
     }
 
-    // Puts the question about the input that is gathered, and judges the answer.
+    // Asks the question about the input that is gathered, and compares the answer.
     fn put<Q: Questions>(
         &mut self,
         questions: &Q,
@@ -320,7 +320,7 @@ impl<'a> Runner<'a> {
         }
     }
 
-    // Takes a row's content in the place of what was gathered.
+    // Replaces what was gathered with a row's content.
     fn gather(&mut self, input: &str, answer: &str) -> Result<(), Fault>
         ensures kept { self.new.counts ≡ self.old.counts }
     {
@@ -412,8 +412,8 @@ impl<'a> Runner<'a> {
     }
 }
 
-/// Puts each case of a table, and appends the report: what differs, what is wrong with the table, and the counts on the last line. Where a
-/// question finds no memory, the run ends there.
+/// Asks each case of a table, and appends the report: the answers that differ, the errors of the table, and the counts on the
+/// last line. The run ends at the first question in which an allocation fails.
 pub fn run_table<Q: Questions>(
     alloc: Global,
     questions: &Q,

@@ -1,4 +1,4 @@
-//! Lines that come many times in a row.
+//! Lines that come many times, one after another.
 use crate::answer::Answer;
 use std::alloc::Global;
 
@@ -18,7 +18,7 @@ impl Runs {
         }
     }
 
-    /// Appends what came so far, as `3 times: LINE`, where anything did.
+    /// Appends the line and how often it came, as `3 times: LINE`, if there was one.
     pub fn write(&self, answer: &mut Answer) {
         if self.times == 0 {
             return;
@@ -28,7 +28,7 @@ impl Runs {
         answer.append(&self.line);
     }
 
-    /// Takes the next line, and appends what came before where it is another one.
+    /// Counts the next line; where it is another one, appends the line before and how often that came.
     pub fn take(&mut self, line: &Answer, answer: &mut Answer) {
         if self.line.text.as_slice() != line.text.as_slice() {
             self.write(answer);

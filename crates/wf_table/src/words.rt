@@ -22,7 +22,7 @@ impl<'a> Words<'a> {
         }
     }
 
-    /// The next word; an empty one behind the last.
+    /// The next word; an empty one after the last.
     pub fn word(&mut self) -> &'a str {
         match self.rest.split_once(' ') {
             Some((word, rest)) => {

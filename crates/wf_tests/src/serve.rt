@@ -1,31 +1,123 @@
-//! Nodes that are served without a connection: they open, the port is told, and it ends.
+//! Nodes that are served at a listener, on one thread: the clients have sent their requests before the server accepts. Where something
+//! found no memory, all is done once more, in another folder.
+ghost use Rattle.std.specs.Prelude.{◌≤◌};
 ghost use Rattle.wf_serve.specs.Service.{IsService};
 
-use wf_serve::{Service, serve};
+use crate::tape::{TORN, holds, new_folder};
+use std::io::{Read, Write};
+use std::net::{IpAddr, Ipv4Addr, TcpStream};
+use std::{fs, io};
+use wf_serve::{ServeFault, Service, listen, serve, serve_at};
 use wf_stream::Output;
 
-/// Three nodes in memory, at a port of the system's, for no connection.
-const SERVICE: Service<'static> = Service {
-    nodes: 3,
-    port: 0,
-    requests: 0,
-    cache: 16,
-    state: None,
-};
+const STATUS: &[u8] = b"GET /status HTTP/1.1\r\n\r\n";
 
-/// Whether what is to be served ends well, and has told its port.
-fn tells_its_port(rt: &HostRuntime, service: Service<'_>) -> bool
-    requires { IsService service }
+const PUBLISH: &[u8] =
+    b"POST /publish HTTP/1.1\r\nContent-Length: 63\r\n\r\nMAP NAME \"a\" EXTENT 0 0 4 4 PROJECTION \"init=epsg:4326\" END END";
+
+/// What clients are answered that publish the first map at node 0, and ask the nodes 1 and 2 where they stand.
+const AFTER_PUBLISH: &[u8] =
+    b"HTTP/1.1 202 Accepted\r\nContent-Type: text/plain\r\nContent-Length: 15\r\nConnection: close\r\n\r\naccepted for 1\nHTTP/1.1 200 OK\r\nContent-Type: text/plain\r\nContent-Length: 33\r\nConnection: close\r\n\r\nnode 1 published 1 proposal none\nHTTP/1.1 200 OK\r\nContent-Type: text/plain\r\nContent-Length: 33\r\nConnection: close\r\n\r\nnode 2 published 1 proposal none\n";
+
+/// What clients are answered that ask the nodes 0, 1 and 2 after a new start.
+const AFTER_START: &[u8] =
+    b"HTTP/1.1 200 OK\r\nContent-Type: text/plain\r\nContent-Length: 33\r\nConnection: close\r\n\r\nnode 0 published 1 proposal none\nHTTP/1.1 200 OK\r\nContent-Type: text/plain\r\nContent-Length: 33\r\nConnection: close\r\n\r\nnode 1 published 1 proposal none\nHTTP/1.1 200 OK\r\nContent-Type: text/plain\r\nContent-Length: 33\r\nConnection: close\r\n\r\nnode 2 published 1 proposal none\n";
+
+/// Three nodes for so many connections.
+fn three_nodes(port: u16, requests: u32, state: Option<&str>) -> Service<'_>
+    requires { requests ≤ 3 }
+    ensures { IsService result }
 {
-    let mut sink = Output::new(rt.alloc(), 4_096);
-    let outcome = serve(rt, service, &mut sink);
-    let told = sink.bytes().starts_with(b"listening ") && sink.bytes().ends_with(b"\n");
+    Service {
+        nodes: 3,
+        port,
+        requests,
+        cache: 1,
+        state,
+    }
+}
+
+/// A client that has sent a request.
+fn client(rt: &HostRuntime, port: u16, request: &[u8]) -> io::Result<TcpStream> {
+    let mut stream = TcpStream::connect(rt, (Ipv4Addr::LOCALHOST, port))?;
+    stream.write_all(request)?;
+    Ok(stream)
+}
+
+/// What three clients are answered by nodes that open in a folder.
+fn answers(rt: &HostRuntime, folder: &str, first_request: &[u8]) -> io::Result<Vec<u8>> {
+    let listener = listen(rt, 0)?;
+    let port = listener.local_addr()?.port();
+    let mut first = client(rt, port, first_request)?;
+    let mut second = client(rt, port, STATUS)?;
+    let mut third = client(rt, port, STATUS)?;
+    let mut sink = Output::new(rt.alloc(), 64);
+    let _ = serve_at(rt, &listener, three_nodes(0, 3, Some(folder)), &mut sink);
     drop(sink);
-    outcome.is_ok() && told
+    drop(listener);
+    let mut answers = Vec::new(rt.alloc());
+    first.read_to_end(&mut answers)?;
+    second.read_to_end(&mut answers)?;
+    third.read_to_end(&mut answers)?;
+    Ok(answers)
+}
+
+/// Whether these clients are answered so.
+fn are_answered(rt: &HostRuntime, folder: &str, first_request: &[u8], expected: &[u8]) -> bool {
+    match answers(rt, folder, first_request) {
+        Ok(answers) => {
+            let same = answers.as_slice() == expected;
+            drop(answers);
+            same
+        }
+        Err(_) => false,
+    }
+}
+
+/// Whether a map that is published in an empty folder is there after a new start.
+fn outlasts_a_new_start(rt: &HostRuntime, folder: &str) -> bool {
+    are_answered(rt, folder, PUBLISH, AFTER_PUBLISH)
+        && are_answered(rt, folder, STATUS, AFTER_START)
 }
 
 #[test]
-fn nodes_that_serve_no_connection_tell_their_port(rt: HostRuntime) {
-    // Where something found no memory, all is done once more.
-    assert!(rt; tells_its_port(&rt, SERVICE) || tells_its_port(&rt, SERVICE));
+fn a_published_map_is_there_after_a_new_start(rt: HostRuntime) {
+    new_folder(&rt, "farm");
+    new_folder(&rt, "again");
+    assert!(rt; outlasts_a_new_start(&rt, "farm") || outlasts_a_new_start(&rt, "again"));
+}
+
+/// Why nodes in a folder aren't served at this port, None where they are, and whether the port is told.
+fn started(rt: &HostRuntime, port: u16, folder: &str) -> (Option<ServeFault>, bool) {
+    let mut sink = Output::new(rt.alloc(), 64);
+    let outcome = serve(rt, three_nodes(port, 0, Some(folder)), &mut sink);
+    let told = match format!(in rt.alloc(); "listening {port}\n") {
+        Ok(line) => sink.bytes() == line.as_bytes(),
+        Err(_) => false,
+    };
+    drop(sink);
+    (outcome.err(), told)
+}
+
+/// An opening would remove the torn record.
+#[test]
+fn a_start_where_port_or_folder_is_taken_changes_no_tape(rt: HostRuntime) {
+    new_folder(&rt, "taken");
+    fs::write(&rt, "taken/node-0.tape", TORN).expect(&rt, "a file");
+    let listener = listen(&rt, 0).expect(&rt, "a port");
+    let address = listener.local_addr().expect(&rt, "its address");
+    assert!(&rt; address.ip() == IpAddr::V4(Ipv4Addr::LOCALHOST));
+    assert!(&rt; started(&rt, address.port(), "taken") == (Some(ServeFault::Start), false));
+    drop(listener);
+    let folder = fs::open(&rt, "taken").expect(&rt, "the folder");
+    assert!(&rt; folder.try_lock().is_ok());
+    assert!(&rt; started(&rt, address.port(), "taken") == (Some(ServeFault::Start), false));
+    drop(folder);
+    assert!(&rt; holds(&rt, "taken/node-0.tape", TORN));
+    let served = (None, true);
+    assert!(&rt;
+        started(&rt, address.port(), "taken") == served
+            || started(&rt, address.port(), "taken") == served
+    );
+    assert!(&rt; holds(&rt, "taken/node-0.tape", b""));
 }

@@ -14,9 +14,10 @@ const THREE_TRIED: &[u8] = &[
     1, 1, 0, 0, 0, 4, 0, 0, 0, 1, 1, 1, 0, 0, 0, 4, 0, 0, 0, 2, 1, 1, 0, 0, 0, 4, 0, 0, 0, 3,
 ];
 
-const TORN: &[u8] = &[1, 1, 0, 0, 0, 4, 0];
+pub const TORN: &[u8] = &[1, 1, 0, 0, 0, 4, 0];
 
-fn new_folder(rt: &(impl Abort + Files + AllocGlobal), folder: &str) {
+/// An empty folder.
+pub fn new_folder(rt: &(impl Abort + Files + AllocGlobal), folder: &str) {
     let _ = fs::remove_dir_all(rt, folder);
     fs::create_dir(rt, folder).expect(rt, "a folder");
 }
@@ -87,7 +88,7 @@ fn fault_of<R: Abort + Files + AllocGlobal>(rt: &R, path: &str) -> Option<(OpenF
 }
 
 /// Whether the file holds these bytes.
-fn holds<R: Abort + Files + AllocGlobal>(rt: &R, path: &str, bytes: &[u8]) -> bool {
+pub fn holds<R: Abort + Files + AllocGlobal>(rt: &R, path: &str, bytes: &[u8]) -> bool {
     let content = fs::read(rt, path).expect(rt, "the file");
     let same = content.as_slice() == bytes;
     drop(content);

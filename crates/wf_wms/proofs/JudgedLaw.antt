@@ -6,7 +6,7 @@ use Rattle.std.proofs.lemmas.Option.{same_Some}
 use Rattle.wf_def.specs.Definition.{Definition}
 use Rattle.wf_learner.specs.History.{map_at}
 use Rattle.wf_picture.specs.Request.{RequestValue}
-use Rattle.wf_wms.specs.Answer.{AnswerValue, IsAnswerOn, IsMapAnswer, refusal}
+use Rattle.wf_wms.specs.Answer.{AnswerValue, IsAnswerOn, IsMapAnswer, rejection}
 use Rattle.wf_wms.specs.Judged.{IsAsked, IsJudged}
 use Rattle.wf_wms.specs.MapRequest.{map_sequence, picture_in}
 use Rattle.wf_wms.specs.declared.asked.Asked.{Asked}
@@ -23,14 +23,14 @@ judged_weaker history P Q (Ready answer) follows is = follows answer is
 judged_weaker history P Q (Picture asked) follows is = record { of = is.of; answers = λ answer picture. follows answer (is.answers answer picture) }
 
 -- the parameters behind MAPSEQ are rejected
-pub picture_refused : (history : List Definition) (sequence : ℕ) (map : Definition) (pairs : List (List ℕ × List ℕ)) (e : Exception) (answer : AnswerValue) →
-    map_at history sequence ≡ Some map → Err e ≡ picture_in map pairs → answer ≡ refusal e → (other : Definition) → map_at history sequence ≡ Some other →
+pub picture_rejected : (history : List Definition) (sequence : ℕ) (map : Definition) (pairs : List (List ℕ × List ℕ)) (e : Exception) (answer : AnswerValue) →
+    map_at history sequence ≡ Some map → Err e ≡ picture_in map pairs → answer ≡ rejection e → (other : Definition) → map_at history sequence ≡ Some other →
     IsMapAnswer other (picture_in other pairs) answer
-picture_refused history sequence map pairs e answer there refused is other other_there =
+picture_rejected history sequence map pairs e answer there rejected is other other_there =
     let same : map ≡ other = same_Some map other (sym there ∙ other_there) in
     let P : Definition → Type 0 = λ m. IsMapAnswer m (picture_in m pairs) answer in
     let R : Result RequestValue Exception → Type 0 = λ r. IsMapAnswer map r answer in
-    subst P same (subst R refused is)
+    subst P same (subst R rejected is)
 
 -- or they ask for a picture
 pub picture_wanted : (history : List Definition) (map : Definition) (pairs : List (List ℕ × List ℕ)) (asked : Asked) → asked.sequence ≤ length history →

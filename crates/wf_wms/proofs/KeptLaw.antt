@@ -1,5 +1,5 @@
 -- Kept pictures: each stays the picture of its key, and what is cut out of it is the image that is asked for.
-use Rattle.std.proofs.Common.{◌≡◌, ◌∙◌, ◌<◌, ◌≤◌, ap, refl, sym, subst, subst₂, ℕ, zero, suc, nat_eq, ◌&&◌, Bool, true, inl, inr, List, [], ◌∷◌, ◌++◌, length, ℤ, pos, arith}
+use Rattle.std.proofs.Common.{◌≡◌, ◌∙◌, ◌<◌, ◌≤◌, ap, refl, sym, subst, subst₂, ℕ, zero, suc, nat_eq, ◌&&◌, Bool, true, inl, inr, List, [], ◌∷◌, ◌++◌, length, ℤ, arith}
 use Rattle.std.specs.Prelude.{Option, Some, None, IfSome, Contains, slice_get, option_copied, Result, Ok, Err, OnOk, OnErr}
 use Rattle.std.specs.List.{All}
 use Rattle.std.specs.Map.{lookup}

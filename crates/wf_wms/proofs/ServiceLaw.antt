@@ -1,12 +1,12 @@
 -- Answers at a history, by the operation that a query names.
-use Rattle.std.proofs.Common.{◌≡◌, ◌∙◌, ap, sym, subst, ℕ, ◌≤◌, List, length, refl}
+use Rattle.std.proofs.Common.{◌≡◌, ◌≢◌, ◌∙◌, ap, sym, subst, ℕ, ◌≤◌, List, length, refl}
 use Rattle.std.specs.Prelude.{Option, Some, None, IsSome, codes, option_copied, Result, Ok, Err}
 use Rattle.std.proofs.lemmas.Option.{same_Some}
 use denote.Ref.{Bor}
 use Rattle.wf_def.specs.Definition.{Definition}
 use Rattle.wf_learner.specs.History.{map_at}
 use Rattle.wf_picture.specs.Picture.{EachRequestHasOneImage}
-use Rattle.wf_wms.specs.Answer.{AnswerValue, EachQueryHasOneAnswer, IsAnswerOf, IsAnswerOn, IsMapAnswer, IsAnswerTo, IsPictureOf, metadata_answer, operation_of, or_own, refusal, subject}
+use Rattle.wf_wms.specs.Answer.{AnswerValue, AnswersAreDescriptions, EachQueryHasOneAnswer, IsAnswerOf, IsAnswerOn, IsMapAnswer, IsAnswerTo, IsPictureOf, description, description_to, metadata_answer, operation_of, or_own, rejection, subject}
 use Rattle.wf_picture.specs.Request.{RequestValue}
 use Rattle.wf_wms.specs.MapRequest.{map_request, map_sequence, picture_in}
 use Rattle.wf_wms.specs.Query.{pairs_of, parameter}
@@ -21,10 +21,10 @@ get_some history s None is within = let there = map_there history s within in le
 get_some history s (Some x) is within = refl
 
 -- a request of a map whose VERSION or MAPSEQ is rejected
-pub map_refused : (s : ℕ) (history : List Definition) (pairs : List (List ℕ × List ℕ)) (e : Exception) (answer : AnswerValue) → s ≤ length history →
-    map_sequence s pairs ≡ Err e → answer ≡ refusal e → IsAnswerOn (Ok Map) s history pairs answer
+pub map_rejected : (s : ℕ) (history : List Definition) (pairs : List (List ℕ × List ℕ)) (e : Exception) (answer : AnswerValue) → s ≤ length history →
+    map_sequence s pairs ≡ Err e → answer ≡ rejection e → IsAnswerOn (Ok Map) s history pairs answer
 unfolding map_request
-map_refused s history pairs e answer within failed is =
+map_rejected s history pairs e answer within failed is =
     let there = map_there history s within in
     record {
       map = there.0;
@@ -44,9 +44,9 @@ map_drawn s history pairs number map answer asked there is =
       is_answer = rw asked is;
     }
 
-pub refused : (operation : Result Operation Exception) (s : ℕ) (history : List Definition) (pairs : List (List ℕ × List ℕ)) (e : Exception) (answer : AnswerValue) →
-    s ≤ length history → operation ≡ Err e → answer ≡ refusal e → IsAnswerOn operation s history pairs answer
-refused operation s history pairs e answer within failed is =
+pub rejected : (operation : Result Operation Exception) (s : ℕ) (history : List Definition) (pairs : List (List ℕ × List ℕ)) (e : Exception) (answer : AnswerValue) →
+    s ≤ length history → operation ≡ Err e → answer ≡ rejection e → IsAnswerOn operation s history pairs answer
+rejected operation s history pairs e answer within failed is =
     let there = map_there history s within in
     let P : Result Operation Exception → Type 0 = λ o. IsAnswerOn o s history pairs answer in
     subst P (sym failed) (record { map = there.0; is_published = there.1; is_answer = is })
@@ -70,11 +70,11 @@ pub named : (query : List ℕ) (pairs : List (List ℕ × List ℕ)) (value : Op
 named query pairs value operation is read given judged known =
     ap operation_of (ap (parameter (codes "REQUEST")) (sym read) ∙ sym given) ∙ sym judged ∙ known
 
-pub answer_refused : (s : ℕ) (history : List Definition) (query : List ℕ) (e : Exception) (answer : AnswerValue) → s ≤ length history →
-    operation_of (parameter (codes "REQUEST") (pairs_of query)) ≡ Err e → answer ≡ refusal e → IsAnswerOf s history query answer
+pub answer_rejected : (s : ℕ) (history : List Definition) (query : List ℕ) (e : Exception) (answer : AnswerValue) → s ≤ length history →
+    operation_of (parameter (codes "REQUEST") (pairs_of query)) ≡ Err e → answer ≡ rejection e → IsAnswerOf s history query answer
 unfolding IsAnswerOf
-answer_refused s history query e answer within failed is =
-    refused (operation_of (parameter (codes "REQUEST") (pairs_of query))) s history (pairs_of query) e answer within failed is
+answer_rejected s history query e answer within failed is =
+    rejected (operation_of (parameter (codes "REQUEST") (pairs_of query))) s history (pairs_of query) e answer within failed is
 
 pub answer_described : (s : ℕ) (history : List Definition) (query : List ℕ) (pairs : List (List ℕ × List ℕ)) (map : Definition) (answer : AnswerValue) →
     pairs ≡ pairs_of query → operation_of (parameter (codes "REQUEST") (pairs_of query)) ≡ Ok Capabilities → map_at history s ≡ Some map →
@@ -118,3 +118,17 @@ one_answer images s history other query answer another agree is also =
     let same : is.map ≡ also.map = same_Some is.map also.map (sym is.is_published ∙ agree ∙ also.is_published) in
     let P : Definition → Type 0 = λ m. IsAnswerTo (operation_of (parameter (codes "REQUEST") (pairs_of query))) s m (pairs_of query) another in
     one_to (operation_of (parameter (codes "REQUEST") (pairs_of query))) s is.map (pairs_of query) answer another images is.is_answer (subst P (sym same) also.is_answer)
+
+-- what is answered to an operation other than GetMap is said of the map alone
+operation_described : (operation : Result Operation Exception) (s : ℕ) (history : List Definition) (pairs : List (List ℕ × List ℕ)) (d : Definition) (answer : AnswerValue) →
+    map_at history s ≡ Some d → operation ≢ Ok Map → IsAnswerOn operation s history pairs answer → answer ≡ description_to operation s d pairs
+operation_described (Err e) s history pairs d answer there other is = is.is_answer
+operation_described (Ok Capabilities) s history pairs d answer there other is =
+    let same : is.map ≡ d = same_Some is.map d (sym is.is_published ∙ there) in
+    is.is_answer ∙ ap (λ m. metadata_answer s m pairs) same
+operation_described (Ok Map) s history pairs d answer there other is = absurd (other refl)
+
+pub as_described : AnswersAreDescriptions
+unfolding IsAnswerOf description
+as_described s history query d answer there other is =
+    operation_described (operation_of (parameter (codes "REQUEST") (pairs_of query))) s history (pairs_of query) d answer there other is

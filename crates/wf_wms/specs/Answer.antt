@@ -1,5 +1,5 @@
 -- The answer to a request: the exception of the first check that fails, else what the request asks for.
-use Rattle.std.specs.Prelude.{◌≡◌, ℕ, List, [], ◌∷◌, bytes_eq, codes, Option, Some, None, Result, Ok, Err, if◌then◌else◌}
+use Rattle.std.specs.Prelude.{◌≡◌, ◌≢◌, ℕ, List, [], ◌∷◌, bytes_eq, codes, Option, Some, None, Result, Ok, Err, if◌then◌else◌}
 use Rattle.wf_def.specs.Definition.{Definition}
 use Rattle.wf_learner.specs.History.{map_at}
 use Rattle.wf_picture.specs.Picture.{IsImageOf}
@@ -30,8 +30,8 @@ abbrev pub xml : List ℕ
 xml = codes "text/xml"
 
 -- the answer that rejects a request
-abbrev pub refusal : Exception → AnswerValue
-refusal e = record { kind = kind.Exception e; media = xml; bytes = exception_report e }
+abbrev pub rejection : Exception → AnswerValue
+rejection e = record { kind = kind.Exception e; media = xml; bytes = exception_report e }
 
 -- the answer with the service metadata
 abbrev pub metadata : ℕ → Definition → AnswerValue
@@ -69,19 +69,19 @@ metadata_fault s pairs = first_failing (
     ∷ check_sequence (sequence_rule (parameter (codes "UPDATESEQUENCE") pairs) s)
     ∷ [])
 
-abbrev pub refusal_or_metadata : Option Exception → ℕ → Definition → AnswerValue
-refusal_or_metadata None s d = metadata s d
-refusal_or_metadata (Some e) s d = refusal e
+abbrev pub rejection_or_metadata : Option Exception → ℕ → Definition → AnswerValue
+rejection_or_metadata None s d = metadata s d
+rejection_or_metadata (Some e) s d = rejection e
 
 -- the answer to GetCapabilities
 unfoldable pub metadata_answer : ℕ → Definition → List (List ℕ × List ℕ) → AnswerValue
-metadata_answer s d pairs = refusal_or_metadata (metadata_fault s pairs) s d
+metadata_answer s d pairs = rejection_or_metadata (metadata_fault s pairs) s d
 
 -- the answer to an operation, where GetMap is none of this server's
 abbrev pub description_to : Result Operation Exception → ℕ → Definition → List (List ℕ × List ℕ) → AnswerValue
-description_to (Err e) s d pairs = refusal e
+description_to (Err e) s d pairs = rejection e
 description_to (Ok Capabilities) s d pairs = metadata_answer s d pairs
-description_to (Ok Map) s d pairs = refusal exception.OperationNotSupported
+description_to (Ok Map) s d pairs = rejection exception.OperationNotSupported
 
 -- the answer about one map definition at an update sequence, to a query
 unfoldable pub description : ℕ → Definition → List ℕ → AnswerValue
@@ -103,12 +103,12 @@ pub record IsPictureOf (d : Definition) (request : RequestValue) (answer : Answe
 
 -- the picture, or the exception of the first check that fails
 abbrev pub IsMapAnswer : Definition → Result RequestValue Exception → AnswerValue → Type 0
-IsMapAnswer d (Err e) answer = answer ≡ refusal e
+IsMapAnswer d (Err e) answer = answer ≡ rejection e
 IsMapAnswer d (Ok request) answer = IsPictureOf d request answer
 
 -- the answer to an operation
 abbrev pub IsAnswerTo : Result Operation Exception → ℕ → Definition → List (List ℕ × List ℕ) → AnswerValue → Type 0
-IsAnswerTo (Err e) s d pairs answer = answer ≡ refusal e
+IsAnswerTo (Err e) s d pairs answer = answer ≡ rejection e
 IsAnswerTo (Ok Capabilities) s d pairs answer = answer ≡ metadata_answer s d pairs
 IsAnswerTo (Ok Map) s d pairs answer = IsMapAnswer d (map_request s d pairs) answer
 
@@ -142,3 +142,9 @@ abbrev pub EachQueryHasOneAnswer : Type 0
 EachQueryHasOneAnswer = (s : ℕ) (history other : List Definition) (query : List ℕ) (answer another : AnswerValue) →
     map_at history (subject s query) ≡ map_at other (subject s query) →
     IsAnswerOf s history query answer → IsAnswerOf s other query another → another ≡ answer
+
+-- apart from GetMap, a server answers as one that describes the map of its sequence alone
+abbrev pub AnswersAreDescriptions : Type 0
+AnswersAreDescriptions = (s : ℕ) (history : List Definition) (query : List ℕ) (d : Definition) (answer : AnswerValue) →
+    map_at history s ≡ Some d → operation_of (parameter (codes "REQUEST") (pairs_of query)) ≢ Ok Map →
+    IsAnswerOf s history query answer → answer ≡ description s d query

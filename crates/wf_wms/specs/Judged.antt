@@ -1,5 +1,5 @@
 -- How a query is judged before a picture is drawn: its answer is made, or it asks for a picture, and whoever has the picture has the answer.
-use Rattle.std.specs.Prelude.{◌≡◌, ◌≤◌, ◌<◌, ℕ, List, length, Some}
+use Rattle.std.specs.Prelude.{◌≡◌, ◌≤◌, ◌<◌, List, length, Some}
 use Rattle.std.specs.List.{All}
 use Rattle.wf_def.specs.Definition.{Definition}
 use Rattle.wf_learner.specs.History.{map_at}

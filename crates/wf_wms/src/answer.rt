@@ -1,6 +1,6 @@
 //! Answers.
 ghost use Rattle.std.specs.Prelude.{◌≡◌, IfOk};
-ghost use Rattle.wf_wms.specs.Answer.{refusal, metadata, picture_answer};
+ghost use Rattle.wf_wms.specs.Answer.{rejection, metadata, picture_answer};
 
 use crate::capabilities::capabilities;
 use crate::exception::Exception;
@@ -35,8 +35,8 @@ impl Model for Answer {
 
 impl Answer {
     /// The answer that rejects a request.
-    pub(crate) fn refusal(alloc: Global, exception: Exception) -> Result<Self, AllocError>
-        ensures { IfOk result (λ answer. answer ≡ refusal exception) }
+    pub(crate) fn rejection(alloc: Global, exception: Exception) -> Result<Self, AllocError>
+        ensures { IfOk result (λ answer. answer ≡ rejection exception) }
     {
         Ok(Answer {
             kind: Kind::Exception(exception),

@@ -6,8 +6,8 @@ ghost use Rattle.wf_paint.specs.Exact.{quotient};
 ghost use Rattle.wf_wms.specs.Kept.{most_kept, background_of, AllKept, IsCellOf, IsKept, IsTileAt, IsTileOf};
 
 use crate::asked::Asked;
-use crate::history::published_map;
 use crate::key::Key;
+use crate::maps::Maps;
 use lru::LruCache;
 use std::alloc::{AllocError, Global};
 use std::marker::Model;
@@ -43,7 +43,7 @@ impl Model for Cache {
 }
 
 impl Cache {
-    /// A cache that keeps so many pictures, 1 to 64, and has none yet. A picture takes 3 MB. Allocation failure is the only error.
+    /// A cache for `capacity` pictures, 1 to 64, that has none yet. A picture takes 3 MB. Allocation failure is the only error.
     pub fn new(alloc: Global, capacity: usize) -> Result<Self, AllocError>
         requires least { 1 ≤ capacity }
         requires most { capacity ≤ most_kept }
@@ -93,7 +93,7 @@ impl Cache {
         ensures capacity { self.new.cap ≡ self.old.cap }
     {
         tiles_are_crops_of_one_picture();
-        let map = published_map(history, key.sequence);
+        let map = history.published_map(key.sequence);
         let pixmap = labelled(alloc, map, &key.layers, view, key.background())?;
         let file = cut(alloc, &pixmap, view, TILE);
         self.keep(key, pixmap);

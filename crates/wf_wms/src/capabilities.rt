@@ -1,5 +1,5 @@
-//! The service metadata document, block by block. Each call appends its block whole, or answers want
-//! of memory.
+//! The service metadata document, block by block. Each call appends its block whole; allocation
+//! failure is the only error.
 ghost use Rattle.std.specs.Prelude.{◌≡◌, ◌++◌, OnOk, IfOk, flat_map};
 ghost use Rattle.wf_wms.specs.Capabilities.{start_tag, end_tag, element, online_resource, service, operation, requests, crs_lines, side, box_line, box_lines, layer_line, layers, opening, capabilities};
 

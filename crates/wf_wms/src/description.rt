@@ -66,7 +66,7 @@ pub(crate) fn metadata_answer(
     ensures { IfOk result (λ answer. answer ≡ metadata_answer seq map.now query.now) }
 {
     match metadata_fault(query, seq) {
-        Some(exception) => Answer::refusal(alloc, exception),
+        Some(exception) => Answer::rejection(alloc, exception),
         None => Answer::metadata(alloc, seq, map),
     }
 }
@@ -80,8 +80,8 @@ pub fn describe(alloc: Global, seq: u16, map: &MapDef, query: &[u8]) -> Result<A
 {
     let query = Query::read(alloc, query)?;
     match operation(query.parameter("REQUEST")) {
-        Err(exception) => Answer::refusal(alloc, exception),
+        Err(exception) => Answer::rejection(alloc, exception),
         Ok(Operation::Capabilities) => metadata_answer(alloc, seq, map, &query),
-        Ok(Operation::Map) => Answer::refusal(alloc, Exception::OperationNotSupported),
+        Ok(Operation::Map) => Answer::rejection(alloc, Exception::OperationNotSupported),
     }
 }

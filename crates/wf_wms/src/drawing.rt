@@ -6,19 +6,19 @@ ghost use Rattle.wf_wms.specs.Kept.{AllKept};
 use crate::answer::Answer;
 use crate::asked::Asked;
 use crate::cache::Cache;
-use crate::history::published_map;
 use crate::key::Key;
+use crate::maps::Maps;
 use std::alloc::{AllocError, Global};
 use wf_learner::History;
 use wf_paint::cell::GridCell;
 use wf_picture::picture::{draw, view_of};
 
 /// The answer with the picture, drawn anew.
-pub(crate) fn drawn(alloc: Global, history: &History, asked: Asked) -> Result<Answer, AllocError>
-    requires { IsAskedOf history.now.definitions asked }
-    ensures { IfOk result (λ answer. IsPictureFor history.now.definitions asked answer) }
+pub(crate) fn drawn<M: Maps>(alloc: Global, maps: &M, asked: Asked) -> Result<Answer, AllocError>
+    requires { IsAskedOf (M.definitions maps.now) asked }
+    ensures { IfOk result (λ answer. IsPictureFor (M.definitions maps.now) asked answer) }
 {
-    let map = published_map(history, asked.sequence);
+    let map = maps.published_map(asked.sequence);
     Ok(Answer::picture(draw(alloc, map, &asked.request)?))
 }
 
@@ -35,7 +35,7 @@ pub(crate) fn drawn_by(
     ensures kept { AllKept history.now.definitions cache.new }
     ensures capacity { cache.new.cap ≡ cache.old.cap }
 {
-    let map = published_map(history, asked.sequence);
+    let map = history.published_map(asked.sequence);
     let request = &asked.request;
     let size = request.size();
     match GridCell::of(map.extent(), request.bbox(), size.width, size.height) {

@@ -5,7 +5,7 @@
 pub struct Key {
     /// The update sequence of the map.
     pub(crate) sequence: u16,
-    /// The layers as requested, by their places among the map's, the lowest in the picture first.
+    /// The layers as requested, by their indices among the map's, the lowest in the picture first.
     pub(crate) layers: Vec<usize>,
     /// The red of the background.
     pub(crate) red: u8,

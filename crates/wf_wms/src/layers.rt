@@ -11,7 +11,7 @@ use wf_def::map::MapDef;
 /// The most layers of a request, as the service metadata says (LayerLimit).
 const MOST_ENTRIES: usize = 64;
 
-/// The layers that the list names, by their places among the map's, in its order: at most 64, each a layer of the map. A name may stand
+/// The layers that the list names, by their indices among the map's, in its order: at most 64, each a layer of the map. A name may stand
 /// twice.
 #[tactic(auto, unfolding(crate::specs::MapRequest::named_layers, crate::specs::MapRequest::check_layers))]
 pub(crate) fn named_layers(
@@ -32,7 +32,7 @@ pub(crate) fn named_layers(
     }
 }
 
-/// The places of the named layers among the map's, in the order of the list; or the index of the first name that is no layer's.
+/// The indices of the named layers among the map's, in the order of the list; or the index of the first name that is no layer's.
 fn layer_places(
     alloc: Global,
     map: &MapDef,
@@ -56,7 +56,7 @@ fn layer_places(
     Ok(Ok(places))
 }
 
-/// The place of the layer of this name among the map's.
+/// The index of the layer of this name among the map's.
 fn layer_of(map: &MapDef, name: &[u8]) -> Option<usize>
     ensures place { result ≡ layer_of map.now name.now }
     ensures within { IfSome result (λ place. place < length map.now.layers) }

@@ -6,14 +6,15 @@
 //! by parameter and then in order; `specs/Capabilities.antt` and `specs/Exception.antt` are the two
 //! documents, line by line. Which bytes a picture has is defined in wf_picture.
 //!
-//! It promises that [`service::answer`] gives the defined answer at an update sequence and a history, and
-//! [`describe`] that about one map definition, where GetMap is an operation that isn't supported, want of
-//! memory aside. A query has one such answer, which depends on the history only through the map that it
-//! describes or draws ([`law::each_query_has_one_answer`]). [`service::answer_cached`] gives the same answer
-//! by a [`cache::Cache`] of pictures, of which it is told that each is its key's in this history
-//! (`specs/Kept.antt`); they are so afterwards, and for any history that goes on from this one
-//! ([`law::kept_pictures_outlast_growth`]). It says nothing of how a query or an answer travels, nor which
-//! pictures are kept.
+//! It promises, allocation failure aside, that [`service::answer`] returns the defined answer at an update
+//! sequence of a history, [`service::preview`] that of a history of one map alone, and [`describe`] that about
+//! one map definition, where GetMap is an operation that isn't supported. A query has one such answer, which
+//! depends on the history only through the map that it describes or draws
+//! ([`law::each_query_has_one_answer`]), and apart from GetMap it is what `describe` returns
+//! ([`law::answers_are_descriptions`]). [`service::answer_cached`] returns the same answer by a
+//! [`cache::Cache`] of pictures, if each is its key's in this history (`specs/Kept.antt`); they are so
+//! afterwards, and for any history that goes on from this one ([`law::kept_pictures_outlast_growth`]). It
+//! says nothing of how a query or an answer travels, nor which pictures are kept.
 #![tactic(auto)]
 
 mod answer;
@@ -38,6 +39,8 @@ pub mod law;
 mod layers;
 mod map_request;
 mod map_sequence;
+mod maps;
+mod only_map;
 mod operation;
 mod query;
 pub mod report;

@@ -33,7 +33,7 @@ pub(crate) fn map_request(
     }
 }
 
-/// The layers that are asked for, by their places among the map's, the lowest in the picture first: what the parameters up to STYLES say.
+/// The layers that are asked for, by their indices among the map's, the lowest in the picture first: what the parameters up to STYLES say.
 #[tactic(auto, unfolding(crate::specs::MapRequest::layers_in))]
 fn layers(
     alloc: Global,

@@ -18,7 +18,7 @@ pub(crate) fn check_styles(layers: usize, value: Option<&str>) -> Result<(), Exc
     }
 }
 
-/// The list has so many entries, each a style's name.
+/// The list has one entry for each of these layers, each a style's name.
 #[tactic(auto, unfolding(crate::specs::MapRequest::check_style_list))]
 fn check_style_list(layers: usize, names: &str) -> Result<(), Exception>
     ensures { result ≡ check_style_list layers (entries names.now) }

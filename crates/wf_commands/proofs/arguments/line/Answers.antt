@@ -4,8 +4,8 @@ use Rattle.clap.proofs.TakesLemmas.{passed_up}
 use Rattle.wf_commands.proofs.Named.{asked_of_program, none_of_program, passes_on}
 use Rattle.wf_commands.proofs.arguments.line.Goals as goal
 
-pub returns-in_err-matches-clause-refused : goal.returns-in_err-matches-clause-refused
-returns-in_err-matches-clause-refused g c =
+pub returns-in_err-matches-clause-rejected : goal.returns-in_err-matches-clause-rejected
+returns-in_err-matches-clause-rejected g c =
     passed_up c.from_residual-in_err-matches.result c.in_err-matches.field-0.0 _ c.from_residual-in_err-matches.ensures.1
     (λ taken line asks. passes_on _ _ c.in_err-matches.field-0.0 c.in_ok-command.ensures c.in_err-matches.ensures.passes taken)
 
@@ -13,6 +13,6 @@ pub returns-in-Some-clause-asked : goal.returns-in-Some-clause-asked
 returns-in-Some-clause-asked g c =
     asked_of_program (app_of c.in_ok-command.field-0) (map g.S.AsStr.text c.args.words.now) c.in_ok-matches.matches c.in-Some.line c.in_ok-command.ensures c.in_ok-matches.ensures.matches c.in-Some.ensures.some
 
-pub returns-in_ok-refusal-in-None-clause-refused : goal.returns-in_ok-refusal-in-None-clause-refused
-returns-in_ok-refusal-in-None-clause-refused g c = λ taken line asks.
+pub returns-in_ok-rejection-in-None-clause-rejected : goal.returns-in_ok-rejection-in-None-clause-rejected
+returns-in_ok-rejection-in-None-clause-rejected g c = λ taken line asks.
     absurd (none_of_program (app_of c.in_ok-command.field-0) (map g.S.AsStr.text c.args.words.now) c.in_ok-matches.matches c.in_ok-command.ensures c.in_ok-matches.ensures.matches c.in-None.ensures.none line asks)

@@ -1,6 +1,7 @@
 -- To no node nothing is delivered.
+use Rattle.std.proofs.Common.{arith}
 use Rattle.wf_farm.specs.Delivering.{AnyPart, StandFor}
-use Rattle.wf_farm.specs.DeliveringLaws.{each_grows_itself}
+use Rattle.wf_farm.specs.DeliveringLaws.{each_grows_itself, halted_itself}
 use Rattle.wf_farm.proofs.Deliveries.{leads_nowhere}
 use Rattle.wf_farm.proofs.delivering.deliver_all.Goals as goal
 
@@ -10,24 +11,36 @@ returns-then-is_empty-clause-delivered g c = record { sent = c.args.messages.ite
 pub returns-then-is_empty-clause-on_tape : goal.returns-then-is_empty-clause-on_tape
 returns-then-is_empty-clause-on_tape g c = λ h left may. record { sent = c.args.messages.items; lead = leads_nowhere (StandFor left) c.args.nodes.now c.args.messages.items }
 
+pub returns-then-is_empty-clause-handed : goal.returns-then-is_empty-clause-handed
+returns-then-is_empty-clause-handed g c = λ some. absurd (grind (arith, c.is_empty.ensures, c.if-is_empty.true, some))
+
+pub returns-then-is_empty-clause-halted : goal.returns-then-is_empty-clause-halted
+returns-then-is_empty-clause-halted g c = halted_itself c.args.nodes.now
+
 pub returns-then-is_empty-clause-lists : goal.returns-then-is_empty-clause-lists
 returns-then-is_empty-clause-lists g c = each_grows_itself c.args.nodes.now
 
 -- To some it is what the deliveries say.
 pub returns-clause-delivered : goal.returns-clause-delivered
-returns-clause-delivered g c = c.deliver_each.ensures.any
+returns-clause-delivered g c = c.deliver_each.ensures.delivered.any
 
 pub returns-clause-on_tape : goal.returns-clause-on_tape
-returns-clause-on_tape g c = c.deliver_each.ensures.on_tape
+returns-clause-on_tape g c = c.deliver_each.ensures.delivered.on_tape
+
+pub returns-clause-handed : goal.returns-clause-handed
+returns-clause-handed g c = λ some. c.deliver_each.ensures.handed
+
+pub returns-clause-halted : goal.returns-clause-halted
+returns-clause-halted g c = c.deliver_each.ensures.delivered.halted
 
 pub returns-clause-in_turn : goal.returns-clause-in_turn
-returns-clause-in_turn g c = c.deliver_each.ensures.turn.in_turn c.requires.in_turn
+returns-clause-in_turn g c = c.deliver_each.ensures.delivered.turn.in_turn c.requires.in_turn
 
 pub returns-clause-size : goal.returns-clause-size
-returns-clause-size g c = c.deliver_each.ensures.turn.as_many
+returns-clause-size g c = c.deliver_each.ensures.delivered.turn.as_many
 
 pub returns-clause-lists : goal.returns-clause-lists
-returns-clause-lists g c = c.deliver_each.ensures.turn.lists
+returns-clause-lists g c = c.deliver_each.ensures.delivered.turn.lists
 
 pub returns-clause-most : goal.returns-clause-most
-returns-clause-most g c = c.deliver_each.ensures.most
+returns-clause-most g c = c.deliver_each.ensures.delivered.most

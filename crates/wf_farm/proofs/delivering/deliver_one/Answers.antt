@@ -21,3 +21,18 @@ returns-clause-one g c =
     subst (λ ms. IsOne g.T.Tape.honest g.T.Tape.images c.args.nodes.now c.args.sent.now.items (slice_set c.args.nodes.now c.args.node c.hand-said.new.node) ms) (sym (c.send.ensures ∙ ap (λ ms. ms ++ c.hand-said.result.items) c.reserve.ensures.items))
     (one_delivery g.T.Tape.honest g.T.Tape.images c.args.nodes.now c.args.sent.now.items c.args.node c.args.number c.index-nodes-node.result c.hand-said.new.node c.index.result.now c.hand-said.result.items
     node_at message_at c.requires.in_turn takes)
+
+pub returns-clause-handed : goal.returns-clause-handed
+returns-clause-handed g c =
+    let message_there = slice_get_read c.reserve.new.self.items (length c.args.sent.now.items) c.args.number c.index.result.now (sym (ap length c.reserve.ensures.items)) c.requires.number c.index.ensures in
+    record {
+      node = c.index-nodes-node.result;
+      after = c.hand-said.new.node;
+      handed = c.index.result.now;
+      said = c.hand-said.result.items;
+      at = slice_get_read c.args.nodes.now (length c.args.nodes.now) c.args.node c.index-nodes-node.result refl c.requires.node c.index-nodes-node.is;
+      there = subst (λ ms. slice_get ms c.args.number ≡ Some c.index.result.now) c.reserve.ensures.items message_there;
+      takes = subst (λ n. Takes g.T.Tape.honest g.T.Tape.images (table.Deliver (view c.index.result.now)) n c.hand-said.new.node c.hand-said.result.items) (sym c.index-nodes-node.is) c.hand-said.ensures.takes;
+      nodes_are = refl;
+      sent_are = c.send.ensures ∙ ap (λ ms. ms ++ c.hand-said.result.items) c.reserve.ensures.items;
+    }

@@ -4,7 +4,7 @@ use Rattle.wf_label.specs.Placing.{IsPlacing}
 use Rattle.wf_label.specs.Taken.{IsTaken}
 use Rattle.wf_label.proofs.placement.placed_among.Given as goal
 
--- the labels so far are placed as they would be with none behind them, and the pixels of their boxes are marked
+-- the labels so far are placed as they would be with none after them, and the pixels of their boxes are marked
 abbrev pub invariant-loop-label : goal.invariant-loop-label
 invariant-loop-label l = record {
   placed : IsPlacing l.view (placed_values (take l.label-index l.labels)) (placed_values l.placing.placed.items);

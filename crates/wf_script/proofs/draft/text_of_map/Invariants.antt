@@ -1,4 +1,4 @@
--- What the lines that are left say behind the text so far: it stays what all said.
+-- What the lines that are left mean after the text so far stays what all lines mean.
 use Rattle.std.proofs.Common.{◌≡◌, ◌≤◌, ℕ, List, Some, length}
 use Rattle.wf_script.specs.Lines.{total}
 use Rattle.wf_script.specs.Text.{State, begins, on_from}

@@ -1,4 +1,4 @@
--- Each word makes one less, and the numbers so far stand before those that the words left are.
+-- Each word leaves one word less, and the numbers so far come before those of the words that are left.
 use Rattle.std.proofs.Common.{◌≡◌, length}
 use Rattle.wf_script.specs.Orders.{numbers}
 use Rattle.wf_script.proofs.Listing.{with_numbers}

@@ -1,4 +1,4 @@
--- The first line that isn't skipped tells the number of nodes, or is no line of a script.
+-- The first line that isn't skipped has the number of nodes, or is no line of a script.
 use Rattle.std.proofs.Common.{rules, ◌≡◌, ◌∙◌, sym, ap, false}
 use Rattle.std.specs.Prelude.{Ok, Err}
 use Rattle.wf_script.specs.Fault.{fault_of, is_memory}

@@ -1,4 +1,4 @@
--- Skipped lines say nothing, and no line is given twice.
+-- Skipped lines mean nothing, and no line is returned twice.
 use Rattle.std.proofs.Common.{◌≡◌, length}
 use Rattle.wf_script.specs.Lines.{total}
 use Rattle.wf_script.specs.Text.{head_from}

@@ -1,4 +1,4 @@
--- The head, and then what the lines behind it say.
+-- The head, and then what the lines after it mean.
 use Rattle.std.proofs.Common.{◌≡◌, ◌∙◌, None, sym, subst, ap, false}
 use Rattle.std.specs.Prelude.{Err}
 use Rattle.std.proofs.lemmas.Result.{err_from_is_err_and}

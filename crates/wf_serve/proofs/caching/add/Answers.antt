@@ -1,6 +1,5 @@
 -- One more cache, which is empty.
-use Rattle.std.proofs.Common.{sym, ap, subst, ◌∙◌, ◌+◌, ℕ, length}
-use Rattle.std.proofs.lemmas.List.{length_push}
+use Rattle.std.proofs.Common.{sym, subst}
 use Rattle.wf_serve.specs.Caching.{AreEmpty}
 use Rattle.wf_serve.proofs.Caches.{one_more_empty}
 use Rattle.wf_serve.proofs.caching.add.Goals as goal

@@ -1,5 +1,5 @@
 -- Each cache is good for every history, and so for its node's.
-use Rattle.std.proofs.Common.{◌≡◌, [], length, sym, subst, ap, refl, ◌∙◌, arith}
+use Rattle.std.proofs.Common.{length, sym, subst, ap, arith}
 use Rattle.wf_serve.specs.Caching.{AreEmpty}
 use Rattle.wf_serve.proofs.Caches.{none_yet, kept_empty}
 use Rattle.wf_serve.proofs.caching.caches_for.Goals as goal

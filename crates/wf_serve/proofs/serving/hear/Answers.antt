@@ -10,9 +10,12 @@ returns-clause-heard g c = record {
   delivered = record {
     any = c.deliver_all.ensures.delivered;
     on_tape = c.deliver_all.ensures.on_tape;
+    halted = c.deliver_all.ensures.halted;
     turn = record { as_many = c.deliver_all.ensures.size; in_turn = λ turns. c.deliver_all.ensures.in_turn; lists = c.deliver_all.ensures.lists };
     most = c.deliver_all.ensures.most;
   };
+  stopped = c.deliver_all.result.stopped;
+  handed = c.deliver_all.ensures.handed;
 }
 
 pub returns-clause-turn : goal.returns-clause-turn

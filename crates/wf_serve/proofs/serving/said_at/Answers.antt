@@ -1,11 +1,9 @@
--- The node at the place is asked and stays itself, and every other one is as it was.
-use Rattle.std.proofs.Common.{length, refl, sym, ap, subst, ◌∙◌}
+-- The node at the place is asked, and every other one is as it was.
+use Rattle.std.proofs.Common.{length, refl, sym, subst}
 use Rattle.std.proofs.lemmas.Option.{slice_get_read}
-use Rattle.wf_farm.specs.DeliveringLaws.{keeps_turn}
-use Rattle.wf_node.specs.Growth.{IsGrown}
 use Rattle.wf_node.specs.Input.{view}
-use Rattle.wf_node.specs.Node.{Node}
 use Rattle.wf_serve.specs.Serving.{IsAsked}
+use Rattle.wf_serve.proofs.Led.{asked_leads}
 use Rattle.wf_serve.proofs.serving.said_at.Goals as goal
 
 pub returns-clause-asked : goal.returns-clause-asked
@@ -16,14 +14,12 @@ returns-clause-asked g c = record {
     was = slice_get_read c.args.nodes.now (length c.args.nodes.now) c.args.place c.index-nodes-place.result refl c.requires.within c.index-nodes-place.is;
     is = refl;
   };
-  asked = subst (λ n. IsAsked g.T.Tape.honest g.T.Tape.content g.T.Tape.images g.T.Tape.failed (view c.args.input) n c.said.result c.said.new.node) (sym c.index-nodes-place.is) c.said.ensures.asked;
+  asked = subst (λ n. IsAsked g.T.Tape.honest g.T.Tape.content g.T.Tape.images g.T.Tape.failed (view c.args.input) n c.said.result c.said.new.node) (sym c.index-nodes-place.is) c.said.ensures;
 }
 
-pub returns-clause-turn : goal.returns-clause-turn
-returns-clause-turn g c =
-    let at = slice_get_read c.args.nodes.now (length c.args.nodes.now) c.args.place c.index-nodes-place.result refl c.requires.within c.index-nodes-place.is in
-    keeps_turn c.args.nodes.now c.args.place c.index-nodes-place.result c.said.new.node at (
-      c.said.ensures.id ∙ ap (λ (x : Node _). x.id) (sym c.index-nodes-place.is),
-      c.said.ensures.n ∙ ap (λ (x : Node _). x.n) (sym c.index-nodes-place.is),
-      subst (λ (x : Node _). IsGrown x.parts.history c.said.new.node.parts.history) (sym c.index-nodes-place.is) c.said.ensures.list,
-    )
+pub returns-clause-says : goal.returns-clause-says
+returns-clause-says g c =
+    let node = c.index-nodes-place.result in
+    let at = slice_get_read c.args.nodes.now (length c.args.nodes.now) c.args.place node refl c.requires.within c.index-nodes-place.is in
+    let asked = subst (λ n. IsAsked g.T.Tape.honest g.T.Tape.content g.T.Tape.images g.T.Tape.failed (view c.args.input) n c.said.result c.said.new.node) (sym c.index-nodes-place.is) c.said.ensures in
+    asked_leads g.T.Tape.honest g.T.Tape.content g.T.Tape.images g.T.Tape.failed c.a_step_leads_on.ensures c.args.nodes.now c.args.place node c.said.new.node at c.requires.in_turn c.said.result (view c.args.input) c.requires.own asked

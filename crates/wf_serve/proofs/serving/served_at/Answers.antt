@@ -1,13 +1,11 @@
--- The node at the place serves the request and stays itself, and every other one is as it was.
+-- The node at the place serves the request, and every other one is as it was.
 use Rattle.std.proofs.Common.{length, refl, sym, subst, subst₂, arith}
 use Rattle.std.proofs.lemmas.Option.{slice_get_read}
 use Rattle.wf_edge.specs.Serving.{IsOutcome, MovesOnce}
-use Rattle.wf_edge.specs.Growth.{moved_grown}
-use Rattle.wf_farm.specs.DeliveringLaws.{keeps_turn}
 use Rattle.wf_node.specs.Node.{Node}
 use Rattle.wf_wms.specs.Kept.{AllKept, CacheValue}
 use Rattle.wf_serve.proofs.Caches.{kept_set}
-use Rattle.wf_serve.proofs.Opened.{moved_id, moved_n}
+use Rattle.wf_serve.proofs.Led.{moved_leads}
 use Rattle.wf_serve.proofs.serving.served_at.Goals as goal
 
 pub returns-clause-served : goal.returns-clause-served
@@ -22,18 +20,14 @@ returns-clause-served g c = record {
   moves = subst (λ n. MovesOnce g.T.Tape.honest g.T.Tape.content g.T.Tape.images g.T.Tape.failed n c.serve_one_cached.result.messages c.serve_one_cached.new.node) (sym c.index-nodes-place.is) c.serve_one_cached.ensures.moves;
 }
 
-pub returns-clause-turn : goal.returns-clause-turn
-returns-clause-turn g c =
+pub returns-clause-says : goal.returns-clause-says
+returns-clause-says g c =
     let node = c.index-nodes-place.result in
     let after = c.serve_one_cached.new.node in
     let said = c.serve_one_cached.result.messages in
     let at = slice_get_read c.args.nodes.now (length c.args.nodes.now) c.args.place node refl c.requires.within c.index-nodes-place.is in
     let moves = subst (λ n. MovesOnce g.T.Tape.honest g.T.Tape.content g.T.Tape.images g.T.Tape.failed n said after) (sym c.index-nodes-place.is) c.serve_one_cached.ensures.moves in
-    keeps_turn c.args.nodes.now c.args.place node after at (
-      moved_id g.T.Tape.honest g.T.Tape.content g.T.Tape.images g.T.Tape.failed node after said moves,
-      moved_n g.T.Tape.honest g.T.Tape.content g.T.Tape.images g.T.Tape.failed node after said moves,
-      moved_grown g.T.Tape.honest g.T.Tape.content g.T.Tape.images g.T.Tape.failed node after said moves,
-    )
+    moved_leads g.T.Tape.honest g.T.Tape.content g.T.Tape.images g.T.Tape.failed c.a_step_leads_on.ensures c.args.nodes.now c.args.place node after at c.requires.in_turn said c.leading_goes_on.ensures.quiet moves
 
 pub serve_one_cached-requires : goal.serve_one_cached-requires
 serve_one_cached-requires g c =

@@ -4,23 +4,23 @@ use Rattle.std.proofs.lemmas.Result.{IfOk-weaker}
 use Rattle.wf_wms.specs.Answer.{IsAnswerOf, IsAnswerOn}
 use Rattle.wf_wms.specs.declared.operation.Operation.TheVariants.{Map}
 use Rattle.wf_wms.proofs.JudgedLaw.{judged_weaker}
-use Rattle.wf_wms.proofs.ServiceLaw.{named, answer_refused, answer_described, answer_drawn}
+use Rattle.wf_wms.proofs.ServiceLaw.{named, answer_rejected, answer_described, answer_drawn}
 use Rattle.wf_wms.proofs.judging.judged.Goals as goal
 
 pub returns-in-Err : goal.returns-in-Err
-returns-in-Err c =
-    answer_refused c.args.seq c.args.history.now.definitions c.args.query.now c.in-Err.exception c.in_ok-refusal-in-Err.field-0 c.requires
-    (named c.args.query.now c.in_ok-query.query _ c.operation.result _ c.in_ok-query.ensures c.parameter.ensures c.operation.ensures c.in-Err.is) c.in_ok-refusal-in-Err.ensures
+returns-in-Err g c =
+    answer_rejected c.args.seq (g.M.Maps.definitions c.args.maps.now) c.args.query.now c.in-Err.exception c.in_ok-rejection-in-Err.field-0 c.requires
+    (named c.args.query.now c.in_ok-query.query _ c.operation.result _ c.in_ok-query.ensures c.parameter.ensures c.operation.ensures c.in-Err.is) c.in_ok-rejection-in-Err.ensures
 
 pub returns-in-Ok-Capabilities : goal.returns-in-Ok-Capabilities
-returns-in-Ok-Capabilities c =
-    answer_described c.args.seq c.args.history.now.definitions c.args.query.now c.in_ok-query.query c.published_map-map.result.now c.in_ok-metadata_answer-in-Ok-Capabilities.field-0 c.in_ok-query.ensures
+returns-in-Ok-Capabilities g c =
+    answer_described c.args.seq (g.M.Maps.definitions c.args.maps.now) c.args.query.now c.in_ok-query.query c.published_map-map.result.now c.in_ok-metadata_answer-in-Ok-Capabilities.field-0 c.in_ok-query.ensures
     (named c.args.query.now c.in_ok-query.query _ c.operation.result _ c.in_ok-query.ensures c.parameter.ensures c.operation.ensures (c.in-Ok-Capabilities.is ∙ ap Ok c.in-Ok-Capabilities.field-0-is))
     c.published_map-map.ensures c.in_ok-metadata_answer-in-Ok-Capabilities.ensures
 
 pub returns : goal.returns
-returns c =
-    let history = c.args.history.now.definitions in
+returns g c =
+    let history = g.M.Maps.definitions c.args.maps.now in
     let query = c.args.query.now in
     let pairs = c.in_ok-query.query in
     IfOk-weaker c.map_judged.result _ _

@@ -1,4 +1,4 @@
-use Rattle.std.proofs.Common.{◌≡◌, ◌∙◌, List, ℕ, [], subst}
+use Rattle.std.proofs.Common.{◌∙◌, [], subst}
 use Rattle.std.specs.Prelude.{Some}
 use Rattle.wf_edge.specs.Response.{head_bytes, IsProgress}
 use Rattle.wf_edge.proofs.Written.{from_start, gathered_is}

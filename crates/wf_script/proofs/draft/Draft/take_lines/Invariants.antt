@@ -1,4 +1,5 @@
--- What the lines that are left say behind what was said: it stays what all said. Each line gives one order at most, and none is given twice.
+-- What the lines that are left mean after the maps and orders so far stays what all lines mean. Each line gives one order at
+-- most, and no line is returned twice.
 use Rattle.std.proofs.Common.{◌≡◌, ◌≤◌, ◌+◌, None, length}
 use Rattle.wf_script.specs.Lines.{total}
 use Rattle.wf_script.specs.Text.{on_from, state}

@@ -1,4 +1,4 @@
--- A map's name is found by what it means.
+-- A map's name is found by its definition.
 use Rattle.std.proofs.Common.{◌∙◌, refl}
 use Rattle.wf_script.proofs.Naming.{named_there}
 use Rattle.wf_script.proofs.maps.Maps.name_of.Goals as goal

@@ -1,4 +1,4 @@
--- A text over a limit is no script; another is what its lines say.
+-- A text over a limit is no script; any other text is what its lines mean.
 use Rattle.std.proofs.Common.{sym, subst}
 use Rattle.wf_script.specs.Reading.{Tells}
 use Rattle.wf_script.proofs.Counting.{few_lines}

@@ -1,0 +1,59 @@
+//! A reader of which one call fails.
+use std::io;
+use std::io::{ErrorKind, Read};
+
+/// Which call fails, and how.
+#[derive(Clone, Copy)]
+pub(crate) struct Failure {
+    /// How many calls come before.
+    pub(crate) after: u64,
+    pub(crate) kind: ErrorKind,
+}
+
+/// Gives bytes in pieces. One of its calls may fail, and those after it go on: so whether it is made again can be told.
+#[derive(Drop)]
+pub(crate) struct Faltering<'b> {
+    rest: &'b [u8],
+    piece: usize,
+    failure: Option<Failure>,
+}
+
+impl<'b> Faltering<'b> {
+    /// A reader that gives at most `piece` bytes a call.
+    pub(crate) fn new(bytes: &'b [u8], piece: usize, failure: Option<Failure>) -> Self {
+        Faltering {
+            rest: bytes,
+            piece,
+            failure,
+        }
+    }
+
+    // How this call fails, if it does. It is counted.
+    fn fails(&mut self) -> Option<ErrorKind> {
+        let Some(Failure { after, kind }) = self.failure else {
+            return None;
+        };
+        if after > 0 {
+            self.failure = Some(Failure {
+                after: after - 1,
+                kind,
+            });
+            return None;
+        }
+        self.failure = None;
+        Some(kind)
+    }
+}
+
+impl<'b> Read for Faltering<'b> {
+    fn read(&mut self, buf: &mut [u8]) -> io::Result<usize> {
+        if let Some(kind) = self.fails() {
+            return Err(io::Error::from(kind));
+        }
+        let count = self.piece.min(self.rest.len()).min(buf.len());
+        let (piece, rest) = self.rest.split_at(count);
+        buf[..count].copy_from_slice(piece);
+        self.rest = rest;
+        Ok(count)
+    }
+}

@@ -1,0 +1,156 @@
+-- A request to the map service has one response, wherever the map that it is for is the same.
+use Rattle.std.proofs.Common.{◌≡◌, ◌≢◌, ◌∙◌, ◌<◌, ℕ, List, length, Vec, codes, refl, sym, ap, subst, arith}
+use Rattle.std.specs.Prelude.{Some, Result, Ok, Err}
+use Rattle.httparse.proofs.GrammarLemmas.{request_unique}
+use Rattle.wf_codec.specs.declared.message.Message.{Message}
+use Rattle.wf_def.specs.Definition.{Definition}
+use Rattle.wf_learner.specs.History.{map_at}
+use Rattle.wf_node.specs.Node.{Node}
+use Rattle.wf_wms.specs.Answer.{AnswerValue, EachQueryHasOneAnswer, IsAnswerOf, IsAnswerOn, IsMapAnswer, operation_of, or_own, subject, subject_of}
+use Rattle.wf_wms.specs.MapRequest.{map_request, map_sequence, picture_in}
+use Rattle.wf_wms.specs.Query.{pairs_of}
+use Rattle.wf_edge.specs.Checks.{judged}
+use Rattle.wf_edge.specs.Head.{Head, Begins, head_of}
+use Rattle.wf_edge.specs.Law.{AsksMapService, AsksForMap, stand_alike, are_asked_alike, EachQueryHasOnePage, EqualRequestsHaveEqualResponses}
+use Rattle.wf_edge.specs.Notice.{response_of}
+use Rattle.wf_edge.specs.Page.{service_page, IsServicePage, IsServiceGiven}
+use Rattle.wf_edge.specs.Request.{Request, IsRefused, by_head, by_check, by_body, IsHeadRefusal, body_bytes}
+use Rattle.wf_edge.specs.Response.{Response, response_bytes}
+use Rattle.wf_edge.specs.Serving.{Asks, Gives, GivesTo, Responds}
+use Rattle.wf_edge.specs.Target.{query_of}
+use Rattle.wf_edge.specs.declared.fault.RequestFault.{RequestFault}
+use Rattle.wf_edge.specs.declared.fault.RequestFault.TheVariants as fault
+use Rattle.wf_edge.specs.declared.notice.Notice.{Notice}
+use Rattle.wf_edge.specs.declared.notice.Notice.TheVariants as notice
+use Rattle.wf_edge.specs.declared.refusal.Refusal.{Refusal}
+use Rattle.wf_edge.specs.declared.refusal.Refusal.TheVariants as refusal
+use Rattle.wf_edge.specs.declared.resource.Asked.{Asked}
+use Rattle.wf_edge.specs.declared.resource.Asked.TheVariants as asked
+
+-- ---- one page
+
+-- a GetMap request is about the map that it names
+asked_subject : (m s : ℕ) (query : List ℕ) → AsksForMap m s query → subject s query ≡ m
+unfolding subject
+asked_subject m s query asks =
+    subst (λ r. subject_of (operation_of r) s (pairs_of query) ≡ m) (sym asks.request) (ap (or_own s) asks.sequence)
+
+-- where its sequence is named well, the request is its picture
+asked_picture : (s m : ℕ) (d : Definition) (pairs : List (List ℕ × List ℕ)) → map_sequence s pairs ≡ Ok m → map_request s d pairs ≡ picture_in d pairs
+unfolding map_request
+asked_picture s m d pairs asks = rw asks refl
+
+-- the same map is drawn at another sequence that the server stands at
+drawn_elsewhere : (s t m : ℕ) (history : List Definition) (pairs : List (List ℕ × List ℕ)) (answer : AnswerValue) → map_sequence s pairs ≡ Ok m → map_sequence t pairs ≡ Ok m →
+    IsAnswerOn (operation_of (Some (codes "GetMap"))) t history pairs answer → IsAnswerOn (operation_of (Some (codes "GetMap"))) s history pairs answer
+drawn_elsewhere s t m history pairs answer here there is = record {
+  map = is.map;
+  is_published = ap (λ k. map_at history (or_own s k)) here ∙ sym (ap (λ k. map_at history (or_own t k)) there) ∙ is.is_published;
+  is_answer = subst (λ picture. IsMapAnswer is.map picture answer) (asked_picture t m is.map pairs there ∙ sym (asked_picture s m is.map pairs here)) is.is_answer;
+}
+
+answer_elsewhere : (s t m : ℕ) (history : List Definition) (query : List ℕ) (answer : AnswerValue) → AsksForMap m s query → AsksForMap m t query →
+    IsAnswerOf t history query answer → IsAnswerOf s history query answer
+unfolding IsAnswerOf
+answer_elsewhere s t m history query answer here there is =
+    let at : ℕ → _ → Type 0 = λ k request. IsAnswerOn (operation_of request) k history (pairs_of query) answer in
+    subst (at s) (sym here.request) (drawn_elsewhere s t m history (pairs_of query) answer here.sequence there.sequence (subst (at t) there.request is))
+
+-- one answer has one page
+page_of_answer : (page another : Response) (answer other : AnswerValue) → page ≡ service_page answer → another ≡ service_page other → other ≡ answer → another ≡ page
+page_of_answer page another answer other is also same = also ∙ ap (λ (a : AnswerValue). service_page a) same ∙ sym is
+
+pub one_page : EachQueryHasOneAnswer → EachQueryHasOnePage
+one_page law query history other page another (stand_alike long same) first second =
+    page_of_answer page another first.answer second.answer first.is_page second.is_page
+    (law (length history) history other query first.answer second.answer same first.is_answer (subst (λ s. IsAnswerOf s other query second.answer) long second.is_answer))
+one_page law query history other page another (are_asked_alike m asks also same) first second =
+    let about = asked_subject m (length history) query asks in
+    page_of_answer page another first.answer second.answer first.is_page second.is_page
+    (law (length history) history other query first.answer second.answer (ap (map_at history) about ∙ same ∙ sym (ap (map_at other) about)) first.is_answer
+    (answer_elsewhere (length history) (length other) m other query second.answer asks also second.is_answer))
+
+-- ---- the page is the response
+
+-- one input has one head
+one_head : (input rest left : List ℕ) (head other : Head) → Begins input head rest → Begins input other left → head ≡ other
+one_head input rest left head other first second =
+    first.says ∙ ap (λ h. head_of h) (request_unique input first.printed second.printed rest left first.reads second.reads).0 ∙ sym second.says
+
+-- a head that asks for something passes its checks
+not_rejected : (head : Head) (asks : Asked) (r : Refusal) → judged head ≡ Ok asks → judged head ≡ Err r → ⊥
+not_rejected head asks r is fails = let clash : Ok asks ≡ Err r = sym is ∙ fails in cc
+
+abbrev passes : Asked → Result Asked Refusal
+passes asks = Ok asks
+
+same_asked : (head : Head) (asks other : Asked) → judged head ≡ Ok asks → judged head ≡ Ok other → asks ≡ other
+same_asked head asks other is also = let same : passes asks ≡ passes other = sym is ∙ also in cc
+
+module _ (input query : List ℕ) (service : AsksMapService input query) where
+  no_head_refusal : (r : Refusal) → IsHeadRefusal input r → ⊥
+  no_head_refusal refusal.BadRequest none = none service.begins.head.printed service.begins.rest service.begins.head.reads
+  no_head_refusal refusal.HeadTooLarge none = none service.begins.head.printed service.begins.rest service.begins.head.reads service.begins.head.small
+  no_head_refusal refusal.NotFound none = none
+  no_head_refusal (refusal.MethodNotAllowed method) none = none
+  no_head_refusal refusal.LengthRequired none = none
+  no_head_refusal refusal.ContentTooLarge none = none
+  no_head_refusal refusal.NotImplemented none = none
+
+  -- what stands at the front is what is asked for
+  asked_is : (rest : List ℕ) (head : Head) (asks : Asked) → Begins input head rest → judged head ≡ Ok asks → asks ≡ asked.Wms
+  asked_is rest head asks begins is =
+      let same : service.request.head ≡ head = one_head input service.begins.rest rest service.request.head head service.begins.head begins in
+      same_asked head asks service.request.asked is (subst (λ h. judged h ≡ Ok service.request.asked) same service.begins.asks) ∙ service.of_service
+
+  -- it isn't rejected
+  no_refusal : (r : Refusal) → IsRefused input r → ⊥
+  no_refusal r (by_head some none) = no_head_refusal r none
+  no_refusal r (by_check fails) =
+      let same : service.request.head ≡ fails.head =
+      one_head input service.begins.rest fails.rest service.request.head fails.head service.begins.head fails.begins in
+      not_rejected fails.head service.request.asked r (subst (λ h. judged h ≡ Ok service.request.asked) same service.begins.asks) fails.fails
+  no_refusal r (by_body ends) =
+      let none : body_bytes ends.asked ≡ 0 = ap (λ a. body_bytes a) (asked_is ends.rest ends.head ends.asked ends.begins ends.asks) in
+      let short : length ends.rest < body_bytes ends.asked = ends.short in
+      absurd (omega arith)
+
+  -- a response that isn't 503 is the page
+  page_given : (history : List Definition) (target : List ℕ) (answer : Result Response Notice) (response : Response) → target ≡ query → response ≡ response_of answer
+      → response.status ≢ 503 → IsServiceGiven history target answer → IsServicePage history query response
+  page_given history target (Ok page) response same is calm given =
+      subst (λ p. IsServicePage history query p) (sym is) (subst (λ q. IsServicePage history q page) same given)
+  page_given history target (Err n) response same is calm given =
+      let told : response ≡ response_of (Err notice.Unavailable) = is ∙ ap (λ (m : Notice). response_of (Err m)) given in
+      absurd (calm (ap (λ (r : Response). r.status) told))
+
+  no_memory : (answer : Result Response Notice) (response : Response) → response ≡ response_of answer → response.status ≢ 503 → answer ≡ Err notice.Unavailable → ⊥
+  no_memory answer response is calm given = calm (ap (λ (r : Response). r.status) (is ∙ ap (λ (a : Result Response Notice). response_of a) given))
+
+  module _ {T A : Type 0} (honest : Type 0) (content : T → List ℕ) (images : T → List ℕ → Type 0) (failures : T → ℕ) where
+    page_heard : (heard : Result Request RequestFault) (before after : Node T) (sent : Vec Message A) (answer : Result Response Notice) (response : Response)
+        → Asks input heard → Gives honest content images failures heard before answer sent after → response ≡ response_of answer → response.status ≢ 503
+        → IsServicePage before.parts.history query response
+    page_heard (Ok heard) before after sent answer response asks given is calm =
+        let same : service.request.head ≡ heard.head = one_head input service.begins.rest asks.rest service.request.head heard.head service.begins.head asks.head in
+        let about : query_of heard.head.target ≡ query = ap (λ (h : Head). query_of h.target) (sym same) ∙ service.of_query in
+        let wms : heard.asked ≡ asked.Wms = asked_is asks.rest heard.head heard.asked asks.head asks.asks in
+        page_given before.parts.history (query_of heard.head.target) answer response about is calm
+        (subst (λ a. GivesTo honest content images failures a heard before answer sent after) wms given).0
+    page_heard (Err (fault.Refused r)) before after sent answer response asks given is calm = absurd (no_refusal r asks)
+    page_heard (Err fault.Memory) before after sent answer response asks given is calm = absurd (no_memory answer response is calm given.0)
+    page_heard (Err fault.NoRequest) before after sent answer response asks given is calm = absurd given
+    page_heard (Err fault.ReadFailed) before after sent answer response asks given is calm = absurd given
+
+    pub page_responded : (before after : Node T) (sent : Vec Message A) (response : Response) → Responds honest content images failures (Some input) before response sent after
+        → response.status ≢ 503 → IsServicePage before.parts.history query response
+    page_responded before after sent response responds calm =
+        page_heard responds.heard before after sent responds.answer response responds.asks responds.gives responds.is calm
+
+pub one_response : {T : Type 0} (A : Type 0) (honest : Type 0) (content : T → List ℕ) (images : T → List ℕ → Type 0) (failures : T → ℕ) → EachQueryHasOnePage
+    → EqualRequestsHaveEqualResponses A honest content images failures
+one_response A honest content images failures law input query before after other other_after sent other_sent response another service one first calm second also =
+    ap (λ (r : Response). response_bytes r)
+    (law query before.parts.history other.parts.history response another one
+    (page_responded input query service honest content images failures before after sent response first calm)
+    (page_responded input query service honest content images failures other other_after other_sent another second also))

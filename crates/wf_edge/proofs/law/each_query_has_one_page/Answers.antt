@@ -1,0 +1,5 @@
+use Rattle.wf_edge.proofs.ServiceLaw.{one_page}
+use Rattle.wf_edge.proofs.law.each_query_has_one_page.Goals as goal
+
+pub returns : goal.returns
+returns c = one_page c.each_query_has_one_answer.ensures

@@ -1,0 +1,9 @@
+-- What a page holds.
+use Rattle.std.specs.Prelude.{ℕ, List}
+use Rattle.wf_edge.specs.declared.contents.Contents.{Contents}
+use Rattle.wf_edge.specs.declared.contents.Contents.TheVariants as contents
+
+-- the bytes of a page
+abbrev pub bytes_of : Contents → List ℕ
+bytes_of (contents.Bytes bytes) = bytes.items
+bytes_of (contents.Line line) = line.bytes.items

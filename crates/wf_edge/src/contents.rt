@@ -1,0 +1,12 @@
+//! What a page holds.
+
+use crate::line::Line;
+
+/// The bytes of a page.
+#[derive(Drop)]
+pub enum Contents {
+    /// An answer of the map service.
+    Bytes(Vec<u8>),
+    /// A line of the node's own, in place.
+    Line(Line),
+}

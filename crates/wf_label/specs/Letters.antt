@@ -1,0 +1,39 @@
+-- Which pixels letters ink, bit by bit, and that they stay in their labels' boxes.
+use Rattle.std.specs.Prelude.{◌≡◌, ◌↔◌, ℕ, ◌+◌, ◌-◌, ◌*◌, ◌/◌, ◌%◌, ◌^◌, ◌<◌, true, false, List, slice_get, slice_index, Some, pos}
+use Rattle.std.specs.List.{All}
+use Rattle.std.specs.Str.{chars}
+use Rattle.wf_paint.specs.Pixmap.{PixmapValue, pixel_at, column_of, row_of}
+use Rattle.wf_label.specs.Colored.{bit_frame, is_in}
+use Rattle.wf_label.specs.Frame.{frame_of}
+use Rattle.wf_label.specs.Glyph.{glyph}
+use Rattle.wf_label.specs.Ink.{IsInked, inks}
+use Rattle.wf_label.specs.Placed.{PlacedValue}
+use Rattle.wf_label.specs.Taken.{is_taken}
+
+-- The pixel lies in the square of a bit that is set: of the character at this index of the text, in one of its glyph's five rows from
+-- the top, its line, and of the three bits across it from the left. The character's cell is 4 bits wide and 6 high; the glyph leaves
+-- the cell's last column and its lowest row free.
+pub record IsInSetBit (label : PlacedValue) (column row : ℕ) : Type 0 where
+  pub place : ℕ
+  pub character : ℕ
+  pub stands : slice_get (chars label.text) place ≡ Some character
+  pub line : ℕ
+  pub high : line < 5
+  pub across : ℕ
+  pub wide : across < 3
+  pub set : slice_index (glyph character) line / 2 ^ (2 - across) % 2 ≡ 1
+  pub inside : is_in (bit_frame label (4 * place + across) (5 - line)) column row ≡ true
+
+-- a label whose bits have a size inks the pixels in the squares of its set bits, and no others
+abbrev pub LettersInkTheirSetBits : Type 0
+LettersInkTheirSetBits = (label : PlacedValue) (column row : ℕ) → 0 < label.scale → (inks label (pos column) (pos row) ≡ true) ↔ IsInSetBit label column row
+
+-- and so none outside its box
+abbrev pub LettersStayInTheirBox : Type 0
+LettersStayInTheirBox = (label : PlacedValue) (column row : ℕ) → 0 < label.scale → inks label (pos column) (pos row) ≡ true → is_in (frame_of label) column row ≡ true
+
+-- where labels were drawn over a picture, a pixel outside each one's box has its old colour
+abbrev pub PixelsOutsideBoxesStay : Type 0
+PixelsOutsideBoxesStay = (labels : List PlacedValue) (old new : PixmapValue) → All (λ label. 0 < label.scale) labels → IsInked labels old new →
+    (i : ℕ) → i < old.width * old.height →
+    is_taken labels (column_of old.width i) (row_of old.width old.height i) ≡ false → pixel_at new.bytes i ≡ pixel_at old.bytes i

@@ -1,0 +1,8 @@
+mod Comparing
+mod Faults
+mod Performing
+mod Playing
+mod Running
+mod Telling
+mod WholeInput
+mod Worlds

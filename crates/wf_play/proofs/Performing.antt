@@ -1,0 +1,51 @@
+-- What an order does, by its index among the orders of its script.
+use Rattle.std.proofs.Common.{◌≡◌, ℕ, Bool, List, [], ◌∷◌, subst, slice_get, Option, Some, None, refl}
+use Rattle.std.specs.Prelude.{option_map, Result, Ok, Err, OnOk}
+use Rattle.wf_def.specs.Definition.{Definition}
+use Rattle.wf_model.specs.World.{Event}
+use Rattle.wf_farm.specs.Farm.{Farm}
+use Rattle.wf_farm.specs.Pump.{IsPumped}
+use Rattle.std.proofs.lemmas.Option.{same_Some}
+use Rattle.wf_script.specs.declared.fault.ScriptFault.{ScriptFault}
+use Rattle.wf_script.specs.declared.fault.ScriptFault.TheVariants.{Memory}
+use Rattle.wf_script.specs.Fault.{IsMemory}
+use Rattle.wf_play.specs.Performing.{ArePumped, Happens, HappensIf, Performs, PerformsAt, fault_at}
+use Rattle.wf_script.specs.Script.{Numbered}
+
+-- where there is an order
+pub performed_at : (maps : List Definition) (there : Option Numbered) (n : Numbered) (before after : Farm) → Some n ≡ there → Performs maps n.order before after → PerformsAt maps there before after
+unfolding PerformsAt
+performed_at maps there n before after is does = subst (λ o. PerformsAt maps o before after) is does
+
+-- where there is none
+pub nothing_performed : (maps : List Definition) (there : Option Numbered) (before after : Farm) → None ≡ there → after ≡ before → PerformsAt maps there before after
+unfolding PerformsAt
+nothing_performed maps there before after is same = subst (λ o. PerformsAt maps o before after) is same
+
+-- its error has its line
+pub fault_there : (there : Option Numbered) (n : Numbered) → Some n ≡ there → fault_at there ≡ Some (Memory n.line)
+fault_there there n is = subst (λ o. fault_at o ≡ Some (Memory n.line)) is refl
+
+-- one event of a map, where the script has it
+pub proposed : (event : Definition → Event Definition) (maps : List Definition) (m : ℕ) (d : Definition) (before after : Farm) → Some d ≡ slice_get maps m →
+    Happens (event d ∷ []) before after → HappensIf (option_map event (slice_get maps m)) before after
+proposed event maps m d before after is does = subst (λ o. HappensIf (option_map event o) before after) is does
+
+-- nothing, where it hasn't
+pub unproposed : (event : Definition → Event Definition) (maps : List Definition) (m : ℕ) (before after : Farm) → None ≡ slice_get maps m → after ≡ before →
+    HappensIf (option_map event (slice_get maps m)) before after
+unproposed event maps m before after is same = subst (λ o. HappensIf (option_map event o) before after) is same
+
+-- a pump, whether it stopped early or not
+pub pump_performed : (names : List ℕ) (before after : Farm) (stopped : Bool) → IsPumped names before after stopped → ArePumped names before after
+pump_performed names before after stopped done = record { stopped = stopped; pumped = done }
+
+-- what is done is done where that is reported
+pub on_ok : {T E P : Type 0} → (result : Result T E) → P → OnOk result P
+on_ok (Ok x) done = done
+on_ok (Err e) done = tt
+
+-- an order's error is allocation failure
+pub fault_is_memory : (there : Option Numbered) (fault : ScriptFault) → fault_at there ≡ Some fault → IsMemory fault
+fault_is_memory None fault is = absurd (cc)
+fault_is_memory (Some n) fault is = subst IsMemory (same_Some (Memory n.line) fault is) refl

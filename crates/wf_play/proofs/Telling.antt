@@ -1,0 +1,91 @@
+-- What is written about a farm, part by part.
+use Rattle.std.proofs.Common.{◌≡◌, ◌∙◌, ℕ, ◌+◌, ◌<◌, zero, suc, List, [], ◌∷◌, ◌++◌, take, slice_get, length, arith, Bool, Option, Some, None, inl, inr, refl, sym, ap, subst}
+use Rattle.std.specs.Prelude.{flat_map, Result, Ok, Err, OnOk}
+use Rattle.std.proofs.lemmas.List.{append-nil, append_assoc}
+use Rattle.std.proofs.lemmas.Option.{slice_get_past}
+use Rattle.wf_def.specs.Definition.{Definition}
+use Rattle.wf_learner.specs.History.{map_at}
+use Rattle.wf_model.specs.Stored.{definition_at}
+use Rattle.wf_node.specs.Node.{Node}
+use Rattle.wf_tape.specs.MemoryTape.{Kept}
+use Rattle.wf_farm.specs.Answering.{IsNoAnswer}
+use Rattle.wf_farm.specs.Farm.{Farm, running_in}
+use Rattle.wf_farm.specs.Pump.{IsPumped}
+use Rattle.wf_farm.specs.declared.fault.FarmFault.{FarmFault}
+use Rattle.wf_farm.specs.declared.fault.FarmFault.TheVariants.{NoNode}
+use Rattle.wf_farm.specs.declared.place.Place.{Place}
+use Rattle.wf_play.specs.Comparison.{IsUncompared}
+use Rattle.wf_script.specs.Script.{Numbered, Script}
+use Rattle.wf_play.specs.Telling.{Adds, IsToldAbsent, TellsAnswer, TellsEqual, TellsPump, Writes, WritesAt, no_node, published_word, pump_line}
+
+-- a consequence of a property holds where the property is reported
+pub also_ok : {T E P Q : Type 0} → (result : Result T E) → (P → Q) → OnOk result P → OnOk result Q
+also_ok (Ok x) so is = so is
+also_ok (Err e) so is = tt
+
+-- one text more after another
+pub just : {T E : Type 0} (result : Result T E) (old new text : List ℕ) → OnOk result (new ≡ old ++ text) → OnOk result (Adds (λ t. t ≡ text) old new)
+just result old new text is = also_ok result (λ is. (text, refl, is)) is
+
+-- one index more is written
+abbrev pub word : Place → List ℕ
+word place = published_word (running_in (Some place))
+
+one_told : (places : List Place) (i : ℕ) → i < length places
+    → flat_map word (take (suc i) places) ≡ flat_map word (take i places) ++ published_word (running_in (slice_get places i))
+one_told [] i there = absurd (omega arith)
+one_told (place ∷ places) zero there = append-nil (word place)
+one_told (place ∷ places) (suc i) there =
+    ap (λ rest. word place ++ rest) (one_told places i (omega arith))
+    ∙ sym (append_assoc (word place) (flat_map word (take i places)) (published_word (running_in (slice_get places i))))
+
+pub place_told : (places : List Place) (i : ℕ) (old front so_far now : List ℕ) → i < length places → so_far ≡ old ++ (front ++ flat_map word (take i places))
+    → now ≡ so_far ++ published_word (running_in (slice_get places i)) → now ≡ old ++ (front ++ flat_map word (take (i + 1) places))
+place_told places i old front so_far now there is next =
+    let one : suc i ≡ i + 1 = omega arith in
+    let told = flat_map word (take i places) in
+    let last = published_word (running_in (slice_get places i)) in
+    next
+    ∙ ap (λ bytes. bytes ++ last) is
+    ∙ append_assoc old (front ++ told) last
+    ∙ ap (λ bytes. old ++ bytes) (append_assoc front told last ∙ ap (λ bytes. front ++ bytes) (sym (one_told places i there) ∙ ap (λ n. flat_map word (take n places)) one))
+
+-- what isn't published yet
+pub unpublished : (history : List Definition) (s : ℕ) → length history < s → None ≡ map_at history s
+unfolding map_at definition_at
+unpublished history zero above = absurd (omega arith)
+unpublished history (suc k) above = sym (slice_get_past history k (omega arith))
+
+-- no node answers where none runs
+is_absent : (place : Option (Node Kept)) → IsNoAnswer place NoNode → place ≡ None
+is_absent None why = refl
+is_absent (Some node) why = absurd (cc)
+
+pub no_answer_told : (farm : Farm) (i : ℕ) (query : List ℕ) (fault : FarmFault) (old new : List ℕ) → IsNoAnswer (running_in (slice_get farm.places i)) fault → IsToldAbsent fault old new
+    → Adds (TellsAnswer farm i query) old new
+no_answer_told farm i query fault old new why told =
+    (no_node, inr (is_absent (running_in (slice_get farm.places i)) (subst (λ f. IsNoAnswer (running_in (slice_get farm.places i)) f) told.0 why), refl), told.1)
+
+pub uncompared_told : (farm : Farm) (i j : ℕ) (query : List ℕ) (fault : FarmFault) (old new : List ℕ) → IsUncompared farm i j fault → IsToldAbsent fault old new
+    → Adds (TellsEqual farm i j query) old new
+uncompared_told farm i j query fault old new why told =
+    elim (subst (λ f. IsUncompared farm i j f) told.0 why) [
+      | inl first ↦ (no_node, inr (inl (is_absent (running_in (slice_get farm.places i)) first), refl), told.1)
+      | inr second ↦ (no_node, inr (inr (is_absent (running_in (slice_get farm.places j)) second), refl), told.1)
+    ]
+
+-- a pump, whether it stopped early or not
+pub pump_told : (nodes : List ℕ) (before after : Farm) (stopped : Bool) (old new : List ℕ) → IsPumped nodes before after stopped → new ≡ old ++ pump_line stopped
+    → Adds (TellsPump nodes before after) old new
+pump_told nodes before after stopped old new done is = (pump_line stopped, (stopped, done, refl), is)
+
+-- what the order at an index writes, where that order is there
+pub written_at : (script : Script) (there : Option Numbered) (n : Numbered) (before after : Farm) (old new : List ℕ) → Some n ≡ there → Adds (Writes script n.order before after) old new
+    → Adds (WritesAt script there before after) old new
+unfolding WritesAt
+written_at script there n before after old new is tells = subst (λ o. Adds (WritesAt script o before after) old new) is tells
+
+-- where there is none
+pub nothing_written : (script : Script) (there : Option Numbered) (before after : Farm) (old : List ℕ) → None ≡ there → Adds (WritesAt script there before after) old old
+unfolding WritesAt
+nothing_written script there before after old is = ([], subst (λ o. WritesAt script o before after []) is refl, sym (append-nil old))

@@ -1,0 +1,25 @@
+-- Each order is performed on the farm that the ones before left, and its text is written after theirs.
+use Rattle.std.proofs.Common.{◌∙◌, refl}
+use Rattle.std.specs.String.{string_bytes}
+use Rattle.wf_play.proofs.Running.{none_played, one_played}
+use Rattle.wf_play.proofs.run.perform_all.Goals as goal
+
+pub loop-number-init : goal.loop-number-init
+loop-number-init g c = record {
+  plays = none_played c.args.session.now.script c.args.session.now.farm (g.K.Sink.written c.args.sink.now);
+  script = refl;
+  empty = c.new-out.ensures.bytes;
+  writes = refl;
+}
+
+pub loop-number-preserved : goal.loop-number-preserved
+loop-number-preserved g c = record {
+  plays =
+      one_played c.loop-number.number c.args.session.now.script c.loop-number.session.script c.args.session.now.farm c.loop-number.session.farm c.perform.new.self.farm
+      (g.K.Sink.written c.args.sink.now) (g.K.Sink.written c.loop-number.sink) (g.K.Sink.written c.write_all.new.sink) (string_bytes c.loop-number.out) (string_bytes c.perform.new.out)
+      c.loop-number.invariant.script c.loop-number.invariant.plays c.in_default.ensures.does c.loop-number.invariant.empty c.in_default.ensures.tells
+      (rw c.as_bytes.ensures.value at c.in-Ok.ensures.whole);
+  script = c.in_default.ensures.script ∙ c.loop-number.invariant.script;
+  empty = c.clear.ensures.bytes;
+  writes = c.in-Ok.ensures.calm ∙ c.loop-number.invariant.writes;
+}

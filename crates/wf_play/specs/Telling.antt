@@ -1,0 +1,149 @@
+-- What an order writes about the farm after it.
+use Rattle.std.specs.Prelude.{◌≡◌, ◌⊎◌, ◌++◌, ℕ, Bool, true, false, List, [], codes, decimal, flat_map, length, slice_get, Option, Some, None, if◌then◌else◌}
+use Rattle.wf_def.specs.Definition.{Definition}
+use Rattle.wf_learner.specs.History.{map_at}
+use Rattle.wf_node.specs.Node.{Node, working_of}
+use Rattle.wf_proposer.specs.Standing.{standing_of}
+use Rattle.wf_proposer.specs.declared.standing.Standing.{Standing}
+use Rattle.wf_proposer.specs.declared.standing.Standing.TheVariants as standing
+use Rattle.wf_tape.specs.MemoryTape.{Kept}
+use Rattle.wf_wms.specs.Answer.{AnswerValue}
+use Rattle.wf_wms.specs.declared.exception.Exception.{Exception}
+use Rattle.wf_wms.specs.declared.exception.Exception.TheVariants as exception
+use Rattle.wf_wms.specs.declared.kind.Kind.{Kind}
+use Rattle.wf_wms.specs.declared.kind.Kind.TheVariants as kind
+use Rattle.wf_farm.specs.Answering.{Answers, sequence_at}
+use Rattle.wf_farm.specs.Farm.{Farm, running_in}
+use Rattle.wf_farm.specs.Pump.{IsPumped}
+use Rattle.wf_farm.specs.declared.fault.FarmFault.{FarmFault}
+use Rattle.wf_farm.specs.declared.fault.FarmFault.TheVariants.{NoNode}
+use Rattle.wf_farm.specs.declared.place.Place.{Place}
+use Rattle.wf_play.specs.Comparison.{Compares}
+use Rattle.wf_script.specs.Order as order
+use Rattle.wf_script.specs.Order.{Order}
+use Rattle.wf_play.specs.Performing.{action_of}
+use Rattle.wf_script.specs.Script.{Numbered, Script, name_of}
+use Rattle.wf_script.specs.declared.order.Question.{Question}
+use Rattle.wf_script.specs.declared.order.Question.TheVariants as question
+
+-- the line about a rejected event, by the number of its rejection; none where it wasn't rejected
+abbrev pub refusal_line : Option ℕ → List ℕ
+refusal_line None = []
+refusal_line (Some n) = codes "refused N" ++ decimal n ++ codes "\n"
+
+-- the line about a pump that stopped early
+abbrev pub pump_line : Bool → List ℕ
+pump_line true = codes "pump stopped\n"
+pump_line false = []
+
+-- messages were pumped, and it is written whether that stopped early
+abbrev pub TellsPump : List ℕ → Farm → Farm → List ℕ → Type 0
+TellsPump nodes before after text = (stopped : Bool) × IsPumped nodes before after stopped × (text ≡ pump_line stopped)
+
+-- the line about a node that is absent or stopped
+abbrev pub no_node : List ℕ
+no_node = codes "no node\n"
+
+-- the last sequence that a node published, a hyphen where none runs
+abbrev pub published_word : Option (Node Kept) → List ℕ
+published_word None = codes " -"
+published_word (Some node) = codes " " ++ decimal (length node.parts.history)
+
+abbrev pub published_line : List Place → List ℕ
+published_line places = codes "published" ++ flat_map (λ place. published_word (running_in (Some place))) places ++ codes "\n"
+
+abbrev pub sent_line : ℕ → List ℕ
+sent_line count = codes "sent " ++ decimal count ++ codes "\n"
+
+-- the state of a proposal, in words
+abbrev pub standing_words : Standing → List ℕ
+standing_words standing.None = codes "none\n"
+standing_words standing.Running = codes "running\n"
+standing_words (standing.Published s) = codes "published " ++ decimal s ++ codes "\n"
+standing_words (standing.Overtaken s) = codes "overtaken " ++ decimal s ++ codes "\n"
+
+-- the proposal of a node; a halted one has none
+abbrev pub proposal_line : ℕ → Option (Node Kept) → List ℕ
+proposal_line i None = no_node
+proposal_line i (Some node) = codes "proposal " ++ decimal i ++ codes " " ++ standing_words (if node.halted then standing.None else standing_of (working_of node))
+
+abbrev pub definition_line : Script → ℕ → ℕ → Option (Node Kept) → List ℕ
+definition_line script i s None = no_node
+definition_line script i s (Some node) = codes "definition " ++ decimal i ++ codes " " ++ decimal s ++ codes " " ++ name_of script (map_at node.parts.history s) ++ codes "\n"
+
+-- the answer to a question; it is always `same`, since nodes never publish different maps under one sequence
+abbrev pub answer_text : Script → Question → Farm → List ℕ
+answer_text script question.Published farm = published_line farm.places
+answer_text script question.Sent farm = sent_line (length farm.sent)
+answer_text script (question.Proposal i) farm = proposal_line i (running_in (slice_get farm.places i))
+answer_text script (question.Definition i s) farm = definition_line script i s (running_in (slice_get farm.places i))
+answer_text script question.Same farm = codes "same\n"
+
+-- the number of an exception
+abbrev pub number_of : Exception → ℕ
+number_of (exception.MissingParameter parameter) = 1
+number_of (exception.BadValue parameter) = 2
+number_of (exception.LayerNotDefined n) = 3
+number_of (exception.StyleNotDefined n) = 4
+number_of exception.InvalidCrs = 5
+number_of exception.InvalidFormat = 6
+number_of exception.CurrentUpdateSequence = 7
+number_of exception.InvalidUpdateSequence = 8
+number_of exception.OperationNotSupported = 9
+number_of exception.MapNotPublished = 10
+
+-- The line about a node's answer: its kind, and how many bytes it has.
+abbrev pub exception_line : ℕ → Exception → ℕ → List ℕ
+exception_line i e size = codes "get " ++ decimal i ++ codes " exception E" ++ decimal (number_of e) ++ codes " " ++ decimal size ++ codes "\n"
+
+abbrev pub kind_line : ℕ → Kind → ℕ → List ℕ
+kind_line i kind.Capabilities size = codes "get " ++ decimal i ++ codes " capabilities " ++ decimal size ++ codes "\n"
+kind_line i kind.Map size = codes "get " ++ decimal i ++ codes " map " ++ decimal size ++ codes "\n"
+kind_line i (kind.Exception e) size = exception_line i e size
+
+-- no node runs there
+abbrev pub IsAbsent : Farm → ℕ → Type 0
+IsAbsent farm i = running_in (slice_get farm.places i) ≡ None
+
+-- that there is no such node is written for that cause alone
+abbrev pub IsToldAbsent : FarmFault → List ℕ → List ℕ → Type 0
+IsToldAbsent fault old new = (fault ≡ NoNode) × (new ≡ old ++ no_node)
+
+-- a text with the property was appended to what was written
+abbrev pub Adds : (List ℕ → Type 0) → List ℕ → List ℕ → Type 0
+Adds P old new = (text : List ℕ) × P text × (new ≡ old ++ text)
+
+-- The line about the node's answer to the query, or that there is no such node.
+abbrev pub TellsAnswer : Farm → ℕ → List ℕ → List ℕ → Type 0
+TellsAnswer farm i query text = ((answer : AnswerValue) × Answers farm i (sequence_at farm i) query answer × (text ≡ kind_line i answer.kind (length answer.bytes))) ⊎ (IsAbsent farm i × (text ≡ no_node))
+
+abbrev pub equal_line : Bool → List ℕ
+equal_line true = codes "equal\n"
+equal_line false = codes "differ\n"
+
+-- The line whether the answers of two nodes to the query are equal, or that one of them doesn't run.
+abbrev pub TellsEqual : Farm → ℕ → ℕ → List ℕ → List ℕ → Type 0
+TellsEqual farm i j query text = ((equal : Bool) × Compares farm i j query equal × (text ≡ equal_line equal)) ⊎ ((IsAbsent farm i ⊎ IsAbsent farm j) × (text ≡ no_node))
+
+-- what is written after a step, if there was one
+abbrev pub step_text : {A : Type 0} → Option A → Option ℕ → List ℕ
+step_text None refused = []
+step_text (Some action) refused = refusal_line refused
+
+-- What an order writes. Of events it is the rejection of the last one, if it was rejected.
+abbrev pub Writes : Script → Order → Farm → Farm → List ℕ → Type 0
+Writes script (order.Step i s) before after text = text ≡ step_text (action_of script.maps s) after.refused
+Writes script (order.Deliver i messages) before after text = text ≡ refusal_line after.refused
+Writes script (order.Stop i) before after text = text ≡ refusal_line after.refused
+Writes script (order.Restart i) before after text = text ≡ refusal_line after.refused
+Writes script (order.Torn i s side) before after text = text ≡ step_text (action_of script.maps s) after.refused
+Writes script (order.Pump nodes) before after text = TellsPump nodes before after text
+Writes script order.Skip before after text = text ≡ []
+Writes script (order.Ask question) before after text = text ≡ answer_text script question after
+Writes script (order.Get i query) before after text = TellsAnswer after i query text
+Writes script (order.Equal i j query) before after text = TellsEqual after i j query text
+
+-- what the order at an index writes: nothing where there is none
+unfoldable pub WritesAt : Script → Option Numbered → Farm → Farm → List ℕ → Type 0
+WritesAt script None before after text = text ≡ []
+WritesAt script (Some numbered) before after text = Writes script numbered.order before after text

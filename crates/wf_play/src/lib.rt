@@ -1,0 +1,37 @@
+//! A script of `wf_script` is played on a farm of nodes in memory.
+//!
+//! A [`Session`] is the farm on which a script is played, order by order. [`run_script`] reads and plays a script over any reader
+//! and writer.
+//!
+//! Contracts see a session as its script and its farm.
+//!
+//! [`Session::perform`]:
+//! - The order changes the farm as the model says. A step, a stop, a restart or a crash within a step is one event; deliveries
+//!   are one event each, in turn; a pump is the farm's pump; `skip` and questions leave the world as it is.
+//! - Its output is the rejection of an event or the answer to a question (`Writes` of `specs/Telling.antt`).
+//! - Its only error is allocation failure, at exactly the order's line.
+//! - Whatever the order and the result, the farm has made some events of the model, no node's list lost a map, and the nodes
+//!   agree. The theorems beneath agreement hold too: ballots belong to their nodes, promises are kept, and each Accept has a
+//!   majority of promises for it.
+//!
+//! [`Session::differ`]: two running nodes never publish different maps under one sequence. [`Session::equal`]: two nodes at one
+//! sequence, or asked for one map, answer a client equally.
+//!
+//! [`run_script`]:
+//! - It returns a read error only where a read failed, and a write error exactly where a write failed.
+//! - Where it returns an error of the script other than allocation failure, nothing is written, and the error is the input's own.
+//! - After Ok the whole input is a script, each of its orders was performed in turn on a new farm, and exactly their output was
+//!   written (`PlaysInput` of `specs/Running.antt`).
+#![tactic(auto)]
+
+mod answer;
+mod delivery;
+mod fault;
+mod law;
+mod request;
+mod run;
+mod session;
+
+pub use fault::PlayFault;
+pub use run::run_script;
+pub use session::Session;

@@ -1,0 +1,339 @@
+//! Playing a script on a farm, order by order.
+
+ghost use Rattle.std.specs.Prelude.{◌≡◌, ◌++◌, OnOk};
+ghost use Rattle.std.specs.String.{string_bytes};
+ghost use Rattle.wf_play.specs.Performing.{kept_by};
+ghost use Rattle.wf_play.specs.Telling.{pump_line};
+
+use crate::delivery::deliveries;
+use crate::law::farm_obeys_laws;
+use std::alloc::{AllocError, Global};
+use std::fmt::Write;
+use std::marker::Model;
+use wf_canon::Canon;
+use wf_farm::{Action, Event, Farm, Kept};
+use wf_script::{Order, Script, ScriptFault, Side, Step};
+
+/// The farm on which a script is played. It is changed by the farm's own calls alone.
+#[derive(Drop)]
+pub struct Session<'s> {
+    pub(crate) script: &'s Script,
+    pub(crate) farm: Farm,
+}
+
+impl<'s> Model for Session<'s> {
+    ghost use Rattle.std.specs.Coded.{codes};
+    ghost use Rattle.std.specs.FinMap as map;
+    ghost use Rattle.wf_play.specs.Session.{Session};
+
+    ghost Value = { Session };
+
+    ghost coded = { Prim.hlevel (codes, map.code) };
+
+    ghost view = { λ s. record { script = s.script.now; farm = s.farm } };
+}
+
+impl<'s> Session<'s> {
+    ghost use Rattle.std.specs.Prelude.{Some, [], ◌∷◌, length, map, slice_get, option_map, option_copied, IfOk, IfErr};
+    ghost use Rattle.wf_def.specs.Definition.{Definition};
+    ghost use Rattle.wf_model.specs.Table as table;
+    ghost use Rattle.wf_model.specs.World as world;
+    ghost use Rattle.wf_farm.specs.Agreement.{HasOneHistory, IsOneWorld};
+    ghost use Rattle.wf_farm.specs.Event.{view as event_view, view_kept};
+    ghost use Rattle.wf_farm.specs.Farm.{Shows, size};
+    ghost use Rattle.wf_model.specs.World.{start};
+    ghost use Rattle.wf_script.specs.Fault.{IsMemory};
+    ghost use Rattle.wf_play.specs.Law.{HasKeptPromises, HasOwnBallots, HasPromisedMajorities};
+    ghost use Rattle.wf_script.specs.Order.{view};
+    ghost use Rattle.wf_play.specs.Performing.{ArePumped, Happens, HappensIf, Performs, PerformsAt, action_of, event_of, fault_at};
+    ghost use Rattle.wf_play.specs.Session.{Plays};
+    ghost use Rattle.wf_play.specs.Telling.{Adds, TellsPump, Writes, WritesAt, refusal_line, step_text};
+
+    /// The farm before the script's first order: the model's start. Returns S1 at line 1 where an allocation failed.
+    pub fn new(alloc: Global, script: &'s Script) -> Result<Session<'s>, ScriptFault>
+        ensures script { IfOk result (λ session. session.script ≡ script.now) }
+        ensures start { IfOk result (λ session. Shows session.farm (start script.now.nodes)) }
+        ensures size { IfOk result (λ session. size session.farm ≡ script.now.nodes) }
+        ensures fresh { IfOk result (λ session. session.farm.pumped ≡ 0) }
+        ensures memory { IfErr result (λ fault. fault ≡ ScriptFault.Memory 1) }
+    {
+        match Farm::new(alloc, script.nodes()) {
+            Ok(farm) => Ok(Session { script, farm }),
+            Err(_) => Err(ScriptFault::Memory(1)),
+        }
+    }
+
+    /// The farm after the orders so far.
+    pub fn farm(&self) -> &Farm
+        ensures { result.now ≡ self.now.farm }
+    {
+        &self.farm
+    }
+
+    /// Performs the order of that number, counted from 0, and appends its output; nothing where there is no such
+    /// order. Whatever the order, the farm has made some events, and the theorems hold of it after them. Returns S1 at the
+    /// order's line where an allocation failed: then a part of the order may have happened, or be written.
+    pub fn perform(
+        &mut self,
+        alloc: Global,
+        number: usize,
+        out: &mut String,
+    ) -> Result<(), ScriptFault>
+        ensures script { self.new.script ≡ self.old.script }
+        ensures does { OnOk result (PerformsAt self.old.script.maps (slice_get self.old.script.orders number) self.old.farm self.new.farm) }
+        ensures tells { OnOk result (Adds (WritesAt self.old.script (slice_get self.old.script.orders number) self.old.farm self.new.farm) (string_bytes out.old) (string_bytes out.new)) }
+        ensures memory { IfErr result (λ fault. fault_at (slice_get self.old.script.orders number) ≡ Some fault) }
+        ensures plays { Plays self.old.farm self.new.farm }
+        ensures agree { HasOneHistory self.new.farm }
+        ensures world { IsOneWorld self.new.farm }
+        ensures ballots { HasOwnBallots self.new.farm }
+        ensures promises { HasKeptPromises self.new.farm }
+        ensures majorities { HasPromisedMajorities self.new.farm }
+    {
+        let performed = self.perform_order(alloc, number, out);
+        self.obeys_laws();
+        performed
+    }
+
+    /// The theorems about the farm hold of it as it is.
+    fn obeys_laws(&self)
+        ensures agree { HasOneHistory self.now.farm }
+        ensures world { IsOneWorld self.now.farm }
+        ensures ballots { HasOwnBallots self.now.farm }
+        ensures promises { HasKeptPromises self.now.farm }
+        ensures majorities { HasPromisedMajorities self.now.farm }
+    {
+        farm_obeys_laws(&self.farm);
+    }
+
+    /// Performs the order, if there is one.
+    #[tactic(auto, using(crate::proofs::Playing::nothing_played, crate::proofs::Performing::nothing_performed, crate::proofs::Performing::fault_there, crate::proofs::Telling::nothing_written))]
+    fn perform_order(
+        &mut self,
+        alloc: Global,
+        number: usize,
+        out: &mut String,
+    ) -> Result<(), ScriptFault>
+        ensures script { self.new.script ≡ self.old.script }
+        ensures does { OnOk result (PerformsAt self.old.script.maps (slice_get self.old.script.orders number) self.old.farm self.new.farm) }
+        ensures tells { OnOk result (Adds (WritesAt self.old.script (slice_get self.old.script.orders number) self.old.farm self.new.farm) (string_bytes out.old) (string_bytes out.new)) }
+        ensures memory { IfErr result (λ fault. fault_at (slice_get self.old.script.orders number) ≡ Some fault) }
+        ensures plays { Plays self.old.farm self.new.farm }
+    {
+        let script = self.script;
+        match script.order(number) {
+            Some(numbered) => match self.obey(alloc, &numbered.order, out) {
+                Ok(()) => Ok(()),
+                Err(_) => Err(ScriptFault::Memory(numbered.line)),
+            },
+            None => Ok(()),
+        }
+    }
+
+    #[tactic(auto, using(crate::proofs::Playing::nothing_played, crate::proofs::Playing::skipped_played, crate::proofs::Telling::just))]
+    fn obey(&mut self, alloc: Global, order: &Order, out: &mut String) -> Result<(), AllocError>
+        ensures script { self.new.script ≡ self.old.script }
+        ensures does { OnOk result (Performs self.old.script.maps (view order.now) self.old.farm self.new.farm) }
+        ensures tells { OnOk result (Adds (Writes self.old.script (view order.now) self.old.farm self.new.farm) (string_bytes out.old) (string_bytes out.new)) }
+        ensures plays { Plays self.old.farm self.new.farm }
+    {
+        match order {
+            Order::Step(node, step) => self.step(alloc, *node, *step, out),
+            Order::Deliver(node, messages) => self.deliver(alloc, *node, messages, out),
+            Order::Stop(node) => self.happen(alloc, Event::Stop(*node), out),
+            Order::Restart(node) => self.happen(alloc, Event::Restart(*node), out),
+            Order::Torn(node, step, side) => self.tear(alloc, *node, *step, kept_of(*side), out),
+            Order::Pump(nodes) => self.pump(alloc, nodes, out),
+            Order::Skip => {
+                self.farm.skip();
+                Ok(())
+            }
+            Order::Ask(question) => self.answer(*question, out),
+            Order::Get(node, query) => self.tell_answer(alloc, *node, query, out),
+            Order::Equal(node, other, query) => self.tell_equal(alloc, *node, *other, query, out),
+        }
+    }
+
+    /// Makes the events in turn, and appends the rejection of the last one, if it was rejected.
+    #[tactic(auto, using(crate::proofs::Playing::run_played, crate::proofs::Playing::part_played))]
+    fn run(&mut self, alloc: Global, events: &[Event], out: &mut String) -> Result<(), AllocError>
+        ensures script { self.new.script ≡ self.old.script }
+        ensures does { OnOk result (Happens (map event_view events.now) self.old.farm self.new.farm) }
+        ensures tells { OnOk result (string_bytes out.new ≡ string_bytes out.old ++ refusal_line self.new.farm.refused) }
+        ensures plays { Plays self.old.farm self.new.farm }
+    {
+        if self.farm.run(alloc, events).is_err() {
+            return Err(AllocError);
+        }
+        match self.farm.refused() {
+            Some(number) => writeln!(out, "refused N{number}"),
+            None => Ok(()),
+        }
+    }
+
+    fn happen(&mut self, alloc: Global, event: Event, out: &mut String) -> Result<(), AllocError>
+        ensures script { self.new.script ≡ self.old.script }
+        ensures does { OnOk result (Happens (event_view event ∷ []) self.old.farm self.new.farm) }
+        ensures tells { OnOk result (string_bytes out.new ≡ string_bytes out.old ++ refusal_line self.new.farm.refused) }
+        ensures plays { Plays self.old.farm self.new.farm }
+    {
+        let events = [event];
+        self.run(alloc, &events, out)
+    }
+
+    /// A step of the node.
+    fn step(
+        &mut self,
+        alloc: Global,
+        node: usize,
+        step: Step,
+        out: &mut String,
+    ) -> Result<(), AllocError>
+        ensures script { self.new.script ≡ self.old.script }
+        ensures does { OnOk result (HappensIf (option_map (event_of node) (action_of self.old.script.maps step)) self.old.farm self.new.farm) }
+        ensures tells { OnOk result (string_bytes out.new ≡ string_bytes out.old ++ step_text (action_of self.old.script.maps step) self.new.farm.refused) }
+        ensures plays { Plays self.old.farm self.new.farm }
+    {
+        match step {
+            Step::Propose(map) => self.propose(alloc, node, map, out),
+            Step::Retry => self.happen(alloc, Event::Retry(node), out),
+            Step::CatchUp => self.happen(alloc, Event::CatchUp(node), out),
+            Step::Deliver(message) => self.happen(alloc, Event::Deliver(node, message), out),
+        }
+    }
+
+    /// The node begins a proposal of the map.
+    #[tactic(auto, using(crate::proofs::Playing::nothing_played, crate::proofs::Performing::proposed, crate::proofs::Performing::unproposed))]
+    fn propose(
+        &mut self,
+        alloc: Global,
+        node: usize,
+        map: usize,
+        out: &mut String,
+    ) -> Result<(), AllocError>
+        ensures script { self.new.script ≡ self.old.script }
+        ensures does { OnOk result (HappensIf (option_map (λ d. world.Propose node d) (slice_get self.old.script.maps map)) self.old.farm self.new.farm) }
+        ensures tells { OnOk result (string_bytes out.new ≡ string_bytes out.old ++ step_text (slice_get self.old.script.maps map) self.new.farm.refused) }
+        ensures plays { Plays self.old.farm self.new.farm }
+    {
+        match self.copy_of(map) {
+            Ok(Some(canon)) => self.happen(alloc, Event::Propose(node, canon), out),
+            Ok(None) => Ok(()),
+            Err(error) => Err(error),
+        }
+    }
+
+    /// The node crashes within a step.
+    fn tear(
+        &mut self,
+        alloc: Global,
+        node: usize,
+        step: Step,
+        kept: Kept,
+        out: &mut String,
+    ) -> Result<(), AllocError>
+        ensures script { self.new.script ≡ self.old.script }
+        ensures does { OnOk result (HappensIf (option_map (λ a. world.Torn node a (view_kept kept)) (action_of self.old.script.maps step)) self.old.farm self.new.farm) }
+        ensures tells { OnOk result (string_bytes out.new ≡ string_bytes out.old ++ step_text (action_of self.old.script.maps step) self.new.farm.refused) }
+        ensures plays { Plays self.old.farm self.new.farm }
+    {
+        match step {
+            Step::Propose(map) => self.tear_proposal(alloc, node, map, kept, out),
+            Step::Retry => self.happen(alloc, Event::Torn(node, Action::Retry, kept), out),
+            Step::CatchUp => self.happen(alloc, Event::Torn(node, Action::CatchUp, kept), out),
+            Step::Deliver(message) => {
+                self.happen(
+                    alloc,
+                    Event::Torn(node, Action::Deliver(message), kept),
+                    out,
+                )
+            }
+        }
+    }
+
+    /// The node crashes within the step that begins a proposal of the map.
+    #[tactic(auto, using(crate::proofs::Playing::nothing_played, crate::proofs::Performing::proposed, crate::proofs::Performing::unproposed))]
+    fn tear_proposal(
+        &mut self,
+        alloc: Global,
+        node: usize,
+        map: usize,
+        kept: Kept,
+        out: &mut String,
+    ) -> Result<(), AllocError>
+        ensures script { self.new.script ≡ self.old.script }
+        ensures does { OnOk result (HappensIf (option_map (λ d. world.Torn node (table.Propose d) (view_kept kept)) (slice_get self.old.script.maps map)) self.old.farm self.new.farm) }
+        ensures tells { OnOk result (string_bytes out.new ≡ string_bytes out.old ++ step_text (slice_get self.old.script.maps map) self.new.farm.refused) }
+        ensures plays { Plays self.old.farm self.new.farm }
+    {
+        match self.copy_of(map) {
+            Ok(Some(canon)) => {
+                self.happen(alloc, Event::Torn(node, Action::Propose(canon), kept), out)
+            }
+            Ok(None) => Ok(()),
+            Err(error) => Err(error),
+        }
+    }
+
+    /// The definition of the map of this number. An order names a map of its own script, so there is one.
+    fn copy_of(&self, map: usize) -> Result<Option<Canon>, AllocError>
+        ensures { IfOk result (λ copy. copy ≡ slice_get self.now.script.maps map) }
+    {
+        let script = self.script;
+        match script.map(map) {
+            Some(canon) => Ok(Some(canon.copy()?)),
+            None => Ok(None),
+        }
+    }
+
+    /// The messages go to the node, one after the other.
+    #[tactic(auto, using(crate::proofs::Playing::nothing_played))]
+    fn deliver(
+        &mut self,
+        alloc: Global,
+        node: usize,
+        messages: &[usize],
+        out: &mut String,
+    ) -> Result<(), AllocError>
+        ensures script { self.new.script ≡ self.old.script }
+        ensures does { OnOk result (Happens (map (λ k. world.Deliver node k) messages.now) self.old.farm self.new.farm) }
+        ensures tells { OnOk result (string_bytes out.new ≡ string_bytes out.old ++ refusal_line self.new.farm.refused) }
+        ensures plays { Plays self.old.farm self.new.farm }
+    {
+        let events = deliveries(alloc, node, messages)?;
+        self.run(alloc, &events, out)
+    }
+
+    #[tactic(auto, using(crate::proofs::Playing::pump_played, crate::proofs::Playing::pump_part_played))]
+    fn pump(&mut self, alloc: Global, nodes: &[usize], out: &mut String) -> Result<(), AllocError>
+        ensures script { self.new.script ≡ self.old.script }
+        ensures does { OnOk result (ArePumped nodes.now self.old.farm self.new.farm) }
+        ensures tells { OnOk result (Adds (TellsPump nodes.now self.old.farm self.new.farm) (string_bytes out.old) (string_bytes out.new)) }
+        ensures plays { Plays self.old.farm self.new.farm }
+    {
+        let Ok(stopped) = self.farm.pump(alloc, nodes) else {
+            return Err(AllocError);
+        };
+        tell_pump(stopped, out)
+    }
+}
+
+/// Which stored part a crash on that side of the record leaves.
+fn kept_of(side: Side) -> Kept
+    ensures { result ≡ kept_by side }
+{
+    match side {
+        Side::Before => Kept::Before,
+        Side::After => Kept::After,
+    }
+}
+
+/// Appends that a pump stopped early, if it did.
+fn tell_pump(stopped: bool, out: &mut String) -> Result<(), AllocError>
+    ensures { OnOk result (string_bytes out.new ≡ string_bytes out.old ++ pump_line stopped) }
+{
+    if stopped {
+        return out.push_str("pump stopped\n");
+    }
+    Ok(())
+}

@@ -1,9 +1,0 @@
--- The places so far are told.
-use Rattle.std.proofs.Common.{◌≡◌, ◌++◌, take}
-use Rattle.std.specs.Prelude.{codes, flat_map}
-use Rattle.std.specs.String.{string_bytes}
-use Rattle.wf_script.proofs.Telling.{word}
-use Rattle.wf_script.proofs.answer.tell_published.Given as goal
-
-abbrev pub invariant-loop-number : goal.invariant-loop-number
-invariant-loop-number l = string_bytes l.out ≡ string_bytes l.fn.out ++ (codes "published" ++ flat_map word (take l.number l.farm.places))

@@ -1,6 +1,0 @@
--- It is the first node that gives no answer.
-use Rattle.std.proofs.Common.{inl}
-use Rattle.wf_script.proofs.request.compare_nodes.Goals as goal
-
-pub returns-in-Err-clause-fault : goal.returns-in-Err-clause-fault
-returns-in-Err-clause-fault c = inl c.in-Err.ensures.fault

@@ -1,6 +1,0 @@
--- It is the second node that gives no answer.
-use Rattle.std.proofs.Common.{inr}
-use Rattle.wf_script.proofs.request.compare_with.Goals as goal
-
-pub returns-in-Err-clause-fault : goal.returns-in-Err-clause-fault
-returns-in-Err-clause-fault c = inr c.in-Err.ensures.fault

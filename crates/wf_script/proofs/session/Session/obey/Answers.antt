@@ -1,5 +1,0 @@
--- A pump tells whether it stopped early, to the nodes that the order names.
-use Rattle.wf_script.proofs.session.Session.obey.Goals as goal
-
-pub returns-in-Pump-clause-tells : goal.returns-in-Pump-clause-tells
-returns-in-Pump-clause-tells c = rw c.in-Pump.is (rw c.deref-in-Pump.ensures.value at c.pump.ensures.tells)

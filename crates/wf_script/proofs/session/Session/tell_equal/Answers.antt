@@ -1,7 +1,0 @@
--- Why the answers aren't compared is told.
-use Rattle.wf_script.proofs.Telling.{also_ok, uncompared_told}
-use Rattle.wf_script.proofs.session.Session.tell_equal.Goals as goal
-
-pub returns-in-Err : goal.returns-in-Err
-returns-in-Err c =
-    also_ok c.tell_no_answer.result (uncompared_told c.args.self.now.farm c.args.first c.args.second c.args.query.now c.in-Err.fault _ _ c.in-Err.ensures.fault) c.tell_no_answer.ensures

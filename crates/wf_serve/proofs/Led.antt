@@ -1,0 +1,36 @@
+-- What a node does of its own leads the nodes on.
+use Rattle.std.proofs.Common.{◌≡◌, ℕ, List, Vec, slice_get, slice_set, Some, Result, Ok, Err, sym, ap, subst}
+use Rattle.std.specs.declared.alloc.Global.{Global}
+use Rattle.wf_codec.specs.declared.message.Message.{Message}
+use Rattle.wf_def.specs.Definition.{Definition}
+use Rattle.wf_model.specs.Table as table
+use Rattle.wf_edge.specs.Serving.{HandsOut, MovesOnce, Stays, Proposes}
+use Rattle.wf_farm.specs.Delivering.{StandInTurn}
+use Rattle.wf_farm.specs.Leading.{AreLedSaying, IsOwn, NothingIsSaid, StepLeadsOn, said_by}
+use Rattle.wf_farm.specs.PlaceLaws.{set_same}
+use Rattle.wf_node.specs.Node.{Node}
+use Rattle.wf_node.specs.declared.fault.NodeFault.{NodeFault}
+use Rattle.wf_serve.specs.Serving.{IsAsked}
+
+hands_said : (answer : Result (Vec Message Global) NodeFault) (said : Vec Message Global) → HandsOut answer said → said_by answer ≡ said.items
+hands_said (Ok messages) said is = ap (λ (v : Vec Message Global). v.items) (sym is)
+hands_said (Err why) said is = sym is
+
+module _ {T : Type 0} (honest : Type 0) (content : T → List ℕ) (images : T → List ℕ → Type 0) (failures : T → ℕ) (law : StepLeadsOn honest content images failures)
+    (nodes : List (Node T)) (i : ℕ) (before after : Node T) (at : slice_get nodes i ≡ Some before) (turns : StandInTurn nodes) (said : Vec Message Global) where
+  -- it was asked for a step
+  pub asked_leads : (input : table.Input Definition) → IsOwn input → IsAsked honest content images failures input before said after →
+      AreLedSaying honest images nodes said.items (slice_set nodes i after)
+  asked_leads input own asked =
+      subst (λ ms. AreLedSaying honest images nodes ms (slice_set nodes i after)) (hands_said asked.answer said asked.hands)
+      (law nodes i before after input asked.answer at turns own asked.answers.refused asked.answers.steps)
+
+  -- it served a request: it is as it was, or has proposed
+  pub moved_leads : NothingIsSaid honest images → MovesOnce honest content images failures before said after → AreLedSaying honest images nodes said.items (slice_set nodes i after)
+  moved_leads quiet (Stays unmoved) =
+      subst (λ n. AreLedSaying honest images nodes said.items (slice_set nodes i n)) (sym unmoved.same)
+      (subst (λ ns. AreLedSaying honest images nodes said.items ns) (sym (set_same nodes i before at))
+      (subst (λ ms. AreLedSaying honest images nodes ms nodes) (sym unmoved.quiet) (quiet nodes)))
+  moved_leads quiet (Proposes d result proposed hands) =
+      subst (λ ms. AreLedSaying honest images nodes ms (slice_set nodes i after)) (hands_said result said hands)
+      (law nodes i before after (table.Propose d) result at turns tt proposed.refused proposed.steps)

@@ -1,0 +1,46 @@
+-- One connection more, by the node whose turn it is.
+use Rattle.std.proofs.Common.{◌≡◌, length, subst, arith}
+use Rattle.wf_serve.specs.Connections.{HaveCome}
+use Rattle.wf_serve.proofs.Come.{none_came, one_more_came}
+use Rattle.wf_serve.proofs.connections.serve_connections.Goals as goal
+
+pub loop-connection-init : goal.loop-connection-init
+loop-connection-init g c = record {
+  come = none_came g.T.Tape.honest g.T.Tape.content g.T.Tape.images g.T.Tape.failed (length c.args.nodes.now) c.args.nodes.now;
+  led = c.leading_goes_on.ensures.still c.args.nodes.now;
+  kept = c.requires.kept;
+}
+
+pub serve_next-requires-clause-within : goal.serve_next-requires-clause-within
+serve_next-requires-clause-within g c = omega (arith, c.turn_of.ensures.within, c.loop-connection.invariant.led.turn.as_many)
+
+pub serve_next-requires-clause-in_turn : goal.serve_next-requires-clause-in_turn
+serve_next-requires-clause-in_turn g c = c.loop-connection.invariant.led.turn.in_turn c.requires.in_turn
+
+pub serve_next-requires-clause-kept : goal.serve_next-requires-clause-kept
+serve_next-requires-clause-kept g c = c.loop-connection.invariant.kept
+
+pub loop-connection-preserved : goal.loop-connection-preserved
+loop-connection-preserved g c = record {
+  come = one_more_came g.T.Tape.honest g.T.Tape.content g.T.Tape.images g.T.Tape.failed (length c.args.nodes.now) c.loop-connection.connection c.turn_of.result c.args.nodes.now c.loop-connection.nodes c.serve_next.new.nodes
+      c.turn_of.ensures.turn c.loop-connection.invariant.come c.serve_next.ensures.answered;
+  led = c.leading_goes_on.ensures.again c.args.nodes.now c.loop-connection.nodes c.serve_next.new.nodes c.loop-connection.invariant.led c.serve_next.ensures.led;
+  kept = c.serve_next.ensures.kept;
+}
+
+pub returns-clause-come : goal.returns-clause-come
+returns-clause-come g c =
+    let all : c.loop-connection.connection ≡ c.args.requests = omega (arith, c.loop-connection-test.false) in
+    subst (λ k. HaveCome g.T.Tape.honest g.T.Tape.content g.T.Tape.images g.T.Tape.failed (length c.args.nodes.now) k c.args.nodes.now c.loop-connection.nodes) all c.loop-connection.invariant.come
+
+pub returns-clause-led : goal.returns-clause-led
+returns-clause-led g c = c.loop-connection.invariant.led
+
+pub returns-clause-reached : goal.returns-clause-reached
+returns-clause-reached g c = λ reached. (c.agree_still.ensures c.args.nodes.now reached c.loop-connection.invariant.led).0
+
+pub returns-clause-agree : goal.returns-clause-agree
+returns-clause-agree g c = λ reached. (c.agree_still.ensures c.args.nodes.now reached c.loop-connection.invariant.led).1
+
+pub returns-clause-kept : goal.returns-clause-kept
+returns-clause-kept g c = c.loop-connection.invariant.kept

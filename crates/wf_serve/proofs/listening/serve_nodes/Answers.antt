@@ -1,0 +1,35 @@
+-- The nodes catch up, and then the connections come.
+use Rattle.std.proofs.Common.{refl, arith}
+use Rattle.wf_serve.proofs.listening.serve_nodes.Goals as goal
+
+pub serve_kept-outcome-requires-clause-some : goal.serve_kept-outcome-requires-clause-some
+serve_kept-outcome-requires-clause-some g c = omega (arith, c.requires.some, c.catch_up.ensures.led.turn.as_many)
+
+pub serve_kept-outcome-requires-clause-in_turn : goal.serve_kept-outcome-requires-clause-in_turn
+serve_kept-outcome-requires-clause-in_turn g c = c.catch_up.ensures.led.turn.in_turn c.requires.in_turn
+
+pub returns-in_default-clause-served : goal.returns-in_default-clause-served
+returns-in_default-clause-served g c = record { caught = c.catch_up.new.nodes; catch_up = c.catch_up.ensures.caught; come = refl }
+
+pub returns-in_default-clause-led : goal.returns-in_default-clause-led
+returns-in_default-clause-led g c = c.catch_up.ensures.led
+
+pub returns-in_default-clause-reached : goal.returns-in_default-clause-reached
+returns-in_default-clause-reached g c = λ reached. (c.agree_still.ensures c.args.nodes.now reached c.catch_up.ensures.led).0
+
+pub returns-in_default-clause-agree : goal.returns-in_default-clause-agree
+returns-in_default-clause-agree g c = λ reached. (c.agree_still.ensures c.args.nodes.now reached c.catch_up.ensures.led).1
+
+pub returns-clause-served : goal.returns-clause-served
+returns-clause-served g c = record { caught = c.catch_up.new.nodes; catch_up = c.catch_up.ensures.caught; come = c.serve_kept-outcome.ensures.come }
+
+pub returns-clause-led : goal.returns-clause-led
+returns-clause-led g c = c.leading_goes_on.ensures.again c.args.nodes.now c.catch_up.new.nodes c.serve_kept-outcome.new.nodes c.catch_up.ensures.led c.serve_kept-outcome.ensures.led
+
+pub returns-clause-reached : goal.returns-clause-reached
+returns-clause-reached g c = λ reached.
+    (c.agree_still-2.ensures c.args.nodes.now reached (c.leading_goes_on.ensures.again c.args.nodes.now c.catch_up.new.nodes c.serve_kept-outcome.new.nodes c.catch_up.ensures.led c.serve_kept-outcome.ensures.led)).0
+
+pub returns-clause-agree : goal.returns-clause-agree
+returns-clause-agree g c = λ reached.
+    (c.agree_still-2.ensures c.args.nodes.now reached (c.leading_goes_on.ensures.again c.args.nodes.now c.catch_up.new.nodes c.serve_kept-outcome.new.nodes c.catch_up.ensures.led c.serve_kept-outcome.ensures.led)).1

@@ -1,0 +1,17 @@
+//! Maps by their update sequences.
+ghost use Rattle.std.specs.Prelude.{◌≡◌, ◌≤◌, List, Some, length};
+ghost use Rattle.wf_def.specs.Definition.{Definition};
+ghost use Rattle.wf_learner.specs.History.{map_at};
+
+use wf_def::map::MapDef;
+
+/// Where a server finds its maps.
+pub(crate) trait Maps {
+    /// The published definitions: the first is that of sequence 1.
+    ghost definitions: { Self → List Definition };
+
+    /// The map of a published sequence, the empty one for 0.
+    fn published_map(&self, seq: u16) -> &MapDef
+        requires { seq ≤ length (definitions self.now) }
+        ensures { map_at (definitions self.now) seq ≡ Some result.now };
+}

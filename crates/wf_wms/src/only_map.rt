@@ -1,0 +1,51 @@
+//! The maps where one alone is published.
+
+use crate::maps::Maps;
+use std::alloc::{AllocError, Global};
+use std::marker::Model;
+use wf_def::map::MapDef;
+
+/// The maps of a server that has published this one alone, as sequence 1.
+#[derive(Drop)]
+pub(crate) struct OnlyMap<'a> {
+    map: &'a MapDef,
+    // The map of sequence 0.
+    empty: MapDef,
+}
+
+impl<'a> Model for OnlyMap<'a> {
+    ghost use Rattle.std.specs.Prelude.{◌≡◌, List, [], ◌∷◌};
+    ghost use Rattle.wf_def.specs.Definition.{Definition, empty_map};
+
+    ghost Value = { List Definition };
+
+    ghost view = { λ maps. maps.map.now ∷ [] };
+
+    ghost invariant = { λ maps. maps.empty ≡ empty_map };
+}
+
+impl<'a> OnlyMap<'a> {
+    ghost use Rattle.std.specs.Prelude.{◌≡◌, IfOk, [], ◌∷◌};
+
+    /// Allocation failure is the only error.
+    pub(crate) fn new(alloc: Global, map: &'a MapDef) -> Result<Self, AllocError>
+        ensures { IfOk result (λ maps. maps ≡ map.now ∷ []) }
+    {
+        Ok(OnlyMap {
+            map,
+            empty: MapDef::empty(alloc)?,
+        })
+    }
+}
+
+#[tactic(auto, using(crate::proofs::HistoryLaw::empty_there, crate::proofs::HistoryLaw::only_there))]
+impl<'a> Maps for OnlyMap<'a> {
+    ghost definitions = { λ maps. maps };
+
+    fn published_map(&self, seq: u16) -> &MapDef {
+        if seq == 0 {
+            return &self.empty;
+        }
+        self.map
+    }
+}
