@@ -10,6 +10,7 @@ bounds the points: one of two digits takes four bytes.
 
 import argparse
 import pathlib
+import random
 import sys
 
 HERE = pathlib.Path(__file__).resolve().parent
@@ -50,8 +51,24 @@ def zigzag(k):
     return (k * 5 % 10, 9 * (k % 2))
 
 
+def scattered(_):
+    """Up and down over the whole height, each end anywhere."""
+    scattered.side = 9 - scattered.side
+    return (scattered.draw.randrange(10), scattered.side)
+
+
+scattered.side = 0
+scattered.draw = random.Random(1)
+
+
 def cases():
     comb = [feature(fitting(zigzag, 4))]
+    falling = "".join(style(f"COLOR {{color}} OUTLINECOLOR {{color}} WIDTH {16 - k}", k) for k in range(8))
+    yield "one polygon of full-height edges, 8 outlines of falling width", mapfile("POLYGON", falling, comb)
+    yield "one polygon of edges with ends anywhere, 8 outlines of falling width", mapfile(
+        "POLYGON", falling, [feature(fitting(scattered, 4))])
+    yield "one polygon of slanted edges, 8 outlines of falling width", mapfile(
+        "POLYGON", falling, [feature(fitting(lambda k: (9 * (k % 2), 7 * (k % 2)), 4))])
     yield "one polygon of full-height edges, 8 fills and outlines of 16 pixels", mapfile(
         "POLYGON", styles("COLOR {color} OUTLINECOLOR {color} WIDTH 16"), comb)
     yield "one polygon of full-height edges, one fill", mapfile("POLYGON", styles("COLOR {color}", 1), comb)

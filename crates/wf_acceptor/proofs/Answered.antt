@@ -1,4 +1,4 @@
--- The rows of the table, by an acceptor's part of the node.
+-- The transitions of the step table, in terms of an acceptor's part of the node.
 use Rattle.std.proofs.Common.{◌≡◌, ℕ, ◌<◌, true, false, nat_le, Option, Some, None, option_map, IsSome, Result, Ok, Err, IfOk, OnErr, refl, sym, ◌∙◌, ap, subst}
 use Rattle.std.specs.Option.{option_to_list}
 use Rattle.std.specs.FinMap as map
@@ -21,7 +21,7 @@ use Rattle.wf_acceptor.specs.Prepared.{nack_of}
 use Rattle.wf_acceptor.specs.Answer.{Answers, Stores}
 use Rattle.wf_acceptor.specs.declared.answer.Answer.{Answer}
 
--- the answers of an acceptor that promises, votes, and only replies
+-- the answers of an acceptor that promises, that votes, and that only replies
 abbrev pub promising : Part → ℕ → Ballot → Answer
 promising part s b = record { entry = Some (Promised s b); reply = Some (Promise part.id s b (map.get part.votes s)) }
 
@@ -38,14 +38,14 @@ nack-as part s b =
       | Some promise ↦ refl
     ]
 
--- the rows of a Prepare and of an Accept at a slot
+-- the transitions of a Prepare and of an Accept at a slot
 abbrev pub prepare_row : Part → ℕ → Ballot → Stored Definition → Working Definition → Row Definition
 prepare_row part s b stored working = on_prepare part.id stored working s b
 
 abbrev pub accept_row : Part → ℕ → Ballot → Definition → Stored Definition → Working Definition → Row Definition
 accept_row part s b d stored working = on_accept part.id stored working s b d
 
--- Above the published definitions a row is decided by the promise that the part has.
+-- Above the published definitions the part's promise determines the transition.
 prepare_by_promise : (part : Part) (stored : Stored Definition) (working : Working Definition) (s : ℕ) (b : Ballot) → ActsFor part stored → part.published < s →
     prepare_row part s b stored working ≡ prepare_open part.id stored working s b (promises_of part s)
 unfolding on_prepare
@@ -60,7 +60,7 @@ accept_by_promise part stored working s b d acts above =
     let open_ : nat_le s (published stored) ≡ false = rw acts.published (lt-leb s part.published above) in
     rw open_ (ap (λ (f : ℕ → Option Ballot). accept_open part.id stored working s b d (f s)) acts.promises)
 
--- A ballot above the promise is promised, and the vote is told.
+-- A ballot above the promise is promised, and the vote is reported.
 prepare_promises : (part : Part) (stored : Stored Definition) (working : Working Definition) (s : ℕ) (b : Ballot) → ActsFor part stored → part.published < s →
     is_above (promises_of part s) b ≡ true →
     prepare_row part s b stored working ≡ stores working (stored_part.Promised s b) (model.Promise part.id s b (votes_of part s))
@@ -78,7 +78,7 @@ accept_votes part stored working s b d acts open_ high voted =
     let here : votes_at (stored.votes s) b ≡ false = ap (λ (f : ℕ → Option (Vote Definition)). votes_at (f s) b) acts.votes ∙ voted in
     accept_by_promise part stored working s b d acts open_ ∙ rw (high, here)
 
--- ---- the answers are the rows
+-- ---- the answers are the transitions
 
 pub promising_answers : (part : Part) (s : ℕ) (b : Ballot) → part.published < s → is_above (promises_of part s) b ≡ true →
     Answers part (prepare_row part s b) (promising part s b)
@@ -114,7 +114,7 @@ pub voting_answers : (part : Part) (s : ℕ) (b : Ballot) (d : Definition) → p
 unfolding stores
 voting_answers part s b d open_ high voted stored working acts = sym (accept_votes part stored working s b d acts open_ high voted)
 
--- ---- rows that store a record
+-- ---- transitions that store a record
 
 stores_some : (row : Row Definition) (working : Working Definition) (r : stored_part.Record Definition) (m : model.Message Definition) → row ≡ stores working r m → IsSome row.entry
 unfolding stores
@@ -131,9 +131,9 @@ voting_stores part s b d open_ high voted stored working acts =
     stores_some (accept_row part s b d stored working) working (stored_part.Accepted s b d) (model.Accepted part.id s b)
     (accept_votes part stored working s b d acts open_ high voted)
 
--- ---- the same of a call's result
+-- ---- the same for a call's result
 
--- an answer that is equal to one that is the row
+-- an answer that is equal to one that is the transition
 pub answers_as : (part : Part) (row : Stored Definition → Working Definition → Row Definition) (given wanted : Answer) → given ≡ wanted → Answers part row wanted → Answers part row given
 answers_as part row given wanted is answers = subst (λ (x : Answer). Answers part row x) (sym is) answers
 

@@ -1,4 +1,4 @@
--- What a record does to an acceptor's part is what the fold does with it.
+-- A record's effect on an acceptor's part is that of the fold.
 use Rattle.std.proofs.Common.{◌≡◌, ℕ, ◌+◌, true, false, nat_le, nat_lt, [], ◌∷◌, ◌==◌, Option, Some, None, Result, Ok, Err, OnOk, if◌then◌else◌, refl, sym, ◌∙◌, ap, subst, arith, length-append}
 use Rattle.std.proofs.lemmas.Grind.{common_steps}
 use Rattle.std.specs.Ordering.{nat_cmp}
@@ -17,7 +17,7 @@ use Rattle.wf_tape.specs.declared.record.Record.TheVariants.{Tried, Promised, Ac
 use Rattle.wf_acceptor.specs.Acceptor.{Acceptor, Part, ActsFor, Applies, IsNext}
 use Rattle.wf_acceptor.specs.Prepared.{with_entry, with_open}
 
--- a value put into a map, or taken out of it, is so at the map's function
+-- inserting into a map, or removing from it, changes the map's function at that slot
 insert-put : {A : Type 0} (m : FinMap nat_cmp A) (s : ℕ) (x : A) → put (map.get m) s (Some x) ≡ map.get (map.insert m s x)
 unfolding put
 insert-put m s x = λ i t. sym (map.get-insert nat_cmp_total m s x t ∙ ap (λ v. if v then Some x else map.get m t) (unsigned_tied t s)) i
@@ -79,7 +79,7 @@ applies_published part s d next stored acts = record {
   published = omega (arith, length-append stored.history (d ∷ []), acts.published);
 }
 
--- Each kind of record does to the part what the fold does with it. A tried round is nothing to an acceptor.
+-- Each kind of record has the fold's effect on the part. A tried round doesn't concern an acceptor.
 applies : (part : Part) (r : Record) → IsNext part r → Applies part (with_entry part r) (view r)
 unfolding with_record published
 applies part (Tried round) next stored acts = record { promises = acts.promises; votes = acts.votes; published = acts.published }
@@ -87,14 +87,14 @@ applies part (Promised s b) next stored acts = applies_promised part s b stored 
 applies part (Accepted s b d) next stored acts = applies_accepted part s b d stored acts
 applies part (Published s d) next stored acts = applies_published part s d next stored acts
 
--- A record that is taken in is applied.
+-- If applying a record succeeds, it is applied.
 pub applied_if_ok : {T E : Type 0} (result : Result T E) (old new : Acceptor) (r : Record) → IsNext old.part r →
     OnOk result (new ≡ record { part = with_entry old.part r; prepared = None }) → OnOk result (Applies old.part new.part (view r))
 applied_if_ok (Ok x) old new r next ok =
     subst (λ (part : Part). Applies old.part part (view r)) (sym (ap (λ (a : Acceptor). a.part) ok)) (applies old.part r next)
 applied_if_ok (Err e) old new r next ok = tt
 
--- A part without promise and vote is one of a node that has stored nothing yet.
+-- A part without promise and vote agrees with the state of a node that has stored nothing yet.
 pub acts_for-nothing_stored : (id : ℕ) → ActsFor (record { id = id; published = 0; promises = map.empty; votes = map.empty }) nothing_stored
 unfolding nothing_stored published
 acts_for-nothing_stored id = record {

@@ -1,4 +1,4 @@
--- A hash map's values by slot: what is found at a slot, and what stands there once a value is put in or taken out.
+-- A hash map's values by slot: what is found at a slot, and after a value is inserted or removed.
 use Rattle.std.proofs.Common.{◌≡◌, ℕ, List, [], ◌∷◌, cond, Option, Some, None, Result, Ok, Err, IsOk, OnOk, nat_eq, true≢false, refl, sym, ◌∙◌, ap}
 use Rattle.std.specs.Ordering.{nat_cmp}
 use Rattle.std.specs.Cmp.{nat_cmp_total, nat_eq_equiv, unsigned_tied}
@@ -7,7 +7,7 @@ use Rattle.std.specs.HashMap.{HashMap, get, Updates}
 use Rattle.std.specs.Map.{lookup}
 use Rattle.wf_acceptor.specs.Slots.{by_slot}
 
--- both take the value of the first entry of the slot
+-- both return the value of the slot's first entry
 find-lookup : {A : Type 0} (entries : List (ℕ × A)) (s : ℕ) → map.find nat_cmp s entries ≡ lookup (nat_eq s) entries
 find-lookup [] s = refl
 find-lookup (entry ∷ rest) s = rw (unsigned_tied s entry.0) (ap (cond (nat_eq s entry.0) (Some entry.1)) (find-lookup rest s))
@@ -27,7 +27,7 @@ updated : {A S : Type 0} (m n : HashMap ℕ A S) (s : ℕ) (x : Option A) → Up
 updated m n s x updates t =
     get-by_slot n t ∙ (updates.0 t ∙ rw (nat_eq_equiv.symm s t) (ap (cond (nat_eq t s) x) (sym (get-by_slot m t))))
 
--- A value is put in, in the place of the slot's one before: that is so of an insertion that is done.
+-- A value is inserted, replacing the slot's one before, if the insertion succeeds.
 pub by_slot-put : {A S T E : Type 0} (m n : HashMap ℕ A S) (s : ℕ) (x : A) (r : Result T E) → OnOk r (Updates nat_eq m n s (Some x)) → IsOk r →
     by_slot n ≡ map.insert (by_slot m) s x
 by_slot-put m n s x (Ok old) updates done =
@@ -35,7 +35,7 @@ by_slot-put m n s x (Ok old) updates done =
     updated m n s (Some x) updates t ∙ sym (map.get-insert nat_cmp_total _ s x t ∙ ap (λ v. cond v (Some x) (map.get (by_slot m) t)) (unsigned_tied t s)))
 by_slot-put m n s x (Err e) updates done = absurd (true≢false (sym done))
 
--- A slot's value is taken out.
+-- A slot's value is removed.
 pub by_slot-forget : {A S : Type 0} (m n : HashMap ℕ A S) (s : ℕ) → Updates nat_eq m n s None → by_slot n ≡ map.remove (by_slot m) s
 by_slot-forget m n s updates =
     map.same_map nat_cmp_total map.nat_cmp-IsAntisymmetric _ _ (λ t.

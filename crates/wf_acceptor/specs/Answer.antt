@@ -1,4 +1,4 @@
--- An answer as a row of the table.
+-- An answer as a transition of the step table.
 use Rattle.std.specs.Prelude.{◌≡◌, option_map, IsSome}
 use Rattle.std.specs.Option.{option_to_list}
 use Rattle.wf_model.specs.Stored.{Stored}
@@ -10,7 +10,7 @@ use Rattle.wf_tape.specs.Record as record_
 use Rattle.wf_acceptor.specs.Acceptor.{Part, ActsFor}
 use Rattle.wf_acceptor.specs.declared.answer.Answer.{Answer}
 
--- the answer as a row, at a node that holds this working part
+-- the answer as a transition, at a node with this working part
 abbrev pub row_of : Answer → Working Definition → Row Definition
 row_of answer working = record {
   entry = option_map record_.view answer.entry;
@@ -18,10 +18,10 @@ row_of answer working = record {
   working = working;
 }
 
--- The answer is this row, whatever else the node stored and holds.
+-- The answer is this transition, whatever else the node's state is.
 abbrev pub Answers : Part → (Stored Definition → Working Definition → Row Definition) → Answer → Type 0
 Answers part row answer = (stored : Stored Definition) (working : Working Definition) → ActsFor part stored → row_of answer working ≡ row stored working
 
--- The row stores a record, whatever else the node stored and holds.
+-- The transition stores a record, whatever else the node's state is.
 abbrev pub Stores : Part → (Stored Definition → Working Definition → Row Definition) → Type 0
 Stores part row = (stored : Stored Definition) (working : Working Definition) → ActsFor part stored → IsSome (row stored working).entry

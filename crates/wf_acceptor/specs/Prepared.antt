@@ -1,4 +1,4 @@
--- Words of the acceptor's own: the reply that names its promise, the room that a record takes, and the part once it is
+-- Used only in this crate's contracts: the Nack with the promise, the room that a record needs, and the part after the record is
 -- applied.
 use Rattle.std.specs.Prelude.{ℕ, ⊤, Option, Some, None, option_map, nat_le, if◌then◌else◌}
 use Rattle.std.specs.FinMap.{insert, remove}
@@ -10,11 +10,11 @@ use Rattle.wf_tape.specs.declared.record.Record.{Record}
 use Rattle.wf_tape.specs.declared.record.Record.TheVariants.{Tried, Promised, Accepted, Published}
 use Rattle.wf_acceptor.specs.Acceptor.{Part, promises_of}
 
--- the reply that names the promise at the slot, if there is one
+-- the Nack with the promise at the slot, if there is one
 abbrev pub nack_of : Part → ℕ → Ballot → Option Message
 nack_of part s b = option_map (λ promise. Nack part.id s b promise) (promises_of part s)
 
--- the room that the record takes, given what room for a promise and for a vote is
+-- the room that the record needs, given what room for a promise and for a vote is
 abbrev pub Takes : (promise vote : Type 0) → Option Record → Type 0
 Takes promise vote None = ⊤
 Takes promise vote (Some (Tried round)) = ⊤
@@ -37,15 +37,15 @@ with_open part (Promised s b) = record part { promises = insert part.promises s 
 with_open part (Accepted s b d) = record part { promises = insert part.promises s b; votes = insert part.votes s (b, d) }
 with_open part (Published s d) = part
 
--- the same at any slot s: a published one gets no promise and no vote
+-- the same at any slot s: a published one is left without promise and vote
 abbrev pub with_entry_at : Part → ℕ → Record → Part
 with_entry_at part s r = if nat_le s part.published then part else with_open part r
 
--- the part without promise and vote of the slot, which is published
+-- the part without promise and vote of the slot, which is now published
 abbrev pub with_published : Part → ℕ → Part
 with_published part s = record part { published = s; promises = remove part.promises s; votes = remove part.votes s }
 
--- the part once the record is applied
+-- the part after the record is applied
 abbrev pub with_entry : Part → Record → Part
 with_entry part (Tried round) = part
 with_entry part (Promised s b) = with_entry_at part s (Promised s b)

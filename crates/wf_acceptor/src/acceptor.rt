@@ -14,19 +14,19 @@ use wf_canon::Canon;
 use wf_codec::Message;
 use wf_tape::Record;
 
-/// A node's promises and votes. A promise is the ballot below which the node takes part in nothing at a
-/// slot; a vote is the ballot at which it voted there, with the definition.
+/// A node's promises and votes. A promise is the ballot below which the node rejects everything at a slot; a vote is the ballot
+/// at which it voted there, with the definition.
 pub struct Acceptor {
     id: NodeId,
-    // The last slot that is published.
+    // The last published slot.
     published: Option<Slot>,
     promises: HashMap<Slot, Ballot>,
     votes: HashMap<Slot, (Ballot, Canon)>,
-    // A record that is set aside: there is room for its promise and its vote.
+    // The prepared record: there is room for its promise and its vote.
     prepared: Option<Record>,
 }
 
-// By hand: a crate above proves one call where it drops an acceptor, and not each part of one anew.
+// Written by hand: callers then prove one call where they drop an acceptor, not one for each part.
 impl Drop for Acceptor {
     fn drop(self) {
         let Acceptor {
@@ -92,7 +92,7 @@ impl Acceptor {
         }
     }
 
-    /// Is the slot's definition published? The acceptor answers for no such slot.
+    /// Whether the slot's definition is published. The acceptor doesn't answer for such a slot.
     pub fn is_published(&self, slot: Slot) -> bool
         ensures { result ≡ nat_le slot self.now.part.published }
     {
@@ -102,9 +102,9 @@ impl Acceptor {
         }
     }
 
-    /// Answers `Prepare(slot, ballot)`. It promises at the slot's first Prepare and at one above its
-    /// promise, and reports its vote; names its promise to one below it; and is silent at its promise.
-    /// Memory is wanted for a promise alone.
+    /// Answers `Prepare(slot, ballot)`: with a Promise and its vote, if the ballot is the slot's first or above its promise; with
+    /// a Nack and its promise, if the ballot is below it; with nothing, if the ballot is its promise. Allocation can fail only
+    /// for a Promise.
     pub fn on_prepare(&mut self, slot: Slot, ballot: Ballot) -> Result<Answer, AllocError>
         requires { self.old.part.published < slot }
         ensures row { IfOk result (Answers self.old.part (λ stored working. prepare_row self.old.part.id stored working slot ballot)) }
@@ -123,9 +123,8 @@ impl Acceptor {
         Ok(self.only_reply(None))
     }
 
-    /// Answers `Accept(slot, ballot, canon)`. It names its promise to one below it; repeats its answer
-    /// where it voted at this ballot; and else votes, which promises the ballot too. Memory is wanted for
-    /// a vote alone.
+    /// Answers `Accept(slot, ballot, canon)`: with a Nack and its promise, if the ballot is below it; with its earlier answer, if
+    /// it voted at this ballot; otherwise it votes, which promises the ballot too. Allocation can fail only for a vote.
     pub fn on_accept(
         &mut self,
         slot: Slot,
@@ -150,8 +149,8 @@ impl Acceptor {
         self.vote(slot, ballot, canon)
     }
 
-    /// Applies a record, as the fold does; nothing is set aside then. It allocates nothing for the record that
-    /// the last answer gave, nor for one of a tried round or a published definition. An error changes nothing.
+    /// Applies a record, as the fold does; afterwards no record is prepared. Doesn't allocate for the record of the last answer,
+    /// nor for that of a tried round or a published definition. An error changes nothing.
     pub fn apply(&mut self, entry: &Record) -> Result<(), AllocError>
         requires { IsNext self.old.part entry.now }
         ensures ok { OnOk result (Applies self.old.part self.new.part (record_view entry.now)) }
@@ -170,7 +169,7 @@ impl Acceptor {
         value_at(&self.promises, slot).copied()
     }
 
-    // Is the ballot above the promise at the slot? It is where there is none.
+    // Whether the ballot is above the promise at the slot; true if there is no promise.
     fn is_above(&self, slot: Slot, ballot: Ballot) -> bool
         ensures { result ≡ table.is_above (promises_of self.now.part slot) ballot }
     {
@@ -180,7 +179,7 @@ impl Acceptor {
         }
     }
 
-    // Is the ballot below the promise at the slot? It isn't where there is none.
+    // Whether the ballot is below the promise at the slot; false if there is no promise.
     fn is_refused(&self, slot: Slot, ballot: Ballot) -> bool
         ensures { result ≡ table.is_refused (promises_of self.now.part slot) ballot }
     {
@@ -190,7 +189,7 @@ impl Acceptor {
         }
     }
 
-    // Is the vote at the slot one at this ballot?
+    // Whether the vote at the slot is at this ballot.
     fn voted_at(&self, slot: Slot, ballot: Ballot) -> bool
         ensures { result ≡ votes_at (votes_of self.now.part slot) ballot }
     {
@@ -209,7 +208,7 @@ impl Acceptor {
         Answer { entry: None, reply }
     }
 
-    // Names the promise, if there is one.
+    // A Nack with the promise, if there is one.
     fn refuse(&mut self, slot: Slot, ballot: Ballot) -> Answer
         ensures answer { result ≡ record { entry = None; reply = nack_of self.old.part slot ballot } }
         ensures after { self.new ≡ record self.old { prepared = None } }
@@ -227,7 +226,7 @@ impl Acceptor {
         }
     }
 
-    // Nothing is set aside any more.
+    // Drops the prepared record.
     fn release(&mut self)
         ensures { self.new ≡ record self.old { prepared = None } }
     {
@@ -262,7 +261,7 @@ impl Acceptor {
         ensures err { OnErr result (self.new ≡ self.old) }
     {
         let entry = Record::Accepted(slot, ballot, canon);
-        // No `?`: the proof of an exit that lets a record go takes each kind of record apart.
+        // Without `?`: the proof of an exit that drops a record treats each kind of record separately.
         match self.prepare(&entry) {
             Ok(()) => Ok(Answer {
                 entry: Some(entry),
@@ -275,7 +274,7 @@ impl Acceptor {
         }
     }
 
-    // Takes a record in; nothing is set aside then.
+    // Applies a record; afterwards no record is prepared.
     fn take_in(&mut self, entry: &Record) -> Result<(), AllocError>
         ensures ok { OnOk result (self.new ≡ record { part = with_entry self.old.part entry.now; prepared = None }) }
         ensures err { OnErr result (self.new ≡ self.old) }
@@ -290,7 +289,7 @@ impl Acceptor {
         Ok(())
     }
 
-    // Takes in a record of a promise or a vote at the slot, unless it is published.
+    // Applies a record of a promise or a vote at the slot, unless the slot is published.
     fn take_in_at(&mut self, slot: Slot, entry: &Record) -> Result<(), AllocError>
         ensures ok { OnOk result (self.new ≡ record { part = with_entry_at self.old.part slot entry.now; prepared = None }) }
         ensures err { OnErr result (self.new ≡ self.old) }
@@ -305,7 +304,7 @@ impl Acceptor {
         Ok(())
     }
 
-    // Makes sure that the record can be applied without memory.
+    // Prepares the record, so that applying it doesn't allocate.
     fn set_aside(&mut self, entry: &Record) -> Result<(), AllocError>
         ensures ok { OnOk result (self.new ≡ record self.old { prepared = Some entry.now }) }
         ensures err { OnErr result (self.new ≡ self.old) }
@@ -326,7 +325,7 @@ impl Acceptor {
         }
     }
 
-    // Makes room for the record's promise and vote, and keeps a copy of it.
+    // Makes room for the record's promise and vote, and stores a copy of it.
     fn prepare(&mut self, entry: &Record) -> Result<(), AllocError>
         ensures ok { OnOk result (self.new ≡ record self.old { prepared = Some entry.now }) }
         ensures err { OnErr result (self.new ≡ self.old) }
@@ -337,7 +336,7 @@ impl Acceptor {
         Ok(())
     }
 
-    // The promise and the vote of the record that is set aside become those of its slot.
+    // Sets the slot's promise and vote to those of the prepared record.
     fn take_in_prepared(&mut self)
         ensures { IfSome self.old.prepared (λ r. self.new ≡ record { part = with_open self.old.part r; prepared = None }) }
     {
@@ -356,7 +355,7 @@ impl Acceptor {
         self.prepared = None;
     }
 
-    // Forgets the slot's promise and vote, since its definition is published.
+    // Removes the slot's promise and vote, since its definition is published.
     fn publish(&mut self, slot: Slot)
         ensures { self.new ≡ record { part = with_published self.old.part slot; prepared = None } }
     {
@@ -367,7 +366,7 @@ impl Acceptor {
     }
 }
 
-// Keeps the record, in the place of the one before.
+// Stores the record in place of the one before.
 fn keep(prepared: &mut Option<Record>, entry: Record)
     ensures { prepared.new ≡ Some entry }
 {
@@ -385,7 +384,7 @@ fn take_definition(prepared: &mut Option<Record>) -> Option<Canon>
     }
 }
 
-// The slot's vote, to be reported.
+// A copy of the slot's vote, to be reported.
 fn vote_at(
     votes: &HashMap<Slot, (Ballot, Canon)>,
     slot: Slot,

@@ -1,19 +1,17 @@
-//! The acceptor: a node's promises and votes, and what it answers to a Prepare and an Accept.
+//! The acceptor: a node's promises and votes, and its answers to Prepare and Accept.
 //!
-//! Its model: an `Acceptor` is seen as its part of the node (the node's number, how many definitions are
-//! published, and the promise and the vote at each slot, as maps) and, beside that, the record that is set
-//! aside (`specs/Acceptor.antt`). Rows and the fold speak of the part alone; what is set aside counts for one
-//! question, whether there is room for a record (`HasRoomFor`). The acceptor acts for every stored part of a
-//! node that has these promises, votes and number of definitions (`ActsFor`).
+//! Model: an `Acceptor` is its part of the node (the node's number, the number of published definitions, and the promise and the
+//! vote at each slot, as maps) and the prepared record, for which room is reserved (`specs/Acceptor.antt`). Transitions and the
+//! fold concern the part only; the prepared record concerns only whether there is room for a record (`HasRoomFor`). The acceptor
+//! acts for every stored state of a node that has these promises, votes and number of definitions (`ActsFor`).
 //!
-//! It promises that an answer is the row of the farm's table for the Prepare or the Accept, whatever
-//! else the node stored; that an answer leaves the part as it was, and there is room for its record then;
-//! and that applying a record is what the fold does with it, after which nothing is set aside.
+//! Promises: an answer is the transition of wf_model's step table for the Prepare or the Accept, whatever else the node has
+//! stored. An answer leaves the part unchanged and reserves room for its record. Applying a record has the effect of the fold,
+//! and leaves no record prepared.
 //!
-//! It doesn't keep records: the node that it is part of puts the answered record on its tape, and then
-//! has it applied. Nor does it answer for a slot that is published. That no call takes longer where many slots
-//! have a promise or a vote, since each is found by its slot's hash, is measured (`bench/node_open.py`) and no
-//! contract.
+//! Not here: storing records (the node writes an answer's record to its tape, then has it applied), and answers for a published
+//! slot. That a call doesn't take longer with more slots, since slots are found by their hash, is measured
+//! (`bench/node_open.py`), not proved.
 #![tactic(auto)]
 
 mod acceptor;

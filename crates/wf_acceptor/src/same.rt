@@ -7,7 +7,7 @@ use wf_ballot::{Ballot, Round, Slot};
 use wf_canon::Canon;
 use wf_tape::Record;
 
-/// Are the two records equal?
+/// Whether the two records are equal.
 pub fn is_same_record(a: &Record, b: &Record) -> bool
     ensures { IsTrue result ↔ (a.now ≡ b.now) }
 {
@@ -19,7 +19,7 @@ pub fn is_same_record(a: &Record, b: &Record) -> bool
     }
 }
 
-/// Is it the record that the round was tried?
+/// Whether it is the record that the round was tried.
 fn is_tried(entry: &Record, round: Round) -> bool
     ensures { IsTrue result ↔ (Tried round ≡ entry.now) }
 {
@@ -29,7 +29,7 @@ fn is_tried(entry: &Record, round: Round) -> bool
     }
 }
 
-/// Is it the record of a promise of the ballot at the slot?
+/// Whether it is the record of a promise of the ballot at the slot.
 fn is_promised(entry: &Record, slot: Slot, ballot: Ballot) -> bool
     ensures { IsTrue result ↔ (Promised slot ballot ≡ entry.now) }
 {
@@ -39,7 +39,7 @@ fn is_promised(entry: &Record, slot: Slot, ballot: Ballot) -> bool
     }
 }
 
-/// Is it the record of a vote for the definition at the slot and the ballot?
+/// Whether it is the record of a vote for the definition at the slot and the ballot.
 fn is_accepted(entry: &Record, slot: Slot, ballot: Ballot, canon: &Canon) -> bool
     ensures { IsTrue result ↔ (Accepted slot ballot canon.now ≡ entry.now) }
 {
@@ -51,7 +51,7 @@ fn is_accepted(entry: &Record, slot: Slot, ballot: Ballot, canon: &Canon) -> boo
     }
 }
 
-/// Is it the record that the definition is published at the slot?
+/// Whether it is the record that the definition is published at the slot.
 fn is_published(entry: &Record, slot: Slot, canon: &Canon) -> bool
     ensures { IsTrue result ↔ (Published slot canon.now ≡ entry.now) }
 {
@@ -61,7 +61,7 @@ fn is_published(entry: &Record, slot: Slot, canon: &Canon) -> bool
     }
 }
 
-/// Are the two definitions equal?
+/// Whether the two definitions are equal.
 fn is_same(a: &Canon, b: &Canon) -> bool
     ensures { IsTrue result ↔ (a.now ≡ b.now) }
 {

@@ -1,5 +1,4 @@
-//! Values by slot, in a hash map: finding, adding and forgetting one is no walk over the others, however many
-//! slots have one.
+//! Values by slot, in a hash map: finding, inserting and removing one doesn't walk over the others.
 
 ghost use Rattle.std.specs.Prelude.{◌≡◌, OnOk};
 ghost use Rattle.std.specs.FinMap as map;
@@ -17,7 +16,7 @@ pub fn value_at<T>(values: &HashMap<Slot, T>, slot: Slot) -> Option<&T>
     values.get(&slot)
 }
 
-/// Makes room for one more value. The values stay, and so does room that is there.
+/// Makes room for one more value. The values and the existing room remain.
 pub fn make_room<T>(values: &mut HashMap<Slot, T>) -> Result<(), AllocError>
     ensures room { OnOk result (HasRoom values.new) }
     ensures more { HasRoom values.old → HasRoom values.new }
@@ -26,7 +25,7 @@ pub fn make_room<T>(values: &mut HashMap<Slot, T>) -> Result<(), AllocError>
     values.reserve(1)
 }
 
-/// Gives the slot the value, in the place of the one before. There is room for it.
+/// Sets the slot's value. There must be room for it.
 pub fn put<T: Drop>(values: &mut HashMap<Slot, T>, slot: Slot, value: T)
     requires { HasRoom values.old }
     ensures { by_slot values.new ≡ map.insert (by_slot values.old) slot value }
@@ -35,7 +34,7 @@ pub fn put<T: Drop>(values: &mut HashMap<Slot, T>, slot: Slot, value: T)
     let _ = values.insert(slot, value);
 }
 
-/// Drops the slot's value. Those of other slots stay.
+/// Removes the slot's value. Those of other slots remain.
 pub fn forget<T: Drop>(values: &mut HashMap<Slot, T>, slot: Slot)
     ensures { by_slot values.new ≡ map.remove (by_slot values.old) slot }
 {

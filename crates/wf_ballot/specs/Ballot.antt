@@ -1,10 +1,10 @@
--- A ballot as contracts see it, the order of ballots, and a ballot's bytes.
+-- A ballot's model, the order of ballots, and a ballot's bytes.
 use Rattle.std.specs.Prelude.{◌≡◌, ℕ, ◌≤◌, Bool, true, false, ◌==◌, nat_lt, ◌&&◌, ◌||◌, List, ◌++◌, codes}
 use Rattle.std.specs.Int.{w32, to_be_bytes}
 use Rattle.std.specs.Fmt.{decimal}
 use Rattle.wf_ballot.specs.Node.{IsNode, node_bytes}
 
--- one try of one node: the round, counted from 1, and the node that tries
+-- one attempt of one node: the round, counted from 1, and the node
 pub record Ballot : Type 0 where
   pub round : ℕ
   pub node : ℕ
@@ -37,6 +37,6 @@ round_bytes round = to_be_bytes w32 round
 unfoldable pub ballot_bytes : Ballot → List ℕ
 ballot_bytes b = round_bytes b.round ++ node_bytes b.node
 
--- a ballot as it is printed, as (2, 1)
+-- a ballot as it is printed, such as (2, 1)
 abbrev pub ballot_text : Ballot → List ℕ
 ballot_text b = codes "(" ++ decimal b.round ++ codes ", " ++ decimal b.node ++ codes ")"

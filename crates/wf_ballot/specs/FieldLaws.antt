@@ -1,4 +1,4 @@
--- The fields of messages and records: their lengths, and that each tells its value.
+-- The fields of messages and records: their lengths, and that each determines its value.
 use Rattle.std.proofs.Common.{◌≡◌, ℕ, ◌<◌, ◌^◌, List, ◌++◌, length, get_or, take, drop, refl, sym, ap, ◌∙◌, append_assoc, arith}
 use Rattle.std.proofs.Math.Seq.{take-append_seam, drop-append_seam}
 use Rattle.std.proofs.lemmas.Nat.{from_be_bytes-to_be_bytes_2, from_be_bytes-to_be_bytes_4}
@@ -24,7 +24,7 @@ pub length-ballot_bytes : (b : Ballot) → length (ballot_bytes b) ≡ 5
 unfolding ballot_bytes round_bytes
 length-ballot_bytes b = refl
 
--- equal lists with fronts of one length have equal fronts and equal rests
+-- equal lists with prefixes of the same length have equal prefixes and equal rests
 same_parts : (xs ys after_x after_y : List ℕ) → length xs ≡ length ys → xs ++ after_x ≡ ys ++ after_y →
     (xs ≡ ys) × (after_x ≡ after_y)
 same_parts xs ys after_x after_y same_length same = (
@@ -57,7 +57,7 @@ rounds_tell_apart q r after_q after_r is_q is_r same =
       parts.1,
     )
 
--- a ballot's round is told by its first 4 bytes, and its node by the next
+-- a ballot's first 4 bytes determine its round, and the next byte its node
 pub ballots_tell_apart : TellsApart IsBallot ballot_bytes
 unfolding ballot_bytes
 ballots_tell_apart a b after_a after_b is_a is_b same =

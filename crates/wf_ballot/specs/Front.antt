@@ -1,4 +1,4 @@
--- A field at the front of bytes: its value and the bytes after it, None where no such field stands there.
+-- A field at the front of bytes: its value and the bytes after it, None if no such field is there.
 use Rattle.std.specs.Prelude.{◌≡◌, ℕ, ◌<◌, ◌&&◌, nat_lt, nat_le, List, [], ◌∷◌, ◌++◌, slice_index, Option, Some, None, if◌then◌else◌}
 use Rattle.std.specs.Int.{w16, w32, from_be_bytes}
 use Rattle.wf_ballot.specs.Node.{most_nodes, IsNode, node_bytes}
@@ -29,11 +29,11 @@ front_ballot (a ∷ b ∷ c ∷ d ∷ node ∷ rest) =
     if nat_le 1 round && nat_lt node most_nodes then Some (record { round = round; node = node }, rest) else None
 front_ballot _ = None
 
--- Bytes are bytes.
+-- Each number is a byte.
 abbrev pub AreBytes : List ℕ → Type 0
 AreBytes bytes = (i : ℕ) → slice_index bytes i < 256
 
--- What is read at the front is the field that stands there, and a field that stands there is read.
+-- A field is read at the front iff the bytes begin with it.
 pub record ReadsFront {A : Type 0} (IsValue : A → Type 0) (bytes_of : A → List ℕ) (front : List ℕ → Option (A × List ℕ)) : Type 0 where
   pub stands : (bytes rest : List ℕ) (x : A) → AreBytes bytes → front bytes ≡ Some (x, rest) → (bytes ≡ bytes_of x ++ rest) × IsValue x
   pub read : (x : A) (rest : List ℕ) → IsValue x → front (bytes_of x ++ rest) ≡ Some (x, rest)

@@ -1,4 +1,4 @@
--- Fields at the front of bytes: what is read stands there, what stands there is read.
+-- Fields at the front of bytes: a field is read iff the bytes begin with it.
 use Rattle.std.proofs.Common.{◌≡◌, ℕ, ◌<◌, ◌^◌, Bool, true, false, cond, ltb, leb, ◌&&◌, List, [], ◌∷◌, ◌++◌, take, Option, Some, None, refl, sym, ap, subst, arith, inl, inr}
 use Rattle.std.proofs.lemmas.Bool.{cases_lt, and_parts, ltb-true, leb-true, lt-ltb, le-leb}
 use Rattle.std.proofs.lemmas.List.{get_or-take, get_or_past, length-take}
@@ -11,12 +11,12 @@ use Rattle.wf_ballot.specs.Ballot.{Ballot, IsBallot, round_bytes, ballot_bytes}
 use Rattle.wf_ballot.specs.Round.{IsRound}
 use Rattle.wf_ballot.specs.Front.{AreBytes, ReadsFront, front_node, front_slot, front_round, front_ballot}
 
--- a test that let a value through
+-- the test of a value that was returned is true
 kept : {A : Type 0} (b : Bool) (x y : A) → cond b (Some x) None ≡ Some y → (b ≡ true) × (x ≡ y)
 kept true x y e = (refl, cc)
 kept false x y e = absurd cc
 
--- a front of bytes is bytes
+-- a prefix of bytes is bytes
 pub AreBytes-take : (n : ℕ) (bytes : List ℕ) → AreBytes bytes → AreBytes (take n bytes)
 AreBytes-take n bytes fits i =
     elim (cases_lt i n) [

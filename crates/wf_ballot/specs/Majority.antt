@@ -2,12 +2,12 @@
 -- nodes is a test.
 use Rattle.std.specs.Prelude.{◌≡◌, ℕ, zero, suc, ◌+◌, ◌*◌, ◌<◌, Bool, true, nat_lt, if◌then◌else◌}
 
--- how many nodes below n are in the set
+-- the number of nodes below n in the set
 unfoldable pub count_nodes : ℕ → (ℕ → Bool) → ℕ
 count_nodes zero nodes = 0
 count_nodes (suc n) nodes = count_nodes n nodes + (if nodes n then 1 else 0)
 
--- a count is a majority of n nodes where twice the count is more than n
+-- a count is a majority of n nodes iff twice the count is more than n
 unfoldable pub is_majority_of : ℕ → ℕ → Bool
 is_majority_of count n = nat_lt n (2 * count)
 

@@ -1,7 +1,7 @@
 -- The number of a node, and its byte.
 use Rattle.std.specs.Prelude.{ℕ, ◌<◌, List, [], ◌∷◌}
 
--- how many nodes a farm may have
+-- the most nodes of a farm
 abbrev pub most_nodes : ℕ
 most_nodes = 64
 

@@ -3,7 +3,7 @@ use Rattle.std.proofs.Common.{◌≡◌, ℕ, zero, suc, ◌+◌, ◌*◌, ◌<�
 use Rattle.std.proofs.lemmas.Bool.{ltb-true}
 use Rattle.wf_ballot.specs.Majority.{count_nodes, is_majority_of, Majority, IsShared}
 
--- no node is counted among none
+-- the count of nodes below 0 is 0
 pub count_nodes-zero : (nodes : ℕ → Bool) → count_nodes 0 nodes ≡ 0
 unfolding count_nodes
 count_nodes-zero nodes = refl
@@ -13,22 +13,22 @@ pub count_nodes-in : (n : ℕ) (nodes : ℕ → Bool) → nodes n ≡ true → c
 unfolding count_nodes
 count_nodes-in n nodes is_in = rw is_in refl
 
--- a next node that isn't in the set doesn't
+-- a next node that isn't in the set doesn't count
 pub count_nodes-out : (n : ℕ) (nodes : ℕ → Bool) → nodes n ≡ false → count_nodes (suc n) nodes ≡ count_nodes n nodes
 unfolding count_nodes
 count_nodes-out n nodes is_out = rw is_out (omega arith)
 
--- what a majority is, as an order of numbers
+-- a majority, as an inequality
 pub is_majority_of-true : (count n : ℕ) → is_majority_of count n ≡ true → n < 2 * count
 unfolding is_majority_of
 is_majority_of-true count n holds = ltb-true n (2 * count) holds
 
--- a node shared below n is one below n + 1
+-- a node shared below n is shared below n + 1
 widened : (n : ℕ) (a b : ℕ → Bool) → (i : ℕ) × IsShared n a b i → (i : ℕ) × IsShared (suc n) a b i
 widened n a b (i, shared) =
     (i, record { is_node = omega (arith, shared.is_node); in_first = shared.in_first; in_second = shared.in_second })
 
--- One node more: it is in both sets, or it adds at most one member, and then those before it share a node.
+-- One more node is in both sets, or it adds at most one member, and then the nodes before it share one.
 meet_with_next : (n : ℕ) (a b : ℕ → Bool) (in_a in_b : Bool) → a n ≡ in_a → b n ≡ in_b →
     (n < count_nodes n a + count_nodes n b → (i : ℕ) × IsShared n a b i) →
     suc n < count_nodes (suc n) a + count_nodes (suc n) b → (i : ℕ) × IsShared (suc n) a b i

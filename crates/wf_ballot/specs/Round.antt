@@ -1,4 +1,4 @@
--- The round of a try: 0 is none, since a node that hasn't tried yet has tried round 0.
+-- The round of an attempt. Round 0 means that a node hasn't made an attempt yet.
 use Rattle.std.specs.Prelude.{ℕ, ◌≤◌}
 use Rattle.wf_ballot.specs.Ballot.{last_round}
 

@@ -1,4 +1,4 @@
--- The sequence of a definition that is agreed on: 0 is none, since nothing is agreed on there.
+-- The sequence of a definition that is agreed on. 0 isn't a slot, since nothing is agreed on there.
 use Rattle.std.specs.Prelude.{ℕ, ◌≤◌}
 use Rattle.wf_ballot.specs.Sequence.{last_sequence}
 

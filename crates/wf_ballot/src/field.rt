@@ -1,13 +1,12 @@
 ghost use Rattle.wf_ballot.specs.Field.{FieldLengths, FieldsTellApart};
 
-/// A node has 1 byte in messages and records, a sequence 2, a round 4 and a ballot 5. A law about the
-/// definitions: the call does nothing.
+/// A node has 1 byte in messages and records, a sequence 2, a round 4 and a ballot 5. A theorem about the definitions: the call
+/// does nothing.
 pub fn field_lengths()
     ensures { FieldLengths }
 {}
 
-/// A field's bytes tell its value, whatever follows them. A law about the definitions: the call does
-/// nothing.
+/// A field's bytes determine its value, whatever follows them. A theorem about the definitions: the call does nothing.
 pub fn fields_tell_apart()
     ensures { FieldsTellApart }
 {}

@@ -11,7 +11,7 @@ use crate::node::NodeId;
 use crate::round::Round;
 use crate::slot::Slot;
 
-/// The node at the front of the bytes, and the bytes after it; None where none stands there.
+/// The node at the front of the bytes, and the bytes after it; None if there is none.
 #[tactic(auto, unfolding(crate::specs::Front::front_node))]
 pub fn split_node(bytes: &[u8]) -> Option<(NodeId, &[u8])>
     ensures value { option_map (λ x. (x.0, x.1.now)) result ≡ front_node bytes.now }
@@ -22,7 +22,7 @@ pub fn split_node(bytes: &[u8]) -> Option<(NodeId, &[u8])>
     Some((node, rest))
 }
 
-/// The slot at the front of the bytes, and the bytes after it; None where none stands there.
+/// The slot at the front of the bytes, and the bytes after it; None if there is none.
 #[tactic(auto, unfolding(crate::specs::Front::front_slot))]
 pub fn split_slot(bytes: &[u8]) -> Option<(Slot, &[u8])>
     ensures value { option_map (λ x. (x.0, x.1.now)) result ≡ front_slot bytes.now }
@@ -37,7 +37,7 @@ pub fn split_slot(bytes: &[u8]) -> Option<(Slot, &[u8])>
     }
 }
 
-/// The round at the front of the bytes, and the bytes after it; None where none stands there.
+/// The round at the front of the bytes, and the bytes after it; None if there is none.
 #[tactic(auto, unfolding(crate::specs::Front::front_round))]
 pub fn split_round(bytes: &[u8]) -> Option<(Round, &[u8])>
     ensures value { option_map (λ x. (x.0, x.1.now)) result ≡ front_round bytes.now }
@@ -52,7 +52,7 @@ pub fn split_round(bytes: &[u8]) -> Option<(Round, &[u8])>
     }
 }
 
-/// The ballot at the front of the bytes, and the bytes after it; None where none stands there.
+/// The ballot at the front of the bytes, and the bytes after it; None if there is none.
 #[tactic(auto, unfolding(crate::specs::Front::front_ballot))]
 pub fn split_ballot(bytes: &[u8]) -> Option<(Ballot, &[u8])>
     ensures value { option_map (λ x. (x.0, x.1.now)) result ≡ front_ballot bytes.now }
@@ -69,8 +69,7 @@ pub fn split_ballot(bytes: &[u8]) -> Option<(Ballot, &[u8])>
     }
 }
 
-/// What is split off the front is the field that stands there, and each field that stands there is split
-/// off. A law about the definitions: the call does nothing.
+/// A field is split off the front of bytes iff the bytes begin with it. A theorem about the definitions: the call does nothing.
 pub fn fields_are_read()
     ensures { FieldsAreRead }
 {}

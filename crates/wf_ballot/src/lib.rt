@@ -1,16 +1,14 @@
-//! Nodes, update sequences, ballots and majorities: what the nodes of a farm count in when they agree
-//! on one history of map definitions.
+//! The numbers of Multi-Paxos: node ids, rounds, ballots, update sequences, slots and majorities.
 //!
-//! Its model: a `NodeId`, a `Round`, a `Seq` and a `Slot` (a sequence from 1 on) are seen as their
-//! numbers, a `Ballot` as the record of its round and its node's number (`specs/Ballot.antt`), a set of
-//! nodes as a test of numbers that is counted over the nodes of the farm (`specs/Majority.antt`).
+//! Model: a `NodeId`, a `Round`, a `Seq` and a `Slot` (a sequence from 1 on) are their numbers; a `Ballot` is the record of its
+//! round and its node's number (`specs/Ballot.antt`); a set of nodes is a test of numbers, counted over the nodes of the farm
+//! (`specs/Majority.antt`).
 //!
-//! It promises that each value is in its range; that ballots are in one total order, by round, then by
-//! node; that two majorities of the same nodes share a node; and that each value has one spelling in
-//! messages and records, which is read back to it and to nothing else. No call takes memory or fails.
+//! Promises: each value is in its range. Ballots are totally ordered, by round, then by node. Two majorities of the same nodes
+//! share a node. Each value has exactly one encoding in messages and records, and no other bytes are decoded to it. No call
+//! allocates or fails.
 //!
-//! It doesn't know what a ballot is used for, nor which nodes a farm has: a number within the ranges here
-//! may still be none of a smaller farm's nodes.
+//! Not here: what a ballot is used for, and which nodes a farm has; a node id may be above those of a smaller farm.
 #![tactic(auto)]
 
 mod ballot;

@@ -1,7 +1,7 @@
 ghost use Rattle.std.specs.Prelude.{◌≡◌};
 ghost use Rattle.wf_ballot.specs.Majority.{is_majority_of, MajoritiesMeet};
 
-/// Is `count` of `n` nodes a majority: is twice the count more than `n`?
+/// Whether `count` of `n` nodes is a majority: twice the count is more than `n`.
 #[tactic(auto, unfolding(crate::specs::Majority::is_majority_of))]
 pub fn is_majority(count: usize, n: usize) -> bool
     ensures { result ≡ is_majority_of count n }
@@ -9,7 +9,7 @@ pub fn is_majority(count: usize, n: usize) -> bool
     count > n / 2
 }
 
-/// Two majorities of the same nodes share a node. A law about the definitions: the call does nothing.
+/// Two majorities of the same nodes share a node. A theorem about the definitions: the call does nothing.
 pub fn majorities_meet()
     ensures { MajoritiesMeet }
 {}

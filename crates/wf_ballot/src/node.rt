@@ -48,14 +48,14 @@ impl NodeId {
         self.number
     }
 
-    /// The node in messages and records: its number, 1 byte.
+    /// The node's bytes in messages and records: its number, 1 byte.
     pub fn bytes(self) -> [u8; 1]
         ensures { result ≡ node_bytes self }
     {
         [self.number]
     }
 
-    /// The node that `bytes` spells so; None for any other bytes.
+    /// The node with these bytes; None for any other bytes.
     pub fn from_bytes(bytes: &[u8]) -> Option<NodeId>
         ensures value { IfSome result (λ id. bytes.now ≡ node_bytes id) }
         ensures in_range { IfSome result IsNode }

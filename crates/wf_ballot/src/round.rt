@@ -7,8 +7,7 @@ use crate::ballot::Ballot;
 use std::fmt;
 use std::marker::Model;
 
-/// The round of a try, 1 to 4,294,967,295. A node that hasn't tried yet is said to have tried round 0,
-/// which is none.
+/// The round of an attempt, 1 to 4,294,967,295. Round 0 means that a node hasn't made an attempt yet; it isn't a `Round`.
 #[derive(Clone, Copy, Debug, PartialEq, Eq, PartialOrd, Ord, Hash)]
 pub struct Round {
     number: u32,
@@ -56,7 +55,7 @@ impl Round {
         self.number
     }
 
-    /// The round in messages and records: 4 bytes, big-endian.
+    /// The round's bytes in messages and records: 4 bytes, big-endian.
     #[tactic(auto, unfolding(crate::specs::Ballot::round_bytes))]
     pub fn bytes(self) -> [u8; 4]
         ensures { result ≡ round_bytes self }

@@ -8,8 +8,8 @@ use std::marker::Model;
 /// The highest update sequence, and so the most map definitions that a farm publishes.
 pub const SEQUENCES: u16 = 4096;
 
-/// An update sequence, 0 to 4,096: the place of a map definition in the farm's history, counted from 1.
-/// At 0 nothing is published yet (OGC 06-042, 7.2.3.5).
+/// An update sequence, 0 to 4,096: the index of a map definition in the farm's history, counted from 1. At 0 nothing is published
+/// yet (OGC 06-042, 7.2.3.5).
 #[derive(Clone, Copy, Debug, PartialEq, Eq, PartialOrd, Ord, Hash)]
 pub struct Seq {
     number: u16,
@@ -50,14 +50,14 @@ impl Seq {
         self.number
     }
 
-    /// The sequence in messages and records: 2 bytes, big-endian.
+    /// The sequence's bytes in messages and records: 2 bytes, big-endian.
     pub fn bytes(self) -> [u8; 2]
         ensures { result ≡ seq_bytes self }
     {
         self.number.to_be_bytes()
     }
 
-    /// The sequence that `bytes` spells so; None for any other bytes.
+    /// The sequence with these bytes; None for any other bytes.
     pub fn from_bytes(bytes: &[u8]) -> Option<Seq>
         ensures value { IfSome result (λ s. bytes.now ≡ seq_bytes s) }
         ensures in_range { IfSome result IsSequence }

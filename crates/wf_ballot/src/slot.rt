@@ -7,9 +7,8 @@ use crate::sequence::Seq;
 use std::fmt;
 use std::marker::Model;
 
-/// The update sequence of a map definition that the farm agrees on, 1 to 4,096. In the words of
-/// Multi-Paxos it is a slot of the agreed history, with an instance of Paxos of its own. Sequence 0 is
-/// no slot, since the map there is fixed: messages and records speak of slots alone.
+/// The update sequence of a map definition that the farm agrees on, 1 to 4,096: a Multi-Paxos slot, with an instance of Paxos of
+/// its own. Sequence 0 isn't a slot, since its map is fixed. Messages and records contain slots only.
 #[derive(Clone, Copy, Debug, PartialEq, Eq, PartialOrd, Ord, Hash)]
 pub struct Slot {
     seq: Seq,
@@ -65,14 +64,14 @@ impl Slot {
         self.seq().number()
     }
 
-    /// The slot in messages and records: its sequence's 2 bytes, big-endian.
+    /// The slot's bytes in messages and records: its sequence's 2 bytes, big-endian.
     pub fn bytes(self) -> [u8; 2]
         ensures { result ≡ seq_bytes self }
     {
         self.seq.bytes()
     }
 
-    /// The slot that `bytes()` spells so; None for bytes that are no slot's.
+    /// The slot with these bytes; None for any other bytes.
     pub fn from_bytes(bytes: &[u8]) -> Option<Slot>
         ensures value { IfSome result (λ s. bytes.now ≡ seq_bytes s) }
         ensures in_range { IfSome result IsSlot }

@@ -1,4 +1,4 @@
--- What a canonical text quotes of its own, as the metadata's keys, is a text, and the names of attributes with what stands before them.
+-- The fixed strings of a canonical text, such as metadata keys, are texts, and so are attribute names after their prefix.
 use Rattle.std.proofs.Common.{◌≡◌, ℕ, ◌≤◌, true, false, leb, List, ◌++◌, length, refl, arith}
 use Rattle.std.specs.Prelude.{codes}
 use Rattle.std.specs.List.{list_all}
@@ -39,7 +39,7 @@ items_chars : chars (codes "ITEMS=") ≡ codes "ITEMS="
 unfolding chars
 items_chars = refl
 
--- `ITEMS=` before a text is a text, where there is room for it
+-- `ITEMS=` followed by a text is a text, if it isn't too long
 pub items_is_text : (t : List ℕ) → is_text t ≡ true → length t ≤ 994 → is_text (codes "ITEMS=" ++ t) ≡ true
 unfolding is_text
 items_is_text t e most =

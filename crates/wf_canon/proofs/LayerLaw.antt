@@ -52,7 +52,7 @@ one_point_more : (most : ℕ) (done : List Point) (p : Point) (left : ℕ) (toke
 unfolding features.points_behind end word
 one_point_more most done p left tokens h room = rw ((number_word_is p.x h.x).1, lt-ltb (length done) most room, (point_again p h).read tokens) refl
 
--- points behind those so far, of which there are no more than so many
+-- points after those so far, at most n in all
 points_in : (most : ℕ) (done part : List Point) (left : ℕ) (rest : List Token) → AllByRecursion IsPoint part → length done + length part ≤ most → length part < left
     → features.points_behind most done left (tokens_of (map point_line part ++ end_line ∷ []) ++ rest) ≡ Some (done ++ part, rest)
 points_in most done part zero rest h room few = absurd (omega arith)
@@ -62,7 +62,7 @@ points_in most done (p ∷ part) (suc left) rest h room few =
     ∙ points_in most (done ++ p ∷ []) part left rest h.1 (omega (arith, length-append done (p ∷ []))) (omega arith)
     ∙ ap (λ (ps : List Point). Some (ps, rest)) (append_assoc done (p ∷ []) part)
 
--- a point is more tokens than one
+-- a point is more than one token
 enough_for : (part : List Point) (rest : List Token) → length part < length (tokens_of (map point_line part ++ end_line ∷ []) ++ rest)
 enough_for [] rest = omega arith
 enough_for (p ∷ part) rest = let others = enough_for part rest in omega (arith, others)
@@ -95,7 +95,7 @@ feature_fills most f h room =
     keyword refl (part_again (most - sum_by length before) part (holds_at IsPart place h.parts) (left_at length most place room)) (λ rest e. rw e refl)))
     ended))
 
--- a feature is read where as many points may come as it has
+-- a feature is read if at least as many points may come as it has
 pub feature_again : (most : ℕ) (f : FeatureDefinition) → IsFeature f → points_of_feature f ≤ most → Reads (features.feature most) (tokens_of (inside (feature_lines f))) f
 unfolding features.feature features.feature_of definitions.feature_of
 feature_again most f h room = block_again (inside (feature_lines f)) (feature_fills most f h room) (λ rest e. rw (e, lt-ltb 0 (length f.parts) h.parts_least) refl)
@@ -127,7 +127,7 @@ title_again : (title : List ℕ) → IsText title → Reads metadata (tokens_of 
 unfolding metadata pairs text argument end word is_keyword all_differ value_at kept_pairs
 title_again title h = record { written = rw (title_key, written_text title h) refl; read = λ rest. rw (title_key, h) refl }
 
--- a layer that may stand behind these: its name is none of theirs, and the map may still have its features and their points
+-- a layer that may follow these: its name differs from theirs, and the map may still have its features and their points
 pub record MayStandBehind (others : List Entry) (entry : Entry) : Type 0 where
   pub name : IsLayerName entry.0
   pub layer : IsLayer entry.1

@@ -30,7 +30,7 @@ use Rattle.wf_canon.proofs.TokenLaw.{written_text, text_again, number_again}
 use Rattle.wf_canon.proofs.Steps.{Reads, inside, is_keyword, Fills, Ended, keyword, inner, line, both, ended, IsAt, each, holds_at, room_at, left_at, block_again}
 use Rattle.wf_canon.proofs.LayerLaw.{Entry, MayStandBehind, layer_again}
 
--- ---- what the web is told
+-- ---- the WEB block
 
 -- the pairs of a map's METADATA, up to its END
 abbrev map_pairs : Definition → List (List Token)
@@ -92,7 +92,7 @@ projection_again p =
       read = λ rest. rw (read.read (Word (codes "END") ∷ rest), projection_is_named p) refl;
     }
 
--- ---- layers behind those before them
+-- ---- layers after those before them
 
 -- a name differs from those before it
 new_name : (before after : List (List ℕ)) (name : List ℕ) → IsDistinct bytes_eq (before ++ name ∷ after) → list_any (bytes_eq name) before ≡ false

@@ -79,13 +79,13 @@ pub one_definition : (d e : Definition) → IsWithinLimits d → IsWithinLimits 
 one_definition d e h g same =
     some_is d e (sym (canon_again d h) ∙ ap (λ (bytes : List ℕ). tokens bytes >>= file) same ∙ canon_again e g)
 
--- what means nothing is no map's text
+-- bytes that mean nothing aren't a map's text
 pub unread_has_no_canon : (bytes : List ℕ) → length bytes ≤ 32768 → MeansNothing bytes → HasNoCanon bytes
 unread_has_no_canon bytes short none d h e =
     let short_text : length (canon d) ≤ 65536 = rw e (omega arith) in
     none d (sym (ap meaning e) ∙ canon_means d h short_text)
 
--- a map's text is that of the definition that it is read as
+-- bytes that mean a map are no map's text unless they are that map's text
 pub other_has_no_canon : (bytes text : List ℕ) (def : Definition) → length bytes ≤ 32768 → Means bytes def → text ≡ canon def → (text ≡ bytes → ⊥) → HasNoCanon bytes
 other_has_no_canon bytes text def short meant spelled other d h e =
     let short_text : length (canon d) ≤ 65536 = rw e (omega arith) in
@@ -93,7 +93,7 @@ other_has_no_canon bytes text def short meant spelled other d h e =
     let one : some_of def ≡ some_of d = sym meant ∙ sym (ap meaning e) ∙ means in
     other (spelled ∙ ap canon (some_is def d one) ∙ e)
 
--- a text over the limit isn't within it
+-- bytes within the limit are no map's text if the map that they mean has a text over the limit
 pub long_has_no_canon : (bytes : List ℕ) (def : Definition) → length bytes ≤ 32768 → Means bytes def → 32768 < length (canon def) → HasNoCanon bytes
 long_has_no_canon bytes def short meant long =
     other_has_no_canon bytes (canon def) def short meant refl (λ same. let e : length (canon def) ≡ length bytes = ap length same in absurd (omega arith))
@@ -102,7 +102,7 @@ unread_if : (within : Bool) (read : Option Definition) → cond (within && false
 unread_if true read = refl
 unread_if false read = refl
 
--- what means a map is UTF-8
+-- bytes that mean a map are UTF-8
 means-is_utf8 : (bytes : List ℕ) (def : Definition) (utf8 : Bool) → is_utf8 bytes ≡ utf8 → Means bytes def → is_utf8 bytes ≡ true
 unfolding meaning
 means-is_utf8 bytes def true is meant = is
@@ -121,14 +121,14 @@ unlike xs ys e same =
     let eq : bytes_eq xs ys ≡ true = (bytes_eq-Decides xs ys).1 same in
     absurd cc
 
--- memory is wanted only for UTF-8: other bytes are rejected for that
+-- allocation fails only for UTF-8: other bytes are rejected as such
 memory-is_utf8 : (fault : MapFault) (bytes : List ℕ) (utf8 : Bool) → is_utf8 bytes ≡ utf8 → is_memory fault ≡ true
     → (is_utf8 bytes ≡ false → IsNotUtf8 {X = Definition} (Err fault)) → is_utf8 bytes ≡ true
 memory-is_utf8 fault bytes true is memory none = is
 memory-is_utf8 reading.Memory bytes false is memory none = absurd (none is)
 memory-is_utf8 _ bytes false is memory none = absurd (let impossible : ⊥ = cc in impossible)
 
--- what the reader's fault says, where it is allocation failure and where it isn't
+-- the meaning of the reader's error, for allocation failure and for others
 why_unread_by : (memory : Bool) (unread : MapFault) (fault : CanonFault) (bytes : List ℕ) → length bytes ≤ 32768 → is_memory unread ≡ memory
     → fault ≡ cond memory Memory NotCanonical → (is_utf8 bytes ≡ false → IsNotUtf8 {X = Definition} (Err unread)) → (memory ≡ false → MeansNothing bytes)
     → IsWhyRefused fault bytes

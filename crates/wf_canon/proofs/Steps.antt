@@ -1,7 +1,7 @@
 -- Lines that are written for a block are read keyword by keyword, whatever follows, and each of their tokens as it was written.
 --
--- A line, or a keyword with the lines of its block, is one step: it brings what was said from one state to the next. So lines that
--- are put together, or written for each element of a list, bring it from the first state to the last.
+-- A line, or a keyword with the lines of its block, is one step: it takes the slots from one state to the next. So concatenated
+-- lines, or lines written for each element of a list, take the slots from the first state to the last.
 use Rattle.std.proofs.Common.{◌≡◌, ℕ, zero, suc, ◌-◌, ◌≤◌, ltb, Bool, true, false, not, ◌&&◌, List, [], ◌∷◌, ◌++◌, length, All, Option, Some, None, refl, sym, ap, ◌∙◌, append_assoc, length-append, arith}
 use Rattle.std.specs.Prelude.{codes, IfSome, sum_by}
 use Rattle.std.specs.List.{flat_map, list_all, Contains}
@@ -23,18 +23,18 @@ use Rattle.wf_canon.specs.Canon.{alone, end_line}
 abbrev pub Reader : Type 0 → Type 0
 Reader A = List Token → Option (A × List Token)
 
--- the tokens may be written, and are read to this value, and what follows them is left
+-- the tokens may be written, and reading them returns this value and leaves what follows them
 pub record Reads {A : Type 0} (reader : Reader A) (tokens : List Token) (value : A) : Type 0 where
   pub written : list_all is_written tokens ≡ true
   pub read : (rest : List Token) → reader (tokens ++ rest) ≡ Some (value, rest)
 
 -- ---- steps
 
--- what a keyword says beside what was said
+-- the slots after a keyword
 abbrev pub Put : Type 0 → Type 0
 Put S = S → List ℕ → Reader S
 
--- the lines of a block behind its keyword, END too
+-- the lines of a block after its keyword, including END
 abbrev pub inside : List (List Token) → List (List Token)
 inside [] = []
 inside (keyword ∷ lines) = lines
@@ -44,7 +44,7 @@ unfoldable pub is_keyword : List ℕ → Bool
 unfolding is_end is_plain is_slash is_quote is_hash
 is_keyword w = is_word w && not (is_end w)
 
--- keywords up to END are read, wherever as many may come as there are tokens
+-- keywords up to END are read, if at least as many may come as there are tokens
 abbrev pub More : {S : Type 0} → Put S → S → List Token → S × List Token → Type 0
 More put said tokens r = (most : ℕ) → length tokens ≤ most → fill put most said tokens ≡ Some r
 
@@ -52,12 +52,12 @@ More put said tokens r = (most : ℕ) → length tokens ≤ most → fill put mo
 abbrev pub Ended : {S : Type 0} → S → List Token → S × List Token → Type 0
 Ended said rest r = r ≡ (said, rest)
 
--- the lines may be written, and are steps from what was said to what follows: more keywords, or nothing
+-- the lines may be written, and take the slots from this state to the one that follows: more keywords, or nothing
 pub record Fills {S : Type 0} (put : Put S) (before : S) (lines : List (List Token)) (follows : List Token → S × List Token → Type 0) : Type 0 where
   pub written : list_all is_written (tokens_of lines) ≡ true
   pub steps : (rest : List Token) (r : S × List Token) → follows rest r → More put before (tokens_of lines ++ rest) r
 
--- a keyword of these tokens, which are read to the value, brings what was said to the next
+-- a keyword with these tokens as its arguments, which are read to the value, takes the slots to the next state
 abbrev pub Says : {S A : Type 0} → Put S → S → List ℕ → Reader A → List Token → A → S → Type 0
 Says put before w reader tokens value next = (rest : List Token) → reader (tokens ++ rest) ≡ Some (value, rest) → put before w (tokens ++ rest) ≡ Some (next, rest)
 
@@ -67,7 +67,7 @@ unfolding fill word
 one_step put before next w tokens rest r other said fewer more zero enough = absurd (omega arith)
 one_step put before next w tokens rest r other said fewer more (suc most) enough = let left = more most (omega arith) in rw (other, said) left
 
--- a keyword and what it asks for, on one line or more
+-- a keyword and its arguments, on one line or more
 pub keyword : {S A : Type 0} {put : Put S} {before next : S} {w : List ℕ} {arguments : List Token} {lines : List (List Token)} {reader : Reader A} {value : A}
     → is_keyword w ≡ true → Reads reader (arguments ++ tokens_of lines) value → Says put before w reader (arguments ++ tokens_of lines) value next → Fills put before ((Word w ∷ arguments) ∷ lines) (More put next)
 unfolding is_keyword
@@ -117,7 +117,7 @@ pub ended : {S : Type 0} {put : Put S} {said : S} → Fills put said (end_line �
 unfolding is_keyword
 ended {put = put} {said = said} = record { written = refl; steps = λ rest r is. rw is (at_end put said rest) }
 
--- what is written for a value that may be absent
+-- the lines of an optional value
 pub there : {S X : Type 0} {put : Put S} (P : X → Type 0) (of : Option X → List (List Token)) (state : Option X → S) (o : Option X)
     → of None ≡ [] → ((x : X) → P x → Fills put (state None) (of (Some x)) (More put (state (Some x)))) → IfSome o P → Fills put (state None) (of o) (More put (state o))
 there P of state None empty step some = rw empty none
@@ -135,15 +135,15 @@ holds_at {xs = xs} {before = before} {x = x} P place all =
     let here : Contains (before ++ x ∷ place.after) x = Contains-append_right before (x ∷ place.after) x (zero, omega arith, refl) in
     All-contains P (before ++ x ∷ place.after) x (All-same P (before ++ x ∷ place.after) xs (sym place.is) all) here
 
--- there is room for it
+-- there is room for the element
 pub room_at : {X : Type 0} {xs before : List X} {x : X} (most : ℕ) → IsAt xs before x → length xs ≤ most → ltb (length before) most ≡ true
 room_at {before = before} {x = x} most place few = lt-ltb (length before) most (omega (arith, ap length place.is, length-append before (x ∷ place.after)))
 
--- those before it leave as much as it has
+-- the elements before it leave at least as much as it has
 pub left_at : {X : Type 0} {xs before : List X} {x : X} (f : X → ℕ) (most : ℕ) → IsAt xs before x → sum_by f xs ≤ most → f x ≤ most - sum_by f before
 left_at {before = before} {x = x} f most place few = omega (arith, ap (sum_by f) place.is, sum_by-append f before (x ∷ place.after), sum_by-cons f x place.after)
 
--- what is written for each element of a list puts it behind those before it
+-- the lines of each element of a list append it to those before it
 pub each : {S X : Type 0} {put : Put S} (of : X → List (List Token)) (state : List X → S) (done xs : List X)
     → ((before : List X) (x : X) → IsAt (done ++ xs) before x → Fills put (state before) (of x) (More put (state (before ++ x ∷ []))))
     → Fills put (state done) (flat_map of xs) (More put (state (done ++ xs)))
@@ -154,7 +154,7 @@ each of state done (x ∷ xs) step =
 
 -- ---- blocks
 
--- a block's lines and its END are read as what they say
+-- a block's lines and its END are read as its value
 pub block_again : {S A : Type 0} {put : Put S} {before after : S} {reader : Reader A} {value : A} (lines : List (List Token))
     → Fills put before lines (Ended after) → ((rest : List Token) → block put before (tokens_of lines ++ rest) ≡ Some (after, rest) → reader (tokens_of lines ++ rest) ≡ Some (value, rest)) → Reads reader (tokens_of lines) value
 block_again {after = after} lines fills says = record {

@@ -38,7 +38,7 @@ none_lacks q (b ∷ t) e =
     let first : eqb b q ≡ false = or_left (eqb b q) (list_any (λ x. eqb x q) t) e in
     rw first (none_lacks q t (or_right (eqb b q) (list_any (λ x. eqb x q) t) e))
 
--- a text is written in a quote that it lacks: it doesn't hold both
+-- a text is written in a quote that it doesn't contain, since it doesn't contain both
 lacks_its_quote : (double single : Bool) (t : List ℕ) → list_any (λ b. eqb b 34) t ≡ double → list_any (λ b. eqb b 39) t ≡ single → (double && single) ≡ false → lacks (cond double 39 34) t ≡ true
 lacks_its_quote true true t d s e = absurd cc
 lacks_its_quote true false t d s e = none_lacks 39 t s
@@ -68,7 +68,7 @@ units n = omega arith
 no_parts : (n : ℕ) → (n * 1000000) % 1000000 ≡ 0
 no_parts n = omega arith
 
--- a whole number is written as the number of its millionths is
+-- an integer is written like the coordinate of that many units
 whole_text : (n : ℕ) → number_text (pos (n * 1000000)) ≡ decimal n
 unfolding number_text magnitude_text fraction_text
 whole_text n = rw (units n, no_parts n) (append-nil (decimal n))

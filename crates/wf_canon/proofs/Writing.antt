@@ -24,11 +24,11 @@ both {c = c} {x = x} {y = y} first second = record {
 pub same : {a b : Draft} {x y : List ℕ} → Writes a x b → x ≡ y → Writes a y b
 same {a = a} {b = b} first e = subst (λ (bytes : List ℕ). Writes a bytes b) e first
 
--- what is written first is the whole text
+-- what is written into an empty draft is the whole text
 pub whole_text : {a b : Draft} {x : List ℕ} → IsDraftOf a [] → Writes a x b → IsDraftOf b x
 whole_text empty written = written.behind [] empty
 
--- the count tells a text over the limit
+-- if the count is over the limit, so is the text
 pub is_long : {d : Draft} {text : List ℕ} → IsDraftOf d text → nat_lt most_canon_bytes d.length ≡ true → most_canon_bytes < length text
 is_long is long = grind (arith, nat_tests, is.counted)
 
@@ -51,14 +51,14 @@ pub ruleset pieces = (flat_map-append, append_assoc)
 
 -- ---- lists
 
--- one more is taken of a list
+-- one more element of a list
 pub taken : {X : Type 0} (xs : List X) (i : ℕ) (x : X) → i < length xs → x ≡ get_or xs i x → take (i + 1) xs ≡ take i xs ++ x ∷ []
 taken {X = X} xs i x within is = take_more xs i x within ∙ ap (λ (y : X). take i xs ++ y ∷ []) (sym is)
 
 pub next_taken : {X : Type 0} (xs : List X) (i : ℕ) (x : X) → slice_get xs i ≡ Some x → take (i + 1) xs ≡ take i xs ++ x ∷ []
 next_taken {X = X} xs i x here = take_more xs i x (slice_get_within xs i x here) ∙ ap (λ (y : X). take i xs ++ y ∷ []) (get_or_from_slice_get xs i x x here)
 
--- one more of a list is written
+-- one more element of a list is written
 pub one_more : {X : Type 0} {a b c : Draft} (of : X → List (List Token)) (xs : List X) (i : ℕ) (x : X) → take (i + 1) xs ≡ take i xs ++ x ∷ []
     → Writes a (text_of (flat_map of (take i xs))) b → Writes b (text_of (of x)) c → Writes a (text_of (flat_map of (take (i + 1) xs))) c
 one_more of xs i x next before written =

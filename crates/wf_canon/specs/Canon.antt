@@ -1,5 +1,5 @@
--- The canonical text of a map definition: one item a line, each line ended by LF, single spaces, keywords and choices in capitals,
--- every default filled in. A line stands for a value that may be absent only where the value is there.
+-- The canonical text of a map definition: one item a line, each line ended by LF, single spaces, keywords and choices in
+-- capitals, every default filled in. An optional value has a line only if it is present.
 use Rattle.std.specs.Prelude.{◌≡◌, ℕ, ℤ, ◌≤◌, length, Bool, true, false, List, [], ◌∷◌, ◌++◌, map, Option, Some, None, codes}
 use Rattle.std.specs.List.{flat_map}
 use Rattle.std.specs.Fmt.{decimal}
@@ -84,7 +84,7 @@ with_extent keyword e = Word keyword ∷ number_word e.minx ∷ number_word e.mi
 abbrev pub with_color : List ℕ → Color → List Token
 with_color keyword c = Word keyword ∷ whole_word c.r ∷ whole_word c.g ∷ whole_word c.b ∷ []
 
--- the line of a value, where it is there
+-- the line of an optional value, if it is present
 abbrev pub when_there : {X : Type 0} → (X → List Token) → Option X → List (List Token)
 when_there of None = []
 when_there of (Some x) = of x ∷ []
@@ -130,7 +130,7 @@ style_lines s =
     ∷ end_line
     ∷ []
 
--- the lines of a label, where there is one
+-- the lines of a label, if there is one
 abbrev pub optional_label_lines : Option LabelDefinition → List (List Token)
 optional_label_lines None = []
 optional_label_lines (Some l) = label_lines l
@@ -143,7 +143,7 @@ class_lines c =
     ++ optional_label_lines c.label
     ++ end_line ∷ []
 
--- what a layer tells the web
+-- a layer's METADATA block
 abbrev pub metadata_lines : List ℕ → List (List Token)
 metadata_lines title = alone (codes "METADATA") ∷ with_key (codes "wms_title") title ∷ end_line ∷ []
 

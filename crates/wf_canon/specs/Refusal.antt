@@ -7,7 +7,7 @@ use Rattle.wf_canon.specs.declared.fault.CanonFault.{CanonFault}
 use Rattle.wf_canon.specs.declared.fault.CanonFault.TheVariants.{TooBig, NotCanonical, Memory}
 use Rattle.wf_canon.specs.Canon.{canon, most_canon_bytes}
 
--- why a definition has no canonical text: it is over the limit, or it isn't and memory ran out
+-- why a definition has no canonical text: it is over the limit, or it isn't and allocation failed
 abbrev pub IsCauseOf : CanonFault → Definition → Type 0
 IsCauseOf TooBig d = most_canon_bytes < length (canon d)
 IsCauseOf NotCanonical d = ⊥
@@ -17,13 +17,14 @@ IsCauseOf Memory d = length (canon d) ≤ most_canon_bytes
 abbrev pub HasNoCanon : List ℕ → Type 0
 HasNoCanon bytes = (d : Definition) → IsWithinLimits d → canon d ≡ bytes → ⊥
 
--- why bytes are rejected; the length and UTF-8 are judged without memory, and want of it says nothing more of them
+-- why bytes are rejected; the length and UTF-8 are checked without allocating, and allocation failure says nothing more about the
+-- bytes
 abbrev pub IsWhyRefused : CanonFault → List ℕ → Type 0
 IsWhyRefused TooBig bytes = most_canon_bytes < length bytes
 IsWhyRefused NotCanonical bytes = HasNoCanon bytes
 IsWhyRefused Memory bytes = (length bytes ≤ most_canon_bytes) × (is_utf8 bytes ≡ true)
 
--- what bytes within the limit are rejected for, where the map that they mean has no text of its own: one over the limit is another text
+-- the error for bytes within the limit, given the error for the map that they mean: a text over the limit isn't these bytes
 abbrev pub refused_again : CanonFault → CanonFault
 refused_again TooBig = NotCanonical
 refused_again NotCanonical = NotCanonical

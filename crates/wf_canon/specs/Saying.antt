@@ -1,4 +1,4 @@
--- What a text of any length says. A mapfile's meaning is this, for texts within the length that is read.
+-- The meaning of a text of any length. A mapfile's meaning is this, for texts within the length limit.
 use Rattle.std.specs.Prelude.{◌≡◌, ℕ, true, List, Some}
 use Rattle.std.specs.Str.{is_utf8}
 use Rattle.wf_def.specs.Definition.{Definition}
@@ -8,11 +8,11 @@ use Rattle.wf_mapfile.specs.Grammar.{◌>>=◌}
 use Rattle.wf_mapfile.specs.Meaning.{file}
 use Rattle.wf_canon.specs.Canon.{canon}
 
--- the bytes are UTF-8, and their tokens are a file of this map
+-- the bytes are UTF-8, and their tokens are a file that means this map
 pub record Says (bytes : List ℕ) (d : Definition) : Type 0 where
   pub utf8 : is_utf8 bytes ≡ true
   pub said : (tokens bytes >>= file) ≡ Some d
 
--- Two maps with one canonical text are one map.
+-- Two maps with the same canonical text are equal.
 abbrev pub OneTextOneMap : Type 0
 OneTextOneMap = (d e : Definition) → IsWithinLimits d → IsWithinLimits e → canon d ≡ canon e → d ≡ e

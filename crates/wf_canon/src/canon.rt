@@ -25,7 +25,7 @@ pub struct Canon {
     def: MapDef,
 }
 
-// By hand: a crate above proves one call where it drops a definition, and not each part of one anew.
+// Written by hand: callers then prove one call where they drop a definition, not one for each part.
 impl Drop for Canon {
     fn drop(self) {
         let Canon { text, def } = self;
@@ -47,7 +47,7 @@ impl Model for Canon {
 }
 
 impl Canon {
-    /// The canonical text of a definition (`TooBig` exactly where it is over 32,768 bytes).
+    /// The canonical text of a definition (`TooBig` iff it is over 32,768 bytes).
     pub fn of(alloc: Global, def: &MapDef) -> Result<Self, CanonFault>
         ensures value { IfOk result (λ canonical. canonical ≡ def.now) }
         ensures short { OnOk result (length (canon def.now) ≤ most_canon_bytes) }
@@ -60,8 +60,8 @@ impl Canon {
         })
     }
 
-    /// The definition that a canonical text means. Bytes over 32,768 are `TooBig`, which is judged first; other bytes that are no
-    /// canonical text are `NotCanonical`, also where they are a mapfile.
+    /// The definition that a canonical text means. More than 32,768 bytes are `TooBig`, which is checked first; other bytes that
+    /// aren't a canonical text are `NotCanonical`, even if they are a mapfile.
     pub fn from_bytes(alloc: Global, bytes: &[u8]) -> Result<Self, CanonFault>
         ensures too_big { most_canon_bytes < length bytes.now → result ≡ Err CanonFault.TooBig }
         ensures value { IfOk result (λ canonical. canon canonical ≡ bytes.now) }
@@ -76,7 +76,7 @@ impl Canon {
         Ok(Canon { text, def })
     }
 
-    /// An equal value, for a message or a history that keeps its own. Allocation failure is the one error.
+    /// A copy, for a message or a history that owns its value. Allocation failure is the only error.
     pub fn copy(&self) -> Result<Self, AllocError>
         ensures { IfOk result (λ copy. copy ≡ self.now) }
     {
@@ -104,7 +104,7 @@ impl Canon {
     }
 }
 
-/// The canonical text of a definition within the limit, counted before memory is asked for more of it.
+/// The canonical text of a definition, within the limit; bytes are counted before memory for them is allocated.
 fn text_of(alloc: Global, def: &MapDef) -> Result<Vec<u8>, CanonFault>
     ensures written { IfOk result (λ text. text.items ≡ canon def.now) }
     ensures short { OnOk result (length (canon def.now) ≤ most_canon_bytes) }
@@ -122,7 +122,7 @@ fn text_of(alloc: Global, def: &MapDef) -> Result<Vec<u8>, CanonFault>
     }
 }
 
-/// The canonical text of the definition that bytes mean, where it is these bytes.
+/// The canonical text of the definition, if it is these bytes.
 fn same_text(alloc: Global, def: &MapDef, bytes: &[u8]) -> Result<Vec<u8>, CanonFault>
     requires short { length bytes.now ≤ most_canon_bytes }
     requires meant { Means bytes.now def.now }
@@ -142,7 +142,7 @@ fn same_text(alloc: Global, def: &MapDef, bytes: &[u8]) -> Result<Vec<u8>, Canon
     }
 }
 
-/// What a fault of writing says of bytes within the limit: they are no text that is over it.
+/// The error for bytes within the limit, given an error of writing: if the text is over the limit, the bytes aren't that text.
 fn refused_again(fault: CanonFault) -> CanonFault
     ensures { result ≡ refused_again fault }
 {
@@ -152,7 +152,7 @@ fn refused_again(fault: CanonFault) -> CanonFault
     }
 }
 
-/// The definition that bytes mean, canonical or not. What means nothing is no canonical text.
+/// The definition that bytes mean, canonical or not. Bytes that mean nothing aren't a canonical text.
 fn definition_of(alloc: Global, bytes: &[u8]) -> Result<MapDef, CanonFault>
     requires { length bytes.now ≤ most_canon_bytes }
     ensures meant { IfOk result (λ def. Means bytes.now def) }
@@ -164,7 +164,7 @@ fn definition_of(alloc: Global, bytes: &[u8]) -> Result<MapDef, CanonFault>
     }
 }
 
-/// What a fault of the reader means for a canonical text.
+/// The error for a canonical text, given the reader's error.
 fn refusal_of(fault: MapFault) -> CanonFault
     ensures { result ≡ (if is_memory fault then CanonFault.Memory else CanonFault.NotCanonical) }
 {

@@ -1,4 +1,4 @@
-//! The canonical text of a class with its styles and its label, appended to what is written so far.
+//! Appends the canonical text of a class with its styles and its label.
 
 ghost use Rattle.std.specs.Prelude.{◌≡◌, ◌++◌};
 ghost use Rattle.std.specs.List.{flat_map};
@@ -37,7 +37,7 @@ fn push_styles(out: &mut Draft, styles: &[Style])
     }
 }
 
-/// The word of a size of letters.
+/// The word of a label size.
 fn size_word(size: LabelSize) -> &'static str
     ensures { result.now ≡ size_word size }
 {
@@ -50,7 +50,7 @@ fn size_word(size: LabelSize) -> &'static str
     }
 }
 
-/// The word of a place beside a point.
+/// The word of a label position.
 fn position_word(position: LabelPosition) -> &'static str
     ensures { result.now ≡ position_word position }
 {
@@ -67,7 +67,7 @@ fn position_word(position: LabelPosition) -> &'static str
     }
 }
 
-/// The word of whether a label is drawn in any case.
+/// The word of FORCE: whether a label is always drawn.
 fn force_word(force: bool) -> &'static str
     ensures { result.now ≡ force_word force }
 {
@@ -88,7 +88,7 @@ fn push_label(out: &mut Draft, label: &Label)
     push_alone(out, "END");
 }
 
-/// Writes a label, where there is one.
+/// Writes a label, if there is one.
 fn push_optional_label(out: &mut Draft, label: Option<Label>)
     ensures { Writes out.old (text_of (optional_label_lines label)) out.new }
 {

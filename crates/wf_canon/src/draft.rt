@@ -7,14 +7,14 @@ ghost use Rattle.wf_canon.specs.Draft.{HasRoomFor, IsDraftOf, Writes};
 use crate::canon::MOST_CANON_BYTES;
 use std::alloc::{AllocError, Global};
 
-/// A canonical text while it is written, piece by piece. Its length is counted whether or not memory suffices for its bytes, so a text
-/// over the limit is told from one that memory ran out for.
+/// A canonical text while it is written, piece by piece. Its length is counted even if allocation fails for its bytes, so a text
+/// over the limit is distinguished from an allocation failure.
 #[derive(Drop)]
 pub struct Draft {
     text: Vec<u8>,
-    /// How many bytes the text has, up to one over the limit.
+    /// The number of bytes written, up to one over the limit.
     length: usize,
-    /// Whether `text` has them all.
+    /// Whether `text` holds all of them.
     is_whole: bool,
 }
 
@@ -30,7 +30,7 @@ impl Draft {
         }
     }
 
-    /// Writes bytes behind what is there. Memory runs out only where the text must grow for them.
+    /// Appends bytes. Allocation can fail only if the text must grow for them.
     pub fn push(&mut self, bytes: &[u8])
         ensures bytes { Writes self.old bytes.now self.new }
         ensures room { self.old.is_whole ≡ true → HasRoomFor bytes.now self.old → self.new.is_whole ≡ true }
@@ -54,7 +54,7 @@ impl Draft {
         self.length > MOST_CANON_BYTES
     }
 
-    /// The text, unless memory ran out.
+    /// The text, unless an allocation failed.
     pub fn finish(self) -> Result<Vec<u8>, AllocError>
         requires { self.length ≤ most_canon_bytes }
         ensures { (text : List ℕ) → IsDraftOf self text → IfOk result (λ whole. whole.items ≡ text) }

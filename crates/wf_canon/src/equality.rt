@@ -1,4 +1,4 @@
-//! When two canonical texts are equal: where their definitions are.
+//! Two canonical texts are equal iff their definitions are.
 ghost use Rattle.std.specs.Prelude.{◌≡◌, ◌↔◌, IsTrue};
 ghost use Rattle.std.specs.Cmp.{partial_equiv_from_equiv};
 ghost use Rattle.wf_def.specs.Equality.{definition_eq};
@@ -11,7 +11,7 @@ impl PartialEq for Canon {
 
     ghost laws = { partial_equiv_from_equiv definition_eq_equiv };
 
-    /// Are the definitions equal? The texts are compared, since each map has one.
+    /// Whether the definitions are equal. The texts are compared, since each map has exactly one.
     fn eq(&self, other: &Self) -> bool
         ensures test { result ≡ definition_eq self.now other.now }
         ensures equal { IsTrue result ↔ (self.now ≡ other.now) }

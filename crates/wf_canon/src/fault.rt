@@ -12,10 +12,10 @@ pub enum CanonFault {
     /// The canonical text, or the bytes given, are longer than a canonical text may be.
     #[error("K1")]
     TooBig,
-    /// The bytes are no canonical text.
+    /// The bytes aren't a canonical text.
     #[error("K2")]
     NotCanonical,
-    /// Memory ran out.
+    /// Allocation failed.
     #[error("K3")]
     Memory,
 }

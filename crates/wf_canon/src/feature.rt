@@ -1,4 +1,4 @@
-//! The canonical text of a feature with its parts, appended to what is written so far.
+//! Appends the canonical text of a feature with its parts.
 
 ghost use Rattle.std.specs.Prelude.{map};
 ghost use Rattle.std.specs.List.{flat_map};
@@ -11,7 +11,7 @@ use crate::line::{push_alone, push_point, push_with_text};
 use wf_def::feature::{Feature, Part};
 use wf_def::point::Point;
 
-/// Writes points, one a line.
+/// Writes points, one on each line.
 fn push_points(out: &mut Draft, points: &[Point])
     ensures { Writes out.old (text_of (map point_line points.now)) out.new }
 {

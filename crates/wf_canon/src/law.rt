@@ -1,4 +1,4 @@
-//! Laws of the canonical text, over its definition alone.
+//! Theorems about the canonical text and its definition.
 
 ghost use Rattle.std.specs.Prelude.{◌≡◌, ◌≤◌, length};
 ghost use Rattle.wf_def.specs.Definition.{Definition};
@@ -15,18 +15,18 @@ pub fn canonical_text_means_its_map()
     ensures { (d : Definition) → IsWithinLimits d → length (canon d) ≤ most_canon_bytes → Means (canon d) d }
 {}
 
-/// The canonical text of a map says that map, however long the text is.
+/// The canonical text of a map means that map, however long the text is.
 pub fn every_canonical_text_says_its_map()
     ensures { (d : Definition) → IsWithinLimits d → Says (canon d) d }
 {}
 
-/// Two maps with one canonical text are one map.
+/// Two maps with the same canonical text are equal.
 #[tactic(auto, using(crate::proofs::MeaningLaw::one_definition))]
 pub fn one_text_one_map()
     ensures { OneTextOneMap }
 {}
 
-/// The constant is the limit that the definitions name.
+/// The constant is the limit in the definitions.
 pub fn limit_of_canonical_texts()
     ensures { MOST_CANON_BYTES ≡ most_canon_bytes }
 {}

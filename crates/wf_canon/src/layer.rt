@@ -1,4 +1,4 @@
-//! The canonical text of a layer with its classes and its features, appended to what is written so far.
+//! Appends the canonical text of a layer with its classes and its features.
 
 ghost use Rattle.std.specs.Prelude.{◌≡◌, ◌++◌, codes};
 ghost use Rattle.std.specs.List.{flat_map};
@@ -16,7 +16,7 @@ use wf_def::feature::Feature;
 use wf_def::layer::Layer;
 use wf_def::text::Text;
 
-/// The word of a kind of features.
+/// The word of a layer's kind.
 fn kind_word(kind: LayerKind) -> &'static str
     ensures { result.now ≡ kind_word kind }
 {
@@ -41,7 +41,7 @@ fn push_attribute_names(out: &mut Draft, names: &[u8])
     out.push(b"\n");
 }
 
-/// Writes the block of what a layer tells the web.
+/// Writes a layer's METADATA block.
 fn push_metadata(out: &mut Draft, title: &[u8])
     ensures { Writes out.old (text_of (metadata_lines title.now)) out.new }
 {

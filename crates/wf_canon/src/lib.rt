@@ -1,15 +1,16 @@
-//! Canonical texts: one text for each map definition, and back.
+//! Canonical texts: exactly one text for each map definition, and back.
 //!
-//! A canonical text is a mapfile with one item a line, single spaces, keywords in capitals and every default filled in
-//! (MapServer mapfile reference). `specs/Canon.antt` defines it as the lines of a definition, one after the other.
+//! A canonical text is a mapfile with one item a line, single spaces, keywords in capitals and every default filled in (MapServer
+//! mapfile reference). `specs/Canon.antt` defines it as the lines of a definition, one after the other. Model: a [`Canon`] is its
+//! definition.
 //!
-//! It promises that [`Canon::of`] gives exactly the text of its definition, that [`Canon::from_bytes`] takes exactly the canonical
-//! texts within the limit of 32,768 bytes, with their definition, and, as laws over the definitions alone, that the canonical text of
-//! a map means that map and that two maps with one text are one map, for every map within the limits. A [`Canon`] is seen as its
-//! definition. It says nothing of which of two mapfiles a user would prefer.
+//! Promises: [`Canon::of`] returns exactly the text of its definition. [`Canon::from_bytes`] accepts exactly the canonical texts
+//! within the limit of 32,768 bytes, and returns their definition. Theorems about the definitions, for every map within the
+//! limits: the canonical text of a map means that map, and two maps with the same text are equal. Not here: which of two mapfiles
+//! a user would prefer.
 //!
-//! The way through it: `draft` is a text while it is written, `line` writes the lines of one item, `class`, `feature`, `layer` and
-//! `writer` the blocks of these lines. How tokens stand in a line is wf_token's, and how a number is written wf_text's.
+//! Modules: `draft` is a text while it is written, `line` writes the lines of one item; `class`, `feature`, `layer` and `writer`
+//! write blocks of lines. wf_token defines how tokens are written on a line, wf_text how a number is written.
 #![tactic(auto)]
 
 mod canon;

@@ -1,4 +1,4 @@
-//! The lines of a canonical text: tokens with single spaces between them, and LF, appended to what is written so far.
+//! Appends the lines of a canonical text: tokens separated by single spaces, followed by LF.
 
 ghost use Rattle.std.specs.Prelude.{◌≡◌, ◌∷◌};
 ghost use Rattle.std.specs.Fmt.{decimal};
@@ -52,7 +52,7 @@ pub fn push_with_text(out: &mut Draft, keyword: &str, text: &[u8])
     out.push(b"\n");
 }
 
-/// Writes a line of a keyword and a text, where the text is there.
+/// Writes a line of a keyword and a text, if there is a text.
 pub fn push_optional_text(out: &mut Draft, keyword: &str, text: &Option<Text>)
     ensures { Writes out.old (text_of (when_there (with_text keyword.now) text.now)) out.new }
 {
@@ -72,7 +72,7 @@ pub fn push_with_word(out: &mut Draft, keyword: &str, word: &str)
     out.push(b"\n");
 }
 
-/// Writes a line of a keyword and a whole number.
+/// Writes a line of a keyword and an integer.
 #[tactic(auto, unfolding(wf_token::specs::Spelling::line))]
 pub fn push_with_whole(out: &mut Draft, keyword: &str, whole: u8)
     ensures { Writes out.old (line (with_word keyword.now (decimal whole))) out.new }
@@ -101,7 +101,7 @@ fn push_next_number(out: &mut Draft, number: Micro)
     push_number(out, number);
 }
 
-/// Writes a space and a whole number.
+/// Writes a space and an integer.
 fn push_next_whole(out: &mut Draft, whole: u8)
     ensures { Writes out.old (32 ∷ decimal whole) out.new }
 {
@@ -134,7 +134,7 @@ pub fn push_with_color(out: &mut Draft, keyword: &str, color: Color)
     out.push(b"\n");
 }
 
-/// Writes a line of a keyword and a colour, where the colour is there.
+/// Writes a line of a keyword and a colour, if there is a colour.
 pub fn push_optional_color(out: &mut Draft, keyword: &str, color: Option<Color>)
     ensures { Writes out.old (text_of (when_there (with_color keyword.now) color)) out.new }
 {

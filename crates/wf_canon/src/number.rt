@@ -9,7 +9,7 @@ use itoa::Buffer;
 use wf_def::micro::Micro;
 use wf_text::number_text::NumberText;
 
-/// Writes a whole number.
+/// Writes an integer.
 pub fn push_whole(out: &mut Draft, whole: u64)
     ensures { Writes out.old (decimal whole) out.new }
 {

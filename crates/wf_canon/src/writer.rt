@@ -1,4 +1,4 @@
-//! The canonical text of a map, appended to what is written so far.
+//! Appends the canonical text of a map.
 
 ghost use Rattle.std.specs.Prelude.{◌≡◌, ◌++◌};
 ghost use Rattle.std.specs.List.{flat_map};
@@ -34,7 +34,7 @@ fn push_projection(out: &mut Draft, projection: Projection)
     push_alone(out, "END");
 }
 
-/// Writes the block of what the map tells the web.
+/// Writes a map's WEB block.
 fn push_web(out: &mut Draft, map: &MapDef)
     ensures { Writes out.old (text_of (web_lines map.now)) out.new }
 {

@@ -1,16 +1,16 @@
-//! A reader of which one call fails.
+//! A reader with one failing call.
 use std::io;
 use std::io::{ErrorKind, Read};
 
-/// Which call fails, and how.
+/// Which call fails, and with which error.
 #[derive(Clone, Copy)]
 pub(crate) struct Failure {
-    /// How many calls come before.
+    /// The number of calls before it.
     pub(crate) after: u64,
     pub(crate) kind: ErrorKind,
 }
 
-/// Gives bytes in pieces. One of its calls may fail, and those after it go on: so whether it is made again can be told.
+/// A reader of bytes in pieces. At most one call fails, and later calls continue: so a retry can be observed.
 #[derive(Drop)]
 pub(crate) struct Faltering<'b> {
     rest: &'b [u8],
@@ -19,7 +19,7 @@ pub(crate) struct Faltering<'b> {
 }
 
 impl<'b> Faltering<'b> {
-    /// A reader that gives at most `piece` bytes a call.
+    /// A reader that returns at most `piece` bytes a call.
     pub(crate) fn new(bytes: &'b [u8], piece: usize, failure: Option<Failure>) -> Self {
         Faltering {
             rest: bytes,
@@ -28,7 +28,7 @@ impl<'b> Faltering<'b> {
         }
     }
 
-    // How this call fails, if it does. It is counted.
+    // Counts this call and returns its error, if it fails.
     fn fails(&mut self) -> Option<ErrorKind> {
         let Some(Failure { after, kind }) = self.failure else {
             return None;

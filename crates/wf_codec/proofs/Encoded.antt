@@ -1,4 +1,4 @@
--- What was put together part by part is the spelling, and how many bytes that has.
+-- The concatenated parts are the encoding, and its length.
 use Rattle.std.proofs.Common.{◌≡◌, ℕ, ◌+◌, List, [], ◌∷◌, ◌++◌, length, refl, ap, ◌∙◌, append_assoc, Result, Ok, Err, arith}
 use Rattle.std.specs.Prelude.{OnErr}
 use Rattle.std.specs.Int.{w32, to_be_bytes}
@@ -9,7 +9,7 @@ use Rattle.wf_codec.specs.Kind.{kind_byte}
 use Rattle.wf_codec.specs.Message.{texts}
 use Rattle.wf_codec.specs.Spelling.{message_version, header_length, kind_of, body, text_spelling}
 
--- texts in the definitions' places leave the kind
+-- replacing definitions by texts doesn't change the kind
 pub kind_of-texts : (m : Message Definition) → kind_of (texts m) ≡ kind_of m
 kind_of-texts (Prepare s b) = refl
 kind_of-texts (Promise i s b v) = refl
@@ -33,7 +33,7 @@ pub length-text_spelling : (m : Message (List ℕ)) → length (text_spelling m)
 unfolding text_spelling frame
 length-text_spelling m = omega arith
 
--- what holds anyway holds at an error
+-- what holds in any case holds after an error
 pub on_error : {T E P : Type 0} (r : Result T E) → P → OnErr r P
 on_error (Ok x) p = tt
 on_error (Err e) p = p

@@ -1,4 +1,4 @@
--- What the decoder answers is the fault of the first check that fails, or else the text's.
+-- The decoder returns the error of the first check that fails, or else that of the text.
 use Rattle.std.proofs.Common.{◌≡◌, ℕ, zero, suc, ◌+◌, Bool, true, false, cond, eqb, ltb, ◌&&◌, List, [], ◌∷◌, length, take, drop, Option, Some, None, Result, Ok, Err, refl, sym, ap, subst, ◌∙◌}
 use Rattle.std.proofs.lemmas.List.{drop-drop}
 use Rattle.std.specs.Prelude.{is_some, option_map, IsSome, IsSomeAnd, MatchResult, IsErrOf}
@@ -21,7 +21,7 @@ use Rattle.wf_codec.specs.Law.{IsJudged}
 
 -- ---- the fields
 
--- the bytes behind a field
+-- the bytes after a field
 kept : {A : Type 0} (b : Bool) (a : A) (rest : List ℕ) (x : A × List ℕ) → cond b (Some (a, rest)) None ≡ Some x → x.1 ≡ rest
 kept true a rest x e = cc
 kept false a rest x e = absurd cc
@@ -55,7 +55,7 @@ slot_at place body x e = behind_slot (drop place body) x e ∙ drop-drop 2 place
 ballot_at : (place : ℕ) (body : List ℕ) (x : Ballot × List ℕ) → front_ballot (drop place body) ≡ Some x → x.1 ≡ drop (place + 5) body
 ballot_at place body x e = behind_ballot (drop place body) x e ∙ drop-drop 5 place body
 
--- One field more: where it stands and the others do, the value is there.
+-- One more field: if it and the others are there, the value is there.
 field_then : {A B C : Type 0} (g : B → C) (field : Option (A × List ℕ)) (f : A × List ℕ → Option B) (rest : List ℕ) (others : Bool) (value : C) →
     ((x : A × List ℕ) → field ≡ Some x → x.1 ≡ rest) → ((a : A) → option_map g (f (a, rest)) ≡ cond others (Some value) None) →
     option_map g (field >>= f) ≡ cond (is_some field && others) (Some value) None
@@ -77,7 +77,7 @@ four : (a b c d : Bool) → (a && (b && (c && d))) ≡ (a && b && c && d)
 four true b c d = three b c d
 four false b c d = refl
 
--- a value where a test passes, and where an equal test does
+-- a value guarded by a test is the same guarded by an equal test
 where_same : (a b : Bool) (value : Option (List ℕ)) → a ≡ b → cond a (Some value) None ≡ cond b (Some value) None
 where_same a b value same = ap (λ (test : Bool). cond test (Some value) None) same
 
@@ -94,12 +94,12 @@ vote_checked (suc zero ∷ bytes) =
     field_last text_of_read (front_ballot bytes) (λ ballot. Some (Some (record { ballot = ballot.0; definition = ballot.1 }))) (drop 5 bytes) (Some (drop 5 bytes)) (behind_ballot bytes) (λ b. refl)
 vote_checked (suc (suc mark) ∷ bytes) = refl
 
--- a Promise carries its vote's text
+-- a Promise's text is its vote's
 promise_text : (i s : ℕ) (b : Ballot) (o : Option (Option (Vote (List ℕ)))) → option_map definition_of (o >>= λ v. Some (Promise i s b v)) ≡ option_map text_of_read o
 promise_text i s b None = refl
 promise_text i s b (Some v) = refl
 
--- The message that stands in a body is there where each field is in its range, and it carries the text behind them.
+-- The message of a body exists iff each field is in its range, and its text is what follows the fields.
 fields_checked : (kind : Kind) (body : List ℕ) → option_map definition_of (fields_of kind body) ≡ cond (has_fields kind body) (Some (text_of kind body)) None
 unfolding fields_of has_fields text_of
 fields_checked kinds.Prepare body =
@@ -136,13 +136,13 @@ fields_checked kinds.Ask body = field_last definition_of (front_slot body) (λ s
 
 -- ---- the frame
 
--- faults that a check answers
+-- errors that a check returns
 abbrev IsChecked : DecodeFault → Type 0
 IsChecked NotCanonical = ⊥
 IsChecked Memory = ⊥
 IsChecked fault = Unit {0}
 
--- what the checks say, and the text, against the frame that was split off
+-- the checks and the text agree with the frame that was split off
 abbrev FrameIsChecked : Option DecodeFault → Option (List ℕ) → Result (Kind × List ℕ) DecodeFault → Type 0
 FrameIsChecked fault text (Ok found) = (fault ≡ check_fields (Some found.0) found.1) × (text ≡ text_of found.0 found.1)
 FrameIsChecked fault text (Err e) = (fault ≡ Some e) × IsChecked e
@@ -164,7 +164,7 @@ body_checked false false few fields kind body is = (refl, tt)
 body_checked false true true fields kind body is = (refl, tt)
 body_checked false true false fields kind body is = (alone fields ∙ is, refl)
 
--- the checks behind that of the version, where the kind's byte is there
+-- the checks after that of the version, if the kind's byte is there
 kind_checked : (version byte : ℕ) (kind : Option Kind) (bytes : List ℕ) →
     FrameIsChecked (first_failing (
     cond (is_some kind) None (Some BadKind)
@@ -190,7 +190,7 @@ frame_checked [] = (refl, tt)
 frame_checked (version ∷ []) = version_checked (eqb version message_version) (None ∷ None ∷ None ∷ Some Short ∷ None ∷ []) None (Err Short) (refl, tt)
 frame_checked (version ∷ byte ∷ bytes) = version_checked (eqb version message_version) _ _ _ (kind_checked version byte (kind_of_byte byte) bytes)
 
--- ---- what is answered
+-- ---- what is returned
 
 there : (has : Bool) (text value : Option (List ℕ)) → Some value ≡ cond has (Some text) None → (has ≡ true) × (value ≡ text)
 there true text value e = (refl, cc)
@@ -200,14 +200,14 @@ missing : (has : Bool) (text : Option (List ℕ)) → None ≡ cond has (Some te
 missing true text e = absurd cc
 missing false text e = refl
 
--- a message stands in the body: no check of its fields fails, and it carries the text behind them
+-- the body is a message's: no check of its fields fails, and its text is what follows them
 fields_there : (kind : Kind) (body : List ℕ) (m : Message (List ℕ)) → fields_of kind body ≡ Some m → (has_fields kind body ≡ true) × (definition_of m ≡ text_of kind body)
 fields_there kind body m e = there (has_fields kind body) (text_of kind body) (definition_of m) (sym (ap (option_map definition_of) e) ∙ fields_checked kind body)
 
 fields_missing : (kind : Kind) (body : List ℕ) → fields_of kind body ≡ None → has_fields kind body ≡ false
 fields_missing kind body e = missing (has_fields kind body) (text_of kind body) (sym (ap (option_map definition_of) e) ∙ fields_checked kind body)
 
--- what the checks say of bytes that begin with a whole frame
+-- the checks of bytes that begin with a whole frame
 record BeginsWithFrame (bytes : List ℕ) (kind : Kind) (body : List ℕ) : Type 0 where
   fault : first_fault bytes ≡ check_fields (Some kind) body
   text : text_in bytes ≡ text_of kind body
@@ -237,7 +237,7 @@ a_text bytes kind body (Some m) begins is has =
       text = subst (λ (o : Option (List ℕ)). IsSome o) (there.1 ∙ sym begins.text) has;
     }
 
--- no fault where a message was read, and else the fault that was answered
+-- no error if a message was read, and otherwise the error that was returned
 abbrev pub IsFirst : {X : Type 0} → Result X DecodeFault → List ℕ → Type 0
 IsFirst result bytes = MatchResult result (λ x. first_fault bytes ≡ None) (λ e. HasFault bytes e)
 
@@ -268,10 +268,10 @@ frame_answered view result bytes (Ok found) checked judged =
 frame_answered {X} view result bytes (Err e) checked judged =
     subst (λ (r : Result (X × ℕ) DecodeFault). IsFirst r bytes) (sym judged) (checked_fault bytes e checked.0 checked.1)
 
--- what is answered is the first fault
+-- the result is the first error
 pub answered : {X : Type 0} (view : X → Message Definition) (result : Result (X × ℕ) DecodeFault) (bytes : List ℕ) → IsJudged view result (frame_front bytes) → IsFirst result bytes
 answered view result bytes judged = frame_answered view result bytes (frame_front bytes) (frame_checked bytes) judged
 
--- memory runs out only over a text
+-- allocation fails only for a text
 pub memory_over_text : {X : Type 0} (view : X → Message Definition) (result : Result (X × ℕ) DecodeFault) (bytes : List ℕ) → IsJudged view result (frame_front bytes) → IsErrOf result Memory → CarriesText bytes
 memory_over_text {X} view result bytes judged memory = subst (λ (r : Result (X × ℕ) DecodeFault). IsFirst r bytes) memory (answered view result bytes judged)

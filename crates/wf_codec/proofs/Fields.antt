@@ -1,4 +1,4 @@
--- The fields of a body: what is read is the message whose body this is, and a message's body is read as it.
+-- The fields of a body: the message that is read has this body, and a message's body is read as that message.
 use Rattle.std.proofs.Common.{◌≡◌, ℕ, zero, suc, ◌+◌, ◌≤◌, ◌<◌, Bool, true, false, eqb, ltb, leb, ◌||◌, List, [], ◌∷◌, ◌++◌, length, Option, Some, None, refl, sym, ap, subst, ◌∙◌, append_assoc, length-append, arith, inl, inr}
 use Rattle.std.proofs.lemmas.Bool.{leb-true, eqb-true, lt-ltb, le-leb, eq-eqb, and_parts, and_from, or_cases}
 use Rattle.std.proofs.lemmas.Option.{option_and_then_some}
@@ -141,13 +141,13 @@ fields_again (Nack i s b q) p =
 fields_again (Chosen s text) p = rw (reads_slots.read s text p.0) refl
 fields_again (Ask s) p = rw (slot_last s p) refl
 
--- ---- what is read is the message whose body this is
+-- ---- the message that is read has this body
 
--- bytes behind the front are bytes
+-- bytes after the front are bytes
 pub AreBytes-rest : (front rest : List ℕ) → AreBytes (front ++ rest) → AreBytes rest
 AreBytes-rest front rest fits i = subst (λ (n : ℕ). n < 256) (get_or-append-add front rest i 0) (fits (length front + i))
 
--- A field was read at the front of bytes, and reading went on behind it.
+-- A field was read at the front of bytes, and reading continued after it.
 record ReadsOn {A B : Type 0} (bytes_of : A → List ℕ) (bytes : List ℕ) (f : A × List ℕ → Option B) (y : B) : Type 0 where
   value : A
   rest : List ℕ
@@ -168,7 +168,7 @@ reads_on {A} {B} {IsValue} {bytes_of} {front} reads bytes f y fits e =
       goes_on = goes;
     })
 
--- a front that is as long as the whole is the whole
+-- a prefix as long as the whole is the whole
 whole : (bytes front rest : List ℕ) → bytes ≡ front ++ rest → length bytes ≡ length front → bytes ≡ front
 whole bytes front rest parts same_length =
     let none : rest ≡ [] = nil_from_length rest (omega (arith, same_length, ap length parts, length-append front rest)) in
@@ -199,16 +199,16 @@ HasBody kind bytes m = (kind_of m ≡ kind) × (bytes ≡ body m)
 has_body : (m : Message (List ℕ)) (bytes : List ℕ) → bytes ≡ body m → HasBody (kind_of m) bytes m
 has_body m bytes e = (refl, e)
 
--- a field behind others
+-- a field after others
 joined : (bytes front rest field after : List ℕ) → bytes ≡ front ++ rest → rest ≡ field ++ after → bytes ≡ (front ++ field) ++ after
 joined bytes front rest field after first second = first ∙ ap (λ (r : List ℕ). front ++ r) second ∙ sym (append_assoc front field after)
 
--- the last field, behind others
+-- the last field, after others
 ending : (bytes front rest field : List ℕ) → bytes ≡ front ++ rest → rest ≡ field → bytes ≡ front ++ field
 ending bytes front rest field first second = first ∙ ap (λ (r : List ℕ). front ++ r) second
 
--- What is read of a body is the message whose body it is: field by field the bytes behind it are read on, and the length that the kind
--- can have leaves nothing behind the last field.
+-- The message that is read has this body: each field is followed by the next, and by the length that the kind can have nothing
+-- follows the last field.
 pub fields_stand : (kind : Kind) (bytes : List ℕ) (m : Message (List ℕ)) → AreBytes bytes → can_have kind (length bytes) ≡ true → fields_of kind bytes ≡ Some m → HasBody kind bytes m
 unfolding can_have fields_of body
 fields_stand kinds.Prepare bytes m fits has e =

@@ -1,5 +1,5 @@
--- What decode answers, and what follows for the bytes: the message that stands at their front, that none ever will, or that more
--- bytes are to come.
+-- What the result of decode says about the bytes: they begin with the message, or never will begin with one, or more bytes are
+-- needed.
 use Rattle.std.proofs.Common.{◌≡◌, ℕ, ◌+◌, ◌≤◌, List, ◌++◌, length, take, drop, Option, Some, Result, Ok, Err, refl, sym, ap, subst, ◌∙◌, append_assoc, length-append, arith}
 use Rattle.std.proofs.Math.Seq.{take-append_seam, drop-append_seam}
 use Rattle.std.proofs.lemmas.List.{length-take}
@@ -24,7 +24,7 @@ use Rattle.wf_codec.proofs.Headers.{frame_again, frame_stands, frame_goes_on, sh
 
 -- ---- a message at the front
 
--- bytes that begin with a message's spelling: the frame that is split off
+-- bytes that begin with a message's encoding: the frame that is split off
 frame_of : (m : Message Definition) (spelled after bytes : List ℕ) → Spells m spelled → bytes ≡ spelled ++ after → frame_front bytes ≡ Ok (kind_of (texts m), body (texts m))
 unfolding text_spelling
 frame_of m spelled after bytes spells e =
@@ -35,7 +35,7 @@ frame_of m spelled after bytes spells e =
 fields_of_body : (m : Message Definition) → IsMessage m → fields_of (kind_of (texts m)) (body (texts m)) ≡ Some (texts m)
 fields_of_body m is_message = fields_again (texts m) (texts_fit m is_message)
 
--- ---- the laws
+-- ---- the theorems
 
 pub one_spelling : OneSpelling
 one_spelling m a b spells_a spells_b = spells_a.spelled ∙ sym spells_b.spelled
@@ -66,7 +66,7 @@ none_begins_another one_map m n a b after_a after_b spells_a spells_b e =
       sym (drop-append_seam a after_a) ∙ ap (drop (length a)) e ∙ ap (λ (t : List ℕ). drop (length t) (b ++ after_b)) same_bytes ∙ drop-append_seam b after_b,
     )
 
--- ---- what decode answered
+-- ---- the result of decode
 
 begins_by : {X : Type 0} (view : X → Message Definition) (x : X × ℕ) (bytes : List ℕ) (r : Result (Kind × List ℕ) DecodeFault) → frame_front bytes ≡ r → AreBytes bytes →
     IsJudged view (Ok x) r → BeginsWith bytes (view x.0) x.1
@@ -87,17 +87,17 @@ begins_by view x bytes (Ok found) is fits judged =
       };
     }
 
--- a count that is at least 1 and at most as many as there are
+-- a length that is at least 1 and at most that of the bytes
 counted : (bytes : List ℕ) (m : Message Definition) (k : ℕ) → BeginsWith bytes m k → (1 ≤ k) × (k ≤ length bytes)
 counted bytes m k begins = (omega (arith, none_is_empty m (take k bytes) begins.spells, length-take k bytes), begins.within)
 
--- what is read stands at the front
+-- the message that is read is at the front
 pub begins : {X : Type 0} (view : X → Message Definition) (result : Result (X × ℕ) DecodeFault) (bytes : List ℕ) → AreBytes bytes → IsJudged view result (frame_front bytes) →
     IfOk result (λ x. BeginsWith bytes (view x.0) x.1)
 begins view (Ok x) bytes fits judged = begins_by view x bytes (frame_front bytes) refl fits judged
 begins view (Err e) bytes fits judged = tt
 
--- what is read has at least one byte, and no more than there are
+-- the message that is read has at least one byte, and no more than there are
 pub has_bytes : {X : Type 0} (view : X → Message Definition) (result : Result (X × ℕ) DecodeFault) (bytes : List ℕ) → IfOk result (λ x. BeginsWith bytes (view x.0) x.1) →
     IfOk result (λ x. (1 ≤ x.1) × (x.1 ≤ length bytes))
 has_bytes view (Ok x) bytes begins = counted bytes (view x.0) x.1 begins
@@ -114,7 +114,7 @@ read_by one_map view (Err NotCanonical) m k is_message reads count = absurd (not
 read_by one_map view (Err TooLong) m k is_message reads count = absurd reads
 read_by one_map view (Err Memory) m k is_message reads count = (refl, text_is_definition m reads)
 
--- a message that stands at the front is read, unless memory runs out
+-- a message at the front is read, unless allocation fails
 pub whole_is_read : {X : Type 0} → OneTextOneMap → (view : X → Message Definition) (result : Result (X × ℕ) DecodeFault) (bytes : List ℕ) → IsJudged view result (frame_front bytes) →
     (m : Message Definition) (spelled after : List ℕ) → Spells m spelled → bytes ≡ spelled ++ after → IsReadAs view result m (length spelled)
 whole_is_read one_map view result bytes judged m spelled after spells e =
@@ -137,7 +137,7 @@ never_refused view NotCanonical m refusal is_message reads = not_bad m is_messag
 never_refused view TooLong m refusal is_message reads = reads
 never_refused view Memory m refusal is_message reads = refusal
 
--- The frame that was split off is split off the longer bytes too; where it was rejected, the longer bytes are rejected so too.
+-- A frame that is split off bytes is split off longer bytes too; if it is rejected, longer bytes are rejected too.
 refused_by : {X : Type 0} (view : X → Message Definition) (e : DecodeFault) (bytes : List ℕ) (r : Result (Kind × List ℕ) DecodeFault) → frame_front bytes ≡ r → AreBytes bytes →
     IsJudged view (Err e) r → IsRefusal e → NeverBegins bytes
 refused_by {X} view e bytes (Err fault) is fits judged refusal more m spelled after spells same =
@@ -155,7 +155,7 @@ refused_by {X} view e bytes (Ok found) is fits judged refusal more m spelled aft
     let fields = ap (λ (f : Kind × List ℕ). fields_of f.0 f.1) same_frame ∙ fields_of_body m spells.is_message in
     never_refused view e m refusal spells.is_message (subst (λ (o : Option (Message (List ℕ))). ReadsAs (λ (x : X × ℕ). view x.0) (Err e) o) fields judged.0)
 
--- what is rejected never begins with a message, however it goes on
+-- rejected bytes never begin with a message, whatever follows
 pub refused : {X : Type 0} (view : X → Message Definition) (result : Result (X × ℕ) DecodeFault) (bytes : List ℕ) → AreBytes bytes → IsJudged view result (frame_front bytes) →
     IfErr result (λ e. IsRefusal e → NeverBegins bytes)
 refused view (Ok x) bytes fits judged = tt
@@ -175,11 +175,11 @@ short_by {X} view result (Err fault) judged short = let fault_is : fault ≡ Sho
 short_by {X} view result (Ok found) judged short =
     absurd (subst (λ (a : Result (X × ℕ) DecodeFault). ReadsAs (λ (x : X × ℕ). view x.0) a (fields_of found.0 found.1)) short judged.0)
 
--- Short is answered where more bytes are to come
+-- if Short is returned, more bytes are needed
 pub short_unfinished : {X : Type 0} (view : X → Message Definition) (result : Result (X × ℕ) DecodeFault) (bytes : List ℕ) → IsJudged view result (frame_front bytes) → IsErrOf result Short → IsUnfinished bytes
 short_unfinished view result bytes judged short = short_is_unfinished bytes (short_by view result (frame_front bytes) judged short)
 
--- and only there
+-- and conversely
 pub unfinished_short : {X : Type 0} (view : X → Message Definition) (result : Result (X × ℕ) DecodeFault) (bytes : List ℕ) → IsJudged view result (frame_front bytes) → IsUnfinished bytes → IsErrOf result Short
 unfinished_short view result bytes judged unfinished =
     subst (λ (r : Result (Kind × List ℕ) DecodeFault). IsJudged view result r) (unfinished_is_short bytes unfinished) judged
@@ -189,6 +189,6 @@ not_read_short {X} view result m k short is_read =
     let memory : (Short ≡ Memory) × HasDefinition m = subst (λ (a : Result (X × ℕ) DecodeFault). IsReadAs view a m k) short is_read in
     let same : Short ≡ Memory = memory.0 in cc
 
--- bytes that are Short don't begin with a message
+-- bytes for which Short is returned don't begin with a message
 pub short_is_none : {X : Type 0} → OneTextOneMap → (view : X → Message Definition) (result : Result (X × ℕ) DecodeFault) (bytes : List ℕ) → IsJudged view result (frame_front bytes) → IsErrOf result Short → BeginsWithNone bytes
 short_is_none one_map view result bytes judged short m spelled after spells e = not_read_short view result m (length spelled) short (whole_is_read one_map view result bytes judged m spelled after spells e)

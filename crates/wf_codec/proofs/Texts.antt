@@ -54,7 +54,7 @@ vote_apart one_map (Some v) (Some w) p q e =
     let same : with_text v ≡ with_text w = cc in
     ap Some (same_vote v w (ap (λ vote. vote.ballot) same) (one_map v.definition w.definition p.1.within q.1.within (ap (λ vote. vote.definition) same)))
 
--- messages with equal texts are equal, since one text is that of one map
+-- messages with equal texts are equal, since maps with equal texts are
 pub texts_apart : OneTextOneMap → (m n : Message Definition) → IsMessage m → IsMessage n → texts m ≡ texts n → m ≡ n
 texts_apart one_map (Prepare s b) (Prepare t c) p q e = cc
 texts_apart one_map (Prepare s b) n p q e = absurd cc
@@ -71,7 +71,7 @@ texts_apart one_map (Chosen s d) n p q e = absurd cc
 texts_apart one_map (Ask s) (Ask t) p q e = cc
 texts_apart one_map (Ask s) n p q e = absurd cc
 
--- what a message carries, as its text
+-- a message's definition, as its text
 texts_carry : (m : Message Definition) → definition_of (texts m) ≡ option_map canon (definition_of m)
 texts_carry (Prepare s b) = refl
 texts_carry (Promise i s b None) = refl
@@ -94,7 +94,7 @@ vote_carries : (v : Option (Vote Definition)) → IsVoteOf HasText v → IfSome 
 vote_carries None p = tt
 vote_carries (Some v) p = p.1
 
--- the definition that a message carries has a text
+-- a message's definition has a text
 carries : (m : Message Definition) → IsMessage m → IfSome (definition_of m) HasText
 carries (Prepare s b) p = tt
 carries (Promise i s b v) p = vote_carries v p.3

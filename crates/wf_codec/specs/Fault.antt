@@ -1,4 +1,4 @@
--- Which fault bytes have: that of the first check that fails, or else that of the text that the message carries.
+-- Which error bytes have: that of the first check that fails, or else that of the message's text.
 use Rattle.std.specs.Prelude.{◌≡◌, ℕ, zero, suc, nat_lt, ◌==◌, ◌&&◌, List, [], ◌∷◌, length, take, drop, Bool, true, false, Option, Some, None, is_some, IsSome, IsSomeAnd, if◌then◌else◌}
 use Rattle.std.specs.Int.{w32, from_be_bytes}
 use Rattle.wf_ballot.specs.Front.{front_node, front_slot, front_ballot}
@@ -12,14 +12,14 @@ use Rattle.wf_codec.specs.Kind.{most_body_bytes, kind_of_byte, can_have}
 use Rattle.wf_codec.specs.Spelling.{message_version, header_length}
 use Rattle.wf_codec.specs.Message.{HasText}
 
--- ---- what the bytes hold, as far as they are there
+-- ---- what the bytes contain, as far as they are there
 
--- the kind that the second byte names
+-- the kind given by the second byte
 unfoldable pub kind_in : List ℕ → Option Kind
 kind_in (version ∷ byte ∷ bytes) = kind_of_byte byte
 kind_in _ = None
 
--- how many bytes the body has: four bytes behind the kind state it
+-- the length of the body, from the four bytes after the kind
 unfoldable pub length_in : List ℕ → Option ℕ
 length_in (version ∷ byte ∷ a ∷ b ∷ c ∷ d ∷ bytes) = Some (from_be_bytes w32 (a ∷ b ∷ c ∷ d ∷ []))
 length_in _ = None
@@ -28,7 +28,7 @@ length_in _ = None
 abbrev pub behind_header : List ℕ → List ℕ
 behind_header bytes = drop header_length bytes
 
--- the first bytes of a list, where it is stated how many
+-- the first n bytes of a list, if n is known
 abbrev pub front_of : Option ℕ → List ℕ → List ℕ
 front_of None bytes = []
 front_of (Some n) bytes = take n bytes
@@ -37,27 +37,27 @@ front_of (Some n) bytes = take n bytes
 abbrev pub body_in : List ℕ → List ℕ
 body_in bytes = front_of (length_in bytes) (behind_header bytes)
 
--- ---- the fields of a body, by their places
+-- ---- the fields of a body, by byte offset
 
--- a node stands at this place
+-- there is a node at this byte offset
 abbrev pub has_node_at : ℕ → List ℕ → Bool
 has_node_at place body = is_some (front_node (drop place body))
 
--- a sequence from 1 on stands at this place
+-- there is a sequence from 1 on at this byte offset
 abbrev pub has_slot_at : ℕ → List ℕ → Bool
 has_slot_at place body = is_some (front_slot (drop place body))
 
--- a ballot stands at this place
+-- there is a ballot at this byte offset
 abbrev pub has_ballot_at : ℕ → List ℕ → Bool
 has_ballot_at place body = is_some (front_ballot (drop place body))
 
--- a mark of 0 and nothing behind it, or a mark of 1 and a ballot
+-- a mark of 0 with nothing after it, or a mark of 1 followed by a ballot
 unfoldable pub is_vote : List ℕ → Bool
 is_vote (zero ∷ []) = true
 is_vote (suc zero ∷ bytes) = is_some (front_ballot bytes)
 is_vote _ = false
 
--- what stands from this place on is a vote with its mark, or the mark that there is none
+-- from this byte offset on there is a vote with its mark, or the mark of none
 abbrev pub has_vote_at : ℕ → List ℕ → Bool
 has_vote_at place body = is_vote (drop place body)
 
@@ -71,12 +71,12 @@ has_fields Nack body = has_node_at 0 body && has_slot_at 1 body && has_ballot_at
 has_fields Chosen body = has_slot_at 0 body
 has_fields Ask body = has_slot_at 0 body
 
--- the text behind a mark of 1 and the vote's ballot
+-- the text after a mark of 1 and the vote's ballot
 unfoldable pub text_of_vote : List ℕ → Option (List ℕ)
 text_of_vote (suc zero ∷ bytes) = Some (drop 5 bytes)
 text_of_vote _ = None
 
--- the text behind the fields: it fills the rest of the body
+-- the text after the fields: it fills the rest of the body
 unfoldable pub text_of : Kind → List ℕ → Option (List ℕ)
 text_of Prepare body = None
 text_of Promise body = text_of_vote (drop 8 body)
@@ -86,14 +86,14 @@ text_of Nack body = None
 text_of Chosen body = Some (drop 2 body)
 text_of Ask body = None
 
--- ---- the checks, each with the fault that it answers where it fails
+-- ---- the checks, each with its error
 
--- the version is the one that is read
+-- the version is the supported one
 abbrev pub check_version : List ℕ → Option DecodeFault
 check_version [] = None
 check_version (version ∷ bytes) = if version == message_version then None else Some BadVersion
 
--- the second byte names a kind
+-- the second byte is a kind's
 abbrev pub check_kind : List ℕ → Option DecodeFault
 check_kind (version ∷ byte ∷ bytes) = if is_some (kind_of_byte byte) then None else Some BadKind
 check_kind _ = None
@@ -103,12 +103,12 @@ abbrev pub check_longest : Option ℕ → Option DecodeFault
 check_longest None = None
 check_longest (Some n) = if nat_lt most_body_bytes n then Some TooLong else None
 
--- a body of this kind can have so many bytes
+-- a body of this kind can have that many bytes
 abbrev pub check_length : Option Kind → Option ℕ → Option DecodeFault
 check_length (Some kind) (Some n) = if can_have kind n then None else Some BadField
 check_length _ _ = None
 
--- the header is whole, and so many bytes follow it as it states
+-- the header is whole, and is followed by as many bytes as it states
 abbrev pub check_whole : Option ℕ → List ℕ → Option DecodeFault
 check_whole None behind = Some Short
 check_whole (Some n) behind = if nat_lt (length behind) n then Some Short else None
@@ -118,13 +118,13 @@ abbrev pub check_fields : Option Kind → List ℕ → Option DecodeFault
 check_fields None body = None
 check_fields (Some kind) body = if has_fields kind body then None else Some BadField
 
--- the fault of the first check that fails
+-- the error of the first check that fails
 abbrev pub first_failing : List (Option DecodeFault) → Option DecodeFault
 first_failing [] = None
 first_failing (None ∷ checks) = first_failing checks
 first_failing (Some fault ∷ checks) = Some fault
 
--- Bytes are judged from left to right, as early as they are there.
+-- Checks go from left to right, each as soon as its bytes are there.
 unfoldable pub first_fault : List ℕ → Option DecodeFault
 first_fault bytes = first_failing (
     check_version bytes
@@ -135,32 +135,32 @@ first_fault bytes = first_failing (
     ∷ check_fields (kind_in bytes) (body_in bytes)
     ∷ [])
 
--- ---- the text, which is judged last
+-- ---- the text, which is checked last
 
 -- the text in a body of this kind
 abbrev pub text_of_kind : Option Kind → List ℕ → Option (List ℕ)
 text_of_kind None body = None
 text_of_kind (Some kind) body = text_of kind body
 
--- the text that the message at the front carries
+-- the text of the message at the front
 abbrev pub text_in : List ℕ → Option (List ℕ)
 text_in bytes = text_of_kind (kind_in bytes) (body_in bytes)
 
--- a message stands at the front of the bytes but for its text: no check fails, and it carries a text
+-- the bytes begin with a message except that its text isn't checked: no other check fails, and it has a text
 pub record CarriesText (bytes : List ℕ) : Type 0 where
   pub no_fault : first_fault bytes ≡ None
   pub text : IsSome (text_in bytes)
 
--- no message has this text
+-- it isn't any message's text
 abbrev pub IsNoText : List ℕ → Type 0
 IsNoText text = (d : Definition) → HasText d → canon d ≡ text → ⊥
 
--- no check fails, and the text is no definition's
+-- no check fails, and the text isn't any definition's
 pub record CarriesNoText (bytes : List ℕ) : Type 0 where
   pub no_fault : first_fault bytes ≡ None
   pub no_text : IsSomeAnd (text_in bytes) IsNoText
 
--- The bytes have this fault. Memory can run out only over a text.
+-- The bytes have this error. Allocation can fail only for a text.
 abbrev pub HasFault : List ℕ → DecodeFault → Type 0
 HasFault bytes NotCanonical = CarriesNoText bytes
 HasFault bytes Memory = CarriesText bytes

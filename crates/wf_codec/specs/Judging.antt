@@ -1,4 +1,4 @@
--- How the decoder reads, step by step: the header, the fields, the text. Which fault that answers is said in Fault.antt.
+-- How the decoder reads, step by step: the header, the fields, the text. Fault.antt defines which error it returns.
 use Rattle.std.specs.Prelude.{◌≡◌, ℕ, nat_lt, ◌==◌, List, [], ◌∷◌, length, take, zero, suc, Option, Some, None, Result, Ok, Err, option_and_then, IsSome, IsSomeAnd, if◌then◌else◌}
 use Rattle.std.specs.Int.{w32, from_be_bytes}
 use Rattle.wf_ballot.specs.Ballot.{Ballot}
@@ -17,20 +17,20 @@ use Rattle.wf_codec.specs.Fault.{IsNoText}
 
 -- ---- the header
 
--- behind the length: the body, where so many bytes are there
+-- after the length: the body, if that many bytes are there
 unfoldable pub body_front : Kind → ℕ → List ℕ → Result (Kind × List ℕ) DecodeFault
 body_front kind n bytes =
     if nat_lt most_body_bytes n then Err TooLong
     else if can_have kind n then (if nat_lt (length bytes) n then Err Short else Ok (kind, take n bytes))
     else Err BadField
 
--- behind the kind's byte
+-- after the kind's byte
 unfoldable pub length_front : Option Kind → List ℕ → Result (Kind × List ℕ) DecodeFault
 length_front None bytes = Err BadKind
 length_front (Some kind) (a ∷ b ∷ c ∷ d ∷ bytes) = body_front kind (from_be_bytes w32 (a ∷ b ∷ c ∷ d ∷ [])) bytes
 length_front (Some kind) _ = Err Short
 
--- behind the version
+-- after the version
 unfoldable pub kind_front : List ℕ → Result (Kind × List ℕ) DecodeFault
 kind_front [] = Err Short
 kind_front (byte ∷ bytes) = length_front (kind_of_byte byte) bytes
@@ -46,7 +46,7 @@ infixl 10 ◌>>=◌
 abbrev pub ◌>>=◌ : {A B : Type 0} → Option A → (A → Option B) → Option B
 o >>= f = option_and_then f o
 
--- the vote behind its mark: a mark that the body's length denies is wrong
+-- the vote, from its mark on: a mark that doesn't agree with the body's length is an error
 unfoldable pub vote_of : List ℕ → Option (Option (Vote (List ℕ)))
 vote_of [] = None
 vote_of (zero ∷ []) = Some None
@@ -56,7 +56,7 @@ vote_of (suc zero ∷ bytes) = do
   Some (Some (record { ballot = ballot.0; definition = ballot.1 }))
 vote_of (suc (suc mark) ∷ bytes) = None
 
--- the message of this kind that has this body, with texts for its definitions; the length is one that the kind can have
+-- the message of this kind with this body, with texts for definitions, if the kind can have the body's length
 unfoldable pub fields_of : Kind → List ℕ → Option (Message (List ℕ))
 fields_of kinds.Prepare bytes = do
   s ← front_slot bytes
@@ -92,14 +92,14 @@ fields_of kinds.Ask bytes = do
 
 -- ---- the whole
 
--- the canonical text of a definition within the limits, no such text, or no memory
+-- the definition, within the limits, of a canonical text; or the text isn't canonical; or allocation failed
 abbrev pub ReadsText : Result Definition DecodeFault → List ℕ → Type 0
 ReadsText (Ok d) text = (canon d ≡ text) × HasText d
 ReadsText (Err NotCanonical) text = IsNoText text
 ReadsText (Err Memory) text = Unit {0}
 ReadsText (Err fault) text = ⊥
 
--- the vote that stands there, and whether its text is canonical; memory runs out only over a text
+-- the vote there, or an error of its text; allocation fails only for a text
 abbrev pub ReadsVote : Result (Option (Ballot × Definition)) DecodeFault → Option (Option (Vote (List ℕ))) → Type 0
 ReadsVote (Ok v) vote = (vote ≡ Some (vote_with canon (view_vote v))) × IsVoteOf HasText (view_vote v)
 ReadsVote (Err BadField) vote = vote ≡ None
@@ -107,7 +107,7 @@ ReadsVote (Err NotCanonical) vote = IsSomeAnd vote (λ v. IsSomeAnd v (λ x. IsN
 ReadsVote (Err Memory) vote = IsSomeAnd vote (λ v. IsSome v)
 ReadsVote (Err fault) vote = ⊥
 
--- what a function that reads a body returned, seen by view, against the fields that stand there
+-- the result of a function that reads a body, mapped by view, compared with the body's fields
 abbrev pub ReadsAs : {X : Type 0} → (X → Message Definition) → Result X DecodeFault → Option (Message (List ℕ)) → Type 0
 ReadsAs view (Ok x) fields = (fields ≡ Some (texts (view x))) × IsMessage (view x)
 ReadsAs view (Err BadField) fields = fields ≡ None

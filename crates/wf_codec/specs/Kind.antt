@@ -20,7 +20,7 @@ all_kinds = Prepare ∷ Promise ∷ Accept ∷ Accepted ∷ Nack ∷ Chosen ∷ 
 unfoldable pub kind_of_byte : ℕ → Option Kind
 kind_of_byte byte = find (λ kind. byte == kind_byte kind) all_kinds
 
--- a canonical text, which isn't empty, behind so many bytes of other fields
+-- a canonical text, which isn't empty, after that many bytes of other fields
 abbrev pub has_text_behind : ℕ → ℕ → Bool
 has_text_behind fields n = nat_lt fields n && nat_le n (fields + most_canon_bytes)
 

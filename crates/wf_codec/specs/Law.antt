@@ -1,4 +1,4 @@
--- What message bytes promise: one spelling a message, none of which begins another, and what stands at the front of bytes.
+-- The theorems about message bytes: each message has one encoding, none is a prefix of another, and what the front of bytes is.
 use Rattle.std.specs.Prelude.{◌≡◌, ℕ, ◌+◌, ◌<◌, ◌≤◌, ◌⊎◌, List, [], ◌∷◌, ◌++◌, length, take, true, Result, Err, IfOk, MatchResult}
 use Rattle.std.specs.Int.{w32, from_be_bytes}
 use Rattle.wf_model.specs.Message.{Message}
@@ -12,30 +12,31 @@ use Rattle.wf_codec.specs.Spelling.{message_version, header_length, Spells}
 use Rattle.wf_codec.specs.Message.{HasDefinition}
 use Rattle.wf_codec.specs.Judging.{fields_of, ReadsAs}
 
--- a message has one spelling
+-- a message has exactly one encoding
 abbrev pub OneSpelling : Type 0
 OneSpelling = (m : Message Definition) (a b : List ℕ) → Spells m a → Spells m b → a ≡ b
 
--- No spelling begins another: bytes that begin with a message's spelling begin with no other message's, and what follows is the same.
+-- No encoding is a prefix of another's: if two encodings, each followed by other bytes, are equal, so are the messages, the
+-- encodings and what follows.
 abbrev pub NoneBeginsAnother : Type 0
 NoneBeginsAnother = (m n : Message Definition) (a b after_a after_b : List ℕ) → Spells m a → Spells n b →
     a ++ after_a ≡ b ++ after_b → (m ≡ n) × (a ≡ b) × (after_a ≡ after_b)
 
--- a spelling has at least one byte
+-- an encoding has at least one byte
 abbrev pub NoneIsEmpty : Type 0
 NoneIsEmpty = (m : Message Definition) (bytes : List ℕ) → Spells m bytes → 1 ≤ length bytes
 
--- no kind can have a longer body, and a Promise can have one that is as long
+-- no kind can have a longer body, and a Promise can have one of that length
 pub record IsLongestBody (most : ℕ) : Type 0 where
   pub within : (kind : Kind) (n : ℕ) → can_have kind n ≡ true → n ≤ most
   pub reached : can_have Promise most ≡ true
 
--- the first k bytes spell the message
+-- the first k bytes encode the message
 pub record BeginsWith (bytes : List ℕ) (m : Message Definition) (k : ℕ) : Type 0 where
   pub within : k ≤ length bytes
   pub spells : Spells m (take k bytes)
 
--- no beginning of the bytes spells a message
+-- no prefix of the bytes encodes a message
 abbrev pub BeginsWithNone : List ℕ → Type 0
 BeginsWithNone bytes = (m : Message Definition) (spelled after : List ℕ) → Spells m spelled → bytes ≡ spelled ++ after → ⊥
 
@@ -43,13 +44,13 @@ BeginsWithNone bytes = (m : Message Definition) (spelled after : List ℕ) → S
 abbrev pub NeverBegins : List ℕ → Type 0
 NeverBegins bytes = (more : List ℕ) → BeginsWithNone (bytes ++ more)
 
--- faults that no further bytes can mend
+-- errors that remain whatever bytes follow
 abbrev pub IsRefusal : DecodeFault → Type 0
 IsRefusal Short = ⊥
 IsRefusal Memory = ⊥
 IsRefusal fault = Unit {0}
 
--- the length of the body, as the four bytes at the front state it
+-- the length of the body, as the first four bytes state it
 abbrev pub stated_length : List ℕ → ℕ
 stated_length bytes = from_be_bytes w32 (take 4 bytes)
 
@@ -57,18 +58,18 @@ stated_length bytes = from_be_bytes w32 (take 4 bytes)
 abbrev pub LacksBody : Kind → List ℕ → Type 0
 LacksBody kind bytes = (length bytes < 4) ⊎ ((can_have kind (stated_length bytes) ≡ true) × (length bytes < 4 + stated_length bytes))
 
--- Less than a whole message, with nothing wrong in its version, its kind and its length as far as they are there; the length is
--- judged once its four bytes are there.
+-- Part of a message, without an error in its version, its kind and its length as far as they are there; the length is checked
+-- once its four bytes are there.
 abbrev pub IsUnfinished : List ℕ → Type 0
 IsUnfinished [] = Unit {0}
 IsUnfinished (version ∷ []) = version ≡ message_version
 IsUnfinished (version ∷ byte ∷ bytes) = (version ≡ message_version) × ((kind : Kind) × (byte ≡ kind_byte kind) × LacksBody kind bytes)
 
--- the message and its length; a message that carries a definition may be answered by allocation failure
+-- the message and its length are returned; for a message with a definition, allocation failure may be returned instead
 abbrev pub IsReadAs : {X : Type 0} → (X → Message Definition) → Result (X × ℕ) DecodeFault → Message Definition → ℕ → Type 0
 IsReadAs view result m k = MatchResult result (λ x. (view x.0 ≡ m) × (x.1 ≡ k)) (λ e. (e ≡ Memory) × HasDefinition m)
 
--- What the decoder's parts make together: the frame's fault, else what the body is read as.
+-- The result of the decoder's parts: the frame's error, or else the message of the body.
 abbrev pub IsJudged : {X : Type 0} → (X → Message Definition) → Result (X × ℕ) DecodeFault → Result (Kind × List ℕ) DecodeFault → Type 0
 IsJudged view result split = MatchResult split
     (λ frame. ReadsAs (λ x. view x.0) result (fields_of frame.0 frame.1) × IfOk result (λ x. x.1 ≡ header_length + length frame.1))

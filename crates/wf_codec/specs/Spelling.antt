@@ -20,12 +20,12 @@ kind_of (Nack i s b q) = kinds.Nack
 kind_of (Chosen s d) = kinds.Chosen
 kind_of (Ask s) = kinds.Ask
 
--- the mark of a vote, and behind a 1 the vote, with the definition's text
+-- the mark of a vote, and after a 1 the vote, with the definition's text
 unfoldable pub vote_bytes : Option (Vote (List ℕ)) → List ℕ
 vote_bytes None = 0 ∷ []
 vote_bytes (Some vote) = 1 ∷ ballot_bytes vote.ballot ++ vote.definition
 
--- the body of a message that has texts for its definitions
+-- the body of a message with texts for definitions
 unfoldable pub body : Message (List ℕ) → List ℕ
 body (Prepare s b) = seq_bytes s ++ ballot_bytes b
 body (Promise i s b v) = node_bytes i ++ seq_bytes s ++ ballot_bytes b ++ vote_bytes v
@@ -39,19 +39,19 @@ body (Ask s) = seq_bytes s
 abbrev pub message_version : ℕ
 message_version = 1
 
--- how many bytes stand before the body
+-- the number of bytes before the body
 abbrev pub header_length : ℕ
 header_length = 6
 
--- the spelling of a message that has texts for its definitions
+-- the encoding of a message with texts for definitions
 unfoldable pub text_spelling : Message (List ℕ) → List ℕ
 text_spelling m = frame message_version (kind_byte (kind_of m)) (body m)
 
--- the one spelling of a message
+-- the one encoding of a message
 abbrev pub spelling : Message Definition → List ℕ
 spelling m = text_spelling (texts m)
 
--- these bytes are the message's
+-- the bytes encode the message
 pub record Spells (m : Message Definition) (bytes : List ℕ) : Type 0 where
   pub is_message : IsMessage m
   pub spelled : bytes ≡ spelling m

@@ -14,37 +14,37 @@ use std::alloc::Global;
 use wf_ballot::{Ballot, split_ballot, split_node, split_slot};
 use wf_canon::{Canon, CanonFault, one_text_one_map};
 
-/// The message at the front of the bytes, and how many bytes it has. The bytes are judged from left to
-/// right, as early as they are there: the version, the kind, the body's length, whether the body is
-/// whole, its fields, then the text of a definition. What follows the message isn't looked at.
+/// The message at the front of the bytes, and its length in bytes. The checks go from left to right, each as soon as its bytes
+/// are there: the version, the kind, the body's length, whether the body is whole, its fields, then the text of a definition.
+/// What follows the message isn't looked at.
 ///
-/// The count is in bytes, at least 1 and at most as many as there are.
+/// The length is at least 1 and at most that of `bytes`.
 ///
-/// `Short` says that nothing is wrong so far and that more bytes are to come. `Memory` comes only while
-/// the text of a definition is read, behind the fields of a Promise with a vote, an Accept or a Chosen;
-/// it says nothing of that text. After any other fault no further bytes make a message of them.
+/// `Short` says that there is no error so far and that more bytes are needed. `Memory` is returned only while the text of a
+/// definition is read, after the fields of a Promise with a vote, an Accept or a Chosen; it says nothing about that text. After
+/// any other error no further bytes make a message of them.
 pub fn decode(alloc: Global, bytes: &[u8]) -> Result<(Message, usize), DecodeFault>
-    // What is read stands at the front, and what stands at the front is read: allocation failure excuses only a
-    // message that carries a definition.
+    // A returned message is at the front, and a message at the front is returned, except that allocation may fail for one with a
+    // definition.
     ensures read { IfOk result (λ x. BeginsWith bytes.now (view x.0) x.1) }
     ensures each { (m : _) (spelled after : _) → Spells m spelled → bytes.now ≡ spelled ++ after → IsReadAs view result m (length spelled) }
 
-    // What is read has at least one byte, and no more than there are.
+    // A returned message has at least one byte, and no more than there are.
     ensures count { IfOk result (λ x. (1 ≤ x.1) × (x.1 ≤ length bytes.now)) }
 
-    // What is rejected never becomes a message, however it goes on.
+    // Rejected bytes never become a message, whatever follows.
     ensures refused { IfErr result (λ e. IsRefusal e → NeverBegins bytes.now) }
 
     ensures short { IsErrOf result DecodeFault.Short ↔ IsUnfinished bytes.now }
     ensures none_yet { IsErrOf result DecodeFault.Short → BeginsWithNone bytes.now }
 
-    // Which fault it is: that of the first check that fails.
+    // The error is that of the first check that fails.
     ensures first { MatchResult result (λ x. first_fault bytes.now ≡ None) (λ e. HasFault bytes.now e) }
 
-    // Memory runs out only over a text that the message carries.
+    // Allocation fails only for a text that the message contains.
     ensures memory { IsErrOf result DecodeFault.Memory → CarriesText bytes.now }
 {
-    // The law: equal texts are those of one map.
+    // The theorem: maps with equal texts are equal.
     one_text_one_map();
     judge(alloc, bytes)
 }

@@ -10,8 +10,8 @@ use std::alloc::AllocError;
 use wf_ballot::Ballot;
 use wf_canon::Canon;
 
-/// Appends the message's one spelling. The one error is allocation failure, where the vector's room doesn't
-/// suffice; it leaves the bytes as they were.
+/// Appends the message's encoding. The only error is allocation failure, if the vector's capacity doesn't suffice; the bytes are
+/// then unchanged.
 pub fn encode(message: &Message, out: &mut Vec<u8>) -> Result<(), AllocError>
     ensures ok { OnOk result (out.new.items ≡ out.old.items ++ spelling (view message.now)) }
     ensures err { OnErr result (out.new.items ≡ out.old.items) }
@@ -41,7 +41,7 @@ fn kind_of(message: &Message) -> Kind
     }
 }
 
-/// How many bytes the message's body has.
+/// The number of bytes of the message's body.
 #[tactic(auto, using(crate::proofs::Fields::body_has_length, crate::proofs::Fields::promise_has_length))]
 fn body_length(message: &Message) -> usize
     ensures value { result ≡ length (body (texts (view message.now))) }
@@ -80,7 +80,7 @@ fn body_length(message: &Message) -> usize
     }
 }
 
-/// How many bytes a vote has, with its mark.
+/// The number of bytes of a vote, with its mark.
 #[tactic(auto, using(crate::proofs::Fields::vote_has_length))]
 fn vote_length(vote: &Option<(Ballot, Canon)>) -> usize
     ensures value { result ≡ length (vote_bytes (vote_with canon (view_vote vote.now))) }
@@ -96,7 +96,7 @@ fn vote_length(vote: &Option<(Ballot, Canon)>) -> usize
     }
 }
 
-/// How many bytes a canonical text has.
+/// The number of bytes of a canonical text.
 fn text_length(text: &Canon) -> usize
     ensures value { result ≡ length (canon text.now) }
     ensures has_text { HasText text.now }

@@ -1,9 +1,9 @@
 use thiserror::Error;
 
-/// Why bytes are not read as a message.
+/// Why bytes aren't decoded as a message.
 #[derive(Clone, Copy, Debug, PartialEq, Eq, Error)]
 pub enum DecodeFault {
-    /// Nothing is wrong so far, and more bytes are to come.
+    /// No error so far; more bytes are needed.
     #[error("the message isn't whole")]
     Short,
     /// C1: the version isn't the one that this crate reads and writes.
@@ -12,7 +12,7 @@ pub enum DecodeFault {
     /// C2: no kind of message has this byte.
     #[error("C2: no kind of message")]
     BadKind,
-    /// C3: a field is outside its range, or the length is none that the kind can have.
+    /// C3: a field is outside its range, or the kind can't have that length.
     #[error("C3: a field out of range")]
     BadField,
     /// C4: the text of a definition isn't canonical.
@@ -21,7 +21,7 @@ pub enum DecodeFault {
     /// C5: the length is over that of the longest message.
     #[error("C5: too long")]
     TooLong,
-    /// C6: a growth was rejected.
+    /// C6: allocation failed.
     #[error("C6: out of memory")]
     Memory,
 }

@@ -8,10 +8,10 @@ use wf_canon::MOST_CANON_BYTES;
 /// The version of the messages that this crate reads and writes.
 pub const VERSION: u8 = 1;
 
-/// How many bytes stand before a message's body: its version, its kind and the body's length.
+/// The number of bytes before a message's body: its version, its kind and the body's length.
 pub const HEADER_BYTES: usize = 6;
 
-/// The most bytes that a body has: those of a Promise with the longest text.
+/// The most bytes of a body: those of a Promise with the longest text.
 pub const BODY_BYTES: usize = 14 + MOST_CANON_BYTES;
 
 /// The kind and the body of the message at the front.

@@ -6,32 +6,30 @@ ghost use Rattle.wf_codec.specs.Law.{OneSpelling, NoneBeginsAnother, NoneIsEmpty
 use crate::frame::{BODY_BYTES, HEADER_BYTES, VERSION};
 use wf_canon::one_text_one_map;
 
-/// A message has one spelling. A law about the definitions: the call does nothing.
+/// A message has exactly one encoding. A theorem about the definitions: the call does nothing.
 pub fn one_spelling()
     ensures { OneSpelling }
 {}
 
-/// Bytes that begin with a message's spelling begin with no other message's. A law about the
-/// definitions: the call does nothing.
+/// No message's encoding is a prefix of another's. A theorem about the definitions: the call does nothing.
 pub fn none_begins_another()
     ensures { NoneBeginsAnother }
 {
-    // Equal texts are those of one map.
+    // Maps with equal texts are equal.
     one_text_one_map();
 }
 
-/// A message's spelling has at least one byte. A law about the definitions: the call does nothing.
+/// A message's encoding has at least one byte. A theorem about the definitions: the call does nothing.
 pub fn no_spelling_is_empty()
     ensures { NoneIsEmpty }
 {}
 
-/// The longest body is that of a Promise with the longest text. A law about the definitions: the call
-/// does nothing.
+/// The longest body is that of a Promise with the longest text. A theorem about the definitions: the call does nothing.
 pub fn longest_body()
     ensures { IsLongestBody most_body_bytes }
 {}
 
-/// The constants are the numbers that the definitions name. The call does nothing.
+/// The constants are the numbers in the definitions. The call does nothing.
 pub fn numbers_of_messages()
     ensures version { VERSION ≡ message_version }
     ensures header { HEADER_BYTES ≡ header_length }

@@ -1,18 +1,16 @@
-//! Messages as bytes.
+//! Messages as bytes: the encoder and the decoder.
 //!
-//! A message is a version, a kind, the length of its body and its body, in that order; numbers are
-//! big-endian, and the canonical text of a definition fills the rest of the body
-//! (`specs/Spelling.antt`). Contracts see a [`Message`] as the farm's model does, with definitions in
-//! place of texts (`specs/Message.antt`).
+//! A message's encoding is a version, a kind, the length of its body and its body; numbers are big-endian, and the canonical text
+//! of a definition fills the rest of the body (`specs/Spelling.antt`). Model: a [`Message`] is that of wf_model, with definitions
+//! (`specs/Message.antt`).
 //!
-//! It promises that a message has one spelling and that no spelling begins another; that [`encode`]
-//! appends that spelling or nothing; that [`decode`] reads a message exactly where its spelling stands at
-//! the front of the bytes, whatever follows; that bytes are rejected only where no continuation of them
-//! begins with a message, with the fault of the first check that fails (`specs/Fault.antt`); and that only
-//! a message that carries a definition wants memory. Each growth comes before the first change.
+//! Promises: each message has exactly one encoding, and no encoding is a prefix of another. [`encode`] appends that encoding or
+//! nothing. [`decode`] returns a message iff the bytes begin with its encoding, whatever follows, unless allocation fails. Bytes
+//! are rejected only if no continuation of them begins with a message, with the error of the first check that fails
+//! (`specs/Fault.antt`). Allocation fails only for a message with a definition; memory is allocated before anything is changed.
 //!
-//! It doesn't know who sends a message or to whom, nor whether its node is one of the farm's. A message
-//! that was altered on its way and still decodes is a message.
+//! Not here: who sends a message to whom, and whether its node is one of the farm's. There is no checksum: a message that was
+//! altered in transit and still decodes is a message.
 #![tactic(auto)]
 
 mod decoder;

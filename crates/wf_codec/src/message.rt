@@ -4,30 +4,29 @@ use std::alloc::AllocError;
 use wf_ballot::{Ballot, NodeId, Slot};
 use wf_canon::Canon;
 
-/// What nodes say to one another. A message names no addressee, since the network may hand any message
-/// to any node.
+/// A message between nodes. It names no receiver, since the network may deliver any message to any node.
 #[derive(Drop)]
 pub enum Message {
-    /// Asks to promise the ballot at the slot.
+    /// A request to promise the ballot at the slot.
     Prepare(Slot, Ballot),
-    /// The node promises the ballot at the slot, and tells its vote there, if it has one.
+    /// The node promises the ballot at the slot, and reports its vote there, if it has one.
     Promise(NodeId, Slot, Ballot, Option<(Ballot, Canon)>),
-    /// Asks to vote for the definition at the slot and the ballot.
+    /// A request to vote for the definition at the slot and the ballot.
     Accept(Slot, Ballot, Canon),
     /// The node voted at the slot and the ballot.
     Accepted(NodeId, Slot, Ballot),
-    /// The node rejects the ballot at the slot, since it promised the second ballot there.
+    /// The node rejects the ballot at the slot, since it has promised the second ballot there.
     Nack(NodeId, Slot, Ballot, Ballot),
     /// The definition is chosen at the slot.
     Chosen(Slot, Canon),
-    /// Asks for what is chosen from the slot on.
+    /// A request for what is chosen from the slot on.
     Ask(Slot),
 }
 
 impl Message {
     ghost use Rattle.wf_codec.specs.Message.{view, HasDefinition};
 
-    /// An equal message. The one error is allocation failure, for a message that carries a definition.
+    /// A copy. The only error is allocation failure, for a message with a definition.
     pub fn copy(&self) -> Result<Message, AllocError>
         ensures copy { IfOk result (λ m. m ≡ self.now) }
         ensures memory { OnErr result (HasDefinition (view self.now)) }

@@ -1,4 +1,4 @@
--- What is judged in place of an input means what the input means.
+-- The checked prefix of an input has the input's meaning.
 use Rattle.std.proofs.Common.{◌≡◌, ◌<◌, ◌∙◌, inl, inr, ℕ, List, false, length, nat_le, ap, sym, arith, refl}
 use Rattle.std.specs.Prelude.{Option, Some, None, IfSome}
 use Rattle.std.proofs.lemmas.List.{take_all, length-take-le}
@@ -17,7 +17,7 @@ too_long bytes long =
     let test : nat_le (length bytes) longest_mapfile ≡ false = grind (arith, nat_tests) in
     rw test refl
 
--- the first bytes of an input, one more than the longest mapfile has, mean what it means
+-- the checked prefix, one byte longer than the longest mapfile, has the input's meaning
 judged_meaning : (input : List ℕ) → meaning (judged input) ≡ meaning input
 judged_meaning input =
     elim (cases_order (length input) most_input_bytes) [

@@ -1,4 +1,4 @@
--- From the words that the parser found to the line that they ask for.
+-- From the parsed arguments to the line that they ask for.
 use Rattle.std.proofs.Common.{◌≡◌, ◌∙◌, ◌≤◌, ℕ, List, true, sym, ap, subst, refl, codes, arith}
 use Rattle.std.specs.Prelude.{Box, Option, Some, None, option_map, IfNone}
 use Rattle.std.specs.Box.{box_value}
@@ -25,16 +25,16 @@ use Rattle.wf_wms.specs.Kept.{most_kept}
 use Rattle.wf_serve.specs.declared.service.Service.{Service}
 use Rattle.wf_commands.specs.declared.line.Line.TheVariants as lines
 
--- the word that was found stands in its row
+-- the parsed argument is in its row
 pub word_in_row : (found : Found) (id : Text) (word : Option Text) → word ≡ first_value found id → first_of id (rows_of found) ≡ word
 word_in_row found id word is = sym (is ∙ first_value-rows found id)
 
--- the name that the parser met stands in its rows
+-- the parsed command name is in its rows
 pub name_met : {Z : Type 0} (met : Option (Box SubCommand Z)) → option_map (λ p. p.0) (subcommand_rows met) ≡ option_map (λ b. (out-SubCommand (box_value b)).name.now) met
 name_met None = refl
 name_met (Some b) = refl
 
--- where `caps` was named and no `caps` line has its words, they ask for nothing
+-- if `caps` was named and no `caps` line has its arguments, they ask for nothing
 asks_of : (p : Text × List Row) (rows : List Row) → p.1 ≡ rows → p.0 ≡ codes "caps" → ((l : Line) → ¬ (IsCapsOf rows l)) → (l : Line) → ¬ (Asks (Some p) l)
 asks_of p rows has named none (lines.Caps seq query) asks = none (lines.Caps seq query) (rw has at asks.1)
 asks_of p rows has named none (lines.Draw query) asks = false≢true (sym (ap (bytes_eq (codes "caps")) (sym named ∙ asks.0)))
@@ -42,7 +42,7 @@ asks_of p rows has named none lines.Canon asks = let clash : codes "caps" ≡ co
 asks_of p rows has named none lines.Run asks = let clash : codes "caps" ≡ codes "run" = sym named ∙ asks in cc
 asks_of p rows has named none (lines.Serve service) asks = false≢true (sym (ap (bytes_eq (codes "caps")) (sym named ∙ asks.0)))
 
--- where `serve` was named and no `serve` line has its words, they ask for nothing
+-- if `serve` was named and no `serve` line has its arguments, they ask for nothing
 serve_asks_of : (p : Text × List Row) (rows : List Row) → p.1 ≡ rows → p.0 ≡ codes "serve" → ((l : Line) → ¬ (IsServeOf rows l)) → (l : Line) → ¬ (Asks (Some p) l)
 serve_asks_of p rows has named none (lines.Caps seq query) asks = false≢true (sym (ap (bytes_eq (codes "serve")) (sym named ∙ asks.0)))
 serve_asks_of p rows has named none (lines.Draw query) asks = false≢true (sym (ap (bytes_eq (codes "serve")) (sym named ∙ asks.0)))
@@ -56,7 +56,7 @@ none_served (Some line) met rows has named none = tt
 none_served None None rows has named none = λ l asks. asks
 none_served None (Some p) rows has named none = serve_asks_of p rows (let is : p.1 ≡ rows = cc in is) (let is : p.0 ≡ codes "serve" = cc in is) none
 
--- where `draw` was named and no `draw` line has its words, they ask for nothing
+-- if `draw` was named and no `draw` line has its arguments, they ask for nothing
 draw_asks_of : (p : Text × List Row) (rows : List Row) → p.1 ≡ rows → p.0 ≡ codes "draw" → ((l : Line) → ¬ (IsDrawOf rows l)) → (l : Line) → ¬ (Asks (Some p) l)
 draw_asks_of p rows has named none (lines.Caps seq query) asks = false≢true (sym (ap (bytes_eq (codes "draw")) (sym named ∙ asks.0)))
 draw_asks_of p rows has named none (lines.Draw query) asks = none (lines.Draw query) (rw has at asks.1)
@@ -70,7 +70,7 @@ none_drawn (Some line) met rows has named none = tt
 none_drawn None None rows has named none = λ l asks. asks
 none_drawn None (Some p) rows has named none = draw_asks_of p rows (let is : p.1 ≡ rows = cc in is) (let is : p.0 ≡ codes "draw" = cc in is) none
 
--- the numbers of what is asked for are within their ranges
+-- the numbers of the line that is asked for are in range
 cache_in_range : (word : Option Text) (kept : ℕ) → IsCacheOf word kept → (1 ≤ kept) × (kept ≤ most_kept)
 cache_in_range None kept is = (omega (arith, is), omega (arith, is))
 cache_in_range (Some word) kept is = (is.low, is.high)
@@ -94,12 +94,12 @@ none_asked (Some line) met rows has named none = tt
 none_asked None None rows has named none = λ l asks. asks
 none_asked None (Some p) rows has named none = asks_of p rows (let is : p.1 ≡ rows = cc in is) (let is : p.0 ≡ codes "caps" = cc in is) none
 
--- what the parser takes it rejects for allocation failure alone
+-- arguments that the parser accepts are rejected only if an allocation fails
 pub passes_on : (app : App) (words : List Text) (error : Error) → app ≡ program → (takes app words ≡ true → kind_of error ≡ OutOfMemory)
     → takes program words ≡ true → kind_of error ≡ OutOfMemory
 passes_on app words error is passes taken = passes (ap (λ a. takes a words) is ∙ taken)
 
--- ---- what the parser met is what the program's own rules say
+-- ---- the parsed command is that of the program's rules
 
 simple_program : is_simple program ≡ true
 unfolding clap_on_literals

@@ -1,4 +1,4 @@
--- From what is written about a definition, or a fault of reading, to the outcome of a run.
+-- From what is written about a definition, or a read error, to the outcome of a run.
 use Rattle.std.proofs.Common.{◌≡◌, ◌∙◌, ℕ, List, true, false, sym, refl}
 use Rattle.std.specs.Prelude.{Option, Result, Ok, Err, IfSome}
 use Rattle.wf_def.specs.Definition.{Definition}
@@ -31,7 +31,7 @@ module _ (HasOutput : Definition → List ℕ → Type 0) (rejects : CanonFault 
   fault_outcome faults.Write why = absurd why
   fault_outcome faults.Serve why = absurd why
 
--- the same of one of several outputs
+-- the same for one of several outputs
 pub one_written_outcome : (HasOutput : Definition → List ℕ → Type 0) (input old new : Option (List ℕ)) (result : Result (Unit {0}) RunFault) (d : Definition)
     → IfSome input (λ known. Means known d) → IsWithinLimits d → IsWritingOf (HasOutput d) old new result → IsOutcome HasOutput (λ _ _. ⊥) input old new result
 one_written_outcome HasOutput input old new (Ok done) d means within writes = (d, means, within, writes)

@@ -1,4 +1,4 @@
--- What the command line's parser makes of words without a hyphen first.
+-- How the parser parses arguments without a leading hyphen.
 use Rattle.std.proofs.Common.{◌≡◌, ◌∙◌, ◌==◌, ◌&&◌, ◌||◌, cond, drop, subst, if◌then◌else◌, ◌≤◌, not, ℕ, List, [], ◌∷◌, true, false, sym, ap, refl, codes, arith, rules}
 use Rattle.std.specs.Prelude.{option_and_then, Some, None, pos, neg_ℤ, ◌≤ℤ◌, FitsSigned}
 use Rattle.std.specs.Str.{bytes_eq}
@@ -19,7 +19,7 @@ use Rattle.wf_commands.specs.CommandLine.{caps_shape, draw_shape, PlainCapsIsAsk
 use Rattle.wf_commands.specs.Line.{IsSequence}
 use Rattle.wf_commands.specs.declared.line.Line.TheVariants as lines
 
--- where the walk over positionals stands
+-- the state of the walk over positionals
 abbrev at : Held → ℕ → Walk
 at held position = record { held = held; waiting = idle; position = position; is_trailing = false; stopped = None }
 
@@ -29,7 +29,7 @@ no_hyphen first plain = grind (arith)
 strip_none : (first : ℕ) (rest : Text) → (first == 45) ≡ false → strip_byte 45 (first ∷ rest) ≡ None
 strip_none first rest e = ap (λ b. if b then Some rest else None) e
 
--- a word without a hyphen first is no option and doesn't part options from the rest
+-- an argument without a leading hyphen isn't an option, nor the `--` that ends the options
 pub no_option : (word : Text) → is_plain word ≡ true → (bytes_eq word (45 ∷ 45 ∷ []) ≡ false) × (long_of word ≡ None) × (short_of word ≡ None)
 no_option [] plain = (refl, refl, refl)
 no_option (first ∷ rest) plain =
@@ -39,7 +39,7 @@ no_option (first ∷ rest) plain =
       ap (λ s. option_and_then short_of_rest s) (strip_none first rest e),
     )
 
--- it goes to a positional
+-- it is taken as a positional
 plain_met : (rules : List Rule) (held : Held) (position : ℕ) (word : Text) → is_plain word ≡ true
     → word_met rules [] false idle position word held ≡ (held, value)
 plain_met rules held position word plain =
@@ -56,7 +56,7 @@ plain_walked rules held position word plain = ap (λ met. after_step rules word 
 abbrev caps_rules : List Rule
 caps_rules = (built_leaf (inherited program.top caps_shape)).rules
 
--- the two words are what is found for SEQ and QUERY
+-- the two arguments are parsed for SEQ and QUERY
 found_words : (word query : Text) → is_plain word ≡ true → is_plain query ≡ true
     → walk caps_rules [] nothing_held (word ∷ query ∷ []) ≡ at (pushed (codes "QUERY") query (settled caps_rules (pushed (codes "SEQ") word nothing_held))) 3
 unfolding clap_on_literals
@@ -71,7 +71,7 @@ unfolding clap_on_literals
 caps_rows word query plain_word plain_query =
     (_, ap (λ w. Some (codes "caps", finished caps_rules w.held)) (found_words word query plain_word plain_query), refl, refl)
 
--- ---- that the parser takes them
+-- ---- the parser accepts them
 
 word_taken : (s : Shape) (held : Held) (word : Text) → is_plain word ≡ true → word_passes s [] false idle word held ≡ true
 word_taken s held word plain =
@@ -137,12 +137,12 @@ caps_asked word query lines.Canon plain_word plain_query is = absurd is
 caps_asked word query lines.Run plain_word plain_query is = absurd is
 caps_asked word query (lines.Serve service) plain_word plain_query is = absurd is
 
--- ---- draw and its word
+-- ---- draw and its argument
 
 abbrev draw_built : Shape
 draw_built = built_leaf (inherited program.top draw_shape)
 
--- the word is what is found for QUERY
+-- the argument is parsed for QUERY
 found_word : (query : Text) → is_plain query ≡ true
     → walk draw_built.rules [] nothing_held (query ∷ []) ≡ at (pushed (codes "QUERY") query nothing_held) 2
 unfolding clap_on_literals

@@ -1,4 +1,4 @@
--- What the words of a command line ask for, by the rules of the kit's parser of command lines.
+-- What the arguments of a command line ask for, by the rules of `clap`.
 use Rattle.std.specs.Prelude.{◌≡◌, ℕ, option_map, ◌==◌, not, Bool, List, [], ◌∷◌, Option, Some, None, false, true, codes, pos}
 use Rattle.clap.specs.Walk.{Row, Rule, Text, first_of}
 use Rattle.clap.specs.Simple.{App, Shape, new_rule, new_shape, subcommand_of}
@@ -14,7 +14,7 @@ use Rattle.wf_serve.specs.declared.service.Service.{Service}
 use Rattle.wf_commands.specs.declared.line.Line.TheVariants as lines
 use Rattle.wf_wms.specs.Kept.{most_kept}
 
--- ---- what the program can be given
+-- ---- the arguments that the program takes
 
 -- SEQ: a required number from 0 to the last update sequence
 abbrev pub sequence_rule : Rule
@@ -81,7 +81,7 @@ state_rule = record (new_rule (codes "state")) { long = Some (codes "state"); va
 abbrev pub serve_shape : Shape
 serve_shape = record (new_shape (codes "serve")) { rules = nodes_rule ∷ port_rule ∷ requests_rule ∷ cache_rule ∷ state_rule ∷ [] }
 
--- The program is given one of the five commands, or asked for its version or for help. What its parser reads of it:
+-- The program's command, as data for the parser: it takes one of five commands, or asks for the version or help.
 abbrev pub program : App
 program = record {
   top = record (new_shape (codes "wfarm")) {
@@ -93,9 +93,9 @@ program = record {
   subs = caps_shape ∷ draw_shape ∷ canon_shape ∷ run_shape ∷ serve_shape ∷ [];
 }
 
--- ---- what a line is asked for by
+-- ---- the line that is asked for
 
--- The line is `caps` with the number of a word, and a query as it is.
+-- The line is `caps` with the number that an argument spells, and this query.
 abbrev pub IsCapsLine : Text → Text → Line → Type 0
 IsCapsLine word query (lines.Caps seq asked) = IsSequence word seq × (asked.now ≡ query)
 IsCapsLine word query (lines.Draw asked) = ⊥
@@ -103,12 +103,12 @@ IsCapsLine word query lines.Canon = ⊥
 IsCapsLine word query lines.Run = ⊥
 IsCapsLine word query (lines.Serve service) = ⊥
 
--- The line is `caps` with the words that were found for SEQ and QUERY.
+-- The line is `caps` with the arguments parsed for SEQ and QUERY.
 abbrev pub IsCapsOf : List Row → Line → Type 0
 IsCapsOf rows line = (word query : Text) × (first_of (codes "SEQ") rows ≡ Some word) × (first_of (codes "QUERY") rows ≡ Some query)
     × IsCapsLine word query line
 
--- The line is `draw` with a query as it is.
+-- The line is `draw` with this query.
 abbrev pub IsDrawLine : Text → Line → Type 0
 IsDrawLine query (lines.Caps seq asked) = ⊥
 IsDrawLine query (lines.Draw asked) = asked.now ≡ query
@@ -116,24 +116,24 @@ IsDrawLine query lines.Canon = ⊥
 IsDrawLine query lines.Run = ⊥
 IsDrawLine query (lines.Serve service) = ⊥
 
--- The line is `draw` with the word that was found for QUERY.
+-- The line is `draw` with the argument parsed for QUERY.
 abbrev pub IsDrawOf : List Row → Line → Type 0
 IsDrawOf rows line = (query : Text) × (first_of (codes "QUERY") rows ≡ Some query) × IsDrawLine query line
 
--- the word that was found for a number stands for it
+-- the argument parsed for a number spells it
 abbrev pub IsNumberOf : List Row → Text → ℕ → ℕ → ℕ → Type 0
 IsNumberOf rows id least most number = (word : Text) × (first_of id rows ≡ Some word) × IsNumber word least most number
 
--- how many pictures are kept for each node, where the words don't say
+-- the number of pictures that each node keeps by default
 abbrev pub default_cache : ℕ
 default_cache = 16
 
--- so many pictures are kept by the word that was found, if one was
+-- the number of pictures to keep, by the parsed argument if there is one
 abbrev pub IsCacheOf : Option Text → ℕ → Type 0
 IsCacheOf None kept = kept ≡ default_cache
 IsCacheOf (Some word) kept = IsNumber word 1 most_kept kept
 
--- What is served is what the words say that were found.
+-- The service is that of the parsed arguments.
 pub record IsServiceOf (rows : List Row) (service : Service) : Type 0 where
   pub nodes : IsNumberOf rows (codes "nodes") 1 most_nodes service.nodes
   pub port : IsNumberOf rows (codes "port") 0 last_port service.port
@@ -141,7 +141,7 @@ pub record IsServiceOf (rows : List Row) (service : Service) : Type 0 where
   pub cache : IsCacheOf (first_of (codes "cache") rows) service.cache
   pub state : option_map (λ s. s.now) service.state ≡ first_of (codes "state") rows
 
--- The line is `serve`, and what is served is what the words say.
+-- The line is `serve` with the service of the parsed arguments.
 abbrev pub IsServeOf : List Row → Line → Type 0
 IsServeOf rows (lines.Caps seq query) = ⊥
 IsServeOf rows (lines.Draw query) = ⊥
@@ -149,7 +149,7 @@ IsServeOf rows lines.Canon = ⊥
 IsServeOf rows lines.Run = ⊥
 IsServeOf rows (lines.Serve service) = IsServiceOf rows service
 
--- the command that was named, with its words, asks for the line
+-- the named command with its arguments asks for the line
 abbrev pub Asks : Option (Text × List Row) → Line → Type 0
 Asks None line = ⊥
 Asks (Some named) (lines.Caps seq query) = (named.0 ≡ codes "caps") × IsCapsOf named.1 (lines.Caps seq query)
@@ -158,30 +158,30 @@ Asks (Some named) lines.Canon = named.0 ≡ codes "canon"
 Asks (Some named) lines.Run = named.0 ≡ codes "run"
 Asks (Some named) (lines.Serve service) = (named.0 ≡ codes "serve") × IsServeOf named.1 (lines.Serve service)
 
--- why words are rejected: where the parser takes them and they ask for a line, an allocation failed
+-- why arguments are rejected: if the parser accepts them and they ask for a line, an allocation failed
 abbrev pub IsWhyRejected : List Text → ErrorKind → Type 0
 IsWhyRejected words kind = takes program words ≡ true → (line : Line) → Asks (subcommand_of program words) line → kind ≡ OutOfMemory
 
--- the word doesn't begin with a hyphen: it is no option
+-- the argument doesn't begin with a hyphen, so it isn't an option
 abbrev pub is_plain : Text → Bool
 is_plain [] = true
 is_plain (first ∷ rest) = not (first == 45)
 
--- The command line's parser takes `caps`, a word for an update sequence and any word for the query, neither with a hyphen first, and they
--- ask for exactly the line of that number and that query.
+-- The parser accepts `caps`, an argument that spells an update sequence and any argument as the query, neither with a leading
+-- hyphen. They ask for exactly the line of that number and that query.
 abbrev pub PlainCapsIsAsked : Type 0
 PlainCapsIsAsked = (word query : Text) (line : Line) → is_plain word ≡ true → is_plain query ≡ true → IsCapsLine word query line
     → (takes program (codes "caps" ∷ word ∷ query ∷ []) ≡ true) × Asks (subcommand_of program (codes "caps" ∷ word ∷ query ∷ [])) line
 
--- The command line's parser takes `draw` and any word for the query, without a hyphen first, and they ask for exactly the line of that query.
+-- The parser accepts `draw` and any argument without a leading hyphen as the query. They ask for exactly the line of that query.
 abbrev pub PlainDrawIsAsked : Type 0
 PlainDrawIsAsked = (query : Text) (line : Line) → is_plain query ≡ true → IsDrawLine query line
     → (takes program (codes "draw" ∷ query ∷ []) ≡ true) × Asks (subcommand_of program (codes "draw" ∷ query ∷ [])) line
 
--- The command line's parser takes `canon` alone, and it asks for the canonical text.
+-- The parser accepts `canon` alone; it asks for the canonical text.
 abbrev pub PlainCanonIsAsked : Type 0
 PlainCanonIsAsked = (takes program (codes "canon" ∷ []) ≡ true) × Asks (subcommand_of program (codes "canon" ∷ [])) lines.Canon
 
--- The command line's parser takes `run` alone, and it asks for a script to be played.
+-- The parser accepts `run` alone; it asks to play a script.
 abbrev pub PlainRunIsAsked : Type 0
 PlainRunIsAsked = (takes program (codes "run" ∷ []) ≡ true) × Asks (subcommand_of program (codes "run" ∷ [])) lines.Run

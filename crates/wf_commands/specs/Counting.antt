@@ -1,4 +1,4 @@
--- How a run counts the calls that failed.
+-- A run's count of failed calls.
 use Rattle.std.specs.Prelude.{◌≡◌, ℕ, Result, Ok, Err, false}
 use Rattle.wf_mapfile.specs.Reading.{is_memory}
 use Rattle.wf_script.specs.Fault as script
@@ -6,7 +6,7 @@ use Rattle.wf_stream.specs.Reading.{Rises}
 use Rattle.wf_commands.specs.declared.fault.RunFault.{RunFault}
 use Rattle.wf_commands.specs.declared.fault.RunFault.TheVariants as faults
 
--- A read error comes only where a read has failed, and a run whose reads have failed ends with that error or for allocation failure.
+-- A read error is returned only if a read has failed. A run with a failed read returns that error, or one of allocation failure.
 abbrev pub CountsReads : {T : Type 0} → Result T RunFault → ℕ → ℕ → Type 0
 CountsReads (Ok x) old new = new ≡ old
 CountsReads (Err faults.Read) old new = Rises old new
@@ -16,7 +16,7 @@ CountsReads (Err (faults.Script fault)) old new = script.is_memory fault ≡ fal
 CountsReads (Err faults.Write) old new = new ≡ old
 CountsReads (Err faults.Serve) old new = new ≡ old
 
--- A write error comes exactly where a write has failed.
+-- A write error is returned iff a write has failed.
 abbrev pub CountsWrites : {T : Type 0} → Result T RunFault → ℕ → ℕ → Type 0
 CountsWrites (Err faults.Write) old new = Rises old new
 CountsWrites _ old new = new ≡ old

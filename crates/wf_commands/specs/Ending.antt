@@ -1,4 +1,4 @@
--- How the program ends: its exit status, and the line that it writes on standard error.
+-- The program's exit status, and its line on standard error.
 use Rattle.std.specs.Prelude.{ℕ, Bool, true, false, Option, Some, None, Result, Ok, Err}
 use Rattle.std.specs.declared.io.ErrorKind.{ErrorKind as IoErrorKind}
 use Rattle.std.specs.declared.io.ErrorKind.TheVariants as io
@@ -12,13 +12,13 @@ abbrev pub run_status : {T : Type 0} → Result T RunFault → ℕ
 run_status (Ok done) = 0
 run_status (Err fault) = 1
 
--- the error whose line is written: a failed write has none
+-- the error that is printed: a failed write isn't
 abbrev pub reported : {T : Type 0} → Result T RunFault → Option RunFault
 reported (Ok done) = None
 reported (Err faults.Write) = None
 reported (Err fault) = Some fault
 
--- The exit status where no command was run, of whether the text was printed: help and the version are no mistake.
+-- The exit status if no command was run, by whether the text was printed: help and the version aren't errors.
 abbrev pub rejection_status : ErrorKind → Bool → ℕ
 rejection_status OutOfMemory printed = 1
 rejection_status DisplayHelp true = 0
@@ -27,7 +27,7 @@ rejection_status DisplayVersion true = 0
 rejection_status DisplayVersion false = 1
 rejection_status _ printed = 2
 
--- the exit status where the command line can't be read: words that are no text are a bad one
+-- the exit status if the command line can't be read: arguments that aren't UTF-8 are a bad command line
 abbrev pub unreadable_status : IoErrorKind → ℕ
 unreadable_status io.InvalidData = 2
 unreadable_status _ = 1

@@ -1,4 +1,4 @@
--- What a command line asks for.
+-- The range of a command line's numbers, and the kinds of command.
 use Rattle.std.specs.Prelude.{◌≡◌, ◌≤◌, ℕ, List, ⊤}
 use Rattle.std.specs.Str.Parse.{IsNumeral, digits_value, without_leading_plus}
 use Rattle.wf_ballot.specs.Sequence.{last_sequence}
@@ -6,7 +6,7 @@ use Rattle.wf_commands.specs.declared.line.Line.{Line}
 use Rattle.wf_serve.specs.Service.{IsService}
 use Rattle.wf_commands.specs.declared.line.Line.TheVariants as lines
 
--- the numbers of a command line are within their ranges
+-- the numbers of a command line are in range
 abbrev pub IsInRange : Line → Type 0
 IsInRange (lines.Caps seq query) = seq ≤ last_sequence
 IsInRange (lines.Draw query) = ⊤
@@ -14,7 +14,7 @@ IsInRange lines.Canon = ⊤
 IsInRange lines.Run = ⊤
 IsInRange (lines.Serve service) = IsService service
 
--- the line asks for nodes to be served, or for something about an input
+-- the line is `serve`, or a command about an input
 abbrev pub IsServe : Line → Type 0
 IsServe (lines.Caps seq query) = ⊥
 IsServe (lines.Draw query) = ⊥
@@ -29,13 +29,13 @@ IsOfInput lines.Canon = ⊤
 IsOfInput lines.Run = ⊤
 IsOfInput (lines.Serve service) = ⊥
 
--- A word stands for an update sequence: decimal digits, a plus before them at most, of a number in the range.
+-- The argument spells an update sequence: decimal digits, with an optional plus, of a number in range.
 pub record IsSequence (word : List ℕ) (seq : ℕ) : Type 0 where
   pub digits : IsNumeral 10 (without_leading_plus word)
   pub number : seq ≡ digits_value 10 (without_leading_plus word)
   pub most : seq ≤ last_sequence
 
--- A word stands for a number from the least to the most: decimal digits, a plus before them at most.
+-- The argument spells a number from `least` to `most`: decimal digits, with an optional plus.
 pub record IsNumber (word : List ℕ) (least most number : ℕ) : Type 0 where
   pub digits : IsNumeral 10 (without_leading_plus word)
   pub is : number ≡ digits_value 10 (without_leading_plus word)

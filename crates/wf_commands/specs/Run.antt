@@ -1,4 +1,4 @@
--- What a run of a command reads and writes, and why it fails.
+-- What a run of a command reads and writes, and its errors.
 use Rattle.std.specs.Prelude.{◌≡◌, ◌+◌, ℕ, List, [], ◌∷◌, Option, Result, Ok, Err, false, true, take, IfSome}
 use Rattle.std.specs.Io.KnownBytes.{Appends, Keeps}
 use Rattle.wf_def.specs.Definition.{Definition}
@@ -17,11 +17,11 @@ use Rattle.wf_commands.specs.declared.line.Line.TheVariants as lines
 use Rattle.wf_commands.specs.declared.fault.RunFault.{RunFault}
 use Rattle.wf_commands.specs.declared.fault.RunFault.TheVariants as faults
 
--- how much of an input is read, in bytes: one more than the longest mapfile has
+-- the most bytes read of an input: the longest mapfile's length plus one
 abbrev pub most_input_bytes : ℕ
 most_input_bytes = 65537
 
--- how much of the input each command reads: of a script one byte more than the longest has; nothing where nodes are served
+-- the most bytes that each command reads: of a script, the longest script's length plus one; none for `serve`
 abbrev pub most_read : Line → ℕ
 most_read (lines.Caps seq query) = most_input_bytes
 most_read (lines.Draw query) = most_input_bytes
@@ -29,17 +29,17 @@ most_read lines.Canon = most_input_bytes
 most_read lines.Run = most_script_bytes + 1
 most_read (lines.Serve service) = 0
 
--- what is judged in place of an input: its beginning
+-- the prefix of an input that is checked
 abbrev pub judged : List ℕ → List ℕ
 judged input = take most_input_bytes input
 
 -- ---- the outcome of a run
 
--- a definition within the limits with the property, which the input means where it is known
+-- a definition within the limits with the property; the input means it, if the input is known
 abbrev pub MeansOne : (Definition → Type 0) → Option (List ℕ) → Type 0
 MeansOne P input = (d : Definition) × IfSome input (λ bytes. Means bytes d) × IsWithinLimits d × P d
 
--- why an input isn't there: an allocation or a read failed
+-- why an input can't be read: an allocation or a read failed
 abbrev pub IsInputFault : RunFault → Type 0
 IsInputFault (faults.Map fault) = is_memory fault ≡ true
 IsInputFault faults.Read = Unit {0}
@@ -48,7 +48,7 @@ IsInputFault (faults.Script fault) = ⊥
 IsInputFault faults.Write = ⊥
 IsInputFault faults.Serve = ⊥
 
--- why bytes give no definition: other than for allocation failure, they mean none
+-- why bytes give no definition: they mean none, unless an allocation failed
 abbrev pub IsMapFault : List ℕ → RunFault → Type 0
 IsMapFault bytes (faults.Map fault) = is_memory fault ≡ false → MeansNothing bytes
 IsMapFault bytes faults.Read = ⊥
@@ -57,7 +57,7 @@ IsMapFault bytes (faults.Script fault) = ⊥
 IsMapFault bytes faults.Write = ⊥
 IsMapFault bytes faults.Serve = ⊥
 
--- why an input gives no definition: other than for allocation failure, a map error comes only where it means none
+-- why an input gives no definition: a map error is returned only if the input means none, unless an allocation failed
 abbrev pub IsReadingFault : Option (List ℕ) → RunFault → Type 0
 IsReadingFault input (faults.Map fault) = is_memory fault ≡ false → IfSome input MeansNothing
 IsReadingFault input faults.Read = Unit {0}
@@ -66,11 +66,11 @@ IsReadingFault input (faults.Script fault) = ⊥
 IsReadingFault input faults.Write = ⊥
 IsReadingFault input faults.Serve = ⊥
 
--- a beginning of the bytes was put behind what was written
+-- a prefix of the bytes was appended
 abbrev pub AppendsPart : Option (List ℕ) → Option (List ℕ) → List ℕ → Type 0
 AppendsPart old new bytes = (count : ℕ) × Appends old new (take count bytes)
 
--- What is written of an output: all of it, or a part where the writer failed; nothing where the output can't be had.
+-- What is written of an output: all of it; a prefix if the writer failed; nothing if the output can't be made.
 abbrev pub IsWriting : List ℕ → (CanonFault → Type 0) → Option (List ℕ) → Option (List ℕ) → Result (Unit {0}) RunFault → Type 0
 IsWriting bytes rejects old new (Ok done) = Appends old new bytes
 IsWriting bytes rejects old new (Err faults.Write) = AppendsPart old new bytes
@@ -80,7 +80,7 @@ IsWriting bytes rejects old new (Err faults.Read) = ⊥
 IsWriting bytes rejects old new (Err (faults.Script fault)) = ⊥
 IsWriting bytes rejects old new (Err faults.Serve) = ⊥
 
--- What is written where the output is one of these: all of it, or a part where the writer failed; nothing where an allocation failed before.
+-- What is written of one of these outputs: all of it; a prefix if the writer failed; nothing if an allocation failed before.
 abbrev pub IsWritingOf : (List ℕ → Type 0) → Option (List ℕ) → Option (List ℕ) → Result (Unit {0}) RunFault → Type 0
 IsWritingOf IsOutput old new (Ok done) = (bytes : List ℕ) × IsOutput bytes × Appends old new bytes
 IsWritingOf IsOutput old new (Err faults.Write) = (bytes : List ℕ) × IsOutput bytes × AppendsPart old new bytes
@@ -90,7 +90,7 @@ IsWritingOf IsOutput old new (Err faults.Read) = ⊥
 IsWritingOf IsOutput old new (Err (faults.Script fault)) = ⊥
 IsWritingOf IsOutput old new (Err faults.Serve) = ⊥
 
--- What a run writes about the definition that the input means: a whole output that the definition has, or a part of one where the writer
+-- What a run writes about the definition that the input means: a whole output of the definition, or a prefix of one if the writer
 -- failed. With any other error nothing is written.
 abbrev pub IsOutcome : (Definition → List ℕ → Type 0) → (CanonFault → Definition → Type 0) → Option (List ℕ) → Option (List ℕ) → Option (List ℕ)
     → Result (Unit {0}) RunFault → Type 0
@@ -104,7 +104,7 @@ IsOutcome HasOutput rejects input old new (Err faults.Serve) = ⊥
 
 -- ---- the outputs about a definition
 
--- the answer about it at a sequence, to a query
+-- the answer about it at a sequence to a query
 abbrev pub IsDescription : ℕ → List ℕ → Definition → List ℕ → Type 0
 IsDescription seq query d bytes = bytes ≡ (description seq d query).bytes
 
@@ -112,13 +112,14 @@ IsDescription seq query d bytes = bytes ≡ (description seq d query).bytes
 abbrev pub IsCanonical : Definition → List ℕ → Type 0
 IsCanonical d bytes = bytes ≡ canon d
 
--- the answer to a query of a server that has published it alone, at sequence 1: each query has one
+-- the answer to a query of a server that has published only it, at sequence 1; each query has one
 abbrev pub IsPreview : List ℕ → Definition → List ℕ → Type 0
 IsPreview query d bytes = (answer : AnswerValue) × IsAnswerOf 1 (d ∷ []) query answer × (bytes ≡ answer.bytes)
 
--- What is written of a script: nothing where it can't be read or isn't one. An error of the script, allocation failure aside, is the input's own,
--- with its line. Where it is played to its end, or to a failed write, the whole input was read: where that is known, it is a script. Where it
--- is played to its end, each of its orders was performed in turn on a new farm, and what they write was written.
+-- What is written for a script: nothing if it can't be read or isn't one. An error of the script, unless an allocation failed, is
+-- the input's, with its line. If it is played to its end or to a failed write, the whole input was read; if the input is known,
+-- it is a script. If it is played to its end, each of its orders was performed in turn on a new farm, and what they write was
+-- written.
 abbrev pub IsPlayed : Option (List ℕ) → Option (List ℕ) → Option (List ℕ) → Result (Unit {0}) RunFault → Type 0
 IsPlayed input old new (Ok done) = IfSome input IsScriptText × PlaysInput input old new
 IsPlayed input old new (Err faults.Write) = IfSome input IsScriptText
@@ -128,7 +129,7 @@ IsPlayed input old new (Err (faults.Map fault)) = ⊥
 IsPlayed input old new (Err (faults.Canon fault)) = ⊥
 IsPlayed input old new (Err faults.Serve) = ⊥
 
--- the outcome of what is asked for, over a reader and a writer: nodes aren't served so
+-- the outcome of a command over a reader and a writer; never of `serve`
 abbrev pub IsOutcomeOf : Line → Option (List ℕ) → Option (List ℕ) → Option (List ℕ) → Result (Unit {0}) RunFault → Type 0
 IsOutcomeOf (lines.Caps seq query) input old new result = IsOutcome (IsDescription seq query.now) (λ _ _. ⊥) input old new result
 IsOutcomeOf (lines.Draw query) input old new result = IsOutcome (IsPreview query.now) (λ _ _. ⊥) input old new result

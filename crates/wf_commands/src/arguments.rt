@@ -1,4 +1,4 @@
-//! Reading the command line.
+//! Parses the command line.
 ghost use Rattle.std.specs.Prelude.{◌≡◌, ◌∷◌, [], ℕ, IfErr, IfNone, IfOk, IfSome, codes, false, map};
 ghost use Rattle.clap.specs.Matches.{found_of};
 ghost use Rattle.clap.specs.Simple.{app_of, shape_of, subcommand_of, subcommand_rows_of};
@@ -52,7 +52,7 @@ Errors (status 1): script fault S1 to S4 with the line number, read fault";
 /// The most pictures that a node may keep.
 const MOST_CACHE: i64 = 64;
 
-/// The number of pictures that each node keeps, where the command line doesn't say.
+/// The number of pictures that each node keeps by default.
 const DEFAULT_CACHE: u32 = 16;
 
 const SERVE_HELP: &str =
@@ -66,7 +66,7 @@ Errors (status 1): serve fault";
 
 static NO_WORDS: [&str; 0] = [];
 
-// A function each, and one call after the other: what is built is let go by clap alone.
+// One function for each part, called one after another: only clap drops what is built.
 fn seq_argument<'a>(alloc: Global) -> Arg<'a>
     ensures rule { rule_of result ≡ sequence_rule }
     ensures local { result.global ≡ false }
@@ -190,7 +190,7 @@ fn state_argument<'a>(alloc: Global) -> Arg<'a>
         .help("The folder of the nodes' tapes")
 }
 
-// `serve`, without what may be left out.
+// `serve`, without its optional arguments.
 fn farm_command<'a>(alloc: Global) -> Result<Command<'a>, AllocError>
     ensures { IfOk result (λ command. (shape_of command ≡ record serve_shape { rules = nodes_rule ∷ port_rule ∷ requests_rule ∷ [] }) × ((out-Command command).has_globals ≡ false)) }
 {
@@ -211,7 +211,7 @@ fn serve_command<'a>(alloc: Global) -> Result<Command<'a>, AllocError>
         .arg(state_argument(alloc))
 }
 
-// The program with its first command alone.
+// The program with its first command only.
 fn first_command<'a>(alloc: Global) -> Result<Command<'a>, AllocError>
     ensures { IfOk result (λ command. app_of command ≡ record program { subs = caps_shape ∷ [] }) }
 {
@@ -241,7 +241,7 @@ fn input_commands<'a>(alloc: Global) -> Result<Command<'a>, AllocError>
     mapfile_commands(alloc)?.subcommand(run_command(alloc))
 }
 
-// All that the program takes.
+// The program with all its commands.
 fn command<'a>(alloc: Global) -> Result<Command<'a>, AllocError>
     ensures { IfOk result (λ command. app_of command ≡ program) }
 {
@@ -249,7 +249,7 @@ fn command<'a>(alloc: Global) -> Result<Command<'a>, AllocError>
     input_commands(alloc)?.subcommand(serve)?.bin_name("wfarm")
 }
 
-// The usage, and that a command is missing.
+// The error for a missing command or a value out of range, with the usage.
 fn rejection(alloc: Global) -> Result<Error, AllocError>
     ensures { IfOk result (λ error. kind_of error ≡ ErrorKind.ValueValidation) }
 {
@@ -258,12 +258,12 @@ fn rejection(alloc: Global) -> Result<Error, AllocError>
         ErrorKind::ValueValidation,
         "a command is missing, or a value is out of range",
     );
-    // A parse of nothing lets go of the command: to drop it here would have all of its parts proved once more.
+    // Parsing no arguments drops the command. A drop here would need a proof for all of its parts again.
     let _ = command.try_get_matches_from(NO_WORDS.as_slice());
     rejection
 }
 
-// The update sequence that a word stands for.
+// The update sequence that an argument spells.
 fn sequence(word: &str) -> Option<u16>
     ensures some { IfSome result (IsSequence word.now) }
     ensures none { IfNone result ((seq : ℕ) → ¬ (IsSequence word.now seq)) }
@@ -274,7 +274,7 @@ fn sequence(word: &str) -> Option<u16>
     }
 }
 
-// The `caps` line of the words that were found.
+// The `caps` line of the parsed arguments.
 #[tactic(auto, using(crate::proofs::Named::word_in_row))]
 fn caps<'a>(found: &ArgMatches<'a>) -> Option<Line<'a>>
     ensures some { IfSome result (IsCapsOf (rows_of (found_of found.now))) }
@@ -286,7 +286,7 @@ fn caps<'a>(found: &ArgMatches<'a>) -> Option<Line<'a>>
     Some(Line::Caps { seq, query })
 }
 
-// The `draw` line of the words that were found.
+// The `draw` line of the parsed arguments.
 #[tactic(auto, using(crate::proofs::Named::word_in_row))]
 fn draw<'a>(found: &ArgMatches<'a>) -> Option<Line<'a>>
     ensures some { IfSome result (IsDrawOf (rows_of (found_of found.now))) }
@@ -296,7 +296,7 @@ fn draw<'a>(found: &ArgMatches<'a>) -> Option<Line<'a>>
     Some(Line::Draw { query: word })
 }
 
-// The number from the least to the most that a word stands for.
+// The number in least..=most that an argument spells.
 fn number(word: &str, least: u32, most: u32) -> Option<u32>
     ensures some { IfSome result (IsNumber word.now least most) }
     ensures none { IfNone result ((number : ℕ) → ¬ (IsNumber word.now least most number)) }
@@ -307,7 +307,7 @@ fn number(word: &str, least: u32, most: u32) -> Option<u32>
     }
 }
 
-// The number that was found for an option.
+// The number parsed for an option.
 #[tactic(auto, using(crate::proofs::Named::word_in_row))]
 fn number_of<'a>(found: &ArgMatches<'a>, id: &str, least: u32, most: u32) -> Option<u32>
     ensures some { IfSome result (IsNumberOf (rows_of (found_of found.now)) id.now least most) }
@@ -317,7 +317,7 @@ fn number_of<'a>(found: &ArgMatches<'a>, id: &str, least: u32, most: u32) -> Opt
     number(word, least, most)
 }
 
-// How many pictures are kept by the words that were found.
+// The number of pictures to keep, by the parsed arguments.
 #[tactic(auto, using(crate::proofs::Named::word_in_row))]
 fn cache<'a>(found: &ArgMatches<'a>) -> Option<u32>
     ensures some { IfSome result (IsCacheOf (first_of (codes "cache") (rows_of (found_of found.now)))) }
@@ -329,7 +329,7 @@ fn cache<'a>(found: &ArgMatches<'a>) -> Option<u32>
     }
 }
 
-// What is served by the words that were found.
+// What to serve, by the parsed arguments.
 #[tactic(auto, using(crate::proofs::Named::word_in_row))]
 fn service<'a>(found: &ArgMatches<'a>) -> Option<Service<'a>>
     ensures some { IfSome result (IsServiceOf (rows_of (found_of found.now))) }
@@ -348,7 +348,7 @@ fn service<'a>(found: &ArgMatches<'a>) -> Option<Service<'a>>
     })
 }
 
-// The `serve` line of the words that were found.
+// The `serve` line of the parsed arguments.
 fn serve<'a>(found: &ArgMatches<'a>) -> Option<Line<'a>>
     ensures some { IfSome result (IsServeOf (rows_of (found_of found.now))) }
     ensures none { IfNone result ((line : Line) → ¬ (IsServeOf (rows_of (found_of found.now)) line)) }
@@ -357,7 +357,7 @@ fn serve<'a>(found: &ArgMatches<'a>) -> Option<Line<'a>>
     Some(Line::Serve(service))
 }
 
-// The line that the words which were found ask for.
+// The line that the parsed arguments ask for.
 fn asked<'a>(matches: &ArgMatches<'a>) -> Option<Line<'a>>
     ensures some { IfSome result (Asks (subcommand_rows_of matches.now)) }
     ensures none { IfNone result ((line : Line) → ¬ (Asks (subcommand_rows_of matches.now) line)) }
@@ -372,29 +372,29 @@ fn asked<'a>(matches: &ArgMatches<'a>) -> Option<Line<'a>>
     }
 }
 
-/// Reads the words of a command line, without the program's name. An error's text is for the user.
+/// Parses the arguments of a command line, without the program's name. An error's text is for the user.
 ///
-/// Which line is asked for is said by the rules of `clap` for the program's own command: what
-/// [`plain_words_are_taken`] says of words without a hyphen first follows from them.
+/// The line that is asked for is defined by `clap`'s rules for the program's command. [`plain_words_are_taken`], about arguments
+/// without a leading hyphen, follows from them.
 #[tactic(auto, using(crate::proofs::Named::asked_in_range))]
 pub fn line<'a, S: AsStr>(alloc: Global, words: &'a [S]) -> Result<Line<'a>, Error>
     ensures range { IfOk result IsInRange }
     ensures asked { IfOk result (Asks (subcommand_of program (map S.text words.entry.now))) }
-    // Words that ask for a line are rejected for allocation failure alone.
+    // Arguments that ask for a line are rejected only if an allocation fails.
     ensures rejected { IfErr result (λ error. IsWhyRejected (map S.text words.entry.now) (kind_of error)) }
 {
     let matches = command(alloc)?.try_get_matches_from(words)?;
     let asked = asked(&matches);
     drop(matches);
-    // The command line's parser has made sure of a line; its promise ends at a subcommand's door.
+    // The parser has checked that there is a line, but clap's contract doesn't cover a subcommand's values.
     match asked {
         Some(line) => Ok(line),
         None => Err(rejection(alloc)?),
     }
 }
 
-/// `caps` with an update sequence and a query, `draw` with a query, `canon` alone and `run` alone ask for these lines, where no
-/// word begins with a hyphen.
+/// `caps` with an update sequence and a query, `draw` with a query, `canon` alone and `run` alone ask for these lines, if no
+/// argument begins with a hyphen. A theorem: the call does nothing.
 pub fn plain_words_are_taken()
     ensures caps { PlainCapsIsAsked }
     ensures draw { PlainDrawIsAsked }

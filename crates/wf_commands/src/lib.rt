@@ -1,25 +1,32 @@
-//! The commands of `wfarm`: from a command line, an input and an output to a farm of Web Map Service
-//! servers.
+//! The commands of the program `wfarm`. They answer a Web Map Service request about a mapfile, write its canonical text, play a
+//! script of a farm of servers, and serve a farm's nodes over HTTP.
 //!
-//! It is thin. [`arguments::line`] reads the words of a command line, [`run::run_line`] does what these
-//! ask for about an input over any reader and writer, [`serve::run_serve`] serves nodes over HTTP, and
-//! [`program::program`] binds them to the process. A
-//! [`line::Line`] is what is asked for, and a [`fault::RunFault`] is why a run failed. Readers and writers are
-//! [`wf_stream::Source`] and [`wf_stream::Sink`], which count the calls that failed: [`wf_stream::Stream`] makes
-//! them of those of std.
+//! The crate is thin. [`arguments::line`] parses the command line's arguments to a [`line::Line`]; [`run::run_line`] runs the
+//! commands about an input, over any reader and writer; [`serve::run_serve`] serves nodes over HTTP; [`program::program`]
+//! connects them to the process. A [`fault::RunFault`] is the error of a run. Readers and writers are [`wf_stream::Source`] and
+//! [`wf_stream::Sink`], which count failed calls; [`wf_stream::Stream`] makes them of std's.
 //!
-//! It promises, of [`run::run_line`], that a run about a mapfile that succeeds has written exactly what was
-//! asked for, of the one map that its input means: the answer at that sequence to that query, the answer to
-//! that query of a server that has published the map alone, or the canonical text; that an error of a map or
-//! a text comes only for that cause, and a read or write error exactly where a call has failed; that nothing
-//! is written before another error, and a beginning of the output before a write error; that no more than
-//! 65,537 bytes are read of a mapfile and 1,048,577 of a script;
-//! that nothing is written where the input is no script; and that where a script is played to its end, the
-//! whole input is within the limits of scripts. Of [`arguments::line`] it promises
-//! the line that the words ask for, by the rules of the kit's parser of command lines, and that words
-//! that ask for one are rejected for allocation failure alone. Of [`serve::run_serve`] it promises why it fails,
-//! and the line that it writes with its port; what it serves is `wf_serve`'s contract. What standard input holds, what became of the
-//! bytes behind standard output, and what text is printed for a rejected command line, no contract says.
+//! [`run::run_line`] promises, about a mapfile:
+//! - after Ok, exactly the output of the command for the one map that the input means is written: of `caps` the answer at that
+//!   sequence to that query, of `draw` the answer to that query of a server that has published only this map, of `canon` the
+//!   canonical text
+//! - an error of the map or of its canonical text is returned only for its cause
+//! - before a write error a prefix of the output is written, before any other error nothing
+//! - at most 65,537 bytes are read
+//!
+//! About a script:
+//! - if the input isn't a script, nothing is written
+//! - if it is played to its end, the whole input is within the limits of scripts
+//! - at most 1,048,577 bytes are read
+//!
+//! About both: a read error is returned only if a read has failed, a write error iff a write has.
+//!
+//! [`arguments::line`] promises the line that the arguments ask for by the rules of `clap`; arguments that ask for a line are
+//! rejected only if an allocation fails. [`serve::run_serve`] promises the cause of its error, and the line that it writes with
+//! its port; what it serves is `wf_serve`'s contract.
+//!
+//! No contract says what standard input holds, what happens to the bytes after standard output, or what text is printed for a
+//! rejected command line.
 #![tactic(auto)]
 
 pub mod arguments;

@@ -1,13 +1,13 @@
-//! What the program can be asked for.
+//! The program's commands.
 
 pub use wf_serve::Service;
 
-/// What a command line asks for.
+/// A parsed command line.
 #[derive(Clone, Copy)]
 pub enum Line<'a> {
     /// Answer a request about the mapfile on standard input, at an update sequence.
     Caps { seq: u16, query: &'a str },
-    /// Answer a request about the mapfile on standard input, as a server that has published it alone.
+    /// Answer a request about the mapfile on standard input, as a server that has published only this map.
     Draw { query: &'a str },
     /// Write the canonical text of the mapfile on standard input.
     Canon,

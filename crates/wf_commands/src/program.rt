@@ -1,4 +1,4 @@
-//! From the command line to the exit status.
+//! The program: from the command line to the exit status.
 ghost use Rattle.std.specs.Prelude.{◌≡◌, ◌≤◌, Bool};
 ghost use Rattle.std.specs.IoError.{error_kind};
 ghost use Rattle.clap.specs.Values.{kind_of};
@@ -21,13 +21,13 @@ use std::{env, io};
 use wf_mapfile::fault::MapFault;
 use wf_stream::Stream;
 
-/// The status of an error, also of a failed write.
+/// The exit status of an error, also of a failed write.
 const FAULT: u8 = 1;
 
-/// The status of a bad command line.
+/// The exit status of a bad command line.
 const BAD_COMMAND_LINE: u8 = 2;
 
-// Does what the command line asks for about an input, from standard input to standard output.
+// Runs a command about an input, from standard input to standard output.
 fn run_input<R: Input + Print + AllocGlobal>(rt: &R, line: Line<'_>) -> Result<(), RunFault>
     requires range { IsInRange line }
     requires input { IsOfInput line }
@@ -37,7 +37,7 @@ fn run_input<R: Input + Print + AllocGlobal>(rt: &R, line: Line<'_>) -> Result<(
     run_line(rt.alloc(), line, &mut source, &mut sink)
 }
 
-// Does what the command line asks for.
+// Runs a command.
 fn run<
     R: Input
         + Print
@@ -57,7 +57,7 @@ fn run<
     }
 }
 
-// The error whose line is written: a failed write has none.
+// The error to print: a failed write isn't printed.
 fn reported(outcome: Result<(), RunFault>) -> Option<RunFault>
     ensures { result ≡ reported outcome }
 {
@@ -67,7 +67,7 @@ fn reported(outcome: Result<(), RunFault>) -> Option<RunFault>
     }
 }
 
-// The status of a run, after its line.
+// Prints a run's error and returns the exit status.
 fn status<R: Eprint>(rt: &R, outcome: Result<(), RunFault>) -> ExitCode
     ensures { exit_status result ≡ run_status outcome }
 {
@@ -80,7 +80,7 @@ fn status<R: Eprint>(rt: &R, outcome: Result<(), RunFault>) -> ExitCode
     }
 }
 
-// A command line that can't be read: words that are no text are a bad one.
+// The exit status if the command line can't be read: arguments that aren't UTF-8 are a bad command line.
 fn unreadable<R: Eprint>(rt: &R, error: &io::Error) -> ExitCode
     ensures { exit_status result ≡ unreadable_status (error_kind error.now) }
 {
@@ -91,7 +91,7 @@ fn unreadable<R: Eprint>(rt: &R, error: &io::Error) -> ExitCode
     ExitCode::from(BAD_COMMAND_LINE)
 }
 
-// The status where no command was run, of whether the text was printed.
+// The exit status if no command was run, by whether the text was printed.
 fn rejection_status(kind: ErrorKind, printed: bool) -> u8
     ensures { result ≡ rejection_status kind printed }
 {
@@ -102,7 +102,7 @@ fn rejection_status(kind: ErrorKind, printed: bool) -> u8
     }
 }
 
-// A command line that asks for nothing that the program does, or for help.
+// Prints clap's text for a rejected command line, or help or the version, and returns the exit status.
 fn rejection<R: Print + Eprint>(rt: &R, error: &clap::Error) -> ExitCode
     ensures { (printed : Bool) × (exit_status result ≡ rejection_status (kind_of error.now) printed) }
 {
@@ -113,13 +113,13 @@ fn rejection<R: Print + Eprint>(rt: &R, error: &clap::Error) -> ExitCode
     ExitCode::from(rejection_status(error.kind(), printed))
 }
 
-// The words of the command line, without the program's name.
+// The arguments of the command line, without the program's name.
 fn words<R: Env + AllocGlobal>(rt: &R) -> io::Result<Vec<String>> {
     Ok(env::args(rt)?.skip(1).collect(rt.alloc())?)
 }
 
-/// Reads the command line, does what it asks for and returns the exit status: 0; 1 for an error, with
-/// one line on standard error, but none for a failed write; 2 for a bad command line.
+/// Parses the command line, runs its command and returns the exit status: 0 for success; 1 for an error, with one line on
+/// standard error, except for a failed write; 2 for a bad command line.
 pub fn program<
     R: Env
         + Input

@@ -1,4 +1,4 @@
-//! The commands, over any reader and writer.
+//! The commands about an input, over any reader and writer.
 ghost use Rattle.std.specs.Prelude.{◌≡◌, ◌+◌, ◌≤◌, IfOk, IfErr, IfSome, OnOk};
 ghost use Rattle.std.specs.Io.KnownBytes.{IsAtEnd};
 ghost use Rattle.wf_def.specs.Limits.{IsWithinLimits};
@@ -26,17 +26,17 @@ use wf_stream::{Sink, Source, read_up_to, write_all};
 use wf_wms::describe;
 use wf_wms::service::preview;
 
-/// How much of the input is read, in bytes: one more than the longest mapfile has.
+/// The most bytes read of an input: the longest mapfile's length plus one.
 pub const MOST_INPUT_BYTES: usize = 65_537;
 
-/// The limits of the code are those of the definitions.
+/// The code's limits are those of the definitions. A theorem: the call does nothing.
 pub fn limits_are_as_defined()
     ensures input { MOST_INPUT_BYTES ≡ most_input_bytes }
     ensures one_more { most_input_bytes ≡ longest_mapfile + 1 }
     ensures sequence { SEQUENCES ≡ last_sequence }
 {}
 
-// The input to its end, or its first bytes.
+// Reads the input to its end, or its first `MOST_INPUT_BYTES` bytes.
 fn input<S: Source>(alloc: Global, source: &mut S) -> Result<Vec<u8>, RunFault>
     ensures first { IfOk result (λ bytes. IfSome (S.left source.old) (λ known. bytes.items ≡ judged known)) }
     ensures err { IfErr result IsInputFault }
@@ -110,7 +110,7 @@ fn write_answer<K: Sink>(
     }
 }
 
-// Writes the answer of a server that has published a map alone.
+// Writes the answer of a server that has published only this map.
 #[tactic(auto, using(crate::proofs::Outcome::one_written))]
 fn write_preview<K: Sink>(
     alloc: Global,
@@ -142,8 +142,8 @@ fn write_canonical<K: Sink>(alloc: Global, map: &MapDef, sink: &mut K) -> Result
     }
 }
 
-/// Reads a mapfile to its end, or to the byte that makes it too long, and writes the answer about its
-/// map, at the update sequence `seq`, to a query.
+/// Reads a mapfile to its end, or to the byte that makes it too long, and writes the answer to a query about its map at update
+/// sequence `seq`.
 #[tactic(auto, using(crate::proofs::Outcome::written_outcome, crate::proofs::Outcome::fault_outcome, crate::proofs::Outcome::no_more_reads, crate::proofs::Outcome::no_writes_yet))]
 pub fn run_caps<S: Source, K: Sink>(
     alloc: Global,
@@ -169,8 +169,8 @@ pub fn run_caps<S: Source, K: Sink>(
     }
 }
 
-/// Reads a mapfile to its end, or to the byte that makes it too long, and writes the answer of a server that has published its map alone,
-/// at update sequence 1, to a query: a preview.
+/// Reads a mapfile to its end, or to the byte that makes it too long, and writes the answer to a query of a server that has
+/// published only its map, at update sequence 1: a preview.
 #[tactic(auto, using(crate::proofs::Outcome::one_written_outcome, crate::proofs::Outcome::fault_outcome, crate::proofs::Outcome::no_more_reads_of_one, crate::proofs::Outcome::no_writes_yet))]
 pub fn run_draw<S: Source, K: Sink>(
     alloc: Global,
@@ -217,15 +217,15 @@ pub fn run_canon<S: Source, K: Sink>(
     }
 }
 
-/// Reads a script to its end, or to the byte that makes it too long, and plays it on a farm in memory: what its orders do and
-/// write, the contracts of `wf_play` say.
+/// Reads a script to its end, or to the byte that makes it too long, and plays it on a farm in memory. The contracts of `wf_play`
+/// define what its orders do and write.
 pub fn run_script<S: Source, K: Sink>(
     alloc: Global,
     source: &mut S,
     sink: &mut K,
 ) -> Result<(), RunFault>
     ensures outcome { IsPlayed (S.left source.old) (K.written sink.old) (K.written sink.new) result }
-    // Where it was played to its end, nothing of the input is left.
+    // After Ok the whole input is read.
     ensures end { OnOk result (IsAtEnd (S.left source.new)) }
     ensures most { TakesUpTo (most_script_bytes + 1) (S.left source.old) (S.left source.new) }
     ensures reads { CountsReads result (S.failures source.old) (S.failures source.new) }
@@ -239,7 +239,7 @@ pub fn run_script<S: Source, K: Sink>(
     }
 }
 
-/// Does what a command line asks for about an input. Nodes are served by [`crate::serve::run_serve`].
+/// Runs a command about an input. [`crate::serve::run_serve`] serves nodes.
 pub fn run_line<S: Source, K: Sink>(
     alloc: Global,
     line: Line<'_>,
@@ -248,7 +248,7 @@ pub fn run_line<S: Source, K: Sink>(
 ) -> Result<(), RunFault>
     requires range { IsInRange line }
     requires input { IsOfInput line }
-    // About a mapfile exactly what is asked for is written, of the definition that the input means.
+    // For a mapfile: exactly the command's output for the definition that the input means is written.
     ensures outcome { IsOutcomeOf line.entry (S.left source.old) (K.written sink.old) (K.written sink.new) result }
     ensures most { TakesUpTo (most_read line.entry) (S.left source.old) (S.left source.new) }
     ensures reads { CountsReads result (S.failures source.old) (S.failures source.new) }

@@ -13,11 +13,11 @@ use std::time::Clock;
 use wf_serve::{ServeFault, Service, serve};
 use wf_stream::Sink;
 
-/// Serves the nodes that a `serve` line asks for, as [`wf_serve::serve`] says, and writes the line `listening P`: P is the
-/// line's port, or where that is 0 one that the system gives.
+/// Serves the nodes of a `serve` line, by [`wf_serve::serve`], and writes the line `listening P`: P is the line's port, or if
+/// that is 0 one chosen by the system.
 ///
-/// `Serve` where a tape doesn't open, the port isn't free or an allocation failed: nothing is written then. `Write` where the line
-/// can't be written: a beginning of it may be.
+/// Returns `Serve` if a tape doesn't open, the port isn't free or an allocation failed: nothing is written then. Returns `Write`
+/// if the line can't be written: a prefix of it may be.
 pub fn run_serve<
     R: Files<File = File> + Clock + Net<Listener = TcpListener, Stream = TcpStream> + AllocGlobal,
     K: Sink,
@@ -33,7 +33,7 @@ pub fn run_serve<
     }
 }
 
-// The same of what is to be served.
+// The same for a `Service`.
 fn serve_by<
     R: Files<File = File> + Clock + Net<Listener = TcpListener, Stream = TcpStream> + AllocGlobal,
     K: Sink,

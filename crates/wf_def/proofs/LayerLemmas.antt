@@ -26,7 +26,7 @@ test-from_HasEnoughPoints kind f h =
     (All-weaker (λ (part : List Point). least_points kind ≤ length part) (λ (part : List Point). nat_le (least_points kind) (length part) ≡ true)
     (λ part. test_from_le _ _) f.parts h)
 
--- the test of all shapes means that each has the points that the kind needs
+-- if the test of all shapes is true, each has the points that the kind needs
 pub shapes_from_test : (kind : LayerKind) (features : List FeatureDefinition) → list_all (has_enough_points kind) features ≡ true → All (HasEnoughPoints kind) features
 shapes_from_test kind features h =
     All-weaker (λ f. has_enough_points kind f ≡ true) (HasEnoughPoints kind) (HasEnoughPoints-from_test kind) features

@@ -1,4 +1,4 @@
--- What a map's list of layers has in a place, and what one more layer does to it.
+-- The layer at an index of a map's list, and the effect of appending a layer.
 use Rattle.std.proofs.Common.{◌≡◌, ℕ, ◌+◌, ◌≤◌, false, List, [], ◌∷◌, ◌++◌, length, sum_by, slice_get, Option, Some, None, All, is_some, refl, subst}
 use Rattle.std.proofs.lemmas.List.Elements.{All-push}
 use Rattle.std.proofs.lemmas.List.Sums.{sum_by_push, get_or-le-sum_by}
@@ -6,7 +6,7 @@ use Rattle.std.proofs.lemmas.Option.{get_or_from_slice_get, slice_get_within}
 use Rattle.wf_def.specs.Definition.{LayerDefinition}
 use Rattle.wf_def.specs.Limits.{IsLayer, IsLayerName, points_of_feature, point_count, feature_count}
 
--- what is not there is none
+-- an option that isn't Some is None
 pub none_from_test : {A : Type 0} (o : Option A) → is_some o ≡ false → o ≡ None
 none_from_test None h = refl
 none_from_test (Some x) h = cc

@@ -1,4 +1,4 @@
--- What a map definition says, without memory: coordinates in millionths, texts as bytes, lists in order.
+-- Map definitions as plain values: coordinates in millionths, texts as bytes, lists in order.
 use Rattle.std.specs.Prelude.{ℕ, pos, List, [], Option, codes}
 use Rattle.wf_def.specs.Extent.{ExtentValue}
 use Rattle.wf_def.specs.declared.point.Point.{Point}
@@ -8,27 +8,27 @@ use Rattle.wf_def.specs.declared.choice.Projection.{Projection}
 use Rattle.wf_def.specs.declared.choice.Projection.TheVariants.{Epsg4326}
 use Rattle.wf_def.specs.declared.choice.LayerKind.{LayerKind}
 
--- how a feature is drawn, and how its text is: plain values, so that the declared types are their definitions
+-- how a feature and its label are drawn: plain values, so the declared types are their own definitions
 abbrev pub StyleDefinition : Type 0
 StyleDefinition = Style
 
 abbrev pub LabelDefinition : Type 0
 LabelDefinition = Label
 
--- which features are drawn alike
+-- a class: which features it contains, and how they are drawn
 pub record ClassDefinition : Type 0 where
   pub name : List ℕ
   pub expression : Option (List ℕ)
   pub styles : List StyleDefinition
   pub label : Option LabelDefinition
 
--- a shape with its attributes' values, cut at semicolons, and the text of its label
+-- a shape with its attributes' values, separated by semicolons, and the text of its label
 pub record FeatureDefinition : Type 0 where
   pub parts : List (List Point)
   pub items : List ℕ
   pub text : List ℕ
 
--- a layer without its name: the names of its features' attributes are `items`, cut at commas
+-- a layer without its name; `items` are the names of its features' attributes, separated by commas
 pub record LayerDefinition : Type 0 where
   pub kind : LayerKind
   pub title : List ℕ
@@ -48,7 +48,7 @@ pub record Definition : Type 0 where
   pub projection : Projection
   pub layers : List (List ℕ × LayerDefinition)
 
--- the map before the first: what every history begins with
+-- the map of sequence 0, with which every history begins
 abbrev pub empty_map : Definition
 empty_map = record {
   name = codes "empty";

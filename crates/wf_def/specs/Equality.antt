@@ -1,4 +1,4 @@
--- Whether two definitions are equal, as a test: all their fields are. Lists are compared in order, the layers too.
+-- The test of equality of two definitions: all their fields are equal. Lists are compared in order, those of layers too.
 use Rattle.std.specs.Prelude.{ℕ, ◌==◌, ◌&&◌, Bool, List, bytes_eq}
 use Rattle.std.specs.Ordering.{int_eq}
 use Rattle.std.specs.Option.{option_eq}

@@ -1,4 +1,4 @@
--- Each test of equality is true exactly where the two values are equal.
+-- Each test of equality is true iff the two values are equal.
 use Rattle.std.proofs.Common.{◌≡◌, ℕ, Bool, List, Option, Some, None, refl, sym, ap, arith}
 use Rattle.std.specs.Bool.{Decides}
 use Rattle.std.specs.Option.{option_eq}

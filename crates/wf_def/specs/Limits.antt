@@ -1,4 +1,4 @@
--- Which definitions are within the limits: one predicate a level.
+-- Which definitions are within the limits: one predicate for each level.
 use Rattle.std.specs.Prelude.{◌≡◌, ℕ, ◌<◌, ◌≤◌, ◌==◌, Bool, true, false, List, length, map, All, IfSome, sum_by, bytes_eq}
 use Rattle.std.specs.List.{list_any, IsDistinct}
 use Rattle.wf_text.specs.Micro.{IsMicro}
@@ -57,7 +57,7 @@ pub record IsFeature (f : FeatureDefinition) : Type 0 where
   pub items : IsText f.items
   pub text : IsText f.text
 
--- how many points a part has at least: a ring needs three
+-- the least number of points of a part: a ring needs three
 abbrev pub least_points : LayerKind → ℕ
 least_points Points = 1
 least_points Lines = 2
@@ -78,17 +78,17 @@ pub record IsLayer (l : LayerDefinition) : Type 0 where
   pub features : All IsFeature l.features
   pub shapes : All (HasEnoughPoints l.kind) l.features
 
--- a layer's name stands in a list between commas: it isn't empty and has no comma
+-- a layer's name, which is listed between commas: it isn't empty and has no comma
 pub record IsLayerName (name : List ℕ) : Type 0 where
   pub is_text : IsText name
   pub least : 1 ≤ length name
   pub no_comma : list_any (λ b. b == 44) name ≡ false
 
--- how many points a feature has, in all its parts
+-- the number of points of a feature, in all its parts
 abbrev pub points_of_feature : FeatureDefinition → ℕ
 points_of_feature f = sum_by length f.parts
 
--- how many features and points a map has, in all its layers
+-- the number of features and of points of a map, in all its layers
 abbrev pub feature_count : List (List ℕ × LayerDefinition) → ℕ
 feature_count layers = sum_by (λ entry. length entry.1.features) layers
 
@@ -112,11 +112,11 @@ pub record IsWithinLimits (m : Definition) : Type 0 where
   pub features_most : feature_count m.layers ≤ most_features
   pub points_most : point_count m.layers ≤ most_points
 
--- a layer of the name is there
+-- there is a layer of that name
 abbrev pub has_layer : List (List ℕ × LayerDefinition) → List ℕ → Bool
 has_layer layers name = list_any (bytes_eq name) (layer_names layers)
 
--- the fault is a name that is there already
+-- the error is a repeated name
 abbrev pub is_repeated : LayerFault → Bool
 is_repeated Repeated = true
 is_repeated OutOfMemory = false

@@ -1,4 +1,4 @@
-//! The attributes of features, and the classes that they choose.
+//! The attributes of features, and the class of a feature.
 ghost use Rattle.std.specs.Prelude.{◌≡◌, ◌<◌, length, IfSome, option_copied, position, bytes_eq, slice_get};
 ghost use Rattle.wf_def.specs.Attribute.{attribute, attribute_names, attribute_values, matches, class_of};
 
@@ -8,9 +8,9 @@ use crate::layer::Layer;
 use wf_text::text::Text;
 
 impl Layer {
-    /// The feature's value under a name (MapServer mapfile reference, ITEMS): of the values between semicolons, that which stands
-    /// where the name first does among the layer's names between commas. There is none under the empty name, and none where the
-    /// feature has fewer values.
+    /// The feature's value under a name (MapServer mapfile reference, ITEMS): the n-th of the feature's values between
+    /// semicolons, where the name first occurs as the n-th of the layer's names between commas. `None` under the empty name, and
+    /// if the feature has fewer values.
     pub fn attribute<'a>(&self, feature: &'a Feature, name: &Text) -> Option<&'a [u8]>
         ensures { option_copied result ≡ attribute self.now.items feature.now.items name.now }
     {
@@ -21,8 +21,8 @@ impl Layer {
         )
     }
 
-    /// Which class the feature has, by its place among the layer's classes: the first without an expression, or whose expression
-    /// equals the feature's value under the layer's CLASSITEM byte for byte. A feature without a class isn't drawn.
+    /// The index of the feature's class: the first class without an expression, or whose expression equals the feature's value
+    /// under the layer's CLASSITEM byte for byte. A feature without a class isn't drawn.
     #[tactic(auto, unfolding(crate::specs::Attribute::class_of))]
     pub fn class_of(&self, feature: &Feature) -> Option<usize>
         ensures class { result ≡ class_of self.now feature.now }
@@ -35,7 +35,7 @@ impl Layer {
     }
 }
 
-/// Whether a feature whose value is this one is of the class.
+/// Whether a feature with this value is in the class.
 fn matches(class: &Class, value: Option<&[u8]>) -> bool
     ensures { result ≡ matches class.now.expression (option_copied value.entry) }
 {
@@ -57,14 +57,14 @@ pub fn attribute<'a>(names: &[u8], values: &'a [u8], name: &[u8]) -> Option<&'a 
     value_at(values, place)
 }
 
-/// Where the name first stands among names between commas.
+/// The index at which the name first occurs among names between commas.
 fn place_of(names: &[u8], name: &[u8]) -> Option<usize>
     ensures { result ≡ position (bytes_eq name.now) (attribute_names names.now) }
 {
     names.split(|b| *b == b',').position(|piece| name == piece)
 }
 
-/// The value at a place, of values between semicolons.
+/// The value at an index, of values between semicolons.
 fn value_at(values: &[u8], place: usize) -> Option<&[u8]>
     ensures { option_copied result ≡ slice_get (attribute_values values.now) place }
 {

@@ -1,4 +1,4 @@
-//! The choices of a map definition: each an enum with the words of the mapfile as its variants.
+//! The enumerations of a map definition: each variant is a word of the mapfile.
 
 /// The coordinate system of a map's EXTENT and points (MapServer mapfile reference, PROJECTION).
 #[derive(Clone, Copy, PartialEq, Eq)]
@@ -30,7 +30,7 @@ pub enum LabelSize {
     Giant,
 }
 
-/// Where a label stands to its point (MapServer mapfile reference, LABEL POSITION).
+/// The position of a label relative to its point (MapServer mapfile reference, LABEL POSITION).
 #[derive(Clone, Copy, PartialEq, Eq)]
 pub enum LabelPosition {
     UpperLeft,

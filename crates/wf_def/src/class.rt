@@ -15,7 +15,7 @@ use wf_text::text::Text;
 /// The styles of a class, in the order in which they are drawn: at most 8, each drawn over the one before it.
 pub type Styles = Capped<Style, MOST_STYLES>;
 
-/// Which features are drawn alike, and how (MapServer mapfile reference, CLASS).
+/// A class: which features it contains, and how they are drawn (MapServer mapfile reference, CLASS).
 pub struct Class {
     name: Text,
     expression: Option<Text>,
@@ -23,7 +23,7 @@ pub struct Class {
     label: Option<Label>,
 }
 
-// By hand: a crate above proves one call where it drops a class, and not each part of it anew.
+// Written by hand: callers then prove one call where they drop a class, not one for each part.
 impl Drop for Class {
     fn drop(self) {
         let Class {
@@ -50,7 +50,7 @@ impl Model for Class {
 }
 
 impl Class {
-    /// The class of the features whose attribute equals the expression, or of all where there is none.
+    /// The class of the features whose attribute equals the expression, or of all features if there is none.
     pub fn new(name: Text, expression: Option<Text>, styles: Styles, label: Option<Label>) -> Self
         ensures { result ≡ record { name = name; expression = expression; styles = styles; label = label } }
     {
@@ -66,7 +66,7 @@ impl Class {
         }
     }
 
-    /// What the class is called (NAME).
+    /// The name (NAME).
     pub fn name(&self) -> &Text
         ensures value { result.now ≡ self.now.name }
         ensures within { IsClass self.now }
@@ -74,7 +74,7 @@ impl Class {
         &self.name
     }
 
-    /// What the attribute of a feature of this class equals (EXPRESSION).
+    /// The text that the attribute of a feature of this class equals (EXPRESSION).
     pub fn expression(&self) -> &Option<Text>
         ensures value { result.now ≡ self.now.expression }
         ensures within { IsClass self.now }
@@ -90,7 +90,7 @@ impl Class {
         self.styles.as_slice()
     }
 
-    /// How the features' texts are drawn, if they are (LABEL).
+    /// How the features' labels are drawn, if they are (LABEL).
     pub fn label(&self) -> Option<Label>
         ensures value { result ≡ self.now.label }
         ensures within { IsClass self.now }
@@ -99,7 +99,7 @@ impl Class {
     }
 }
 
-/// Makes known that what stands in the option is a text.
+/// Makes it known to the prover that the option's value is a text.
 fn know_text(text: &Option<Text>)
     ensures { IfSome text.now IsText }
 {
@@ -108,7 +108,7 @@ fn know_text(text: &Option<Text>)
     }
 }
 
-/// Makes known that what stands in the option is a label within the limits.
+/// Makes it known to the prover that the option's value is a label within the limits.
 fn know_label(label: &Option<Label>)
     ensures { IfSome label.now IsLabel }
 {

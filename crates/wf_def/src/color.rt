@@ -1,6 +1,6 @@
 //! Colours.
 
-/// A colour, each part from 0 (none) to 255 (MapServer mapfile reference, COLOR).
+/// A colour, each component from 0 to 255 (MapServer mapfile reference, COLOR).
 #[derive(Clone, Copy, PartialEq, Eq)]
 pub struct Color {
     pub r: u8,

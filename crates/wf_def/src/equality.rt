@@ -1,4 +1,4 @@
-//! When the parts of two map definitions are equal: where all their fields are.
+//! Equality of a map definition's parts: all fields are equal.
 ghost use Rattle.std.specs.Prelude.{◌≡◌, ◌↔◌, IsTrue};
 ghost use Rattle.std.specs.Cmp.{partial_equiv_from_equiv};
 ghost use Rattle.wf_def.specs.Equality.{class_eq, feature_eq, layer_eq};

@@ -28,7 +28,7 @@ impl Model for Extent {
 }
 
 impl Extent {
-    /// The box with these sides, where the minima are below the maxima.
+    /// The box with these sides, if the minima are below the maxima.
     pub fn new(minx: Micro, miny: Micro, maxx: Micro, maxy: Micro) -> Option<Self>
         ensures ordered { IsSome result ↔ ((minx <ℤ maxx) × (miny <ℤ maxy)) }
         ensures value { IfSome result (λ e. e ≡ record { minx = minx; miny = miny; maxx = maxx; maxy = maxy }) }

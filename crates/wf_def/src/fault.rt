@@ -1,15 +1,15 @@
-//! Why a number, a text or a layer was rejected: of the first two `wf_text` says so.
+//! Why a number, a text or a layer was rejected; the first two are re-exported from `wf_text`.
 
 use thiserror::Error;
 pub use wf_text::fault::{NumberFault, TextFault};
 
-/// Why a map didn't take a layer.
+/// Why a map rejected a layer.
 #[derive(Clone, Copy, Debug, PartialEq, Eq, Error)]
 pub enum LayerFault {
-    /// Memory ran out.
+    /// Allocation failed.
     #[error("out of memory")]
     OutOfMemory,
-    /// The map has a layer of the name.
+    /// The map already has a layer of that name.
     #[error("the map has a layer of this name")]
     Repeated,
 }

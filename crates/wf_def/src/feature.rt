@@ -22,7 +22,7 @@ pub struct Feature {
     text: Text,
 }
 
-// By hand: a crate above proves one call where it drops a feature, and not each part of it anew.
+// Written by hand: callers then prove one call where they drop a feature, not one for each part.
 impl Drop for Feature {
     fn drop(self) {
         let Feature { parts, items, text } = self;
@@ -44,8 +44,7 @@ impl Model for Feature {
 }
 
 impl Feature {
-    /// The feature of these parts, of its attributes' values between semicolons, and of its label's text; none where there is no
-    /// part.
+    /// The feature of these parts, its attributes' values between semicolons, and its label's text. `None` if there are no parts.
     #[tactic(auto, unfolding(crate::specs::Layer::feature_of))]
     pub fn new(parts: Parts, items: Text, text: Text) -> Option<Self>
         ensures { result ≡ feature_of parts items text }
@@ -74,7 +73,7 @@ impl Feature {
         &self.items
     }
 
-    /// What the label says (TEXT).
+    /// The text of the label (TEXT).
     pub fn text(&self) -> &Text
         ensures value { result.now ≡ self.now.text }
         ensures within { IsFeature self.now }

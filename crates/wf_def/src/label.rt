@@ -5,19 +5,19 @@ use crate::color::Color;
 use crate::limits::{MOST_BUFFER, MOST_PRIORITY};
 use wf_text::whole::Whole;
 
-/// How the features' texts are drawn (MapServer mapfile reference, LABEL).
+/// How a feature's label is drawn (MapServer mapfile reference, LABEL).
 #[derive(Clone, Copy, PartialEq, Eq)]
 pub struct Label {
     /// The letters' colour (COLOR).
     pub color: Color,
     /// How large the letters are (SIZE).
     pub size: LabelSize,
-    /// Where the text stands to its point (POSITION).
+    /// The text's position relative to its point (POSITION).
     pub position: LabelPosition,
-    /// Which labels are placed first: the higher (PRIORITY).
+    /// Labels of a higher priority are placed first (PRIORITY).
     pub priority: Whole<1, MOST_PRIORITY>,
-    /// Whether the label is drawn even where another stands (FORCE).
+    /// Whether the label is drawn even if it overlaps another (FORCE).
     pub force: bool,
-    /// How much free space the label wants around it, in pixels (BUFFER).
+    /// The free space that the label requires around it, in pixels (BUFFER).
     pub buffer: Whole<0, MOST_BUFFER>,
 }

@@ -20,7 +20,7 @@ pub type Classes = Capped<Class, MOST_CLASSES>;
 /// The features of a layer, in the order in which they are drawn: each over the one before it.
 pub type Features = Members<Feature>;
 
-/// Features of one kind with what they are drawn by; the layer's name stands in the map (MapServer mapfile reference, LAYER).
+/// Features of one kind and how they are drawn; the layer's name is in the map (MapServer mapfile reference, LAYER).
 pub struct Layer {
     kind: LayerKind,
     title: Text,
@@ -31,7 +31,7 @@ pub struct Layer {
     features: Features,
 }
 
-// By hand: a crate above proves one call where it drops a layer, and not each part of it anew.
+// Written by hand: callers then prove one call where they drop a layer, not one for each part.
 impl Drop for Layer {
     fn drop(self) {
         let Layer {
@@ -64,8 +64,8 @@ impl Model for Layer {
 }
 
 impl Layer {
-    /// The layer of these parts; `items` are the names of the attributes, between commas. There is none where they are over 994
-    /// bytes, or where a part of a feature has fewer points than the kind needs: 1, 2 for lines, 3 for polygons.
+    /// The layer of these parts; `items` are the names of the attributes, between commas. `None` if they are over 994 bytes, or
+    /// if a part of a feature has fewer points than the kind needs: 1 for points, 2 for lines, 3 for polygons.
     #[tactic(auto, unfolding(crate::specs::Layer::layer_of))]
     pub fn new(
         kind: LayerKind,
@@ -99,7 +99,7 @@ impl Layer {
         })
     }
 
-    /// What the features are (TYPE).
+    /// The kind of features (TYPE).
     pub fn kind(&self) -> LayerKind
         ensures value { result ≡ self.now.kind }
         ensures within { IsLayer self.now }
@@ -107,7 +107,7 @@ impl Layer {
         self.kind
     }
 
-    /// The title for readers (OGC 06-042 7.2.4.6.2).
+    /// The human-readable title (OGC 06-042 7.2.4.6.2).
     pub fn title(&self) -> &Text
         ensures value { result.now ≡ self.now.title }
         ensures within { IsLayer self.now }
@@ -115,7 +115,7 @@ impl Layer {
         &self.title
     }
 
-    /// The name of the attribute that the classes' expressions are compared with; empty where there is none (CLASSITEM).
+    /// The name of the attribute that the classes' expressions are compared with; empty if there is none (CLASSITEM).
     pub fn class_item(&self) -> &Text
         ensures value { result.now ≡ self.now.class_item }
         ensures within { IsLayer self.now }
@@ -123,7 +123,7 @@ impl Layer {
         &self.class_item
     }
 
-    /// The name of the attribute that labels say; empty where there is none (LABELITEM).
+    /// The name of the attribute whose value is the label's text; empty if there is none (LABELITEM).
     pub fn label_item(&self) -> &Text
         ensures value { result.now ≡ self.now.label_item }
         ensures within { IsLayer self.now }
@@ -139,7 +139,7 @@ impl Layer {
         &self.items
     }
 
-    /// The classes: a feature is of the first that it matches (CLASS).
+    /// The classes: a feature is in the first that it matches (CLASS).
     pub fn classes(&self) -> &[Class]
         ensures value { result.now ≡ self.now.classes }
         ensures within { IsLayer self.now }
@@ -156,7 +156,7 @@ impl Layer {
     }
 }
 
-/// Whether the text may be a layer's name: it isn't empty and has no comma, since it stands in lists between commas.
+/// Whether the text may be a layer's name: it isn't empty and has no comma, since names are listed between commas.
 pub fn is_layer_name(name: &Text) -> bool
     ensures { IsTrue result ↔ IsLayerName name.now }
 {
@@ -179,13 +179,13 @@ fn has_enough_points(kind: LayerKind, feature: &Feature) -> bool
     feature.parts().iter().all(|part| part.len() >= least)
 }
 
-/// The test by which a layer is rejected finds exactly the features whose parts have the points that the kind needs. A law about the
-/// definitions: the call does nothing.
+/// The Boolean test for enough points is true iff each part has the points that the kind needs. A theorem about the definitions:
+/// the call does nothing.
 pub fn enough_points_are_tested()
     ensures { EnoughPointsAreTested }
 {}
 
-/// How many points a part has at least: a ring needs three.
+/// The least number of points of a part: a ring needs three.
 fn least_points(kind: LayerKind) -> usize
     ensures { result ≡ least_points kind }
 {

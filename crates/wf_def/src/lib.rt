@@ -1,16 +1,15 @@
-//! Map definitions.
+//! Map definitions: the content of a mapfile as a plain value.
 //!
-//! A map definition is what a mapfile says, without its comments, letter case and order: a plain value, equal to another exactly
-//! where all fields are equal. A [`map::MapDef`] has layers under unlike names; a [`layer::Layer`] has classes, which say what is
-//! drawn alike and by which styles and label, and features, each a shape with its attributes. Contracts see each type as a record
-//! of `specs/Definition.antt`: coordinates as whole numbers of millionths, texts as their bytes, lists in order, a map's layers as
-//! pairs of name and layer.
+//! A map definition is a mapfile without its comments, letter case and keyword order. Two are equal iff all fields are equal. A
+//! [`map::MapDef`] has layers under distinct names. A [`layer::Layer`] has classes (which features are drawn by which styles and
+//! label) and features (shapes with attributes). Model: each type is a record of `specs/Definition.antt`, with coordinates as
+//! integers in millionths, texts as bytes, lists in order, and a map's layers as pairs of name and layer.
 //!
-//! It promises that every value is within the limits of `specs/Limits.antt`: each type's accessors ensure both the value and its
-//! limits, and what is plain data, as a style or a label, has fields whose types are within them. What a caller can know, as room for
-//! one more, is a condition of the call that needs it; what only the parts tell, as too few points for the layer's kind, answers none,
-//! and a repeated name is rejected. After allocation failure a value is as it was. It passes on the texts and numbers of wf_text, which a
-//! map is made of. It says nothing of mapfiles, of pictures or of the web.
+//! Promises: every value is within the limits of `specs/Limits.antt`; accessors ensure the value and its limits, and plain data
+//! (styles, labels) has fields whose types are within them. Where the caller can know that there is room, room is a precondition;
+//! a constructor returns `None` if the parts don't fit together (too few points for the layer's kind); a repeated name is
+//! rejected. After allocation failure a value is unchanged. Re-exports the texts and numbers of wf_text. Not here: mapfiles,
+//! pictures and HTTP.
 #![tactic(auto)]
 
 pub mod attribute;

@@ -36,7 +36,7 @@ pub const MOST_PRIORITY: u8 = 10;
 /// The widest free space around a label, in pixels.
 pub const MOST_BUFFER: u8 = 64;
 
-/// Each constant is the number that the definitions name. A law: the call does nothing.
+/// Each constant is the number in the definitions. A theorem: the call does nothing.
 pub fn constants_are_the_limits()
     ensures layers { MOST_LAYERS ≡ most_layers }
     ensures classes { MOST_CLASSES ≡ most_classes }

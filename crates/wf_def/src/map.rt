@@ -17,7 +17,7 @@ use std::marker::Model;
 use wf_text::micro::Micro;
 use wf_text::text::Text;
 
-/// What a mapfile says, within the limits (MapServer mapfile reference, MAP).
+/// The content of a mapfile, within the limits (MapServer mapfile reference, MAP).
 pub struct MapDef {
     name: Text,
     title: Text,
@@ -28,7 +28,7 @@ pub struct MapDef {
     layers: IndexMap<Text, Layer>,
 }
 
-// By hand: a crate above proves one call where it drops a map, and not each part of it anew.
+// Written by hand: callers then prove one call where they drop a map, not one for each part.
 impl Drop for MapDef {
     fn drop(self) {
         let MapDef {
@@ -88,7 +88,7 @@ impl MapDef {
         }
     }
 
-    /// The map that stands before the first published one: named `empty`, from 0 0 to 1 1 degrees, without layers.
+    /// The map of sequence 0, before the first published one: named `empty`, from 0 0 to 1 1 degrees, without layers.
     pub fn empty(alloc: Global) -> Result<Self, AllocError>
         ensures { IfOk result (λ map. map ≡ empty_map) }
     {
@@ -103,7 +103,7 @@ impl MapDef {
         ))
     }
 
-    /// Puts a layer behind the others. The name of a layer that is there is rejected; after a rejection the map is as it was.
+    /// Appends a layer. A name that the map already has is rejected; after an error the map is unchanged.
     pub fn add_layer(&mut self, name: Text, layer: Layer) -> Result<(), LayerFault>
         requires is_name { IsLayerName name }
         requires room { length self.old.layers < most_layers }
@@ -116,7 +116,7 @@ impl MapDef {
     {
         let _ = layer.kind();
         if self.layers.contains_key(&name) {
-            // Each value is let go by one call: dropped in place, its fields at each way out make the proof long.
+            // Each value is dropped by one call: if its fields were dropped at each exit, the proof would be long.
             drop((name, layer));
             return Err(LayerFault::Repeated);
         }
@@ -131,7 +131,7 @@ impl MapDef {
         Err(LayerFault::OutOfMemory)
     }
 
-    /// How many layers there are.
+    /// The number of layers.
     pub fn layer_count(&self) -> usize
         ensures value { result ≡ length self.now.layers }
         ensures within { IsWithinLimits self.now }
@@ -139,7 +139,7 @@ impl MapDef {
         self.layers.len()
     }
 
-    /// The layer in this place, with its name; layers are drawn in their order, each over those before it.
+    /// The layer at this index, with its name; layers are drawn in order, each over those before it.
     pub fn layer(&self, index: usize) -> (&Text, &Layer)
         requires { index < length self.now.layers }
         ensures value { slice_get self.now.layers index ≡ Some (result.0.now, result.1.now) }
@@ -151,7 +151,7 @@ impl MapDef {
         self.layers.get_index(index).unwrap()
     }
 
-    /// What the map is called.
+    /// The name of the map.
     pub fn name(&self) -> &Text
         ensures value { result.now ≡ self.now.name }
         ensures within { IsWithinLimits self.now }
@@ -159,7 +159,7 @@ impl MapDef {
         &self.name
     }
 
-    /// The title of the service, for readers (OGC 06-042 7.2.4.2).
+    /// The human-readable title of the service (OGC 06-042 7.2.4.2).
     pub fn title(&self) -> &Text
         ensures value { result.now ≡ self.now.title }
         ensures within { IsWithinLimits self.now }
@@ -167,7 +167,7 @@ impl MapDef {
         &self.title
     }
 
-    /// What the service offers, in some sentences (OGC 06-042 7.2.4.2).
+    /// A short description of the service (OGC 06-042 7.2.4.2).
     pub fn abstract_text(&self) -> &Text
         ensures value { result.now ≡ self.now.abstract_text }
         ensures within { IsWithinLimits self.now }

@@ -1,4 +1,4 @@
-//! Lists whose members are within their limits: one form for a map's styles, classes, points, parts and features.
+//! Lists whose members are within their limits: of styles, classes, points, parts and features.
 ghost use Rattle.std.specs.Prelude.{◌≡◌, ◌<◌, ◌≤◌, ◌↔◌, [], ◌∷◌, ◌++◌, length, All, IsTrue, OnOk, OnErr};
 ghost use Rattle.std.specs.Bool.{Decides};
 ghost use Rattle.std.specs.Cmp.{partial_equiv_from_equiv};
@@ -7,28 +7,28 @@ ghost use Rattle.std.specs.Cmp.Lexicographic.{pointwise, lists_equiv};
 use std::alloc::{AllocError, Global};
 use std::marker::Model;
 
-/// What may stand in such a list: a value that is within limits of its own.
+/// What such a list may contain: a value with limits of its own.
 pub trait Limited: Clone + Eq {
-    /// The limits: what is true of each value.
+    /// The limits: what holds of each value.
     ghost IsWithin: { Self → Type 0 };
 
-    /// Makes known that a value is within its limits.
+    /// Makes it known to the prover that a value is within its limits.
     fn know(&self)
         ensures { IsWithin self.now };
 
-    /// A copy is the value again.
+    /// A copy equals the value.
     ghost copies: { (value copy : Self) → Self.is_clone value copy → copy ≡ value };
 
-    /// Equal values are the same.
+    /// Values that compare equal are the same.
     ghost decides: { (a b : Self) → Decides (Self.PartialEq.eq a b) (a ≡ b) };
 }
 
-/// Members in order, as many as memory holds: points, parts and features are counted over a whole map alone.
+/// Members in order, limited only by memory: points, parts and features are counted over a whole map.
 pub struct Members<T: Limited> {
     members: Vec<T>,
 }
 
-// By hand: a crate above proves one call where it drops the members, and not each part of them anew.
+// Written by hand: callers then prove one call where they drop the members, not one for each.
 impl<T: Limited + Drop> Drop for Members<T> {
     fn drop(self) {
         let Members { members } = self;
@@ -47,7 +47,7 @@ impl<T: Limited> Model for Members<T> {
 }
 
 impl<T: Limited> Members<T> {
-    /// No members.
+    /// An empty list.
     pub fn new(alloc: Global) -> Self
         ensures { result ≡ [] }
     {
@@ -56,7 +56,7 @@ impl<T: Limited> Members<T> {
         }
     }
 
-    /// How many members there are.
+    /// The number of members.
     pub fn len(&self) -> usize
         ensures value { result ≡ length self.now }
         ensures within { All T.IsWithin self.now }
@@ -64,7 +64,7 @@ impl<T: Limited> Members<T> {
         self.members.len()
     }
 
-    /// Whether there is no member.
+    /// Whether the list is empty.
     pub fn is_empty(&self) -> bool
         ensures { IsTrue result ↔ (length self.now ≡ 0) }
     {
@@ -81,7 +81,7 @@ impl<T: Limited> Members<T> {
 }
 
 impl<T: Limited + Drop> Members<T> {
-    /// Puts one behind the others. After allocation failure they are as they were.
+    /// Appends a member. After allocation failure the list is unchanged.
     pub fn push(&mut self, member: T) -> Result<(), AllocError>
         ensures pushed { OnOk result (self.new ≡ self.old ++ member ∷ []) }
         ensures unchanged { OnErr result (self.new ≡ self.old) }
@@ -157,7 +157,7 @@ impl<T: Limited, const MOST: usize> Model for Capped<T, MOST> {
 }
 
 impl<T: Limited, const MOST: usize> Capped<T, MOST> {
-    /// No members.
+    /// An empty list.
     pub fn new(alloc: Global) -> Self
         ensures { result ≡ [] }
     {
@@ -186,7 +186,7 @@ impl<T: Limited, const MOST: usize> Capped<T, MOST> {
 }
 
 impl<T: Limited + Drop, const MOST: usize> Capped<T, MOST> {
-    /// Puts one behind the others. After allocation failure they are as they were.
+    /// Appends a member. After allocation failure the list is unchanged.
     pub fn push(&mut self, member: T) -> Result<(), AllocError>
         requires { length self.old < MOST }
         ensures pushed { OnOk result (self.new ≡ self.old ++ member ∷ []) }

@@ -1,3 +1,3 @@
-//! Coordinates in millionths, as `wf_text` defines them.
+//! Coordinates in millionths, re-exported from `wf_text`.
 
 pub use wf_text::micro::Micro;

@@ -1,3 +1,3 @@
-//! The form of a number's text, a law of `wf_text`.
+//! The form of a number's text, a theorem re-exported from `wf_text`.
 
 pub use wf_text::number_form::number_form_is_exact;

@@ -10,13 +10,13 @@ use wf_text::whole::Whole;
 /// How a feature is drawn (MapServer mapfile reference, STYLE).
 #[derive(Clone, Copy, PartialEq, Eq)]
 pub struct Style {
-    /// What fills a polygon or a marker, and draws a line; none draws nothing (COLOR).
+    /// The colour of a polygon's or marker's interior, or of a line; `None` draws none (COLOR).
     pub color: Option<Color>,
-    /// What draws the border (OUTLINECOLOR).
+    /// The colour of the border (OUTLINECOLOR).
     pub outline_color: Option<Color>,
-    /// How wide a line or a border is, in pixels (WIDTH).
+    /// The width of a line or a border, in pixels (WIDTH).
     pub width: Whole<1, MOST_WIDTH>,
-    /// How large a marker is, in pixels (SIZE).
+    /// The size of a marker, in pixels (SIZE).
     pub size: Whole<1, MOST_SIZE>,
 }
 
@@ -38,7 +38,7 @@ impl Limited for Style {
     ghost decides = { style_eq-Decides };
 }
 
-/// Makes known that what stands in the option is a colour.
+/// Makes it known to the prover that the option's value is a colour.
 fn know_color(color: Option<Color>)
     ensures { IfSome color IsColor }
 {

@@ -1,10 +1,10 @@
-//! Texts, as `wf_text` defines them.
+//! Texts, re-exported from `wf_text`.
 ghost use Rattle.std.specs.Prelude.{◌≡◌, IfOk};
 
 use std::alloc::AllocError;
 pub use wf_text::text::{Text, checked, is_text_character};
 
-/// Copies of two texts: a value of many texts is copied pair by pair, so that fewer are let go at each allocation failure.
+/// Copies of two texts: a value of many texts is copied pair by pair, so that fewer are dropped at each allocation failure.
 pub(crate) fn clone_both(first: &Text, second: &Text) -> Result<(Text, Text), AllocError>
     ensures { IfOk result (λ copies. copies ≡ (first.now, second.now)) }
 {

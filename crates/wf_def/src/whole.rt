@@ -1,3 +1,3 @@
-//! Whole numbers in a range, as `wf_text` defines them.
+//! Integers in a range, re-exported from `wf_text`.
 
 pub use wf_text::whole::Whole;

@@ -1,4 +1,4 @@
--- The body of a request, from what came behind its head and what was read.
+-- The body of a request, from the bytes read with its head and those read after.
 use Rattle.std.proofs.Common.{◌≡◌, ◌≢◌, ◌∙◌, ◌+◌, ◌-◌, ◌≤◌, ◌<◌, ℕ, List, [], ◌∷◌, ◌++◌, length, take, min, refl, sym, ap, arith, inl, inr}
 use Rattle.std.specs.Prelude.{Option, Some, None, IfSome}
 use Rattle.std.proofs.lemmas.Bool.{cases_lt}
@@ -20,7 +20,7 @@ module _ (behind known front rest : List ℕ) (bytes missing : ℕ) (came : fron
   came_bytes = let size = length-take (min (length behind) bytes) behind in
       let same : length front ≡ length (take (min (length behind) bytes) behind) = ap length came in omega arith
 
-  -- all of the body came behind the head
+  -- all of the body came with the head
   came_whole : bytes ≤ length behind → front ++ rest ≡ take bytes (behind ++ known)
   came_whole all =
       let size = came_bytes in
@@ -29,7 +29,7 @@ module _ (behind known front rest : List ℕ) (bytes missing : ℕ) (came : fron
       let empty : rest ≡ [] = nothing rest (ap length read ∙ length-take missing known ∙ omega arith) in
       ap (λ xs. front ++ xs) empty ∙ append-nil front ∙ came ∙ ap (λ n. take n behind) least ∙ sym (take-append-le bytes behind known all)
 
-  -- a part of the body came behind the head
+  -- a part of the body came with the head
   came_part : length behind ≤ bytes → front ++ rest ≡ take bytes (behind ++ known)
   came_part part =
       let size = came_bytes in
@@ -53,7 +53,7 @@ module _ (behind known front rest : List ℕ) (bytes missing : ℕ) (came : fron
       let sizes = length-append behind known in let size = came_bytes in
       let had : length rest ≡ min missing (length known) = ap length read ∙ length-take missing known in omega arith
 
--- the same, where the input is known
+-- the same, if the input is known
 pub body_joined : (left : Option (List ℕ)) (behind front rest body : List ℕ) (bytes missing : ℕ) → front ≡ take (min (length behind) bytes) behind
     → missing ≡ bytes - length front → IfSome left (λ known. rest ≡ take missing known) → length rest ≡ missing → body ≡ front ++ rest
     → IfSome left (λ known. IsBody (behind ++ known) bytes body)
@@ -67,14 +67,14 @@ pub body_cut : (left : Option (List ℕ)) (behind front rest : List ℕ) (bytes 
 body_cut None behind front rest bytes missing came misses read short = tt
 body_cut (Some known) behind front rest bytes missing came misses read short = (refl, cut_body behind known front rest bytes missing came misses read short)
 
--- memory is needed for a body with a byte
+-- a body of at least one byte allocates
 pub body_unheld : (left : Option (List ℕ)) (behind : List ℕ) (bytes : ℕ) → 0 < bytes → IfSome left (λ known. IsBodyFault (behind ++ known) bytes fault.Memory)
 body_unheld None behind bytes some = tt
 body_unheld (Some known) behind bytes some = some
 
 -- ---- how much is taken
 
--- no more than what was missing behind the head
+-- no more than what was missing
 pub missing_taken : (old new : Option (List ℕ)) (behind front : List ℕ) (bytes missing : ℕ) → front ≡ take (min (length behind) bytes) behind
     → missing ≡ bytes - length front → TakesUpTo missing old new → TakesUpTo (bytes - length behind) old new
 missing_taken old new behind front bytes missing came misses (taken, short, consumed) =

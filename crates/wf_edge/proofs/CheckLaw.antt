@@ -1,4 +1,4 @@
--- How the checks on a body are gone through, and what they say when they pass.
+-- The checks on a body in order, and what holds if they pass.
 use Rattle.std.proofs.Common.{◌≡◌, ℕ, ◌≤◌, Bool, true, false, cond, List, [], ◌∷◌, refl, sym}
 use Rattle.std.specs.Prelude.{nat_lt, Option, Some, None, IfSome}
 use Rattle.std.specs.Option.{option_or}
@@ -8,7 +8,7 @@ use Rattle.wf_edge.specs.Checks.{check_coding, check_told, check_number, check_s
 use Rattle.wf_edge.specs.declared.refusal.Refusal.{Refusal}
 use Rattle.wf_edge.specs.declared.refusal.Refusal.TheVariants as refusal
 
--- the first of four checks that fails, one after the other
+-- the first of four checks that fails, in order
 pub first_of_four : (a b c d : Option Refusal) → option_or (option_or (option_or a b) c) d ≡ first_failing (a ∷ b ∷ c ∷ d ∷ [])
 first_of_four (Some r) b c d = refl
 first_of_four None (Some r) c d = refl
@@ -16,7 +16,7 @@ first_of_four None None (Some r) d = refl
 first_of_four None None None (Some r) = refl
 first_of_four None None None None = refl
 
--- where none of four checks fails, the last doesn't
+-- if none of four checks fails, the last doesn't
 last_passes : (a b c d : Option Refusal) → first_failing (a ∷ b ∷ c ∷ d ∷ []) ≡ None → d ≡ None
 last_passes None None None None none = refl
 last_passes None None None (Some r) none = none

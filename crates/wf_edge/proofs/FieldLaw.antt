@@ -12,7 +12,7 @@ module _ {S : Type 0} (p : List ℕ × List ℕ → Bool) (view : S → List ℕ
   pub met : (d : S) → i < length spans → p (view (get_or spans i d)) ≡ true → find p (map view (drop i spans)) ≡ Some (view (get_or spans i d))
   met d within is = at_drop_more (λ rest. find p (map view rest)) spans i d within ∙ rw is refl
 
-  -- another is passed over
+  -- another is skipped
   pub passed : (d : S) → i < length spans → p (view (get_or spans i d)) ≡ false → find p (map view (drop (i + 1) spans)) ≡ find p (map view (drop i spans))
   passed d within is = sym (at_drop_more (λ rest. find p (map view rest)) spans i d within ∙ rw is refl)
 
@@ -42,7 +42,7 @@ module _ (name : List ℕ) where
   all_step test field fields true false is passes more = rw (is, passes) refl
   all_step test field fields false passed is passes more = rw is more
 
-  -- each value of the name passes a test where no field of the name fails it
+  -- each value of the name passes a test if no field of the name fails it
   pub all_values : (test : List ℕ → Bool) (fields : List (List ℕ × List ℕ))
       → not (is_some (find (λ f. is_named name f && not (test f.1)) fields)) ≡ list_all test (values name fields)
   all_values test [] = refl

@@ -1,4 +1,4 @@
--- From what the parser of heads answers to the head of an input.
+-- From the result of the head parser to the head of an input.
 use Rattle.std.proofs.Common.{◌≡◌, ◌≢◌, ◌∙◌, ◌+◌, ◌-◌, ◌≤◌, ◌<◌, ℕ, List, [], ◌∷◌, ◌++◌, length, take, drop, min, refl, sym, ap, subst, arith}
 use Rattle.std.specs.Prelude.{Option, Some, None, IfSome}
 use Rattle.std.specs.Io.KnownBytes.{Consumes, Keeps, IsAtEnd}
@@ -16,7 +16,7 @@ use Rattle.wf_edge.specs.declared.fault.RequestFault.{RequestFault}
 use Rattle.wf_edge.specs.declared.fault.RequestFault.TheVariants as fault
 use Rattle.wf_stream.specs.KnownLaws.{consumes_more}
 
--- ---- what the parser answers
+-- ---- the parser's result
 
 abbrev made : List ℕ → List ℕ → List (List ℕ × List ℕ) → Head
 made m t fs = record { method = m; target = t; fields = fs }
@@ -24,7 +24,7 @@ made m t fs = record { method = m; target = t; fields = fs }
 pub same_head : (m n t u : List ℕ) (fs gs : List (List ℕ × List ℕ)) → m ≡ n → t ≡ u → fs ≡ gs → made m t fs ≡ made n u gs
 same_head m n t u fs gs same_method same_target same_fields = rw (same_method, same_target, same_fields) refl
 
--- a head that the parser found in so many bytes, with so much room for fields, is within the limits
+-- a head that the parser found in this many bytes, with this much room for fields, is within the limits
 pub small : (bytes : List ℕ) (fields : List HeaderSpan) (spans : RequestSpans) → length bytes ≤ 8192 → length fields ≡ 32
     → IsRequestOf bytes fields spans → Begins bytes (front_of bytes fields spans).head (front_of bytes fields spans).behind
 small bytes fields spans short room (h, at) = record {
@@ -47,7 +47,7 @@ overflows bytes over more h rest reads within = let many = over more h rest read
 
 -- ---- how much is taken
 
--- a number that is at most another is so still where it is less
+-- a number smaller than one within a limit is within the limit too
 still_small : (piece : Option ℕ) (count less : ℕ) → less ≤ count → IfSome piece (λ most. count ≤ most) → IfSome piece (λ most. less ≤ most)
 still_small None count less within small = tt
 still_small (Some most) count less within small = omega arith
@@ -65,14 +65,14 @@ piece_kept piece room old new keeps = ([], omega arith, none_is_small piece, non
     none (Some xs) None keeps = absurd keeps
     none (Some xs) (Some ys) keeps = sym keeps
 
--- a call takes what it gives
+-- a call takes the bytes that it returns
 pub piece_taken : (piece : Option ℕ) (room count : ℕ) (old new : Option (List ℕ)) (given : List ℕ) → Consumes old new (take count given) → count ≤ room
     → IfSome piece (λ most. count ≤ most) → TakesPiece piece room old new
 piece_taken piece room count old new given taken within small =
     let size : length (take count given) ≡ min count (length given) = length-take count given in
     (take count given, omega arith, still_small piece count (length (take count given)) (omega arith) small, taken)
 
--- a further piece is taken where no head is whole yet
+-- one more piece is taken if no head is complete yet
 pub head_looked_for : (here piece : Option ℕ) (start old new : Option (List ℕ)) (bytes : List ℕ) → here ≡ piece → IsUnfinished bytes → length bytes < 8192
     → Consumes start old bytes → TakesPiece here (8192 - length bytes) old new → TakesHead piece start new
 head_looked_for here piece start old new bytes same unfinished room first (more, within, small, second) = record {
@@ -84,7 +84,7 @@ head_looked_for here piece start old new bytes same unfinished room first (more,
   taken = consumes_more start old new bytes more first second;
 }
 
--- no more is taken where as much was as a head may have
+-- no more is taken once as much was as a head may have
 pub taken_at_limit : (piece : Option ℕ) (start left : Option (List ℕ)) (bytes : List ℕ) → Consumes start left bytes → IsUnfinished bytes → length bytes ≤ 8192
     → TakesHead piece start left
 taken_at_limit piece start left bytes taken unfinished within = record {
@@ -96,15 +96,15 @@ taken_at_limit piece start left bytes taken unfinished within = record {
   taken = subst (λ xs. Consumes start left xs) (sym (append-nil bytes)) taken;
 }
 
--- ---- the input that was read from
+-- ---- the input that was read
 
--- what was read is the input's beginning
+-- the bytes read are a prefix of the input
 input_is : (start left : Option (List ℕ)) (bytes : List ℕ) (P : List ℕ → Type 0) → Consumes start left bytes → ((more : List ℕ) → P (bytes ++ more)) → IfSome start P
 input_is None left bytes P taken all = tt
 input_is (Some input) None bytes P taken all = absurd taken
 input_is (Some input) (Some more) bytes P taken all = subst P (sym taken) (all more)
 
--- at its end what was read is the input
+-- at its end the bytes read are the input
 pub at_end : (start left : Option (List ℕ)) (bytes : List ℕ) (P : List ℕ → Type 0) → Consumes start left bytes → IsAtEnd left → P bytes → IfSome start P
 at_end None left bytes P taken end here = tt
 at_end (Some input) None bytes P taken end here = absurd taken
@@ -146,7 +146,7 @@ shorter bytes more h rest reads short =
     sym (take-append-le size bytes more short) ∙ ap (take size) reads.1 ∙ take_at (print_request h) rest size refl in
     (reads.0, sym (take-append-drop size bytes) ∙ ap (λ xs. xs ++ drop size bytes) front)
 
--- the limit was read, and no head is whole
+-- the limit was read, and no head is complete
 pub fault_at_limit : (start left : Option (List ℕ)) (bytes : List ℕ) → Consumes start left bytes → length bytes ≡ 8192 → IsUnfinished bytes
     → IfSome start (λ input. IsHeadFault input (fault.Refused refusal.HeadTooLarge))
 fault_at_limit start left bytes taken full unfinished =

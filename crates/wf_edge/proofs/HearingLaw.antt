@@ -1,4 +1,4 @@
--- From why there is no request, and what is written of that, to its outcome.
+-- From the reason why there is no request, and the response written for it, to its outcome.
 use Rattle.std.proofs.Common.{◌≡◌, ℕ, List, sym, subst}
 use Rattle.std.specs.Prelude.{Option, Err, IfSome}
 use Rattle.wf_edge.specs.Request.{Request, IsRequestFault, CountsReads}
@@ -14,7 +14,7 @@ pub unheard : (input old new : Option (List ℕ)) (why : RequestFault) (said : O
     → IsFaultSaid why old new said → IsUnheard input old new said
 unheard input old new why said is written = record { why = why; is = is; written = written }
 
--- a response after which the reader is as it was
+-- a response that leaves the reader unchanged
 pub calm_reads : (response : Response) (old new : Option (List ℕ)) (said : Outcome) (first last : ℕ) → last ≡ first → IsSaid response old new said
     → CountsHearing said first last
 calm_reads response old new (outcome.Sent status count) first last calm written = calm

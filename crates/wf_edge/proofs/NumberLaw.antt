@@ -1,4 +1,4 @@
--- Digits without the zeros before them are the same exactly where they stand for one number.
+-- Digits without leading zeros are the same iff they are one number.
 use Rattle.std.proofs.Common.{◌≡◌, ◌≢◌, ◌∙◌, ℕ, suc, ◌+◌, ◌*◌, ◌-◌, ◌<◌, ◌≤◌, Bool, true, false, ◌&&◌, cond, List, [], ◌∷◌, length, drop, bytes_eq, refl, sym, ap, subst, arith, inl, inr}
 use Rattle.std.specs.Prelude.{◌==◌, ◌⊎◌, fold, Some, None}
 use Rattle.std.specs.Char.{is_ascii_digit}
@@ -11,7 +11,7 @@ use Rattle.wf_edge.specs.Fields.{is_digits, is_zero, number, significant, first_
 abbrev AreDigits : List ℕ → Type 0
 AreDigits digits = list_all is_ascii_digit digits ≡ true
 
--- the number whose first digits are told, and the others follow
+-- the number of the first digits, followed by the others
 abbrev onto : ℕ → List ℕ → ℕ
 onto n digits = fold (λ n digit. 10 * n + (digit - 48)) n digits
 
@@ -22,9 +22,9 @@ record IsDigit (b : ℕ) : Type 0 where
 digit : (b : ℕ) → is_ascii_digit b ≡ true → IsDigit b
 digit b is = let both = and_parts _ _ is in record { low = leb-true 48 b both.0; high = leb-true b 57 both.1 }
 
--- ---- as many digits
+-- ---- equally many digits
 
--- the numbers are the same only for the same digits: the last digit is what is left by ten
+-- the numbers are the same only for the same digits: the last digit is the remainder by ten
 same_digits : (xs ys : List ℕ) (n m : ℕ) → AreDigits xs → AreDigits ys → length xs ≡ length ys → onto n xs ≡ onto m ys → (n ≡ m) × (xs ≡ ys)
 same_digits [] [] n m xs_are ys_are size is = (is, refl)
 same_digits [] (y ∷ ys) n m xs_are ys_are size is = absurd (omega arith)
@@ -41,7 +41,7 @@ same_digits (x ∷ xs) (y ∷ ys) n m xs_are ys_are size is =
     let same : x ≡ y = omega arith in
     (omega arith, ap (λ (b : ℕ). b ∷ xs) same ∙ ap (λ (bs : List ℕ). y ∷ bs) rest.1)
 
--- what is less before as many digits is less
+-- a smaller number stays smaller when equally many digits follow
 less : (xs ys : List ℕ) (n m : ℕ) → AreDigits xs → AreDigits ys → length xs ≡ length ys → n < m → onto n xs < onto m ys
 less [] [] n m xs_are ys_are size front = front
 less [] (y ∷ ys) n m xs_are ys_are size front = absurd (omega arith)
@@ -54,7 +54,7 @@ less (x ∷ xs) (y ∷ ys) n m xs_are ys_are size front =
 
 -- ---- fewer digits
 
--- digits are a lesser number than as many, or more, behind something
+-- digits are a smaller number than as many, or more, after a prefix
 below : (ys xs : List ℕ) (m : ℕ) → AreDigits xs → AreDigits ys → length xs ≤ length ys → 0 < m → onto 0 xs < onto m ys
 below [] [] m xs_are ys_are short some = some
 below [] (x ∷ xs) m xs_are ys_are short some = absurd (omega arith)
@@ -69,7 +69,7 @@ abbrev begins_with_zero : List ℕ → Bool
 begins_with_zero [] = false
 begins_with_zero (b ∷ bs) = is_zero b
 
--- fewer digits are a lesser number, where the others don't begin with a zero
+-- fewer digits are a smaller number, if the others don't begin with a zero
 fewer : (xs ys : List ℕ) → AreDigits xs → AreDigits ys → begins_with_zero ys ≡ false → length xs < length ys → number xs < number ys
 fewer xs [] xs_are ys_are no_zero short = absurd (omega arith)
 fewer xs (y ∷ ys) xs_are ys_are no_zero short =
@@ -84,9 +84,9 @@ same_by_size xs ys xs_are ys_are xs_begin ys_begin is (inl size) = (same_digits 
 same_by_size xs ys xs_are ys_are xs_begin ys_begin is (inr (inl short)) = let unlike = fewer xs ys xs_are ys_are ys_begin short in absurd (omega arith)
 same_by_size xs ys xs_are ys_are xs_begin ys_begin is (inr (inr short)) = let unlike = fewer ys xs ys_are xs_are xs_begin short in absurd (omega arith)
 
--- ---- the zeros before the digits
+-- ---- leading zeros
 
--- the digits that are left when zeros before them are taken: they don't begin with one, and are the same number
+-- the digits left when leading zeros are removed: they don't begin with one, and are the same number
 record IsLeft (digits left : List ℕ) : Type 0 where
   are_digits : AreDigits left
   no_zero : begins_with_zero left ≡ false
@@ -110,7 +110,7 @@ significant_left [] are = record { are_digits = refl; no_zero = refl; same = ref
 significant_left (d ∷ ds) are =
     left_step d ds are (is_zero d) refl (significant_left ds (and_parts (is_ascii_digit d) (list_all is_ascii_digit ds) are).1)
 
--- ---- the law
+-- ---- the theorem
 
 same_number : (xs ys : List ℕ) → AreDigits xs → AreDigits ys → bytes_eq (significant xs) (significant ys) ≡ (number xs == number ys)
 same_number xs ys xs_are ys_are =
@@ -144,7 +144,7 @@ first_is_digits (value ∷ lengths) first told are =
     let is : value ≡ first = cc in
     subst (λ digits. is_digits digits ≡ true) is (and_parts (is_digits value) (list_all is_digits lengths) are).0
 
--- all lengths are digits, and the first one's but for zeros before them, exactly where they are one number
+-- all lengths are digits, the same as the first one's leading zeros aside, iff they are one number
 pub numbers_agree : (lengths : List (List ℕ)) (first : List ℕ) (digits same : Bool) → first_of lengths ≡ Some first → digits ≡ list_all is_digits lengths
     → same ≡ list_all (λ value. bytes_eq (significant value) (significant first)) lengths
     → (digits && same) ≡ (list_all is_digits lengths && list_all (λ value. number value == number first) lengths)

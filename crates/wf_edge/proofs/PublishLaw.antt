@@ -1,4 +1,4 @@
--- From a body to the step Propose, or to why there is none.
+-- From a body to the step Propose, or to the reason why there is none.
 use Rattle.std.proofs.Common.{◌≡◌, ◌≢◌, ◌∙◌, ℕ, ◌≤◌, ◌<◌, Bool, true, false, cond, ◌&&◌, nat_le, List, length, Vec, IsSome, refl, sym, ap, subst, inl, inr}
 use Rattle.std.specs.Prelude.{Result, Ok, Err, IfOk, IfErr, OnOk, Option, Some, None}
 use Rattle.std.specs.Str.{is_utf8}
@@ -50,7 +50,7 @@ rejected why = Err why
 same_fault : (why other : MapFault) → rejected why ≡ rejected other → why ≡ other
 same_fault why other is = cc
 
--- whose fault is allocation failure is a text
+-- a body whose error is allocation failure is a text
 is_text : (body : List ℕ) (utf8 : Bool) → is_utf8 body ≡ utf8 → (longest_mapfile < length body → map.Memory ≡ map.TooLong)
     → (length body ≤ longest_mapfile → utf8 ≡ false → ⊥) → IsText body
 is_text body utf8 is too_long not_utf8 = elim (cases_lt longest_mapfile (length body)) [
@@ -77,7 +77,7 @@ why_unread body why told is nothing too_long not_utf8 =
     subst (λ f. IsWhyNoMap body f) (sym is)
     (unread_step body why (is_memory why) refl nothing (λ over. same_fault why map.TooLong (too_long over)) not_utf8)
 
--- what means a map is a text
+-- a body that is a map is a text
 text_step : (body : List ℕ) (d : Definition) (meant : Option Definition) (within utf8 : Bool) → nat_le (length body) longest_mapfile ≡ within → is_utf8 body ≡ utf8
     → cond (within && utf8) meant None ≡ Some d → IsText body
 text_step body d meant true true within utf8 means = record { within = leb-true (length body) longest_mapfile within; utf8 = utf8 }
@@ -150,7 +150,7 @@ module _ {T A : Type 0} (honest : Type 0) (content : T → List ℕ) (images : T
     };
   }
 
-  -- ---- what becomes of the body
+  -- ---- the result for the body
 
   pub accepted : (body : List ℕ) (before after : Node T) (d : Definition) (last : ℕ) (page : Response) (messages : Vec Message A) → IsMapOf body d
       → last ≡ length before.parts.history → page ≡ accepted_page last → IsProposed honest content images failures before d (Ok messages) after

@@ -15,7 +15,7 @@ use Rattle.wf_edge.specs.declared.resource.Asked.{Asked}
 use Rattle.wf_edge.specs.declared.fault.RequestFault.{RequestFault}
 use Rattle.wf_edge.specs.declared.fault.RequestFault.TheVariants as fault
 
--- whatever bytes follow, the head stands at the front
+-- whatever bytes follow, the head is at the front
 begins_more : (bytes rest more : List ℕ) (head : Head) → Begins bytes head rest → Begins (bytes ++ more) head (rest ++ more)
 begins_more bytes rest more head begins = record {
   printed = begins.printed;
@@ -86,7 +86,7 @@ taken_same : (a b c : Option (List ℕ)) (bytes rest : List ℕ) → length rest
 taken_same a b c bytes [] none first second = subst (λ xs. Consumes a c xs) (append-nil bytes) (consumes_more a b c bytes [] first second)
 taken_same a b c bytes (byte ∷ rest) none first second = absurd (omega arith)
 
--- no more was taken behind a head than is missing of its body
+-- no more was taken after a head than is missing of its body
 pub request_taken : (piece : Option ℕ) (start old new : Option (List ℕ)) (front : Front) (asked : Asked) (bytes : ℕ) (behind : List ℕ) → TakesHead piece start old
     → TakesFront start old front → Ok asked ≡ judged front.head → bytes ≡ body_bytes asked → behind ≡ front.behind → TakesUpTo (bytes - length behind) old new
     → TakesRequest piece start new

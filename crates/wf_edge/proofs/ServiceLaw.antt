@@ -1,4 +1,4 @@
--- A request to the map service has one response, wherever the map that it is for is the same.
+-- A request to the map service has one response, wherever the map that it asks for is the same.
 use Rattle.std.proofs.Common.{◌≡◌, ◌≢◌, ◌∙◌, ◌<◌, ℕ, List, length, Vec, codes, refl, sym, ap, subst, arith}
 use Rattle.std.specs.Prelude.{Some, Result, Ok, Err}
 use Rattle.httparse.proofs.GrammarLemmas.{request_unique}
@@ -35,12 +35,12 @@ unfolding subject
 asked_subject m s query asks =
     subst (λ r. subject_of (operation_of r) s (pairs_of query) ≡ m) (sym asks.request) (ap (or_own s) asks.sequence)
 
--- where its sequence is named well, the request is its picture
+-- if its sequence is well-formed, the request is its picture
 asked_picture : (s m : ℕ) (d : Definition) (pairs : List (List ℕ × List ℕ)) → map_sequence s pairs ≡ Ok m → map_request s d pairs ≡ picture_in d pairs
 unfolding map_request
 asked_picture s m d pairs asks = rw asks refl
 
--- the same map is drawn at another sequence that the server stands at
+-- the same map is drawn at another last sequence of the server
 drawn_elsewhere : (s t m : ℕ) (history : List Definition) (pairs : List (List ℕ × List ℕ)) (answer : AnswerValue) → map_sequence s pairs ≡ Ok m → map_sequence t pairs ≡ Ok m →
     IsAnswerOn (operation_of (Some (codes "GetMap"))) t history pairs answer → IsAnswerOn (operation_of (Some (codes "GetMap"))) s history pairs answer
 drawn_elsewhere s t m history pairs answer here there is = record {
@@ -97,7 +97,7 @@ module _ (input query : List ℕ) (service : AsksMapService input query) where
   no_head_refusal refusal.ContentTooLarge none = none
   no_head_refusal refusal.NotImplemented none = none
 
-  -- what stands at the front is what is asked for
+  -- the request at the front is what is asked for
   asked_is : (rest : List ℕ) (head : Head) (asks : Asked) → Begins input head rest → judged head ≡ Ok asks → asks ≡ asked.Wms
   asked_is rest head asks begins is =
       let same : service.request.head ≡ head = one_head input service.begins.rest rest service.request.head head service.begins.head begins in

@@ -1,4 +1,4 @@
--- From what was heard, answered and written to the outcome of a request.
+-- From what was read, answered and written to the outcome of a request.
 use Rattle.std.proofs.Common.{◌≡◌, ℕ, List, [], Vec, refl, sym, subst}
 use Rattle.std.specs.Prelude.{Option, Result, Ok, Err, IfSome}
 use Rattle.wf_codec.specs.declared.message.Message.{Message}
@@ -28,7 +28,7 @@ module _ {T A : Type 0} (honest : Type 0) (content : T → List ℕ) (images : T
       → GivesPublish honest content images failures body before answer sent after
   gives_published body before after done answer sent becomes told = record { done = done; published = becomes; tells = told }
 
-  -- a request was answered by what it asks for, and the answer written
+  -- a request was answered by what it asks for, and the response written
   pub request_served : (kind : Asked) (request : Request) (old new : Option (List ℕ)) (before after : Node T) (answer : Result Response Notice)
       (sent : Vec Message A) (said : Outcome) → kind ≡ request.asked → GivesTo honest content images failures kind request before answer sent after
       → IsSaid (response_of answer) old new said → IsServed honest content images failures request old new before sent after said
@@ -38,7 +38,7 @@ module _ {T A : Type 0} (honest : Type 0) (content : T → List ℕ) (images : T
     written = written;
   }
 
-  -- ---- what a request does to the node
+  -- ---- a request's effect on the node
 
   published_moves : (body : List ℕ) (before after : Node T) (done : Result (Response × Vec Message A) PublishFault) (answer : Result Response Notice)
       (sent : Vec Message A) → IsPublished honest content images failures body before done after → TellsPublish done answer sent
@@ -64,7 +64,7 @@ module _ {T A : Type 0} (honest : Type 0) (content : T → List ℕ) (images : T
 
   -- ---- the outcome
 
-  -- an answer that is written is the outcome
+  -- a response that is written is the outcome
   said_outcome : (input old new : Option (List ℕ)) (heard : Result Request RequestFault) (before after : Node T) (answer : Result Response Notice)
       (sent : Vec Message A) (said : Outcome) → IfSome input (λ bytes. Asks bytes heard) → Gives honest content images failures heard before answer sent after
       → IsSaid (response_of answer) old new said → IsOutcome honest content images failures input old new before sent after said
@@ -102,13 +102,13 @@ module _ {T A : Type 0} (honest : Type 0) (content : T → List ℕ) (images : T
   fault_outcome input old new fault.ReadFailed node sent said asks quiet written =
       subst (λ o. IsOutcome honest content images failures input old new node sent node o) (sym written.0) (record { same = refl; quiet = quiet }, written.1)
 
-  -- where there is no request, its rejection is the outcome, or nothing
+  -- if there is no request, its rejection is the outcome, or nothing
   pub unheard_outcome : (input old new : Option (List ℕ)) (node : Node T) (sent : Vec Message A) (said : Outcome) → IsUnheard input old new said
       → sent.items ≡ [] → IsOutcome honest content images failures input old new node sent node said
   unheard_outcome input old new node sent said unheard quiet =
       fault_outcome input old new unheard.why node sent said unheard.is quiet unheard.written
 
-  -- where a request was heard, no read has failed
+  -- if a request was read, no read has failed
   pub served_reads : (request : Request) (old new : Option (List ℕ)) (before after : Node T) (sent : Vec Message A) (said : Outcome) (first last : ℕ)
       → last ≡ first → IsServed honest content images failures request old new before sent after said → CountsHearing said first last
   served_reads request old new before after sent said first last calm served = calm_reads _ old new said first last calm served.written

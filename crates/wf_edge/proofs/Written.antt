@@ -1,4 +1,4 @@
--- How much of the bytes is written, piece by piece.
+-- The number of bytes written, piece by piece.
 use Rattle.std.proofs.Common.{◌≡◌, ◌∙◌, ◌+◌, ◌-◌, ◌≤◌, ◌^◌, ℕ, Bool, true, false, min, List, [], ◌++◌, length, take, refl, sym, ap, subst, arith}
 use Rattle.std.specs.Prelude.{Option, Some, codes, decimal}
 use Rattle.std.specs.Io.KnownBytes.{Appends}
@@ -17,7 +17,7 @@ piece_written start old new bytes piece before after appends more (written, coun
     let is : after ≡ min (length bytes + length piece) (2 ^ 64 - 1) = omega arith in
     (appends_more start old new bytes piece written appends, rw size is)
 
--- a piece was cut short
+-- a piece was truncated
 pub piece_cut : (start old new : Option (List ℕ)) (bytes piece : List ℕ) (before count after : ℕ)
     → (count ≤ length piece) × Appends old new (take count piece) → after ≡ min (before + count) (2 ^ 64 - 1)
     → IsProgress start bytes old before false → IsProgress start (bytes ++ piece) new after true
@@ -31,7 +31,7 @@ piece_cut start old new bytes piece before count after (short, appends) more (wr
       counts = omega arith;
     }
 
--- what was cut short stays so
+-- what was truncated stays so
 pub still_cut : (start now : Option (List ℕ)) (bytes piece : List ℕ) (count : ℕ) → IsProgress start bytes now count true
     → IsProgress start (bytes ++ piece) now count true
 still_cut start now bytes piece count cut =
@@ -64,7 +64,7 @@ length_is = refl
 close_is : codes "Connection: close\r\n\r\n" ≡ (codes "Connection: close" ++ codes "\r\n") ++ codes "\r\n"
 close_is = refl
 
--- the pieces that are written are the lines
+-- the pieces written are the lines
 pub pieces_are_lines : (s r m l w : List ℕ)
     → pieces (codes "\r\nContent-Type: ") (codes "\r\nContent-Length: ") (codes "Connection: close\r\n\r\n") s r m l w
     ≡ line (codes "HTTP/1.1 " ++ s ++ codes " " ++ r) ++ line (codes "Content-Type: " ++ m) ++ line (codes "Content-Length: " ++ l) ++ w
@@ -85,14 +85,14 @@ from_start now progress start = subst (λ (p : Progress). IsProgress now [] now 
 pub calm_start : (now : ℕ) (progress : Progress) → progress ≡ record { written = 0; failed = false } → CountsProgress now now progress.failed
 calm_start now progress start = subst (λ (p : Progress). CountsProgress now now p.failed) (sym start) refl
 
--- what was gathered from the start on, all of it, are the bytes
+-- everything buffered from the start on is the bytes
 pub gathered_is : (before bytes gathered : List ℕ) (count : ℕ) (failed : Bool) → before ≡ [] → failed ≡ false → IsProgress (Some before) bytes (Some gathered) count failed →
     gathered ≡ bytes
 gathered_is before bytes gathered count failed none whole is =
     let done = subst (λ (f : Bool). IsProgress (Some before) bytes (Some gathered) count f) whole is in
     done.0 ∙ ap (λ (b : List ℕ). b ++ bytes) none
 
--- the pieces that are written are the lines of a response
+-- the pieces written are the lines of a response
 pub lines_are_head : (response : Response) (s r m l w : List ℕ) → s ≡ code_digits response.status → r ≡ reason response.status → m ≡ response.media
     → l ≡ decimal (length response.body) → w ≡ allow_line response.allowed
     → ((((((((((([] ++ codes "HTTP/1.1 ") ++ s) ++ codes " ") ++ r) ++ codes "\r\nContent-Type: ") ++ m) ++ codes "\r\nContent-Length: ") ++ l) ++ codes "\r\n") ++ w)

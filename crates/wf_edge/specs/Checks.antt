@@ -1,4 +1,4 @@
--- What the head of a request asks for: the checks on it in their order, and the rejection of the first that fails.
+-- What the head of a request asks for: the checks on it in order, and the rejection by the first that fails.
 use Rattle.std.specs.Prelude.{ℕ, ◌==◌, Bool, ◌&&◌, nat_lt, List, [], ◌∷◌, bytes_eq, codes, Option, Some, None, Result, Ok, Err, if◌then◌else◌}
 use Rattle.std.specs.List.{list_all}
 use Rattle.wf_edge.specs.Head.{Head}
@@ -11,11 +11,11 @@ use Rattle.wf_edge.specs.declared.resource.Resource.TheVariants as resource
 use Rattle.wf_edge.specs.declared.resource.Asked.{Asked}
 use Rattle.wf_edge.specs.declared.resource.Asked.TheVariants as asked
 
--- how long a body may be, in bytes
+-- the greatest length of a body, in bytes
 abbrev pub most_body_bytes : ℕ
 most_body_bytes = 65536
 
--- the rejection of the first check that fails
+-- the rejection by the first check that fails
 abbrev pub first_failing : List (Option Refusal) → Option Refusal
 first_failing [] = None
 first_failing (None ∷ checks) = first_failing checks
@@ -28,12 +28,12 @@ unfoldable pub check_target : List ℕ → Option Refusal
 check_target [] = Some refusal.BadRequest
 check_target (byte ∷ _) = if byte == 47 then None else Some refusal.BadRequest
 
--- something stands at the path
+-- there is a resource at the path
 abbrev pub check_path : Option Resource → Option Refusal
 check_path None = Some refusal.NotFound
 check_path (Some r) = None
 
--- it has the method
+-- the resource has the method
 abbrev pub check_method : Option Resource → List ℕ → Option Refusal
 check_method None method = None
 check_method (Some r) method =
@@ -42,7 +42,7 @@ check_method (Some r) method =
 abbrev pub head_checks : Option Resource → List ℕ → List ℕ → List (Option Refusal)
 head_checks found target method = check_target target ∷ check_path found ∷ check_method found method ∷ []
 
--- ---- the checks on a body, by the transfer codings and the lengths that the head tells
+-- ---- the checks on a body, by the transfer codings and the lengths in the head
 
 -- the values of Transfer-Encoding (RFC 9112, section 6.1)
 abbrev pub codings_of : List (List ℕ × List ℕ) → List (List ℕ)
@@ -57,12 +57,12 @@ abbrev pub check_coding : Option (List ℕ) → Option Refusal
 check_coding None = None
 check_coding (Some coding) = Some refusal.NotImplemented
 
--- its length is told
+-- its length is given
 abbrev pub check_told : Option (List ℕ) → Option Refusal
 check_told None = Some refusal.LengthRequired
 check_told (Some first) = None
 
--- the lengths are written in digits, and all are one number
+-- the lengths are written in digits, and are all the same number
 abbrev pub are_one_number : List ℕ → List (List ℕ) → Bool
 are_one_number first lengths = list_all is_digits lengths && list_all (λ length. number length == number first) lengths
 
@@ -90,7 +90,7 @@ abbrev pub publish_asked : Option Refusal → ℕ → Result Asked Refusal
 publish_asked (Some r) bytes = Err r
 publish_asked None bytes = Ok (asked.Publish bytes)
 
--- what is asked of what stands at the path: only a publish has a body
+-- the request to the resource at the path: only a publish has a body
 abbrev pub asked_at : Option Resource → List (List ℕ) → List (List ℕ) → Result Asked Refusal
 asked_at None codings lengths = Err refusal.NotFound
 asked_at (Some resource.Wms) codings lengths = Ok asked.Wms

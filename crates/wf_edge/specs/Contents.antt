@@ -1,4 +1,4 @@
--- What a page holds.
+-- The contents of a page.
 use Rattle.std.specs.Prelude.{ℕ, List}
 use Rattle.wf_edge.specs.declared.contents.Contents.{Contents}
 use Rattle.wf_edge.specs.declared.contents.Contents.TheVariants as contents

@@ -1,4 +1,4 @@
--- The fields of a head (RFC 9110, section 5), and the number that a length stands for (section 8.6).
+-- The header fields of a request (RFC 9110, section 5), and the number that a length means (section 8.6).
 use Rattle.std.specs.Prelude.{ℕ, ◌+◌, ◌*◌, ◌-◌, ◌==◌, Bool, false, List, [], ◌∷◌, drop, fold, map, filter, Option, Some, None}
 use Rattle.std.specs.List.{list_all, prefix_len}
 use Rattle.std.specs.Char.{is_ascii_digit}
@@ -12,23 +12,23 @@ is_named name field = str_eq_ignore_ascii_case field.0 name
 abbrev pub values : List ℕ → List (List ℕ × List ℕ) → List (List ℕ)
 values name fields = map (λ field. field.1) (filter (is_named name) fields)
 
--- decimal digits, one at least
+-- one or more decimal digits
 abbrev pub is_digits : List ℕ → Bool
 is_digits [] = false
 is_digits (byte ∷ bytes) = list_all is_ascii_digit (byte ∷ bytes)
 
--- the whole number that digits stand for, however many there are
+-- the whole number with these digits, however many there are
 abbrev pub number : List ℕ → ℕ
 number digits = fold (λ n digit. 10 * n + (digit - 48)) 0 digits
 
 abbrev pub is_zero : ℕ → Bool
 is_zero digit = digit == 48
 
--- the digits without the zeros before them: the same for one number, however it is written
+-- the digits without leading zeros: the same for one number, however it is written
 abbrev pub significant : List ℕ → List ℕ
 significant digits = drop (prefix_len is_zero digits) digits
 
--- the first of the list
+-- the first element of the list
 abbrev pub first_of : List (List ℕ) → Option (List ℕ)
 first_of [] = None
 first_of (first ∷ _) = Some first

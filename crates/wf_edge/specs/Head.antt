@@ -1,17 +1,17 @@
--- The head of a request (RFC 9112, sections 3 and 5), by the grammar of the kit's parser of heads, and its limits.
+-- The head of a request (RFC 9112, sections 3 and 5), by the grammar of the kit's head parser, and its limits.
 use Rattle.std.specs.Prelude.{◌≡◌, ◌≤◌, ℕ, List, length, map}
 use Rattle.httparse.specs.Grammar.{RequestHead, ReadsRequest, print_request}
 use Rattle.httparse.specs.Spans.{name_and_value}
 
--- how long a head may be, in bytes, with the empty lines before it
+-- the greatest length of a head, in bytes, with the empty lines before it
 abbrev pub most_head_bytes : ℕ
 most_head_bytes = 8192
 
--- how many fields a head may have
+-- the greatest number of fields of a head
 abbrev pub most_fields : ℕ
 most_fields = 32
 
--- what a head says: its method, its target, and each field's name and value, in order
+-- the contents of a head: its method, its target, and each field's name and value, in order
 pub record Head : Type 0 where
   pub method : List ℕ
   pub target : List ℕ
@@ -25,13 +25,13 @@ pub record IsSmall (h : RequestHead) : Type 0 where
   pub bytes : length (print_request h) ≤ most_head_bytes
   pub fields : length h.fields ≤ most_fields
 
--- the input is a head within the limits, and then rest
+-- the input is a head within the limits, followed by `rest`
 pub record Begins (input : List ℕ) (head : Head) (rest : List ℕ) : Type 0 where
   pub printed : RequestHead
   pub reads : ReadsRequest input printed rest
   pub small : IsSmall printed
   pub says : head ≡ head_of printed
 
--- no head within the limits stands at the front of the input
+-- no head within the limits is at the front of the input
 abbrev pub HasNoSmallRequest : List ℕ → Type 0
 HasNoSmallRequest input = (h : RequestHead) (rest : List ℕ) → ReadsRequest input h rest → ¬ (IsSmall h)

@@ -1,4 +1,4 @@
--- Equal requests to the map service have equal responses, whichever node answers and when.
+-- Equal requests to the map service have equal responses, at any node and any time.
 use Rattle.std.specs.Prelude.{◌≡◌, ◌≢◌, ℕ, List, length, codes, Some, Ok, Vec}
 use Rattle.wf_codec.specs.declared.message.Message.{Message}
 use Rattle.wf_def.specs.Definition.{Definition}
@@ -21,27 +21,28 @@ pub record AsksMapService (input query : List ℕ) : Type 0 where
   pub of_service : request.asked ≡ Wms
   pub of_query : query_of request.head.target ≡ query
 
--- the query is a GetMap request (OGC 06-042, 7.3), and at a server of the sequence s it is for the map of the sequence m
+-- the query is a GetMap request (OGC 06-042, 7.3), and at a server whose last sequence is s it asks for the map of sequence m
 pub record AsksForMap (m s : ℕ) (query : List ℕ) : Type 0 where
   pub request : parameter (codes "REQUEST") (pairs_of query) ≡ Some (codes "GetMap")
   pub sequence : map_sequence s (pairs_of query) ≡ Ok m
 
--- The query is for one map, whichever of two lists of published maps it is asked of: either as many are published, and the map that the query
--- is about is the same; or the query is a GetMap request, and is for a sequence at which both have the same map, however many more there are.
+-- The query asks for the same map of two lists of published maps: either both have the same length, and the map that the query is
+-- about is the same; or the query is a GetMap request for a sequence at which both have the same map, however many more there
+-- are.
 pub data HaveOneMap (query : List ℕ) (history other : List Definition) : Type 0 where
   stand_alike : length other ≡ length history → map_at history (subject (length history) query) ≡ map_at other (subject (length history) query)
       → HaveOneMap query history other
   are_asked_alike : (m : ℕ) → AsksForMap m (length history) query → AsksForMap m (length other) query → map_at history m ≡ map_at other m
       → HaveOneMap query history other
 
--- Then it has one page, and no other.
+-- Then it has exactly one page.
 abbrev pub EachQueryHasOnePage : Type 0
 EachQueryHasOnePage = (query : List ℕ) (history other : List Definition) (page another : Response) → HaveOneMap query history other →
     IsServicePage history query page → IsServicePage other query another → another ≡ page
 
 module _ {T : Type 0} (A : Type 0) (honest : Type 0) (content : T → List ℕ) (images : T → List ℕ → Type 0) (failures : T → ℕ) where
-  -- Two nodes, or one node at two moments, that get equal requests to the map service for one map, respond with equal bytes, where neither tells
-  -- allocation failure.
+  -- Two nodes, or one node at two times, that receive equal requests to the map service for the same map, respond with equal
+  -- bytes, if neither responds with allocation failure.
   abbrev pub EqualRequestsHaveEqualResponses : Type 0
   EqualRequestsHaveEqualResponses = (input query : List ℕ) (before after other other_after : Node T) (sent other_sent : Vec Message A) (response another : Response) →
       AsksMapService input query → HaveOneMap query before.parts.history other.parts.history →

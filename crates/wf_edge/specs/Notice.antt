@@ -1,4 +1,4 @@
--- What is told in one line of plain text: a notice allocates nothing (RFC 9110, section 15; RFC 6585, section 5).
+-- Responses of one line of plain text: a notice allocates nothing (RFC 9110, section 15; RFC 6585, section 5).
 use Rattle.std.specs.Prelude.{ℕ, List, ◌++◌, codes, Option, Some, None, Result, Ok, Err}
 use Rattle.wf_node.specs.declared.fault.NodeFault.{NodeFault}
 use Rattle.wf_node.specs.declared.fault.NodeFault.TheVariants as node
@@ -15,11 +15,11 @@ use Rattle.wf_edge.specs.declared.notice.Notice.TheVariants as notice
 abbrev pub plain : List ℕ
 plain = codes "text/plain"
 
--- a text and its end
+-- a text and its line end
 abbrev pub text_line : List ℕ → List ℕ
 text_line text = text ++ codes "\n"
 
--- ---- a rejection is told by its status alone
+-- ---- a rejection is reported by its status alone
 
 abbrev pub refusal_status : Refusal → ℕ
 refusal_status refusal.BadRequest = 400
@@ -39,7 +39,7 @@ refusal_words refusal.ContentTooLarge = codes "413"
 refusal_words refusal.HeadTooLarge = codes "431"
 refusal_words refusal.NotImplemented = codes "501"
 
--- the method that is allowed, where it was another
+-- the allowed method, if the request's was another
 abbrev pub allowed_by : Refusal → Option Allowed
 allowed_by refusal.BadRequest = None
 allowed_by refusal.NotFound = None
@@ -78,14 +78,14 @@ allowed_of notice.Unavailable = None
 abbrev pub notice_response : Notice → Response
 notice_response n = record { status = status_of n; media = plain; allowed = allowed_of n; body = text_line (words_of n) }
 
--- what a client is told where its request can't be read: nothing where it sent none, or where the reading itself failed
+-- the notice for a request that can't be read: none if the input is empty or a read failed
 abbrev pub notice_of_fault : RequestFault → Option Notice
 notice_of_fault fault.NoRequest = None
 notice_of_fault fault.ReadFailed = None
 notice_of_fault fault.Memory = Some notice.Unavailable
 notice_of_fault (fault.Refused r) = Some (notice.Refused r)
 
--- What a node's fault is told as. That there is nothing to try again never answers a proposal.
+-- The notice for a node's error. `Nothing` (no proposal to retry) never answers a proposal.
 abbrev pub notice_of : NodeFault → Notice
 notice_of node.Memory = notice.Unavailable
 notice_of node.Busy = notice.Busy
@@ -97,7 +97,7 @@ notice_of node.Nothing = notice.Unavailable
 
 -- ---- a page or a notice
 
--- the response that is written: a page, or a notice in its place
+-- the response that is written: a page, or the notice in its place
 abbrev pub response_of : Result Response Notice → Response
 response_of (Ok page) = page
 response_of (Err n) = notice_response n

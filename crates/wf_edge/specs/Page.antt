@@ -1,4 +1,4 @@
--- What a node answers with a page of its own: the map service, where it stands, what it accepted, and the fault of a map.
+-- A node's own pages: the map service, its status, an accepted map, and the error of a map.
 use Rattle.std.specs.Prelude.{◌≡◌, ℕ, ◌+◌, List, ◌++◌, codes, decimal, length, None, Result, Ok, Err, if◌then◌else◌}
 use Rattle.wf_def.specs.Definition.{Definition}
 use Rattle.wf_mapfile.specs.declared.fault.MapFault.{MapFault}
@@ -13,7 +13,7 @@ use Rattle.wf_edge.specs.Notice.{plain, text_line}
 use Rattle.wf_edge.specs.declared.notice.Notice.{Notice}
 use Rattle.wf_edge.specs.declared.notice.Notice.TheVariants as notice
 
--- how long a line may be, in bytes: more than any has
+-- the greatest length of a line, in bytes: more than any has
 abbrev pub most_line_bytes : ℕ
 most_line_bytes = 128
 
@@ -23,17 +23,17 @@ line_page status words = record { status = status; media = plain; allowed = None
 
 -- ---- GET /wms
 
--- the page of an answer of the map service: the status is 200 also where the answer is an exception
+-- the page of the map service's answer: the status is 200 even for an exception
 abbrev pub service_page : AnswerValue → Response
 service_page answer = record { status = 200; media = answer.media; allowed = None; body = answer.bytes }
 
--- the page of what the map service answers to a query at the last published sequence
+-- the page of the map service's answer to a query, at the last published sequence
 pub record IsServicePage (history : List Definition) (query : List ℕ) (page : Response) : Type 0 where
   pub answer : AnswerValue
   pub is_answer : IsAnswerOf (length history) history query answer
   pub is_page : page ≡ service_page answer
 
--- That page is given, or the map service found no memory. It alone answers a query: none is rejected before it is asked.
+-- That page, or an allocation of the map service failed. Only the map service answers a query: none is rejected before.
 abbrev pub IsServiceGiven : List Definition → List ℕ → Result Response Notice → Type 0
 IsServiceGiven history query (Ok page) = IsServicePage history query page
 IsServiceGiven history query (Err n) = n ≡ notice.Unavailable
@@ -46,11 +46,11 @@ standing_words standing.Running = codes "running"
 standing_words (standing.Published s) = codes "published " ++ decimal s
 standing_words (standing.Overtaken s) = codes "overtaken " ++ decimal s
 
--- how a node's proposal stands: a halted node has none
+-- the state of a node's proposal: a halted node has none
 abbrev pub standing_at : {T : Type 0} → Node T → Standing
 standing_at node = if node.halted then standing.None else standing_of (working_of node)
 
--- who the node is, what it published last and how its proposal stands
+-- the node's number, its last published sequence and the state of its proposal
 unfoldable pub status_words : ℕ → ℕ → Standing → List ℕ
 status_words id published stands =
     codes "node " ++ decimal id ++ codes " published " ++ decimal published ++ codes " proposal " ++ standing_words stands
@@ -67,7 +67,7 @@ accepted_words published = codes "accepted for " ++ decimal (published + 1)
 abbrev pub accepted_page : ℕ → Response
 accepted_page published = line_page 202 (accepted_words published)
 
--- the number of a fault, and its place
+-- the number of an error, and its position
 unfoldable pub at_place : List ℕ → ℕ → List ℕ
 at_place number place = number ++ codes " " ++ decimal place
 
@@ -85,6 +85,6 @@ fault_words (map.Repeated place) = at_place (codes "M10") place
 fault_words map.TooMany = codes "M11"
 fault_words (map.Trailing place) = at_place (codes "M12") place
 
--- the page of a body that is no map: 503 is told for allocation failure, never M1
+-- the page of a body that isn't a map: allocation failure is answered with 503, never with M1
 abbrev pub bad_map_page : MapFault → Response
 bad_map_page fault = line_page 400 (fault_words fault)

@@ -1,4 +1,4 @@
--- What becomes of a map that is published: the step Propose of the node, or a fault before it.
+-- The result of publishing a map: the node's step Propose, or an error before it.
 use Rattle.std.specs.Prelude.{◌≡◌, ℕ, ◌<◌, ◌≤◌, true, false, List, length, Result, Ok, Err, Vec}
 use Rattle.std.specs.Str.{is_utf8}
 use Rattle.wf_canon.specs.Canon.{canon, most_canon_bytes}
@@ -23,45 +23,45 @@ use Rattle.wf_edge.specs.declared.notice.Notice.TheVariants as notice
 use Rattle.wf_edge.specs.declared.publish_fault.PublishFault.{PublishFault}
 use Rattle.wf_edge.specs.declared.publish_fault.PublishFault.TheVariants as fault
 
--- the body means that map, and its canonical text is within the limit
+-- the body is that map, and its canonical text is within the limit
 pub record IsMapOf (body : List ℕ) (d : Definition) : Type 0 where
   pub means : Means body d
   pub short : length (canon d) ≤ most_canon_bytes
 
--- The body has that fault, allocation failure aside, as far as the reader of mapfiles promises which: it means no map, one that is too long
--- has this fault and no other, and another that is no UTF-8 has that one.
+-- The body has that error, allocation failure aside, as far as the mapfile parser promises which: it isn't a map; one that is too
+-- long has this error and no other, and any other that isn't UTF-8 has that one.
 pub record HasFault (body : List ℕ) (why : MapFault) : Type 0 where
   pub own : is_memory why ≡ false
   pub means_nothing : MeansNothing body
   pub too_long : longest_mapfile < length body → why ≡ map.TooLong
   pub not_utf8 : length body ≤ longest_mapfile → is_utf8 body ≡ false → IsNotUtf8 {X = Definition} (Err why)
 
--- the body is within the limit of a mapfile, and UTF-8: else its fault is found without memory
+-- the body is within the limit of a mapfile, and UTF-8; otherwise its error is found without allocating
 pub record IsText (body : List ℕ) : Type 0 where
   pub within : length body ≤ longest_mapfile
   pub utf8 : is_utf8 body ≡ true
 
--- why a body has no map to propose: it has a fault, or its canonical text is over the limit; or memory ran out
+-- why a body has no map to propose: it has an error, or its canonical text is over the limit; or an allocation failed
 abbrev pub IsWhyNoMap : List ℕ → PublishFault → Type 0
 IsWhyNoMap body (fault.Map why) = HasFault body why
 IsWhyNoMap body fault.TooBig = (d : Definition) × Means body d × (most_canon_bytes < length (canon d))
 IsWhyNoMap body fault.Memory = IsText body
 IsWhyNoMap body (fault.Node why) = ⊥
 
--- what a fault of writing the canonical text of a definition is told as
+-- the error reported if writing the canonical text of a definition fails
 abbrev pub unwritten : CanonFault → PublishFault
 unwritten canonical.TooBig = fault.TooBig
 unwritten canonical.NotCanonical = fault.Memory
 unwritten canonical.Memory = fault.Memory
 
 module _ {T A : Type 0} (honest : Type 0) (content : T → List ℕ) (images : T → List ℕ → Type 0) (failures : T → ℕ) where
-  -- the step Propose of the definition; a halted node rejects it, and stays as it is
+  -- the step Propose of the definition; a halted node rejects it, and is unchanged
   pub record IsProposed (before : Node T) (d : Definition) (result : Result (Vec Message A) NodeFault) (after : Node T) : Type 0 where
     pub refused : before.halted ≡ true → (result ≡ Err Halted) × (after ≡ before)
     pub steps : before.halted ≡ false → IsStep honest content images failures before (Propose d) result after
 
-  -- What becomes of the body. Accepted: the node made the step Propose, and these are its messages. A node's fault is that step's. With any
-  -- other fault no step was made.
+  -- The result for the body. Accepted: the node made the step Propose, and these are its messages. A node's error is that step's.
+  -- With any other error no step was made.
   abbrev pub IsPublished : List ℕ → Node T → Result (Response × Vec Message A) PublishFault → Node T → Type 0
   IsPublished body before (Ok done) after =
       (d : Definition) × IsMapOf body d × IsProposed before d (Ok done.1) after × (done.0 ≡ accepted_page (length before.parts.history))
@@ -70,8 +70,8 @@ module _ {T A : Type 0} (honest : Type 0) (content : T → List ℕ) (images : T
   IsPublished body before (Err fault.TooBig) after = IsWhyNoMap body fault.TooBig × (after ≡ before)
   IsPublished body before (Err fault.Memory) after = IsWhyNoMap body fault.Memory × (after ≡ before)
 
--- How a fault is told: 400 for a body that is no map, or none with a canonical text; 409 where the step table rejects now; 503 for allocation
--- failure, and for a node that is halted or whose tape fails. No page of these takes memory.
+-- The response for an error: 400 for a body that isn't a map, or has no canonical text; 409 if the step table rejects now; 503
+-- for allocation failure, and for a node that is halted or whose tape fails. None of these pages allocates.
 abbrev pub TellsFault : PublishFault → Result Response Notice → Type 0
 TellsFault (fault.Map why) answer = answer ≡ Ok (bad_map_page why)
 TellsFault fault.TooBig answer = answer ≡ Err notice.TooBig

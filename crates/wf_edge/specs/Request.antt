@@ -1,4 +1,4 @@
--- What is read of a request, and why none is.
+-- What is read of a request, and why there is none.
 use Rattle.std.specs.Prelude.{◌≡◌, ◌≢◌, ◌≤◌, ◌<◌, ◌⊎◌, ◌++◌, ℕ, List, [], length, map, take, drop, Option, Result, Ok, Err, IfSome}
 use Rattle.std.specs.Io.KnownBytes.{Consumes}
 use Rattle.httparse.specs.Grammar.{HasNoRequest}
@@ -17,12 +17,12 @@ use Rattle.wf_edge.specs.declared.fault.RequestFault.TheVariants as fault
 
 -- ---- the head
 
--- a head, and the bytes that came behind it
+-- a head, and the bytes read after it
 pub record Front : Type 0 where
   pub head : Head
   pub behind : List ℕ
 
--- the front that spans cover
+-- the front at these spans
 abbrev pub front_of : List ℕ → List HeaderSpan → RequestSpans → Front
 front_of bytes fields spans = record {
   head = record {
@@ -33,25 +33,26 @@ front_of bytes fields spans = record {
   behind = drop spans.len bytes;
 }
 
--- the bytes that were read are that head and what came behind it
+-- the bytes read are that head and the bytes after it
 abbrev pub TakesFront : Option (List ℕ) → Option (List ℕ) → Front → Type 0
 TakesFront old new front = (bytes : List ℕ) × Consumes old new bytes × Begins bytes front.head front.behind
 
--- no head stands at the front of the bytes, where there are any
+-- no head is at the front of the bytes, if there are any
 abbrev pub IsUnfinished : List ℕ → Type 0
 IsUnfinished bytes = 0 < length bytes → HasNoRequest bytes
 
--- some bytes were taken from the front of what is left, and put behind what was there
+-- some bytes were taken from the front of what is left, and appended
 abbrev pub TakesMore : Option (List ℕ) → Option (List ℕ) → List ℕ → List ℕ → Type 0
 TakesMore old new before after = (piece : List ℕ) × (0 < length piece) × Consumes old new piece × (after ≡ before ++ piece)
 
--- some bytes were taken from the front of what is left: no more than there is room for, and than the reader gives a call, where that is known
+-- some bytes were taken from the front of what is left: at most as many as there is room for, and as the reader returns a call,
+-- if known
 abbrev pub TakesPiece : Option ℕ → ℕ → Option (List ℕ) → Option (List ℕ) → Type 0
 TakesPiece piece room old new =
     (bytes : List ℕ) × (length bytes ≤ room) × IfSome piece (λ most. length bytes ≤ most) × Consumes old new bytes
 
--- A head was looked for in what was taken from the front: no more bytes than a head may have, and before the last piece of them no head was
--- whole. A piece is no longer than what the reader gives a call, where that is known.
+-- A head was looked for in what was taken from the front: at most as many bytes as a head may have, and no head was complete
+-- before the last piece. A piece is at most as long as what the reader returns a call, if known.
 pub record TakesHead (piece : Option ℕ) (old new : Option (List ℕ)) : Type 0 where
   pub before : List ℕ
   pub last : List ℕ
@@ -60,7 +61,7 @@ pub record TakesHead (piece : Option ℕ) (old new : Option (List ℕ)) : Type 0
   pub small : IfSome piece (λ most. length last ≤ most)
   pub taken : Consumes old new (before ++ last)
 
--- why a head is rejected: 400 where none stands at the front of the input, 431 where none within the limits does
+-- why a head is rejected: 400 if none is at the front of the input, 431 if none within the limits is
 abbrev pub IsHeadRefusal : List ℕ → Refusal → Type 0
 IsHeadRefusal input refusal.BadRequest = HasNoRequest input
 IsHeadRefusal input refusal.HeadTooLarge = HasNoSmallRequest input
@@ -70,7 +71,7 @@ IsHeadRefusal input refusal.LengthRequired = ⊥
 IsHeadRefusal input refusal.ContentTooLarge = ⊥
 IsHeadRefusal input refusal.NotImplemented = ⊥
 
--- why no head is read: the input is empty, or its head is rejected; no memory is needed
+-- why no head is read: the input is empty, or its head is rejected; nothing is allocated
 abbrev pub IsHeadFault : List ℕ → RequestFault → Type 0
 IsHeadFault input fault.NoRequest = input ≡ []
 IsHeadFault input (fault.Refused r) = (input ≢ []) × IsHeadRefusal input r
@@ -79,18 +80,18 @@ IsHeadFault input fault.Memory = ⊥
 
 -- ---- the body
 
--- how many bytes of body a request has, by what it asks for
+-- the length of a request's body, by what the request asks for
 abbrev pub body_bytes : Asked → ℕ
 body_bytes asked.Wms = 0
 body_bytes asked.Status = 0
 body_bytes (asked.Publish bytes) = bytes
 
--- the first bytes of what comes behind the head
+-- the first bytes after the head
 pub record IsBody (rest : List ℕ) (bytes : ℕ) (body : List ℕ) : Type 0 where
   pub whole : bytes ≤ length rest
   pub first : body ≡ take bytes rest
 
--- why no body is read: it is cut short; memory is needed where it has a byte
+-- why no body is read: it is truncated, or an allocation failed, which needs a body of at least one byte
 abbrev pub IsBodyFault : List ℕ → ℕ → RequestFault → Type 0
 IsBodyFault rest bytes (fault.Refused r) = (r ≡ refusal.BadRequest) × (length rest < bytes)
 IsBodyFault rest bytes fault.NoRequest = ⊥
@@ -119,7 +120,7 @@ pub record FailsCheck (input : List ℕ) (r : Refusal) : Type 0 where
   pub begins : Begins input head rest
   pub fails : judged head ≡ Err r
 
--- the body of the input is cut short
+-- the body of the input is truncated
 pub record EndsInBody (input : List ℕ) (r : Refusal) : Type 0 where
   pub head : Head
   pub rest : List ℕ
@@ -129,7 +130,7 @@ pub record EndsInBody (input : List ℕ) (r : Refusal) : Type 0 where
   pub short : length rest < body_bytes asked
   pub is : r ≡ refusal.BadRequest
 
--- the head of the input asks for a body with a byte at least
+-- the head of the input asks for a body of at least one byte
 pub record HasBody (input : List ℕ) : Type 0 where
   pub head : Head
   pub rest : List ℕ
@@ -144,7 +145,7 @@ pub data IsRefused (input : List ℕ) (r : Refusal) : Type 0 where
   by_check : FailsCheck input r → IsRefused input r
   by_body : EndsInBody input r → IsRefused input r
 
--- why there is no request: for a body alone memory is needed
+-- why there is no request: only a body allocates
 abbrev pub IsRequestFault : List ℕ → RequestFault → Type 0
 IsRequestFault input fault.NoRequest = input ≡ []
 IsRequestFault input (fault.Refused r) = IsRefused input r
@@ -153,7 +154,7 @@ IsRequestFault input fault.Memory = HasBody input
 
 -- ---- how much of the input is taken
 
--- a head was taken, and of what stands behind it no more than the body that it asks for
+-- a head was taken, and of what follows it at most the body that it asks for
 pub record TakesBody (old new : Option (List ℕ)) : Type 0 where
   pub bytes : List ℕ
   pub head : Head
@@ -164,11 +165,11 @@ pub record TakesBody (old new : Option (List ℕ)) : Type 0 where
   pub most : length behind ≤ body_bytes asked
   pub taken : Consumes old new bytes
 
--- Nothing behind the request is taken, but what came in one piece with the last of its head.
+-- Nothing after the request is taken, but what came in one piece with the last of its head.
 abbrev pub TakesRequest : Option ℕ → Option (List ℕ) → Option (List ℕ) → Type 0
 TakesRequest piece old new = TakesHead piece old new ⊎ TakesBody old new
 
--- a failed read is told exactly where one has failed
+-- a failed read is reported iff one has failed
 abbrev pub CountsReads : {T : Type 0} → Result T RequestFault → ℕ → ℕ → Type 0
 CountsReads (Ok x) old new = new ≡ old
 CountsReads (Err fault.ReadFailed) old new = Rises old new

@@ -1,4 +1,4 @@
--- What is written of a response, and how that is told.
+-- What is written of a response, and the outcome reported.
 use Rattle.std.specs.Prelude.{◌≡◌, ℕ, List, length, Option}
 use Rattle.std.specs.Io.KnownBytes.{Appends, Keeps}
 use Rattle.wf_stream.specs.Reading.{Rises}
@@ -10,7 +10,7 @@ use Rattle.wf_edge.specs.declared.notice.Notice.TheVariants as notice
 use Rattle.wf_edge.specs.declared.outcome.Outcome.{Outcome}
 use Rattle.wf_edge.specs.declared.outcome.Outcome.TheVariants as outcome
 
--- all of it with its length, or a beginning where the writer failed
+-- all of it and its length, or a prefix if the writer failed
 abbrev pub IsSaid : Response → Option (List ℕ) → Option (List ℕ) → Outcome → Type 0
 IsSaid response old new (outcome.Sent status count) =
     Appends old new (response_bytes response) × (status ≡ response.status) × IsCount (length (response_bytes response)) count
@@ -18,14 +18,14 @@ IsSaid response old new (outcome.WriteFailed status count) = WritesPart (respons
 IsSaid response old new outcome.ReadFailed = ⊥
 IsSaid response old new outcome.NoRequest = ⊥
 
--- what is written where there is no request: a rejection, or nothing
+-- what is written if there is no request: a rejection, or nothing
 abbrev pub IsFaultSaid : RequestFault → Option (List ℕ) → Option (List ℕ) → Outcome → Type 0
 IsFaultSaid (fault.Refused r) old new said = IsSaid (notice_response (notice.Refused r)) old new said
 IsFaultSaid fault.Memory old new said = IsSaid (notice_response notice.Unavailable) old new said
 IsFaultSaid fault.NoRequest old new said = (said ≡ outcome.NoRequest) × Keeps old new
 IsFaultSaid fault.ReadFailed old new said = (said ≡ outcome.ReadFailed) × Keeps old new
 
--- a failed write is told exactly where one has failed
+-- a failed write is reported iff one has failed
 abbrev pub CountsSaying : Outcome → ℕ → ℕ → Type 0
 CountsSaying (outcome.WriteFailed status count) old new = Rises old new
 CountsSaying (outcome.Sent status count) old new = new ≡ old

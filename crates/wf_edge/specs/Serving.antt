@@ -1,4 +1,4 @@
--- What one request does: its response, the step that the node makes of it, and what is written.
+-- The effect of one request: its response, the node's step, and what is written.
 use Rattle.std.specs.Prelude.{◌≡◌, ℕ, List, [], length, Option, Result, Ok, Err, IfSome, Vec}
 use Rattle.std.specs.Io.KnownBytes.{Appends, Keeps}
 use Rattle.wf_codec.specs.declared.message.Message.{Message}
@@ -29,38 +29,38 @@ abbrev pub Asks : List ℕ → Result Request RequestFault → Type 0
 Asks input (Ok request) = BeginsWith input request
 Asks input (Err why) = IsRequestFault input why
 
--- ---- what it is given
+-- ---- the reply
 
--- the node is as it was, and sends nothing
+-- the node is unchanged, and sends nothing
 pub record IsUnmoved {T A : Type 0} (before : Node T) (sent : Vec Message A) (after : Node T) : Type 0 where
   pub same : after ≡ before
   pub quiet : sent.items ≡ []
 
--- what becomes of a publish is told: a page and the step's messages, or a fault and none
+-- the reply to a publish: a page and the step's messages, or an error and none
 abbrev pub TellsPublish : {A : Type 0} → Result (Response × Vec Message A) PublishFault → Result Response Notice → Vec Message A → Type 0
 TellsPublish (Ok done) answer sent = (answer ≡ Ok done.0) × (sent ≡ done.1)
 TellsPublish (Err why) answer sent = TellsFault why answer × (sent.items ≡ [])
 
--- exactly the messages of a step are handed out; none where it was rejected or failed
+-- the messages are exactly those of a step; none if it was rejected or failed
 abbrev pub HandsOut : {A : Type 0} → Result (Vec Message A) NodeFault → Vec Message A → Type 0
 HandsOut (Ok messages) sent = sent ≡ messages
 HandsOut (Err why) sent = sent.items ≡ []
 
 module _ {T A : Type 0} (honest : Type 0) (content : T → List ℕ) (images : T → List ℕ → Type 0) (failures : T → ℕ) where
-  -- what a publish of a body gives: its messages are the step's, whatever becomes of the answer
+  -- the reply to a publish of a body: its messages are the step's, whatever the answer
   pub record GivesPublish (body : List ℕ) (before : Node T) (answer : Result Response Notice) (sent : Vec Message A) (after : Node T) : Type 0 where
     pub done : Result (Response × Vec Message A) PublishFault
     pub published : IsPublished honest content images failures body before done after
     pub tells : TellsPublish done answer sent
 
-  -- What is given to a request, by what it asks for. Only a publish moves the node.
+  -- The reply to a request, by what it asks for. Only a publish changes the node.
   abbrev pub GivesTo : Asked → Request → Node T → Result Response Notice → Vec Message A → Node T → Type 0
   GivesTo asked.Wms request before answer sent after =
       IsServiceGiven before.parts.history (query_of request.head.target) answer × IsUnmoved before sent after
   GivesTo asked.Status request before answer sent after = (answer ≡ Ok (status_page before)) × IsUnmoved before sent after
   GivesTo (asked.Publish bytes) request before answer sent after = GivesPublish request.body before answer sent after
 
-  -- what is given to what was read: a rejection and allocation failure are told, and leave the node as it was
+  -- the reply to what was read: a rejection and allocation failure are reported, and leave the node unchanged
   abbrev pub Gives : Result Request RequestFault → Node T → Result Response Notice → Vec Message A → Node T → Type 0
   Gives (Ok request) before answer sent after = GivesTo request.asked request before answer sent after
   Gives (Err (fault.Refused r)) before answer sent after = (answer ≡ Err (notice.Refused r)) × IsUnmoved before sent after
@@ -68,7 +68,7 @@ module _ {T A : Type 0} (honest : Type 0) (content : T → List ℕ) (images : T
   Gives (Err fault.NoRequest) before answer sent after = ⊥
   Gives (Err fault.ReadFailed) before answer sent after = ⊥
 
-  -- That is a response to the input, with what it does to the node and the messages that the node sends.
+  -- A response to the input, with its effect on the node and the messages that the node sends.
   pub record Responds (input : Option (List ℕ)) (before : Node T) (response : Response) (sent : Vec Message A) (after : Node T) : Type 0 where
     pub heard : Result Request RequestFault
     pub asks : IfSome input (λ bytes. Asks bytes heard)
@@ -76,7 +76,7 @@ module _ {T A : Type 0} (honest : Type 0) (content : T → List ℕ) (images : T
     pub gives : Gives heard before answer sent after
     pub is : response ≡ response_of answer
 
-  -- for the crate's own contracts: a request was answered, and that was written of the answer
+  -- for the crate's own contracts: a request was answered, and this was written of the response
   pub record IsServed (request : Request) (old new : Option (List ℕ)) (before : Node T) (sent : Vec Message A) (after : Node T) (said : Outcome) : Type 0 where
     pub answer : Result Response Notice
     pub gives : GivesTo request.asked request before answer sent after
@@ -84,7 +84,7 @@ module _ {T A : Type 0} (honest : Type 0) (content : T → List ℕ) (images : T
 
   -- ---- what one request may do to a node, whether or not the input is known
 
-  -- nothing; or one step Propose, and exactly its messages are handed out
+  -- nothing; or one step Propose, with exactly its messages
   pub data MovesOnce (before : Node T) (sent : Vec Message A) (after : Node T) : Type 0 where
     Stays : IsUnmoved before sent after → MovesOnce before sent after
     Proposes : (d : Definition) (result : Result (Vec Message A) NodeFault) → IsProposed honest content images failures before d result after
@@ -92,7 +92,7 @@ module _ {T A : Type 0} (honest : Type 0) (content : T → List ℕ) (images : T
 
   -- ---- the outcome
 
-  -- a response was written whole, with that status and so many bytes
+  -- a response was written completely, with this status and this many bytes
   pub record SendsAll (input old new : Option (List ℕ)) (before : Node T) (sent : Vec Message A) (after : Node T) (status count : ℕ) : Type 0 where
     pub response : Response
     pub responds : Responds input before response sent after
@@ -100,14 +100,15 @@ module _ {T A : Type 0} (honest : Type 0) (content : T → List ℕ) (images : T
     pub status_is : status ≡ response.status
     pub count_is : IsCount (length (response_bytes response)) count
 
-  -- the first bytes of a response were written, so many, and then the writer failed
+  -- this many first bytes of a response were written, and then the writer failed
   pub record SendsPart (input old new : Option (List ℕ)) (before : Node T) (sent : Vec Message A) (after : Node T) (status count : ℕ) : Type 0 where
     pub response : Response
     pub responds : Responds input before response sent after
     pub written : WritesPart (response_bytes response) old new count
     pub status_is : status ≡ response.status
 
-  -- What became of one request. There is none only where the input is empty; then, and where the reader failed, nothing is written.
+  -- The outcome of one request. There is no request only if the input is empty; then, and if the reader failed, nothing is
+  -- written.
   abbrev pub IsOutcome : Option (List ℕ) → Option (List ℕ) → Option (List ℕ) → Node T → Vec Message A → Node T → Outcome → Type 0
   IsOutcome input old new before sent after (outcome.Sent status count) = SendsAll input old new before sent after status count
   IsOutcome input old new before sent after (outcome.WriteFailed status count) = SendsPart input old new before sent after status count

@@ -1,4 +1,4 @@
--- The target of a request (RFC 9112, section 3.2.1) and what stands at its path.
+-- The target of a request (RFC 9112, section 3.2.1) and the resource at its path.
 use Rattle.std.specs.Prelude.{ℕ, ◌+◌, Bool, ◌==◌, List, length, drop, bytes_eq, codes, Option, Some, None, if◌then◌else◌}
 use Rattle.std.specs.List.{before_first}
 use Rattle.wf_edge.specs.declared.refusal.Allowed.{Allowed}
@@ -9,15 +9,15 @@ use Rattle.wf_edge.specs.declared.resource.Resource.TheVariants as resource
 abbrev pub is_question_mark : ℕ → Bool
 is_question_mark byte = byte == 63
 
--- what stands before the first question mark
+-- the bytes before the first question mark
 abbrev pub path_of : List ℕ → List ℕ
 path_of target = before_first is_question_mark target
 
--- what stands behind the first question mark: nothing where there is none
+-- the bytes after the first question mark: none if there is none
 abbrev pub query_of : List ℕ → List ℕ
 query_of target = drop (length (path_of target) + 1) target
 
--- what stands at a path; paths compare byte by byte
+-- the resource at a path; paths compare byte by byte
 unfoldable pub resource_at : List ℕ → Option Resource
 resource_at path =
     if bytes_eq path (codes "/wms") then Some resource.Wms else (

@@ -1,4 +1,4 @@
-//! What a node answers, and leaves itself as it is.
+//! A node's answers that leave it unchanged.
 ghost use Rattle.std.specs.Prelude.{◌≡◌, length, IfOk};
 ghost use Rattle.wf_edge.specs.Page.{service_page, IsServiceGiven, status_page, accepted_page, bad_map_page};
 ghost use Rattle.wf_wms.specs.Answer.{IsAnswerOf};
@@ -17,7 +17,7 @@ use wf_wms::Answer;
 use wf_wms::cache::Cache;
 use wf_wms::service::{answer, answer_cached};
 
-// What the map service answers to a query at the last published sequence.
+// The map service's answer to a query, at the last published sequence.
 fn answer_at<T: Tape>(alloc: Global, node: &Node<T>, query: &[u8]) -> Result<Answer, AllocError>
     ensures { IfOk result (λ answer. IsAnswerOf (length node.now.parts.history) node.now.parts.history query.now answer) }
 {
@@ -25,7 +25,7 @@ fn answer_at<T: Tape>(alloc: Global, node: &Node<T>, query: &[u8]) -> Result<Ans
     answer(alloc, history.published().number(), history, query)
 }
 
-// The same, by a cache of pictures of the node's maps.
+// The same, with a cache of pictures of the node's maps.
 fn answer_by<T: Tape>(
     alloc: Global,
     node: &Node<T>,
@@ -49,7 +49,7 @@ fn service_page(answer: Answer) -> Page
     Page::new(StatusCode::OK, media, bytes)
 }
 
-/// The page of what the map service answers to a query.
+/// The page of the map service's answer to a query.
 pub(crate) fn answer_query<T: Tape>(
     alloc: Global,
     node: &Node<T>,
@@ -63,7 +63,7 @@ pub(crate) fn answer_query<T: Tape>(
     }
 }
 
-/// The same page, by a cache of pictures of the node's maps.
+/// The same page, with a cache of pictures of the node's maps.
 pub(crate) fn answer_query_by<T: Tape>(
     alloc: Global,
     node: &Node<T>,
@@ -81,7 +81,7 @@ pub(crate) fn answer_query_by<T: Tape>(
     }
 }
 
-/// Where the node stands. It takes no memory.
+/// The status of the node. Allocates nothing.
 pub(crate) fn tell_status<T: Tape>(node: &Node<T>) -> Page
     ensures { result ≡ status_page node.now }
 {
@@ -89,14 +89,14 @@ pub(crate) fn tell_status<T: Tape>(node: &Node<T>) -> Page
     Page::of_line(StatusCode::OK, line)
 }
 
-/// That a map is accepted for the sequence after the last published. It takes no memory.
+/// The page for a map accepted for the sequence after the last published. Allocates nothing.
 pub(crate) fn accept(published: Seq) -> Page
     ensures { result ≡ accepted_page published }
 {
     Page::of_line(StatusCode::ACCEPTED, accepted_line(published))
 }
 
-/// Why a body is no map. It takes no memory.
+/// The page for a body that isn't a map, with its error. Allocates nothing.
 pub(crate) fn tell_fault(fault: MapFault) -> Page
     ensures { result ≡ bad_map_page fault }
 {

@@ -17,7 +17,7 @@ fn join(alloc: Global, front: &[u8], rest: &[u8]) -> Result<Vec<u8>, AllocError>
     Ok(whole)
 }
 
-// Reads a body of so many bytes, some of which may be among those behind the head.
+// Reads a body of `bytes` bytes, some of which may have been read with the head.
 #[tactic(auto, using(crate::proofs::BodyLaw::body_joined, crate::proofs::BodyLaw::body_cut, crate::proofs::BodyLaw::body_unheld, crate::proofs::BodyLaw::missing_taken))]
 fn read_missing<S: Source>(
     alloc: Global,
@@ -48,8 +48,9 @@ fn read_missing<S: Source>(
     }
 }
 
-/// Reads a body of so many bytes, of which these came behind the head. A byte behind the body may be among them, and isn't looked at;
-/// none is read that isn't: where all of the body came behind the head, nothing is read. A body of no bytes allocates nothing either.
+/// Reads a body of `bytes` bytes, of which those in `behind` were read with the head. Bytes after the body may be among them, and
+/// are ignored; no further ones are read: if all of the body came with the head, nothing is read. An empty body allocates nothing
+/// either.
 #[tactic(auto, using(crate::proofs::BodyLaw::nothing_taken))]
 pub fn read_body<S: Source>(
     alloc: Global,

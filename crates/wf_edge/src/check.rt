@@ -8,7 +8,7 @@ use crate::refusal::Refusal;
 use crate::resource::{Asked, Resource};
 use crate::target::{method_name, method_of, path_of, resource_at};
 
-/// How long a body may be, in bytes.
+/// The greatest length of a body, in bytes.
 pub const MOST_BODY_BYTES: usize = 65_536;
 
 #[tactic(auto, unfolding(crate::specs::Checks::check_target))]
@@ -56,7 +56,7 @@ fn check_method_of(resource: Resource, method: &[u8]) -> Option<Refusal>
     }
 }
 
-// The rejection of the first check on any head that fails.
+// The rejection by the first check on any head that fails.
 fn refuse_head(found: Option<Resource>, target: &[u8], method: &[u8]) -> Option<Refusal>
     ensures { result ≡ first_failing (head_checks found target.now method.now) }
 {
@@ -89,8 +89,8 @@ fn both(a: bool, b: bool) -> bool
     a && b
 }
 
-// Whether all lengths are digits, and the number of the first. Two numbers are the same where their digits are, without the zeros
-// before them, whatever their length.
+// Whether all lengths are digits, and the same number as the first. Numbers are compared by their digits without leading zeros,
+// so they may have any length.
 #[tactic(auto, using(crate::proofs::NumberLaw::numbers_agree))]
 fn are_one_number(fields: &Fields<'_>, first: &[u8]) -> bool
     requires { first_of (lengths_of fields.now) ≡ Some first.now }
@@ -131,7 +131,7 @@ fn check_size(first: Option<&[u8]>) -> Option<Refusal>
     }
 }
 
-// The rejection of the first check on a body that fails.
+// The rejection by the first check on a body that fails.
 #[tactic(auto, using(crate::proofs::CheckLaw::first_of_four))]
 fn refuse_body(fields: &Fields<'_>) -> Option<Refusal>
     ensures { result ≡ first_failing (body_checks (codings_of fields.now) (lengths_of fields.now)) }
@@ -143,7 +143,7 @@ fn refuse_body(fields: &Fields<'_>) -> Option<Refusal>
         .or(check_size(length))
 }
 
-// The length that a body within the limit has.
+// The length of a body within the limit.
 fn body_length(first: Option<&[u8]>) -> usize
     requires { IfSome (option_map (λ value. value.now) first) (λ digits. number digits ≤ most_body_bytes) }
     ensures { result ≡ body_length (option_map (λ value. value.now) first.entry) }
@@ -154,7 +154,7 @@ fn body_length(first: Option<&[u8]>) -> usize
     }
 }
 
-// A publish, where the checks on its body pass.
+// A publish, if the checks on its body pass.
 #[tactic(auto, using(crate::proofs::CheckLaw::size_passed))]
 fn publish_asked(fields: &Fields<'_>) -> Result<Asked, Refusal>
     ensures { result ≡ publish_asked (first_failing (body_checks (codings_of fields.now) (lengths_of fields.now)))
@@ -166,7 +166,7 @@ fn publish_asked(fields: &Fields<'_>) -> Result<Asked, Refusal>
     }
 }
 
-// What is asked of what stands at the path.
+// The request to the resource at the path.
 fn asked_at(found: Option<Resource>, fields: &Fields<'_>) -> Result<Asked, Refusal>
     ensures { result ≡ asked_at found (codings_of fields.now) (lengths_of fields.now) }
 {
@@ -178,8 +178,9 @@ fn asked_at(found: Option<Resource>, fields: &Fields<'_>) -> Result<Asked, Refus
     }
 }
 
-/// What a head asks for, or the rejection of the first check that fails: of the target (400), its path (404), its method (405), and of
-/// a publish the body's coding (501), whether its length is told (411), is one whole number (400) and is within the limit (413).
+/// What a head asks for, or the rejection by the first check that fails: of the target (400), its path (404), its method (405),
+/// and, for a publish, the body's coding (501), whether its length is given (411), is one whole number (400) and is within the
+/// limit (413).
 #[tactic(auto, unfolding(crate::specs::Checks::judged))]
 pub fn judge(method: &[u8], target: &[u8], fields: &Fields<'_>) -> Result<Asked, Refusal>
     ensures { result ≡ judged (record { method = method.now; target = target.now; fields = fields.now }) }

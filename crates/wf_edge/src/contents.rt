@@ -1,4 +1,4 @@
-//! What a page holds.
+//! The contents of a page.
 
 use crate::line::Line;
 
@@ -7,6 +7,6 @@ use crate::line::Line;
 pub enum Contents {
     /// An answer of the map service.
     Bytes(Vec<u8>),
-    /// A line of the node's own, in place.
+    /// A line of the node's own, stored inline.
     Line(Line),
 }

@@ -9,8 +9,8 @@ pub enum RequestFault {
     NoRequest,
     /// A read failed.
     ReadFailed,
-    /// Memory ran out.
+    /// An allocation failed.
     Memory,
-    /// What was read is rejected.
+    /// The input is rejected.
     Refused(Refusal),
 }

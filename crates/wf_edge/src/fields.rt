@@ -1,4 +1,4 @@
-//! The fields of a head.
+//! The header fields of a request.
 ghost use Rattle.std.specs.Prelude.{◌≡◌, ◌≤◌, ◌^◌, ◌-◌, ◌&&◌, not, is_some, bytes_eq, min, length, map, find, option_map};
 ghost use Rattle.std.specs.Char.{is_ascii_digit};
 ghost use Rattle.std.specs.List.{list_all, prefix_len};
@@ -9,10 +9,10 @@ use crate::span::covered;
 use httparse::spans::HeaderSpan;
 use std::marker::Model;
 
-/// The name of the field that tells a body's transfer codings (RFC 9112, section 6.1).
+/// The name of the field with a body's transfer codings (RFC 9112, section 6.1).
 pub const TRANSFER_ENCODING: &[u8] = b"Transfer-Encoding";
 
-/// The name of the field that tells a body's length (RFC 9110, section 8.6).
+/// The name of the field with a body's length (RFC 9110, section 8.6).
 pub const CONTENT_LENGTH: &[u8] = b"Content-Length";
 
 fn are_all_digits(bytes: &[u8]) -> bool
@@ -21,7 +21,7 @@ fn are_all_digits(bytes: &[u8]) -> bool
     bytes.iter().all(|byte| byte.is_ascii_digit())
 }
 
-// Whether a value is decimal digits, one at least.
+// Whether a value is one or more decimal digits.
 fn is_digits(value: &[u8]) -> bool
     ensures { result ≡ is_digits value.now }
 {
@@ -38,14 +38,14 @@ fn count_zeros(digits: &[u8]) -> usize
     digits.iter().take_while(|digit| **digit == b'0').count()
 }
 
-// The digits without the zeros before them.
+// The digits without leading zeros.
 fn significant(digits: &[u8]) -> &[u8]
     ensures { result.now ≡ significant digits.now }
 {
     digits.split_at(count_zeros(digits)).1
 }
 
-/// The whole number that digits stand for, or `u64::MAX` where it is greater.
+/// The whole number with these digits, or `u64::MAX` if it is greater.
 pub fn number(digits: &[u8]) -> u64
     ensures { result ≡ min (number digits.now) (2 ^ 64 - 1) }
 {
@@ -58,21 +58,21 @@ pub fn number(digits: &[u8]) -> u64
     number
 }
 
-// Whether the field that a span covers has that name.
+// Whether the field at a span has this name.
 fn is_named(bytes: &[u8], span: &HeaderSpan, name: &[u8]) -> bool
     ensures { result ≡ is_named name.now (header_bytes bytes.now span.now) }
 {
     covered(bytes, span.name).eq_ignore_ascii_case(name)
 }
 
-// Whether the field that a span covers has that name, and its value isn't digits.
+// Whether the field at a span has this name, and its value isn't digits.
 fn has_no_digits(bytes: &[u8], span: &HeaderSpan, name: &[u8]) -> bool
     ensures { result ≡ (is_named name.now (header_bytes bytes.now span.now) && not (is_digits (header_bytes bytes.now span.now).1)) }
 {
     is_named(bytes, span, name) && !is_digits(covered(bytes, span.value))
 }
 
-// Whether the field that a span covers has that name, and its value is another one than this, zeros before it aside.
+// Whether the field at a span has this name, and its value differs from this one, leading zeros aside.
 fn has_other(bytes: &[u8], span: &HeaderSpan, name: &[u8], first: &[u8]) -> bool
     ensures { result ≡ (is_named name.now (header_bytes bytes.now span.now)
         && not (bytes_eq (significant (header_bytes bytes.now span.now).1) (significant first.now))) }
@@ -80,7 +80,7 @@ fn has_other(bytes: &[u8], span: &HeaderSpan, name: &[u8], first: &[u8]) -> bool
     is_named(bytes, span, name) && significant(covered(bytes, span.value)) != significant(first)
 }
 
-/// The fields of a head, as where they stand in its bytes.
+/// The header fields of a request, as spans of its bytes.
 #[derive(Drop)]
 pub struct Fields<'b> {
     bytes: &'b [u8],
@@ -144,14 +144,14 @@ impl<'b> Fields<'b> {
         self.found(name)
     }
 
-    /// Whether the value of each field of that name is decimal digits, one at least.
+    /// Whether the value of each field of that name is one or more decimal digits.
     pub fn are_digits(&self, name: &[u8]) -> bool
         ensures { result ≡ list_all is_digits (values name.now self.now) }
     {
         !self.found_no_digits(name)
     }
 
-    /// Whether the value of each field of that name is this one, but for zeros before it.
+    /// Whether the value of each field of that name is this one, leading zeros aside.
     pub fn are_same(&self, name: &[u8], first: &[u8]) -> bool
         ensures { result ≡ list_all (λ value. bytes_eq (significant value) (significant first.now)) (values name.now self.now) }
     {

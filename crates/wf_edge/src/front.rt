@@ -1,4 +1,4 @@
-//! The front of a request: its head, and what came behind it.
+//! The front of a request: its head, and the bytes read after it.
 ghost use Rattle.std.specs.Prelude.{◌≡◌, ◌≢◌, ◌≤◌, ◌<◌, ◌+◌, ◌-◌, ◌++◌, ℕ, List, Option, None, Ok, length, IfOk, IfErr, IfSome, OnOk};
 ghost use Rattle.std.specs.Io.KnownBytes.{Consumes, IsAtEnd};
 ghost use Rattle.httparse.specs.Grammar.{HasNoRequest};
@@ -21,27 +21,27 @@ use std::io;
 use std::marker::Model;
 use wf_stream::Source;
 
-/// How long a head may be, in bytes, with the empty lines before it.
+/// The greatest length of a head, in bytes, with the empty lines before it.
 pub const MOST_HEAD_BYTES: usize = 8_192;
 
-/// How many fields a head may have.
+/// The greatest number of fields of a head.
 pub const MOST_FIELDS: usize = 32;
 
-/// The limits of the code are those of the definitions.
+/// The limits in the code equal those in the specifications.
 pub fn limits_are_as_defined()
     ensures bytes { MOST_HEAD_BYTES ≡ most_head_bytes }
     ensures fields { MOST_FIELDS ≡ most_fields }
     ensures body { MOST_BODY_BYTES ≡ most_body_bytes }
 {}
 
-// Where the parts of a head stand.
+// The spans of the parts of a head.
 #[derive(Clone, Copy)]
 struct Parts {
     fields: [HeaderSpan; MOST_FIELDS],
     spans: RequestSpans,
 }
 
-// The head at the front of the bytes, none where they may still become one.
+// The head at the front of the bytes; none if they may still become one.
 #[tactic(auto, using(crate::proofs::HeadLaw::small, crate::proofs::HeadLaw::overflows))]
 fn parse(bytes: &[u8]) -> Result<Option<Parts>, Refusal>
     requires { length bytes.now ≤ most_head_bytes }
@@ -60,7 +60,7 @@ fn parse(bytes: &[u8]) -> Result<Option<Parts>, Refusal>
     }
 }
 
-// What it means that the input ends, and no head stands in it.
+// The result if the input ends without a complete head.
 fn ended(bytes: &[u8]) -> RequestFault
     requires { IsUnfinished bytes.now }
     ensures fault { IsHeadFault bytes.now result }
@@ -74,10 +74,10 @@ fn ended(bytes: &[u8]) -> RequestFault
     }
 }
 
-// What is read of a head, in place: it takes no memory.
+// The bytes read while looking for a head, stored inline: allocates nothing.
 type HeadBytes = ArrayVec<u8, MOST_HEAD_BYTES>;
 
-// Puts a piece behind the bytes.
+// Appends a piece.
 #[tactic(auto, using(crate::proofs::Room::has_room, crate::proofs::Room::is_put, crate::proofs::Room::pushed))]
 fn extend(bytes: &mut HeadBytes, piece: &[u8])
     requires { length bytes.old.items + length piece.now ≤ most_head_bytes }
@@ -87,7 +87,7 @@ fn extend(bytes: &mut HeadBytes, piece: &[u8])
     bytes.try_extend_from_slice(piece).unwrap();
 }
 
-// One read of at most as many bytes as there is room for, put behind those that are there.
+// Reads once, at most as many bytes as there is room for, and appends them.
 #[tactic(auto, using(crate::proofs::HeadLaw::piece_kept, crate::proofs::HeadLaw::piece_taken))]
 fn read_on<S: Source>(source: &mut S, bytes: &mut HeadBytes) -> io::Result<usize>
     requires { length bytes.old.items < most_head_bytes }
@@ -109,7 +109,7 @@ fn read_on<S: Source>(source: &mut S, bytes: &mut HeadBytes) -> io::Result<usize
     }
 }
 
-// Reads a further piece, and looks for a head in what has come.
+// Reads one more piece, and looks for a head in the bytes so far.
 #[tactic(auto, using(crate::proofs::HeadLaw::fault_at_end, crate::proofs::HeadLaw::nothing_more, crate::proofs::HeadLaw::head_looked_for, wf_stream::specs::KnownLaws::piece_length))]
 fn read_more<S: Source>(
     source: &mut S,
@@ -140,7 +140,7 @@ fn read_more<S: Source>(
     }
 }
 
-/// A head that was read, and the bytes that came behind it.
+/// A head, and the bytes read after it.
 #[derive(Drop)]
 pub struct Front {
     bytes: HeadBytes,
@@ -156,8 +156,8 @@ impl Model for Front {
 }
 
 impl Front {
-    /// Reads from the front of the input until a head is whole, and no further: at most 8,192 bytes, in at most so many calls, since
-    /// each gives a byte, the end or a failure. It takes no memory.
+    /// Reads from the front of the input until a head is complete, and no further: at most 8,192 bytes, in at most that many
+    /// calls, since each call returns a byte, the end or an error. Allocates nothing.
     #[tactic(auto, using(crate::proofs::HeadLaw::fault_at_limit, crate::proofs::HeadLaw::taken_at_limit))]
     pub fn read<S: Source>(source: &mut S) -> Result<Self, RequestFault>
         ensures ok { IfOk result (TakesFront (S.left source.old) (S.left source.new)) }
@@ -184,7 +184,7 @@ impl Front {
         covered(self.bytes.as_slice(), self.parts.spans.path)
     }
 
-    /// What came behind the head.
+    /// The bytes read after the head.
     pub fn behind(&self) -> &[u8]
         ensures { result.now ≡ self.now.behind }
     {
@@ -206,7 +206,7 @@ impl Front {
         Fields::new(self.bytes.as_slice(), self.parts.fields.split_at(count).0)
     }
 
-    /// What the head asks for, or the rejection of the first check that fails.
+    /// What the head asks for, or the rejection by the first check that fails.
     pub fn judge(&self) -> Result<Asked, Refusal>
         ensures { result ≡ judged self.now.head }
     {

@@ -1,4 +1,4 @@
-//! Lines that are gathered before they go out.
+//! Lines buffered before they are written.
 ghost use Rattle.std.specs.Prelude.{◌≡◌, [], Some};
 ghost use Rattle.wf_stream.specs.Reading.{Rises};
 
@@ -7,11 +7,11 @@ use std::io;
 use std::io::ErrorKind;
 use wf_stream::Sink;
 
-/// How many bytes there is room for: more than the lines before any body of this server's have.
+/// The size of the buffer: more than the lines before the body of any response of this server.
 const ROOM: usize = 512;
 
-/// A writer into a buffer of its own, so that what was written to it goes out in one piece. It allocates nothing; what it has no room
-/// for is a failure.
+/// A writer into its own buffer, whose contents are then written in one piece. Allocates nothing; a write that exceeds the buffer
+/// fails.
 #[derive(Drop)]
 pub(crate) struct Gathered {
     bytes: ArrayVec<u8, ROOM>,
@@ -19,7 +19,7 @@ pub(crate) struct Gathered {
 }
 
 impl Gathered {
-    /// A buffer with nothing in it.
+    /// An empty buffer.
     pub(crate) fn new() -> Self
         ensures { result.bytes.items ≡ [] }
     {
@@ -29,7 +29,7 @@ impl Gathered {
         }
     }
 
-    /// What was written.
+    /// The bytes written.
     pub(crate) fn bytes(&self) -> &[u8]
         ensures { result.now ≡ self.now.bytes.items }
     {

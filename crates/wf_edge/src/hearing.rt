@@ -1,4 +1,4 @@
-//! A request is heard: read, or rejected at once.
+//! A request is read, or rejected at once.
 ghost use Rattle.std.specs.Prelude.{◌≡◌, Ok, IfOk, IfErr, OnOk, IfSome};
 ghost use Rattle.wf_edge.specs.Checks.{judged};
 ghost use Rattle.wf_edge.specs.Request.{BeginsWith, TakesRequest};
@@ -11,9 +11,9 @@ use crate::saying::say_fault;
 use std::alloc::Global;
 use wf_stream::{Sink, Source};
 
-/// Reads the request at the front of the input, and nothing behind it but what came in one piece with the last of its head. Where there is
-/// none to answer, its rejection is written, or 503 where memory for its body ran out, and this is the outcome; nothing is written where
-/// the input is empty or a read failed.
+/// Reads the request at the front of the input, and nothing after it but what came in one piece with the last of its head. Err:
+/// the outcome of the response if there is no request to answer: its rejection, or 503 if an allocation for its body fails;
+/// nothing is written if the input is empty or a read failed.
 #[tactic(auto, using(crate::proofs::HearingLaw::unheard, crate::proofs::HearingLaw::fault_reads))]
 pub fn hear<S: Source, K: Sink>(
     alloc: Global,

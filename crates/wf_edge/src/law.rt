@@ -1,21 +1,21 @@
-//! The laws of responses.
+//! Theorems about responses.
 ghost use Rattle.std.specs.declared.alloc.Global.{Global};
 ghost use Rattle.wf_edge.specs.Law.{EachQueryHasOnePage, EqualRequestsHaveEqualResponses};
 
 use wf_tape::Tape;
 use wf_wms::law::each_query_has_one_answer;
 
-/// A query to the map service has one page, and no other, wherever the map that it is for is the same: at nodes that have published as
-/// many maps, and, of a GetMap request that is for one sequence at both, at nodes that have published more or fewer. A law: the call does
-/// nothing.
+/// A query to the map service has exactly one page wherever the map that it asks for is the same: at nodes that have published
+/// equally many maps, and, for a GetMap request for one sequence at both, at nodes that have published more or fewer. A theorem:
+/// the call does nothing.
 pub fn each_query_has_one_page()
     ensures { EachQueryHasOnePage }
 {
     each_query_has_one_answer();
 }
 
-/// Two nodes, or one node at two moments, that get the same request to the map service respond with the same bytes, wherever the map that
-/// it is for is the same, and neither responds that memory ran out. A law: the call does nothing.
+/// Two nodes, or one node at two times, respond to the same request to the map service with the same bytes, wherever the map that
+/// it asks for is the same and neither responds with allocation failure. A theorem: the call does nothing.
 pub fn equal_requests_have_equal_responses<T: Tape>()
     ensures { EqualRequestsHaveEqualResponses Global T.honest T.content T.images T.failed }
 {

@@ -1,33 +1,38 @@
-//! The edge of a node: HTTP over any reader and writer (RFC 9110, RFC 9112).
+//! The HTTP server side of a node, over any reader and writer (RFC 9110, RFC 9112).
 //!
-//! Readers and writers are [`wf_stream::Source`] and [`wf_stream::Sink`], which count the calls that failed and tell their bytes
-//! where these are known. [`front::Front`] is the head of a request with what came behind it, [`check::judge`] the checks on a head,
-//! [`body::read_body`] reads a body, and [`request::Request`] is all of these. [`response::Response`] is what is written, and
-//! [`saying::say`] tells its [`outcome::Outcome`]. A [`notice::Notice`] is told in one line, and [`saying::say_fault`] answers where
-//! a request can't be read. [`hearing::hear`] is both: it reads a request, or answers why there is none. [`serve::serve_one`] is the
-//! whole: it hears a request, answers it by a node, and writes the answer; [`serve::serve_one_cached`] is the same by a cache of
-//! pictures of the node's maps.
+//! Readers and writers are [`wf_stream::Source`] and [`wf_stream::Sink`], which count their failed calls and report their bytes
+//! if known.
+//! - [`front::Front`] is the head of a request with the bytes read after it; [`check::judge`] checks a head; [`body::read_body`]
+//!   reads a body; [`request::Request`] combines these.
+//! - [`response::Response`] is a response; [`saying::say`] writes it and returns its [`outcome::Outcome`]. A [`notice::Notice`]
+//!   is a response of one line; [`saying::say_fault`] responds if a request can't be read.
+//! - [`hearing::hear`] reads a request, or responds why there is none.
+//! - [`serve::serve_one`] does everything: it reads a request, answers it by a node, and writes the response;
+//!   [`serve::serve_one_cached`] does so with a cache of pictures of the node's maps.
 //!
-//! Its model: a request is its head, what that asks for, and its body (`specs/Request.antt`); a response is its status, media type,
-//! the allowed method and its body (`specs/Response.antt`). What is answered to a request, and which step of the node that is, says
-//! `specs/Serving.antt`, with the pages in `specs/Page.antt` and a publish in `specs/Publish.antt`.
+//! **Model.** A request is its head, what the head asks for, and its body (`specs/Request.antt`); a response is its status, media
+//! type, allowed method and body (`specs/Response.antt`). `specs/Serving.antt` states the response to a request and the node's
+//! step, with the pages in `specs/Page.antt` and a publish in `specs/Publish.antt`.
 //!
-//! It promises, of [`request::Request::read`], that the request is the one at the front of the input, that a rejection is for its head,
-//! for the first check that fails or for a body that is cut short, that a failed read is told exactly where one has failed, and that
-//! nothing behind the request is taken but what came in one piece with the last of its head: no read is made once it is whole. Of
-//! [`response::Response::write`] it promises that exactly the bytes of the response are written, or a beginning of them where the
-//! writer failed; of [`hearing::hear`], that the request is the one at the front of the input and nothing is written yet, or that the
-//! response of a reason why there is none is (`specs/Notice.antt`), and nothing where the input is empty or a read failed. Of
-//! [`serve::serve_one`] it promises that a response to the input is written, or a beginning of it, and how much of it; and, also of
-//! readers and writers that tell no bytes, that the node is as it was or made one step Propose, whose messages are handed out whatever
-//! became of the writing. With a cache it promises the same, and that the cache's pictures are still those of the node's maps. [`law`]
-//! has what follows for two nodes: equal requests to the map service have equal responses.
+//! **Promises.**
+//! - [`request::Request::read`]: the request is the one at the front of the input; a rejection is for its head, for the first
+//!   check that fails, or for a truncated body; a failed read is reported iff one has failed; and nothing after the request is
+//!   consumed but what came in one piece with the last of its head: no read is made once the request is complete.
+//! - [`response::Response::write`]: exactly the bytes of the response are written, or a prefix of them if the writer failed.
+//! - [`hearing::hear`]: either the request is the one at the front of the input and nothing is written yet, or the response for
+//!   the reason why there is none is written (`specs/Notice.antt`), and nothing if the input is empty or a read failed.
+//! - [`serve::serve_one`]: a response to the input is written, or a prefix of it, and the number of bytes written is reported;
+//!   and, even for readers and writers whose bytes aren't known, the node is unchanged or made one step Propose, whose messages
+//!   are returned whether or not the write succeeds.
+//! - [`serve::serve_one_cached`]: the same, and the cache's pictures are still those of the node's maps.
+//! - [`law`]: equal requests to the map service have equal responses, at two nodes too.
 //!
-//! Memory is taken for a body, for an answer of the map service and for the step of a publish: 503 for allocation failure is never told of
-//! a request that its head rejects, of `/status`, or, once it is read, of a body that is no UTF-8. A body that means no map is told its fault, as far as `wf_mapfile`'s `read`
-//! promises which.
+//! Only a body, an answer of the map service and the step of a publish allocate: a request that its head rejects, a request for
+//! `/status`, and, once it is read, a body that isn't UTF-8 are never answered with 503 for allocation failure. A body that isn't
+//! a map is answered with its error, as far as `wf_mapfile`'s `read` promises which.
 //!
-//! It doesn't promise that a reader ever gives its next byte, that memory is found or was needed where it isn't, or that a message arrives.
+//! **Doesn't.** It doesn't promise that a reader ever returns its next byte, that an allocation succeeds or had to fail, or that
+//! a message arrives.
 #![tactic(auto)]
 
 mod answering;

@@ -9,10 +9,10 @@ use wf_ballot::{NodeId, Seq, Slot};
 use wf_mapfile::fault::MapFault;
 use wf_proposer::Standing;
 
-/// How long a line may be, in bytes: more than any has.
+/// The greatest length of a line, in bytes: more than any has.
 const MOST_LINE_BYTES: usize = 128;
 
-/// A line of plain text, in place: it takes no memory.
+/// A line of plain text, stored inline: allocates nothing.
 #[derive(Drop)]
 pub struct Line {
     bytes: ArrayVec<u8, MOST_LINE_BYTES>,
@@ -51,7 +51,7 @@ impl Line {
         self.push_bytes(text.as_bytes());
     }
 
-    // A number has 20 digits at most.
+    // A number has at most 20 digits.
     #[tactic(auto, using(crate::proofs::Room::pushed))]
     fn push_number(&mut self, number: usize)
         requires { length self.old.bytes.items + 20 ≤ most_line_bytes }
@@ -62,7 +62,7 @@ impl Line {
         self.push_bytes(digits.format(number).as_bytes());
     }
 
-    // Appends how a proposal stands.
+    // Appends the state of a proposal.
     fn push_standing(&mut self, standing: Standing)
         requires { length self.old.bytes.items + 30 ≤ most_line_bytes }
         ensures text { self.new.bytes.items ≡ self.old.bytes.items ++ standing_words standing }
@@ -85,7 +85,7 @@ impl Line {
         self.push_number(usize::from(slot.number()));
     }
 
-    // Appends a fault's number and its place.
+    // Appends an error's number and its position.
     #[tactic(auto, unfolding(crate::specs::Page::at_place))]
     fn push_at_place(&mut self, number: &str, place: usize)
         requires { length self.old.bytes.items + length number.now + 21 ≤ most_line_bytes }
@@ -97,7 +97,7 @@ impl Line {
         self.push_number(place);
     }
 
-    // Appends a fault of a mapfile.
+    // Appends an error of a mapfile.
     fn push_fault(&mut self, fault: MapFault)
         requires { length self.old.bytes.items + 24 ≤ most_line_bytes }
         ensures text { self.new.bytes.items ≡ self.old.bytes.items ++ fault_words fault }
@@ -120,7 +120,7 @@ impl Line {
     }
 }
 
-/// The line that tells where a node stands: its number, what it published last and how its proposal stands.
+/// The line with the node's status: its number, its last published sequence and the state of its proposal.
 #[tactic(auto, unfolding(crate::specs::Page::status_words))]
 pub(crate) fn status_line(id: NodeId, published: Seq, standing: Standing) -> Line
     ensures { result.bytes.items ≡ text_line (status_words id published standing) }
@@ -136,7 +136,7 @@ pub(crate) fn status_line(id: NodeId, published: Seq, standing: Standing) -> Lin
     line
 }
 
-/// The line that tells the sequence that a map is proposed for: the one after the last published.
+/// The line with the sequence that a map is proposed for: the one after the last published.
 #[tactic(auto, unfolding(crate::specs::Page::accepted_words))]
 pub(crate) fn accepted_line(published: Seq) -> Line
     ensures { result.bytes.items ≡ text_line (accepted_words published) }
@@ -148,7 +148,7 @@ pub(crate) fn accepted_line(published: Seq) -> Line
     line
 }
 
-/// The line that tells the fault of a mapfile.
+/// The line with the error of a mapfile.
 pub(crate) fn fault_line(fault: MapFault) -> Line
     ensures { result.bytes.items ≡ text_line (fault_words fault) }
 {

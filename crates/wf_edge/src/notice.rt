@@ -1,20 +1,20 @@
-//! What is told in place of a page.
+//! Responses in place of a page.
 
 use crate::refusal::Refusal;
 
-/// What is told in one line of plain text, and allocates nothing. Each has its status.
+/// A response of one line of plain text, which allocates nothing. Each has its status.
 #[derive(Clone, Copy, PartialEq, Eq)]
 pub enum Notice {
     /// The request is rejected: the line is the status.
     Refused(Refusal),
     /// 400 `K1`: the canonical text of the map is over 32,768 bytes.
     TooBig,
-    /// 409 `N2`: a proposal runs.
+    /// 409 `N2`: a proposal is running.
     Busy,
     /// 409 `N3`: the last sequence is published.
     SequenceFull,
     /// 409 `N4`: there is no higher round.
     RoundsFull,
-    /// 503: memory ran out, or the node's tape failed, now or before.
+    /// 503: an allocation failed, or the node's tape fails or has failed before.
     Unavailable,
 }

@@ -1,13 +1,13 @@
-//! What became of one request.
+//! The outcome of one request.
 
-/// What became of one request.
+/// The outcome of one request.
 #[derive(Clone, Copy, PartialEq, Eq)]
 pub enum Outcome {
-    /// A response of that status is written whole; it has so many bytes.
+    /// The response with this status was written completely; it has this many bytes.
     Sent(u16, u64),
-    /// The writer failed in a response of that status, after so many bytes.
+    /// The writer failed within the response with this status, after this many bytes.
     WriteFailed(u16, u64),
-    /// The reader failed before the request was whole. Nothing is written.
+    /// The reader failed before the request was complete. Nothing is written.
     ReadFailed,
     /// The input is empty. Nothing is written.
     NoRequest,

@@ -1,4 +1,4 @@
-//! What a node answers with a body of its own.
+//! A node's responses with a body of their own.
 ghost use Rattle.std.specs.Prelude.{◌≡◌, None};
 ghost use Rattle.wf_edge.specs.Contents.{bytes_of};
 ghost use Rattle.wf_edge.specs.Notice.{plain};
@@ -10,7 +10,7 @@ use crate::telling::PLAIN;
 use http::StatusCode;
 use std::marker::Model;
 
-/// An answer with its body in memory.
+/// A response whose body is in memory.
 #[derive(Drop)]
 pub(crate) struct Page {
     status: StatusCode,
@@ -38,7 +38,7 @@ fn slice(contents: &Contents) -> &[u8]
 }
 
 impl Page {
-    /// A page of a status, with a body of a media type.
+    /// A page with a status, and a body of a media type.
     pub(crate) fn new(status: StatusCode, media: &'static str, body: Vec<u8>) -> Self
         ensures { result ≡ record { status = status; media = media.now; allowed = None; body = body.items } }
     {
@@ -49,7 +49,7 @@ impl Page {
         }
     }
 
-    /// A page of one line of plain text. It takes no memory.
+    /// A page of one line of plain text. Allocates nothing.
     pub(crate) fn of_line(status: StatusCode, line: Line) -> Self
         ensures { result ≡ record { status = status; media = plain; allowed = None; body = line.bytes.items } }
     {
@@ -60,7 +60,7 @@ impl Page {
         }
     }
 
-    /// The response that it is.
+    /// The page as a response.
     pub(crate) fn response(&self) -> Response<'_>
         ensures { result ≡ self.now }
     {

@@ -1,4 +1,4 @@
-//! A map is published: it is read, made canonical, and proposed by the node.
+//! Publishing a map: it is parsed, made canonical, and proposed by the node.
 ghost use Rattle.std.specs.Prelude.{◌≡◌, IfOk, IfErr, if◌then◌else◌};
 ghost use Rattle.wf_mapfile.specs.Meaning.{Means};
 ghost use Rattle.wf_mapfile.specs.Reading.{is_memory};
@@ -18,7 +18,7 @@ use wf_mapfile::read;
 use wf_node::{Input, Node, NodeFault};
 use wf_tape::Tape;
 
-// Why a body that can't be read isn't proposed.
+// Why a body that can't be parsed isn't proposed.
 fn unread(fault: MapFault) -> PublishFault
     ensures { result ≡ (if is_memory fault then PublishFault.Memory else PublishFault.Map fault) }
 {
@@ -38,7 +38,7 @@ fn unwritten(fault: CanonFault) -> PublishFault
     }
 }
 
-// The map that a body means.
+// The map in a body.
 #[tactic(auto, using(crate::proofs::PublishLaw::why_unread))]
 fn map_in(alloc: Global, body: &[u8]) -> Result<MapDef, PublishFault>
     ensures ok { IfOk result (λ map. Means body.now map) }
@@ -63,7 +63,7 @@ fn canon_of(alloc: Global, body: &[u8], map: &MapDef) -> Result<Canon, PublishFa
     }
 }
 
-// The map that a body means, with its canonical text.
+// The map in a body, with its canonical text.
 fn canon_in(alloc: Global, body: &[u8]) -> Result<Canon, PublishFault>
     ensures ok { IfOk result (IsMapOf body.now) }
     ensures err { IfErr result (IsWhyNoMap body.now) }
@@ -89,7 +89,7 @@ fn propose<T: Tape>(
     node.step(alloc, Input::Propose(canon))
 }
 
-// Proposes a map. The step is the last that takes memory.
+// Proposes a map. The step is the last to allocate.
 #[tactic(auto, using(crate::proofs::PublishLaw::accepted, crate::proofs::PublishLaw::node_fails))]
 fn publish_map<T: Tape>(
     alloc: Global,
@@ -110,8 +110,8 @@ fn publish_map<T: Tape>(
     }
 }
 
-/// Publishes the map in a body: the node's step Propose, with the page that tells so and the messages of the step. No step is made
-/// where the body is no map, its canonical text is too long, or memory runs out before.
+/// Publishes the map in a body: performs the node's step Propose, and returns the page that reports it and the messages of the
+/// step. No step is made if the body isn't a map, its canonical text is too long, or an allocation fails before.
 pub(crate) fn publish<T: Tape>(
     alloc: Global,
     node: &mut Node<T>,
@@ -125,7 +125,7 @@ pub(crate) fn publish<T: Tape>(
     }
 }
 
-/// What is told of a map that isn't proposed. It takes no memory.
+/// The notice for a map that isn't proposed. Allocates nothing.
 pub(crate) fn tell_publish_fault(fault: PublishFault) -> Result<Page, Notice>
     ensures { TellsFault fault result }
 {

@@ -6,11 +6,11 @@ use wf_node::NodeFault;
 /// Why a map isn't proposed.
 #[derive(Clone, Copy)]
 pub enum PublishFault {
-    /// The body is no map: another fault than allocation failure.
+    /// The body isn't a map: an error other than allocation failure.
     Map(MapFault),
     /// The map's canonical text is over 32,768 bytes.
     TooBig,
-    /// Memory ran out, before the node was asked.
+    /// An allocation failed before the node's step.
     Memory,
     /// The node rejected the proposal, or failed.
     Node(NodeFault),

@@ -1,6 +1,6 @@
 //! Why a request is rejected.
 
-/// The methods that a resource may have (RFC 9110, section 9.3).
+/// The methods of the resources (RFC 9110, section 9.3).
 #[derive(Clone, Copy, PartialEq, Eq)]
 pub enum Allowed {
     Get,
@@ -10,14 +10,14 @@ pub enum Allowed {
 /// Why a request is rejected, each with its status (RFC 9110, section 15; RFC 6585, section 5).
 #[derive(Clone, Copy, PartialEq, Eq)]
 pub enum Refusal {
-    /// 400: no head can be read or it isn't whole, the target doesn't begin with `/`, the body's length isn't one whole number, or
-    /// the body is cut short.
+    /// 400: no head can be parsed or it is incomplete, the target doesn't begin with `/`, the body's length isn't one whole
+    /// number, or the body is truncated.
     BadRequest,
-    /// 404: nothing stands at the path.
+    /// 404: there is no resource at the path.
     NotFound,
-    /// 405: what stands there has this method alone.
+    /// 405: the resource allows only this method.
     MethodNotAllowed(Allowed),
-    /// 411: the body's length isn't told.
+    /// 411: the body's length isn't given.
     LengthRequired,
     /// 413: the body is longer than 65,536 bytes.
     ContentTooLarge,

@@ -1,4 +1,4 @@
-//! What is answered to a request.
+//! The reply to a request.
 ghost use Rattle.std.specs.Prelude.{◌≡◌};
 ghost use Rattle.wf_edge.specs.Serving.{GivesPublish, GivesTo};
 ghost use Rattle.wf_wms.specs.Kept.{AllKept};
@@ -15,7 +15,7 @@ use wf_node::Node;
 use wf_tape::Tape;
 use wf_wms::cache::Cache;
 
-/// A page or a notice in its place, and the messages that the node sends.
+/// A page or the notice in its place, and the messages that the node sends.
 #[derive(Drop)]
 pub(crate) struct Reply {
     pub(crate) answer: Result<Page, Notice>,
@@ -39,7 +39,7 @@ fn reply_to_publish<T: Tape>(alloc: Global, node: &mut Node<T>, body: &[u8]) -> 
     }
 }
 
-/// The reply to a request that asks for this. Only a publish moves the node.
+/// The reply to a request that asks for this. Only a publish changes the node.
 pub(crate) fn reply_to<T: Tape>(
     alloc: Global,
     node: &mut Node<T>,
@@ -61,7 +61,7 @@ pub(crate) fn reply_to<T: Tape>(
     }
 }
 
-/// The same reply, by a cache of pictures of the node's maps.
+/// The same reply, with a cache of pictures of the node's maps.
 pub(crate) fn reply_by<T: Tape>(
     alloc: Global,
     node: &mut Node<T>,

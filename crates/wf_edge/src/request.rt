@@ -13,7 +13,7 @@ use std::alloc::Global;
 use std::marker::Model;
 use wf_stream::Source;
 
-/// A request whose head has passed its checks, with its body.
+/// A request whose head has passed the checks, with its body.
 #[derive(Drop)]
 pub struct Request {
     front: Front,
@@ -29,7 +29,7 @@ impl Model for Request {
     ghost view = { λ r. record { head = r.front.head; asked = r.asked; body = r.body.items } };
 }
 
-// How many bytes of body there are, by what is asked for.
+// The length of the body, by what is asked for.
 fn body_bytes(asked: Asked) -> usize
     ensures { result ≡ body_bytes asked }
 {
@@ -40,8 +40,8 @@ fn body_bytes(asked: Asked) -> usize
 }
 
 impl Request {
-    /// Reads a request: its head, the checks on that, and its body. What comes behind isn't looked at, and isn't read but in one piece
-    /// with the last of the head. A rejection is that of the first check that fails. Only a body takes memory.
+    /// Reads a request: its head, the checks on it, and its body. Bytes after it are ignored, and are read only in one piece with
+    /// the last of the head. A rejection is that of the first check that fails. Only a body allocates.
     #[tactic(auto, using(crate::proofs::RequestLaw::head_failed, crate::proofs::RequestLaw::check_failed, crate::proofs::RequestLaw::body_failed, crate::proofs::RequestLaw::request_read, crate::proofs::RequestLaw::request_taken))]
     pub fn read<S: Source>(alloc: Global, source: &mut S) -> Result<Self, RequestFault>
         ensures asks { IfOk result (λ request. judged request.head ≡ Ok request.asked) }
@@ -71,7 +71,7 @@ impl Request {
         self.asked
     }
 
-    /// The query of the target: what stands behind its first question mark.
+    /// The query of the target: the bytes after its first question mark.
     pub fn query(&self) -> &[u8]
         ensures { result.now ≡ query_of self.now.head.target }
     {

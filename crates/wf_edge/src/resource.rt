@@ -1,23 +1,23 @@
-//! What a node offers, and what a request asks of it.
+//! The resources of a node, and the requests to them.
 
-/// What stands at a path.
+/// The resource at a path.
 #[derive(Clone, Copy, PartialEq, Eq)]
 pub enum Resource {
     /// `/wms`: the map service.
     Wms,
-    /// `/status`: where the node stands.
+    /// `/status`: the status of the node.
     Status,
-    /// `/publish`: where a map is proposed.
+    /// `/publish`: accepts a map to propose.
     Publish,
 }
 
 /// What a request asks for, by its head.
 #[derive(Clone, Copy, PartialEq, Eq)]
 pub enum Asked {
-    /// An answer of the map service to the target's query.
+    /// The map service's answer to the target's query.
     Wms,
-    /// Where the node stands.
+    /// The status of the node.
     Status,
-    /// To propose the map in the body, which has so many bytes.
+    /// To propose the map in the body, which has this many bytes.
     Publish(usize),
 }

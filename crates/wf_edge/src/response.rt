@@ -1,4 +1,4 @@
-//! What is answered, and how it is written.
+//! Responses, and how they are written.
 ghost use Rattle.std.specs.Prelude.{◌≡◌, ◌≤◌, ◌++◌, ℕ, false, List, [], Option, length, take, IfOk, IfErr, OnOk, OnErr};
 ghost use Rattle.std.specs.Io.KnownBytes.{Appends};
 ghost use Rattle.wf_stream.specs.Reading.{Rises};
@@ -17,10 +17,10 @@ pub struct CutShort {
     pub written: u64,
 }
 
-// How far the writing of a response has come.
+// The progress of writing a response.
 #[derive(Drop)]
 struct Progress {
-    // how many bytes are written
+    // the number of bytes written
     written: u64,
     // the writer has failed, and nothing more is written
     failed: bool,
@@ -38,7 +38,7 @@ impl Progress {
     }
 }
 
-// Writes a further piece, unless the writer has failed.
+// Writes one more piece, unless the writer has failed.
 fn put<K: Sink>(sink: &mut K, progress: &mut Progress, piece: &[u8])
     ensures written { (start : Option (List ℕ)) (bytes : List ℕ) → IsProgress start bytes (K.written sink.old) progress.old.written progress.old.failed
         → IsProgress start (bytes ++ piece.now) (K.written sink.new) progress.new.written progress.new.failed }
@@ -68,7 +68,7 @@ fn reason(status: StatusCode) -> &'static str
     }
 }
 
-// The line that names the method that is allowed.
+// The line with the allowed method.
 fn allow_line(allowed: Option<Allowed>) -> &'static [u8]
     ensures { result.now ≡ allow_line allowed }
 {
@@ -79,7 +79,7 @@ fn allow_line(allowed: Option<Allowed>) -> &'static [u8]
     }
 }
 
-/// What is answered to a request.
+/// A response.
 #[derive(Drop)]
 pub struct Response<'b> {
     status: StatusCode,
@@ -97,7 +97,7 @@ impl<'b> Model for Response<'b> {
 }
 
 impl<'b> Response<'b> {
-    /// An answer of a status, with a body of a media type; with status 405 the method that is allowed.
+    /// A response with a status, and a body of a media type; with status 405 the allowed method.
     pub fn new(status: StatusCode, media: &'b str, allowed: Option<Allowed>, body: &'b [u8]) -> Self
         ensures { result ≡ record { status = status; media = media.now; allowed = allowed; body = body.now } }
     {
@@ -109,7 +109,7 @@ impl<'b> Response<'b> {
         }
     }
 
-    /// The number of the status.
+    /// The status code.
     pub fn status(&self) -> u16
         ensures { result ≡ self.now.status }
     {
@@ -137,7 +137,7 @@ impl<'b> Response<'b> {
         put(sink, progress, b"Connection: close\r\n\r\n");
     }
 
-    // Writes the lines before the body, in one piece where the buffer has room for them.
+    // Writes the lines before the body, in one piece if they fit the buffer.
     fn put_head<K: Sink>(&self, sink: &mut K, progress: &mut Progress)
         ensures written { (start : Option (List ℕ)) → IsProgress start [] (K.written sink.old) progress.old.written progress.old.failed
             → IsProgress start (head_bytes self.now) (K.written sink.new) progress.new.written progress.new.failed }
@@ -154,8 +154,8 @@ impl<'b> Response<'b> {
         put(sink, progress, head.bytes());
     }
 
-    /// Writes the response without memory, its head in one piece and its body in another, and tells how many bytes it has. Where the
-    /// writer fails, a beginning of it is written.
+    /// Writes the response without allocating, its head in one piece and its body in another, and returns its number of bytes. If
+    /// the writer fails, a prefix of the response is written.
     pub fn write<K: Sink>(&self, sink: &mut K) -> Result<u64, CutShort>
         ensures whole { OnOk result (Appends (K.written sink.old) (K.written sink.new) (response_bytes self.now)) }
         ensures count { IfOk result (IsCount (length (response_bytes self.now))) }

@@ -1,4 +1,4 @@
-//! A response is written, and its outcome told.
+//! Writing a response, and its outcome.
 ghost use Rattle.wf_edge.specs.Saying.{IsSaid, IsFaultSaid, CountsSaying};
 
 use crate::fault::RequestFault;
@@ -8,7 +8,7 @@ use crate::response::Response;
 use crate::telling::told;
 use wf_stream::Sink;
 
-/// Writes a response: all of it where `Sent`, else a beginning. Both tell the response's status, and how many bytes are written.
+/// Writes a response: all of it if `Sent`, otherwise a prefix. Both report the response's status and the number of bytes written.
 pub fn say<K: Sink>(sink: &mut K, response: &Response<'_>) -> Outcome
     ensures said { IsSaid response.now (K.written sink.old) (K.written sink.new) result }
     ensures writes { CountsSaying result (K.failures sink.old) (K.failures sink.new) }
@@ -19,8 +19,8 @@ pub fn say<K: Sink>(sink: &mut K, response: &Response<'_>) -> Outcome
     }
 }
 
-/// Where there is no request: writes the rejection, or 503 where memory ran out. Nothing is written where the input is empty or a read
-/// failed. It allocates nothing.
+/// Responds if there is no request: writes the rejection, or 503 if an allocation failed. Nothing is written if the input is
+/// empty or a read failed. Allocates nothing.
 #[tactic(auto, using(wf_stream::specs::KnownLaws::keeps_same))]
 pub fn say_fault<K: Sink>(sink: &mut K, fault: RequestFault) -> Outcome
     ensures said { IsFaultSaid fault (K.written sink.old) (K.written sink.new) result }

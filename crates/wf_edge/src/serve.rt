@@ -1,4 +1,4 @@
-//! One request is served.
+//! Serving one request.
 ghost use Rattle.std.specs.Prelude.{◌≡◌};
 ghost use Rattle.wf_edge.specs.Hearing.{CountsHearing};
 ghost use Rattle.wf_edge.specs.Notice.{response_of};
@@ -23,11 +23,11 @@ use wf_tape::Tape;
 use wf_wms::cache::Cache;
 use wf_wms::law::kept_pictures_outlast_growth;
 
-/// What became of one request, and the messages that the node hands out.
+/// The outcome of one request, and the messages that the node sends.
 #[derive(Drop)]
 pub struct Served {
     pub outcome: Outcome,
-    /// To be delivered whatever became of the response.
+    /// To be delivered whether or not the response was written.
     pub messages: Vec<Message>,
 }
 
@@ -42,7 +42,7 @@ fn say_answer<K: Sink>(sink: &mut K, answer: &Result<Page, Notice>) -> Outcome
     }
 }
 
-// Answers a request and writes the answer. The messages are handed out whatever becomes of that.
+// Answers a request and writes the response. The messages are returned whether or not the write succeeds.
 #[tactic(auto, using(crate::proofs::ServingLaw::request_served))]
 fn serve_request<K: Sink, T: Tape>(
     alloc: Global,
@@ -59,12 +59,11 @@ fn serve_request<K: Sink, T: Tape>(
     Served { outcome, messages }
 }
 
-/// Serves one request: reads it and nothing behind it but what came in one piece with the last of its head, answers it by the node, and
-/// writes the response. What is written is a beginning of the response, all of
-/// it where `Sent`; where the reader failed or the input is empty, nothing is written. POST /publish whose checks pass, whose body is a
-/// map with a canonical text, and for whose answer there is memory, is the node's step Propose, and its messages are handed out whatever
-/// became of the write; anything else leaves the node as it was. Allocation failure is answered with 503; after the step of a publish no
-/// memory is asked for.
+/// Serves one request: reads it, and nothing after it but what came in one piece with the last of its head, answers it by the
+/// node, and writes the response. A prefix of the response is written, all of it if `Sent`; nothing if the reader failed or the
+/// input is empty. POST /publish is the node's step Propose if its checks pass, its body is a map with a canonical text, and no
+/// allocation fails before the step; the step's messages are returned whether or not the write succeeds. Any other request leaves
+/// the node unchanged. Allocation failure is answered with 503; nothing is allocated after the step of a publish.
 #[tactic(auto, using(crate::proofs::ServingLaw::served_outcome, crate::proofs::ServingLaw::unheard_outcome, crate::proofs::ServingLaw::served_reads, crate::proofs::ServingLaw::unheard_moves))]
 pub fn serve_one<S: Source, K: Sink, T: Tape>(
     alloc: Global,
@@ -91,7 +90,7 @@ pub fn serve_one<S: Source, K: Sink, T: Tape>(
     }
 }
 
-// Answers a request by a cache of pictures of the node's maps, and writes the answer.
+// Answers a request with a cache of pictures of the node's maps, and writes the response.
 #[tactic(auto, using(crate::proofs::ServingLaw::request_served))]
 fn serve_request_by<K: Sink, T: Tape>(
     alloc: Global,
@@ -115,8 +114,8 @@ fn serve_request_by<K: Sink, T: Tape>(
     }
 }
 
-/// The same as [`serve_one`], by a cache of pictures of the node's maps, which are so still when the request is served: a publish only
-/// adds to the node's history.
+/// The same as [`serve_one`], with a cache of pictures of the node's maps, which stays valid: a publish only adds to the node's
+/// history.
 #[tactic(auto, using(crate::proofs::ServingLaw::served_outcome, crate::proofs::ServingLaw::unheard_outcome, crate::proofs::ServingLaw::served_reads, crate::proofs::ServingLaw::unheard_moves))]
 pub fn serve_one_cached<S: Source, K: Sink, T: Tape>(
     alloc: Global,

@@ -1,10 +1,10 @@
-//! Where the parts of a head stand in its bytes.
+//! Spans of the parts of a head in its bytes.
 ghost use Rattle.std.specs.Prelude.{◌≡◌};
 ghost use Rattle.httparse.specs.Spans.{span_bytes};
 
 use httparse::spans::Span;
 
-/// The bytes that a span covers.
+/// The bytes of a span.
 pub(crate) fn covered(bytes: &[u8], span: Span) -> &[u8]
     ensures { result.now ≡ span_bytes bytes.now span }
 {

@@ -6,7 +6,7 @@ ghost use Rattle.wf_edge.specs.Target.{is_question_mark, path_of, query_of, reso
 use crate::refusal::Allowed;
 use crate::resource::Resource;
 
-// How long the target's path is.
+// The length of the target's path.
 fn path_length(target: &[u8]) -> usize
     ensures value { result ≡ position_or_len is_question_mark target.now }
     ensures within { result ≤ length target.now }
@@ -14,14 +14,14 @@ fn path_length(target: &[u8]) -> usize
     target.iter().take_while(|byte| **byte != b'?').count()
 }
 
-/// What stands before the first question mark of a target.
+/// The bytes before the first question mark of a target.
 pub fn path_of(target: &[u8]) -> &[u8]
     ensures { result.now ≡ path_of target.now }
 {
     target.split_at(path_length(target)).0
 }
 
-/// What stands behind the first question mark of a target: nothing where there is none.
+/// The bytes after the first question mark of a target; none if it has none.
 pub fn query_of(target: &[u8]) -> &[u8]
     ensures { result.now ≡ query_of target.now }
 {
@@ -32,7 +32,7 @@ pub fn query_of(target: &[u8]) -> &[u8]
     }
 }
 
-/// What stands at a path.
+/// The resource at a path.
 #[tactic(auto, unfolding(crate::specs::Target::resource_at))]
 pub fn resource_at(path: &[u8]) -> Option<Resource>
     ensures { result ≡ resource_at path.now }

@@ -1,4 +1,4 @@
-//! How a notice is told.
+//! The response for a notice.
 ghost use Rattle.std.specs.Prelude.{◌≡◌};
 ghost use Rattle.wf_edge.specs.Notice.{text_line, refusal_status, refusal_words, allowed_by, status_of, words_of, allowed_of, notice_response, notice_of, notice_of_fault};
 
@@ -91,14 +91,14 @@ fn allowed_method(notice: Notice) -> Option<Allowed>
     }
 }
 
-/// The response that tells a notice: its status, and one line of plain text. It allocates nothing.
+/// The response for a notice: its status, and one line of plain text. Allocates nothing.
 pub fn told(notice: Notice) -> Response<'static>
     ensures { result ≡ notice_response notice }
 {
     Response::new(status(notice), PLAIN, allowed_method(notice), line(notice))
 }
 
-/// What a client is told where its request can't be read. Nothing is told where it sent none, or where a read failed.
+/// The notice for a request that can't be read; none if the input is empty or a read failed.
 pub fn notice_of_fault(fault: RequestFault) -> Option<Notice>
     ensures { result ≡ notice_of_fault fault }
 {
@@ -109,7 +109,7 @@ pub fn notice_of_fault(fault: RequestFault) -> Option<Notice>
     }
 }
 
-/// What a node's fault is told as. `Nothing` never answers a proposal.
+/// The notice for a node's error. `Nothing` never answers a proposal.
 pub(crate) fn notice_of(fault: NodeFault) -> Notice
     ensures { result ≡ notice_of fault }
 {

@@ -1,4 +1,4 @@
--- Nodes that stand at one sequence have one answer to a query.
+-- Nodes with the same last published sequence have one answer to a query.
 use Rattle.std.proofs.Common.{◌≡◌, ℕ, zero, suc, List, length, slice_get, Option, Some, None, Ok, codes, refl, sym, ap, subst, ◌∙◌}
 use Rattle.std.proofs.lemmas.Option.{none-some, same_Some}
 use Rattle.wf_def.specs.Definition.{Definition}
@@ -17,9 +17,9 @@ use Rattle.wf_farm.specs.Answering.{Answers, AsksForMap, HasOneAnswer, HasOneMap
 use Rattle.wf_farm.specs.Farm.{Farm, running_in}
 use Rattle.wf_farm.specs.Leading.{HaveOneAnswer, HaveOneHistory, HaveOneMapAnswer}
 
--- ---- an answer and a fault
+-- ---- an answer and an error
 
--- The node that runs there answered, at as many definitions as its list has.
+-- The running node answered, from as many definitions as its list has.
 pub answered : (farm : Farm) (i s : ℕ) (node : Node Kept) (history : List Definition) (query : List ℕ) (answer : AnswerValue) → Some node ≡ running_in (slice_get farm.places i) →
     history ≡ node.parts.history → s ≡ length history → IsAnswerOf s history query answer → Answers farm i (sequence_at farm i) query answer
 answered farm i s node history query answer runs same long is =
@@ -35,13 +35,13 @@ memory_wanted there node runs = subst (λ t. IsNoAnswer t (Memory 0)) runs refl
 
 -- ---- one answer
 
--- a node that runs stored what it shows
+-- the stored part of a running node is the one it shows
 running_stored : (there : Option Place) (node : Node Kept) → running_in there ≡ Some node → HasStored there (stored_of node)
 running_stored None node runs = absurd (none-some node runs)
 running_stored (Some (Running held)) node runs = ap (λ (x : Node Kept). stored_of x) (sym (same_Some held node runs))
 running_stored (Some (Stopped tape)) node runs = absurd (none-some node runs)
 
--- the maps that two lists have at a sequence are one, where their entries are
+-- the maps that two lists have at a sequence are equal, if their entries are
 one_map_of : (history other : List Definition) → ((s : ℕ) (c d : Definition) → definition_at history s ≡ Some c → definition_at other s ≡ Some d → c ≡ d) → (k : ℕ) (map another : Definition) →
     map_at history k ≡ Some map → map_at other k ≡ Some another → map ≡ another
 unfolding map_at
@@ -64,7 +64,7 @@ its_map : (s : ℕ) (history : List Definition) (query : List ℕ) (answer : Ans
 unfolding IsAnswerOf subject
 its_map s history query answer is = (is.map, is.is_published)
 
--- one answer at the sequence s, of two lists whose entries are one
+-- one answer at the sequence s, of two lists with equal entries
 one_of : EachQueryHasOneAnswer → (history other : List Definition) → ((s : ℕ) (c d : Definition) → definition_at history s ≡ Some c → definition_at other s ≡ Some d → c ≡ d) →
     (s : ℕ) (query : List ℕ) (answer another : AnswerValue) → IsAnswerOf s history query answer → IsAnswerOf s other query another → another ≡ answer
 one_of law history other agree s query answer another is is_other =
@@ -87,12 +87,12 @@ one_answer law farm one = λ i j s query answer another first second.
 
 -- ---- one map that is asked for
 
--- with a sequence that is named well, the request is its picture
+-- if the sequence is well-formed, the request is its picture
 asked_picture : (s m : ℕ) (d : Definition) (pairs : List (List ℕ × List ℕ)) → map_sequence s pairs ≡ Ok m → map_request s d pairs ≡ picture_in d pairs
 unfolding map_request
 asked_picture s m d pairs asked = rw asked refl
 
--- the same map drawn, at another sequence that the server stands at
+-- the same map drawn, at another last sequence of the server
 drawn_elsewhere : (s t m : ℕ) (history : List Definition) (pairs : List (List ℕ × List ℕ)) (answer : AnswerValue) → map_sequence s pairs ≡ Ok m → map_sequence t pairs ≡ Ok m →
     IsAnswerOn (operation_of (Some (codes "GetMap"))) t history pairs answer → IsAnswerOn (operation_of (Some (codes "GetMap"))) s history pairs answer
 drawn_elsewhere s t m history pairs answer here there is = record {
@@ -114,7 +114,7 @@ one_map_answer law farm one = λ i j s t m query answer another asks also first 
     one_at law farm one i j s first.node second.node query answer another first.runs second.runs first.is_answer
     (answer_elsewhere s t m second.node.parts.history query another asks also second.is_answer)
 
--- ---- the same of nodes that a caller holds
+-- ---- the same for nodes that a caller holds
 
 module _ {T : Type 0} (law : EachQueryHasOneAnswer) (nodes : List (Node T)) (one : HaveOneHistory nodes) where
   pub alike_answers : HaveOneAnswer nodes

@@ -38,9 +38,9 @@ use Rattle.wf_farm.proofs.Events.{sent_message}
 use Rattle.wf_farm.proofs.Runs.{steps_more}
 use Rattle.wf_farm.proofs.Turns.{turn_goes, turn_is, turn_sets, torn_sets}
 
--- ---- what a node does that is handed an input
+-- ---- what a node does with an input
 
--- which of two faults it is
+-- which of two errors it is
 abbrev is_want : NodeFault → Bool
 is_want fault_case.Memory = true
 is_want fault_case.Busy = false
@@ -76,11 +76,11 @@ not_true : (b : Bool) → (b ≡ true → ⊥) → b ≡ false
 not_true true never = absurd (never refl)
 not_true false never = refl
 
--- A node of which another answer than "halted" comes isn't halted.
+-- A node that returns another error than "halted" isn't halted.
 runs_by : {A : Type 0} (result : Result A NodeFault) (halted : Bool) → says_halted result ≡ false → (halted ≡ true → result ≡ Err fault_case.Halted) → halted ≡ false
 runs_by result halted other answers = not_true halted (λ is. false≢true (sym other ∙ ap says_halted (answers is)))
 
--- a fault that is neither allocation failure nor a failure of the tape
+-- an error that is neither allocation failure nor a failure of the tape
 neither : (f : NodeFault) → is_want f ≡ false → is_failure f ≡ false → (f ≢ fault_case.Memory) × (f ≢ fault_case.TapeFailed)
 neither f want failure = (λ is. false≢true (sym want ∙ ap is_want is), λ is. false≢true (sym failure ∙ ap is_failure is))
 
@@ -108,7 +108,7 @@ module _ {T A : Type 0} (honest : Type 0) (images : T → List ℕ → Type 0) (
   any_lost (Err fault_case.Halted) halted refused unchanged same spares halts torn = let other = neither fault_case.Halted refl refl in delivering.Keeps (unchanged other.0 other.1) refl
   any_lost (Err fault_case.Nothing) halted refused unchanged same spares halts torn = let other = neither fault_case.Nothing refl refl in delivering.Keeps (unchanged other.0 other.1) refl
 
--- A step for which memory suffices is an answer.
+-- A step without allocation failure is an answer.
 module _ {T : Type 0} (honest : Type 0) (images : T → List ℕ → Type 0) (node after : Node T) (input : Input Definition) where
   rejects : (f : NodeFault) (why : Refusal) → fault.refusal_of f ≡ Some why → is_want f ≡ false → is_failure f ≡ false → node.halted ≡ false →
       (node.halted ≡ false → fault.refusal_of f ≡ refusal_at node input) → (f ≢ fault_case.Memory → f ≢ fault_case.TapeFailed → after ≡ node) → Answers honest images input node after []
@@ -145,7 +145,7 @@ module _ {T A : Type 0} (honest : Type 0) (images : T → List ℕ → Type 0) (
   any_rejected (Err fault_case.Nothing) halted running refused unchanged same halts torn = λ sufficed.
       rejects honest images node after input fault_case.Nothing table.NothingToRetry refl refl refl (runs_by {A = Vec Message A} (Err fault_case.Nothing) node.halted refl halted) refused unchanged
 
--- What comes of a fault where memory sufficed: nothing is said.
+-- The result of an error other than allocation failure: nothing is sent.
 module _ {T A E : Type 0} (honest : Type 0) (images : T → List ℕ → Type 0) (node after : Node T) (input : Input Definition) (f : NodeFault) where
   pub quiet_takes : (result : Result (Vec Message A) E) → IfOk result (λ said. (said.items ≡ []) × (f ≢ fault_case.Memory)) → Takes honest images input node after [] → IfOk result (λ said. Takes honest images input node after said.items)
   quiet_takes (Ok said) is takes = subst (λ ms. Takes honest images input node after ms) (sym is.0) takes
@@ -160,18 +160,18 @@ pub quiet_few : {A E : Type 0} (f : NodeFault) (result : Result (Vec Message A) 
 quiet_few f (Ok said) is = let none : length said.items ≡ 0 = ap length is.0 in omega (arith, none)
 quiet_few f (Err e) is = tt
 
--- No step says more than eight messages.
+-- No step sends more than eight messages.
 module _ {T A : Type 0} (node after : Node T) (input : Input Definition) where
   pub any_short : RowsAreShort Definition → (result : Result (Vec Message A) NodeFault) → IfOk result (λ said. IsRow node (row_of node input) said.items after) → IfOk result (λ said. length said.items ≤ most_told)
   any_short short (Ok said) is =
       omega (arith, length-map said.items message.view, ap length is.messages, short definition_eq node.n node.id (stored_of node) (working_of node) input)
   any_short short (Err f) is = tt
 
--- What is lost changes nothing, and nothing is said.
+-- A lost input changes nothing, and nothing is sent.
 pub lost_by : {T : Type 0} (honest : Type 0) (images : T → List ℕ → Type 0) (input : Input Definition) (node : Node T) (said : List Message) → said ≡ [] → Takes honest images input node node said
 lost_by honest images input node said quiet = delivering.Keeps refl quiet
 
--- ---- beginnings of published lists
+-- ---- prefixes of published lists
 
 pub begins_itself : {A : Type 0} (xs : List A) → IsBeginning xs xs
 begins_itself xs = ([], append-nil xs)
@@ -199,7 +199,7 @@ module _ (stored : Stored Definition) where
   store_begins None = begins_itself stored.history
   store_begins (Some r) = record_begins r
 
--- ---- a node and the node of the model's
+-- ---- a node and the node of the model
 
 abbrev node_of : Stored Definition → Option (Working Definition) → world.Node Definition
 node_of stored working = record { stored = stored; working = working }
@@ -214,7 +214,7 @@ module _ {T : Type 0} where
   abbrev the_turn : Node T → Input Definition → Turn Definition
   the_turn node input = record { stored = stored_of node; row = row_of node input }
 
-  -- the turn of a node that runs
+  -- the turn of a running node
   goes_of : (node : Node T) (input : Input Definition) → refusal_at node input ≡ None → turn_of definition_eq node.n node.id (Some (shown_of node)) (Some input) ≡ Some (the_turn node input)
   goes_of node input goes = turn_goes definition_eq node.n node.id (stored_of node) (working_of node) input goes
 
@@ -225,7 +225,7 @@ module _ {T : Type 0} where
     pub running_is : (node : Node T) (x : world.Node Definition) → node.halted ≡ false → x ≡ shown_of node → IsNode stands node x
     running_is node x runs is = subst (λ b. IsNodeBy b stands node x) (sym runs) is
 
-    -- A node that is as it was but for its tape, and runs.
+    -- A node that is unchanged but for its tape, and runs.
     spared_is : (node after : Node T) (x : world.Node Definition) → node.halted ≡ false → after.halted ≡ false → IsSameNode node after → IsNode stands node x → IsNode stands after x
     spared_is node after x runs runs_after same is =
         running_is after x runs_after (is_running node x runs is ∙ node_eq _ _ _ _ (sym (ap stored_of same)) (ap Some (sym (ap working_of same))))
@@ -235,7 +235,8 @@ module _ {T : Type 0} where
     unfolding stored_after
     stepped_is node after input said is = running_is after _ is.running (node_eq _ _ _ _ (sym is.stored) (ap Some (sym is.working)))
 
-    -- A node whose tape failed: what it tells as published begins what it stored before, and so what it may have stored.
+    -- A node whose tape failed: the list that it reports as published is a prefix of what it stored before, and so of what it may
+    -- have stored.
     failed_is : (node after : Node T) (stored : Stored Definition) → after.halted ≡ true → IsSameNode node after → IsBeginning (stored_of node).history stored.history → stands stored → IsNode stands after (node_of stored None)
     failed_is node after stored halts same begins has =
         subst (λ b. IsNodeBy b stands after (node_of stored None)) (sym halts)
@@ -243,14 +244,14 @@ module _ {T : Type 0} where
 
 -- ---- one step
 
--- The nodes and the messages show the world still; or what the action of node i leads to, whole, or torn within.
+-- The nodes and the messages still show the world; or the world after the action of node i, complete or crashed within.
 pub data IsActed {T : Type 0} (stands : ℕ → Stored Definition → Type 0) (i : ℕ) (action : Action Definition ℕ) (w : World Definition) (nodes : List (Node T)) (sent : List Message) : Type 0 where
   Stays : Shows stands nodes sent w → IsActed stands i action w nodes sent
   Acts : Shows stands nodes sent (after_turn w i (turn definition_eq w i action)) → IsActed stands i action w nodes sent
   Tears : (kept : Kept) → Shows stands nodes sent (after_torn w i kept (turn definition_eq w i action)) → IsActed stands i action w nodes sent
 
 module _ {T : Type 0} (stands : ℕ → Stored Definition → Type 0) (nodes : List (Node T)) where
-  -- node i is another one of the model's now
+  -- node i is now another node of the model
   set_nodes : (xs : List (world.Node Definition)) (i : ℕ) (node after : Node T) (x : world.Node Definition) → slice_get nodes i ≡ Some node → AreNodes stands nodes xs → IsNode (stands i) after x →
       AreNodes stands (slice_set nodes i after) (slice_set xs i x)
   set_nodes xs i node after x at are is = record {
@@ -269,7 +270,7 @@ module _ {T : Type 0} (stands : ℕ → Stored Definition → Type 0) (nodes : L
     ];
   }
 
-  -- A node that is set where one stood, and is the same of the model's.
+  -- A node is replaced by one that is the same node of the model.
   set_same_nodes : (xs : List (world.Node Definition)) (i : ℕ) (node after : Node T) → slice_get nodes i ≡ Some node → AreNodes stands nodes xs →
       ((x : world.Node Definition) → IsNode (stands i) node x → IsNode (stands i) after x) → AreNodes stands (slice_set nodes i after) xs
   set_same_nodes xs i node after at are keeps = record {
@@ -286,7 +287,7 @@ module _ {T : Type 0} (stands : ℕ → Stored Definition → Type 0) (nodes : L
     ];
   }
 
-  -- Where nothing is said, the messages are as they were.
+  -- If nothing is sent, the messages are unchanged.
   nothing_more : {after : List (Node T)} {sent said : List Message} {w : World Definition} → said ≡ [] → Shows stands after sent w → Shows stands after (sent ++ said) w
   nothing_more {after} {sent} {said} {w} quiet shows = subst (λ ms. Shows stands after ms w) (sym (ap (λ ms. sent ++ ms) quiet ∙ append-nil sent)) shows
 
@@ -303,7 +304,7 @@ module _ {T : Type 0} (stands : ℕ → Stored Definition → Type 0) (nodes : L
         ∙ ap (λ j. turn_of definition_eq node.n j (Some (shown_of node)) (Some input)) (sym (turns i node at).0)
         ∙ goes_of node input goes
 
-    -- Nothing is said, and the node is the same of the model's.
+    -- Nothing is sent, and the node is the same node of the model.
     keeps_shown : (w : World Definition) → ((x : world.Node Definition) → IsNode (stands i) node x → IsNode (stands i) after x) → Shows stands nodes sent w → Shows stands (slice_set nodes i after) sent w
     keeps_shown w keeps shows = record { nodes_are = set_same_nodes w.nodes i node after at shows.nodes_are keeps; messages = shows.messages }
 
@@ -319,7 +320,7 @@ module _ {T : Type 0} (stands : ℕ → Stored Definition → Type 0) (nodes : L
           messages = ap (λ ms. ms ++ t.row.messages) shows.messages ∙ ap (λ ms. map message.view sent ++ ms) (sym is.messages) ∙ sym (map-append message.view sent said);
         })
 
-    -- A step within which the tape failed is torn: the one part or the other was kept.
+    -- A step within which the tape failed is a crash within the step: the stored part before or after was kept.
     torn_shown : (w : World Definition) (kept : Kept) → node.halted ≡ false → refusal_at node input ≡ None → after.halted ≡ true → IsSameNode node after →
         IsBeginning (stored_of node).history (kept_part kept (the_turn node input)).history → stands i (kept_part kept (the_turn node input)) → Shows stands nodes sent w →
         Shows stands (slice_set nodes i after) sent (after_torn w i kept (turn definition_eq w i action))
@@ -341,7 +342,7 @@ module _ {T : Type 0} (stands : ℕ → Stored Definition → Type 0) (nodes : L
     fails_shown w said runs goes halts same quiet (inr later) shows =
         Tears After (nothing_more quiet (torn_shown w After runs goes halts same (store_begins (stored_of node) (row_of node input).entry) later shows))
 
-    -- Whatever a node does that is handed the action's input, the world stays, or acts so.
+    -- Whatever a node does with the action's input, the world is unchanged, or acts so.
     pub takes_acts : (honest : Type 0) (images : T → List ℕ → Type 0) (said : List Message) → Takes honest images input node after said →
         (after.halted ≡ true → (honest → EachStandsFor (stored_of node) (store (stored_of node) (row_of node input).entry) (images after.tape)) → stands i (stored_of node) ⊎ stands i (store (stored_of node) (row_of node input).entry)) →
         (w : World Definition) → Shows stands nodes sent w → IsActed stands i action w (slice_set nodes i after) (sent ++ said)
@@ -352,7 +353,7 @@ module _ {T : Type 0} (stands : ℕ → Stored Definition → Type 0) (nodes : L
     takes_acts honest images said (delivering.Steps runs goes is) torn w shows = Acts (steps_shown w said runs goes is shows)
     takes_acts honest images said (delivering.Fails runs goes halts same each quiet) torn w shows = fails_shown w said runs goes halts same quiet (torn halts each) shows
 
--- ---- what stays
+-- ---- what is unchanged
 
 module _ {T : Type 0} (honest : Type 0) (images : T → List ℕ → Type 0) (node after : Node T) (input : Input Definition) (said : List Message) where
   pub stays_halted : Takes honest images input node after said → node.halted ≡ true → after ≡ node
@@ -379,7 +380,7 @@ module _ {T : Type 0} (nodes : List (Node T)) (i : ℕ) (node after : Node T) (a
     | inr differs ↦ get_set_other nodes i j after differs ∙ e
   ]
 
--- what may be left of a failed node's tape, where it stands
+-- what may be left of a failed node's tape, at its index
 pub left_here : {T : Type 0} (images : T → List ℕ → Type 0) (nodes : List (Node T)) (left : ℕ → List ℕ) (i : ℕ) (node after : Node T) → slice_get nodes i ≡ Some node → MayLeave images (slice_set nodes i after) left →
     after.halted ≡ true → images after.tape (left i)
 unfolding MayLeave
@@ -387,7 +388,7 @@ left_here images nodes left i node after at may halts = may i after (set_there n
 
 -- ---- one delivery
 
--- No event leads to what a delivery leaves, or that delivery.
+-- No event, or that delivery, leads to what a delivery leaves.
 delivered_one : {T : Type 0} (stands : ℕ → Stored Definition → Type 0) (i k : ℕ) (w : World Definition) (nodes : List (Node T)) (sent : List Message) → IsActed stands i (table.Deliver k) w nodes sent →
     Shows stands nodes sent w ⊎ ((event : Event Definition) × IsDelivery event × Shows stands nodes sent (happens definition_eq w event))
 unfolding happens
@@ -438,7 +439,7 @@ no_events : AreDeliveries []
 unfolding AreDeliveries
 no_events = tt
 
--- No delivery leads from a world to itself.
+-- The empty list of deliveries leads from a world to itself.
 pub leads_nowhere : {T : Type 0} (stands : ℕ → Stored Definition → Type 0) (nodes : List (Node T)) (sent : List Message) → Lead stands 0 nodes sent nodes sent
 unfolding Lead steps
 leads_nowhere stands nodes sent = λ w shows. record { events = []; deliveries = no_events; at_most = omega arith; shows = shows }
@@ -462,14 +463,14 @@ module _ {T : Type 0} (stands : ℕ → Stored Definition → Type 0) (done : �
       let led = leads w shows in
       led_on stands w done middle after said more led (takes (steps definition_eq w led.events) led.shows)
 
--- Bytes that may be left of the tapes that failed may have been left before a delivery: such a tape stays as it is.
+-- Bytes that may be left of the tapes that failed could have been left before a delivery: such a tape is unchanged.
 pub left_before : {T : Type 0} (images : T → List ℕ → Type 0) (nodes after : List (Node T)) (left : ℕ → List ℕ) → KeepHalted nodes after → MayLeave images after left → MayLeave images nodes left
 unfolding MayLeave KeepHalted
 left_before images nodes after left keeps may = λ i node at halted. may i node (keeps i node at halted) halted
 
--- ---- in which order
+-- ---- the order
 
--- Where no message is left, each went to each node.
+-- If no message is left, each was delivered to each node.
 pub none_left : (p : Progress) (sent : List Message) → p.whole + begun p.some ≤ length sent → length sent ≤ p.whole → IsEnd false p sent
 none_left p sent within all = none_left_by p.some refl
   where
@@ -484,7 +485,7 @@ whether_left p sent within = whether_by (nat_lt p.whole (length sent)) refl
     whether_by true is = ltb-true p.whole (length sent) is
     whether_by false is = none_left p sent within (ltb-false p.whole (length sent) is)
 
--- how far the deliveries are after one more, where a round is whole by it or isn't
+-- the progress after one more delivery, whether or not it completes a round
 abbrev next_by : Bool → Progress → Progress
 next_by whole p = if whole then record { whole = p.whole + 1; some = 0; done = p.done + 1 } else record { whole = p.whole; some = p.some + 1; done = p.done + 1 }
 
@@ -514,7 +515,7 @@ done_on : (count : ℕ) (p : Progress) → (next count p).done ≡ p.done + 1
 done_on count p = done_by p (p.some + 1 == count)
 
 module _ {T : Type 0} (honest : Type 0) (images : T → List ℕ → Type 0) (nodes : List (Node T)) (messages : List Message) where
-  -- a message that was handed out is there afterwards
+  -- a message that was sent is there afterwards
   one_more_there : (middle after : List (Node T)) (i k : ℕ) (said more : List Message) → IsHanded honest images i k middle said after more → k < length more
   one_more_there middle after i k said more handed =
       omega (arith, slice_get_within said k handed.handed handed.there, ap length handed.sent_are, length-append said handed.said)
@@ -533,7 +534,7 @@ module _ {T : Type 0} (honest : Type 0) (images : T → List ℕ → Type 0) (no
   }
 
   module _ (p : Progress) (middle after : List (Node T)) (said more : List Message) where
-    -- One delivery more.
+    -- One more delivery.
     pub come_on : HaveCome honest images nodes messages p middle said → p.done < most_deliveries → IsOne honest images middle said after more → IsHanded honest images p.some p.whole middle said after more →
         HaveCome honest images nodes messages (next (length nodes) p) after more
     come_on come may one handed = record {
@@ -549,7 +550,7 @@ module _ {T : Type 0} (honest : Type 0) (images : T → List ℕ → Type 0) (no
       most = omega (arith, done_on (length nodes) p, may);
     }
 
-  -- What has come is what was delivered.
+  -- The progress is what was delivered.
   pub come_done : (p : Progress) (after : List (Node T)) (more : List Message) → HaveCome honest images nodes messages p after more → IsDelivered honest images nodes messages p.done after
   come_done p after more come = record {
     any = record { sent = more; lead = come.any };

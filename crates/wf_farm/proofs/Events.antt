@@ -1,4 +1,4 @@
--- One event: the place that it is about is set, and the farm is the model's world after it.
+-- One event: the entry that it is about is set, and the farm is the model's world after it.
 use Rattle.std.proofs.Common.{◌≡◌, ℕ, zero, suc, Bool, true, false, is_some, List, [], ◌∷◌, ◌++◌, map, length, slice_get, slice_set, Option, Some, None, option_map, Result, Ok, Err, IfOk, IfSome, OnErr, IsSome, refl, sym, ap, subst, ◌∙◌, inl, inr, length-set}
 use Rattle.std.proofs.lemmas.Bool.{cases_eq, false≢true}
 use Rattle.std.proofs.lemmas.List.{append-nil, map-append}
@@ -20,9 +20,9 @@ use Rattle.wf_farm.specs.Turn.{node_after, messages_of, node_torn, node_stopped,
 use Rattle.wf_farm.proofs.Turns.{turn_is, turn_absent, turn_unsent, refused_is, refused_absent, refused_unsent, turn_sets, torn_sets, stop_sets, restart_sets}
 use Rattle.wf_farm.specs.PlaceLaws.{get_set_same, get_set_other, set_same}
 
--- ---- places and nodes
+-- ---- entries and nodes
 
--- where there is a place, its node stands at the same number
+-- if there is an entry, its node is at the same index
 pub node_at : (places : List Place) (nodes : List (world.Node Definition)) (i : ℕ) (place : Place) → AreNodes places nodes → slice_get places i ≡ Some place →
     (node : world.Node Definition) × (slice_get nodes i ≡ Some node) × IsNode place node
 node_at [] nodes i place are e = absurd (none-some place e)
@@ -30,7 +30,7 @@ node_at (p ∷ places) [] i place are e = absurd are
 node_at (p ∷ places) (node ∷ nodes) zero place are e = (node, refl, subst (λ q. IsNode q node) (same_Some p place e) are.0)
 node_at (p ∷ places) (node ∷ nodes) (suc i) place are e = node_at places nodes i place are.1 e
 
--- where there is none, there is no node
+-- if there is none, there is no node
 pub none_at : (places : List Place) (nodes : List (world.Node Definition)) (i : ℕ) → AreNodes places nodes → slice_get places i ≡ None → slice_get nodes i ≡ None
 none_at [] [] i are e = refl
 none_at [] (node ∷ nodes) i are e = absurd are
@@ -58,7 +58,7 @@ set_nodes (p ∷ places) (x ∷ nodes) (suc i) place node are is = (are.0, set_n
 pub same_members : (places : List Place) → KeepMembers places places
 same_members places = record { as_many = refl; members = λ are. are }
 
--- A member that is set where one stood.
+-- A member that replaces one.
 pub place_members : (places : List Place) (i : ℕ) (place after : Place) → slice_get places i ≡ Some place →
     (IsMember (length places) i place → IsMember (length places) i after) → KeepMembers places (slice_set places i after)
 unfolding AreMembers
@@ -71,13 +71,13 @@ place_members places i place after at keeps = record {
   ]);
 }
 
--- The same where the number of the places and the place's number are given by other names.
+-- The same where the number of entries and the entry's index are given by other names.
 pub cast_members : (places : List Place) (i : ℕ) (place after : Place) (n id : ℕ) → slice_get places i ≡ Some place → n ≡ length places → id ≡ i → (IsMember n id place → IsMember n id after) →
     KeepMembers places (slice_set places i after)
 cast_members places i place after n id at many is keeps = place_members places i place after at
     (subst (λ k. IsMember (length places) k place → IsMember (length places) k after) is (subst (λ k. IsMember k id place → IsMember k id after) many keeps))
 
--- The number that a node's number was made of.
+-- The number that a node number was made of.
 pub cast_id : (found : Option ℕ) (id number i : ℕ) → found ≡ Some id → IfSome found (λ x. x ≡ number) → number ≡ i → id ≡ i
 cast_id None id number i is made same = absurd (none-some id is)
 cast_id (Some x) id number i is made same = sym (same_Some x id is) ∙ made ∙ same
@@ -99,7 +99,7 @@ module _ (places : List Place) (sent : List Message) (i : ℕ) where
     given_in : (w : World Definition) → Shows places sent w → input_of w.sent action ≡ Some input
     given_in w shows = ap (λ ms. input_of ms action) shows.messages ∙ given
 
-    -- A step at a place is the world's.
+    -- A step of the node at an index is the world's.
     pub place_acts : IsStepped (length places) i input place after (map message.view said) number → IsActed i action number places sent (slice_set places i after) (sent ++ said)
     place_acts stepped = record {
       leads = λ w shows.
@@ -116,7 +116,7 @@ module _ (places : List Place) (sent : List Message) (i : ℕ) where
           stepped.refusal here.0 here.2 ∙ sym (ap told (refused_is w i here.0 action input here.1 (given_in w shows)));
     }
 
-    -- A crash within a step likewise: nothing is said.
+    -- A crash within a step likewise: nothing is sent.
     pub place_tears : (kept : world.Kept) → IsTornAt kept (length places) i input place after number → IsTorn i action kept number places sent (slice_set places i after) sent
     place_tears kept torn = record {
       leads = λ w shows.
@@ -130,14 +130,14 @@ module _ (places : List Place) (sent : List Message) (i : ℕ) where
           torn.refusal here.0 here.2 ∙ sym (ap told (refused_is w i here.0 action input here.1 (given_in w shows)));
     }
 
-  -- A place that stays what it was.
+  -- An entry that is unchanged.
   pub place_stays : (place after : Place) → slice_get places i ≡ Some place → Stays place after → StayShown places sent (slice_set places i after) sent
   unfolding Stays StayShown
   place_stays place after at stays = λ w shows.
       let here = node_at places w.nodes i place shows.nodes at in
       record { nodes = subst (AreNodes (slice_set places i after)) (set_same w.nodes i here.0 here.1) (set_nodes places w.nodes i after here.0 shows.nodes (stays here.0 here.2)); messages = shows.messages }
 
-  -- ---- from what a place says of its step, whatever its number and however many nodes there are
+  -- ---- from what an entry promises of its step, whatever its number and the number of nodes
 
   module _ (place after : Place) (action : Action Definition ℕ) (input : Input Definition) (at : slice_get places i ≡ Some place) (members : AreMembers places)
       (given : input_of (map message.view sent) action ≡ Some input) where
@@ -145,14 +145,14 @@ module _ (places : List Place) (sent : List Message) (i : ℕ) where
     unfolding Steps
     step_acts said done = place_acts place after said action input None at given (done (length places) i (member_at places i place members at))
 
-    -- A rejected step says nothing.
+    -- A rejected step sends nothing.
     pub refused_acts : (f : NodeFault) (number : ℕ) → DeniesStep input place after f → number_in f ≡ Some number → IsActed i action (Some number) places sent (slice_set places i after) sent
     unfolding DeniesStep
     refused_acts f number denied is =
         subst (λ ms. IsActed i action (Some number) places sent (slice_set places i after) ms) (append-nil sent)
         (place_acts place after [] action input (Some number) at given ((denied (length places) i (member_at places i place members at)).refused number is))
 
-    -- what is answered of a rejection
+    -- the result of a rejection
     pub answered_acts : {E : Type 0} (result : Result (Option ℕ) E) (f : NodeFault) → IfOk result (λ number. number ≡ number_in f) → IfOk result IsSome → DeniesStep input place after f →
         IfOk result (λ number. IsActed i action number places sent (slice_set places i after) sent)
     answered_acts (Ok None) f is some denied = absurd (false≢true some)
@@ -174,13 +174,13 @@ module _ (places : List Place) (sent : List Message) (i : ℕ) where
     answered_tears kept (Ok (Some number)) f is some denied = refused_tears kept f number denied (sym is)
     answered_tears kept (Err e) f is some denied = tt
 
-    -- A crash within a step that changes nothing at its place changes nothing.
+    -- A crash within a step that changes nothing in its entry changes nothing.
     pub keeps_torn : (kept : world.Kept) (number : Option ℕ) → ((n j : ℕ) → IsMember n j place → IsTornAt kept n j input place place number) → IsTorn i action kept number places sent places sent
     keeps_torn kept number torn =
         subst (λ ps. IsTorn i action kept number places sent ps sent) (set_same places i place at)
         (place_tears place place [] action input number at given kept (torn (length places) i (member_at places i place members at)))
 
-  -- What a fault leaves, whatever the input was.
+  -- The state after an error, whatever the input was.
   pub denied_stays : (place after : Place) (input : Input Definition) (f : NodeFault) → slice_get places i ≡ Some place → AreMembers places → DeniesStep input place after f →
       StayShown places sent (slice_set places i after) sent
   unfolding DeniesStep
@@ -195,7 +195,7 @@ module _ (places : List Place) (sent : List Message) (i : ℕ) where
   unfolding StayShown
   nothing_stays = λ w shows. shows
 
-  -- Where there is no node, and where the message isn't sent, nothing happens.
+  -- If there is no node, or the message wasn't sent, nothing happens.
   absent_in : slice_get places i ≡ None → (w : World Definition) → Shows places sent w → slice_get w.nodes i ≡ None
   absent_in none w shows = none_at places w.nodes i shows.nodes none
 
@@ -265,7 +265,7 @@ module _ (places : List Place) (sent : List Message) (i : ℕ) where
 
 -- ---- the input of a delivery
 
--- A message that is sent is the model's at the same number.
+-- A message that was sent is the model's with the same number.
 pub sent_message : (sent : List Message) (k : ℕ) (m : Message) → slice_get sent k ≡ Some m → input_of (map message.view sent) (table.Deliver k) ≡ Some (table.Deliver (message.view m))
 unfolding input_of delivered
 sent_message sent k m e = ap delivered (slice_get-map message.view sent k ∙ ap (λ x. option_map message.view x) e)
@@ -318,7 +318,7 @@ pub on_err : {A E P : Type 0} (result : Result A E) → P → OnErr result P
 on_err (Ok x) p = tt
 on_err (Err e) p = p
 
--- whether an action has an input in this world: its message, where it is a delivery
+-- whether an action has an input in this world: its message, if it is a delivery
 pub none_given : (given : Option (Input Definition)) (is : Bool) → is ≡ is_some given → is ≡ false → given ≡ None
 none_given None is e f = refl
 none_given (Some input) is e f = absurd (false≢true (sym f ∙ e))

@@ -1,4 +1,4 @@
--- Where a step has no effect: no node runs there, or the step is rejected.
+-- Steps without effect: no node runs there, or the step is rejected.
 use Rattle.std.proofs.Common.{◌≡◌, ℕ, Bool, false, is_some, List, [], map, slice_get, slice_set, length, Option, Some, None, refl, sym, subst, ◌∙◌}
 use Rattle.std.proofs.lemmas.Bool.{false≢true}
 use Rattle.std.proofs.lemmas.List.{append-nil}
@@ -18,7 +18,7 @@ use Rattle.wf_farm.proofs.Steps.{refused_step, same_member, step_stops, still_st
 use Rattle.wf_farm.specs.PlaceLaws.{set_same}
 
 module _ (places : List Place) (sent : List Message) (i : ℕ) (action : Action Definition ℕ) (members : AreMembers places) where
-  -- A step that changes nothing at its place and says nothing changes nothing.
+  -- A step that changes nothing in its entry and sends nothing changes nothing.
   keeps_acts : (place : Place) (input : Input Definition) (number : Option ℕ) → slice_get places i ≡ Some place → input_of (map message.view sent) action ≡ Some input →
       ((n j : ℕ) → IsMember n j place → IsStepped n j input place place [] number) → IsActed i action number places sent places sent
   keeps_acts place input number at given stepped =
@@ -34,7 +34,7 @@ module _ (places : List Place) (sent : List Message) (i : ℕ) (action : Action 
   idle_at (Some (Stopped kept)) None at is idle = unsent_acts places sent i action is
   idle_at (Some (Stopped kept)) (Some input) at is idle = keeps_acts (Stopped kept) input None at is (stopped_steps kept input)
 
-  -- Where no node runs, nothing happens.
+  -- If no node runs, nothing happens.
   pub idle_acts : (runs : Bool) → runs ≡ is_some (running_in (slice_get places i)) → runs ≡ false → IsActed i action None places sent places sent
   idle_acts runs is not = idle_at (slice_get places i) (input_of (map message.view sent) action) refl refl (sym is ∙ not)
 
@@ -48,11 +48,11 @@ module _ (places : List Place) (sent : List Message) (i : ℕ) (action : Action 
       (tear_acts places sent i (Stopped kept) (Stopped kept) action input at members is After
       (step_stops input (Stopped kept) (Stopped kept) (Stopped kept) [] (stopped_steps kept input) (same_member (Stopped kept)) (still_stopped kept)))
 
-  -- Nor is anything torn.
+  -- Nor does a crash within a step.
   pub idle_torn : (runs : Bool) → runs ≡ is_some (running_in (slice_get places i)) → runs ≡ false → IsTorn i action After None places sent places sent
   idle_torn runs is not = torn_at (slice_get places i) (input_of (map message.view sent) action) refl refl (sym is ∙ not)
 
-  -- A rejected step changes nothing, and the rejection is told.
+  -- A rejected step changes nothing, and the rejection is reported.
   pub denied_acts : (place : Place) (input : Input Definition) (f : NodeFault) → slice_get places i ≡ Some place → input_of (map message.view sent) action ≡ Some input → TellsWhyNot place action (Some f) →
       IsActed i action (number_in f) places sent places sent
   unfolding TellsWhyNot

@@ -13,7 +13,7 @@ use Rattle.wf_farm.specs.Pump.{AreTargets}
 
 -- ---- every node
 
--- The nodes below k, each at its own place.
+-- The nodes below k, each at its own index.
 pub record IsUpTo (k : ℕ) (nodes : List ℕ) : Type 0 where
   pub long : length nodes ≡ k
   pub own : (i d : ℕ) → i < k → get_or nodes i d ≡ i
@@ -21,7 +21,7 @@ pub record IsUpTo (k : ℕ) (nodes : List ℕ) : Type 0 where
 pub none_up_to : IsUpTo 0 []
 none_up_to = record { long = refl; own = λ i d less. absurd (omega (arith, less)) }
 
--- One node more, behind the others.
+-- One more node, appended.
 pub one_up_to : (k : ℕ) (nodes : List ℕ) → IsUpTo k nodes → IsUpTo (k + 1) (nodes ++ k ∷ [])
 one_up_to k nodes is = record {
   long = length_push nodes k ∙ ap (λ n. n + 1) is.long;
@@ -31,7 +31,7 @@ one_up_to k nodes is = record {
   ];
 }
 
--- All the nodes are the targets where none is named.
+-- All the nodes are the targets if none is named.
 pub up_to_targets : (n : ℕ) (nodes : List ℕ) → IsUpTo n nodes → AreTargets n [] nodes
 up_to_targets n nodes is = record {
   ascending = λ k within. omega (arith, is.own k 0 (omega (arith, within, is.long)), is.own (k + 1) 0 (omega (arith, within, is.long)));
@@ -43,16 +43,16 @@ up_to_targets n nodes is = record {
 
 -- ---- the nodes that are named
 
--- where a list has an element, it isn't empty
+-- a list with an element isn't empty
 some_there : (xs : List ℕ) (x : ℕ) → Contains xs x → 0 < length xs
 some_there xs x there = omega (arith, there.1)
 
--- where there are names, a node is named where it is among them
+-- if there are names, a node is named iff it is among them
 named_by : (n : ℕ) (names kept : List ℕ) → 0 < length names → ((i : ℕ) → Contains kept i ↔ Contains names i) → IsStrictlyIncreasing kept → AreTargets n names kept
 named_by n [] kept some same ascending = absurd (omega (arith, some))
 named_by n (first ∷ rest) kept some same ascending = record { ascending = ascending; named = same }
 
--- The names sorted, and each kept once.
+-- The names sorted, without duplicates.
 pub sorted_targets : (n : ℕ) (names copy sorted kept : List ℕ) → 0 < length names → copy ≡ names → IsPermutation copy sorted → IsSorted nat_cmp sorted → IsFiltered (DiffersFromLast eqb) [] sorted kept →
     AreTargets n names kept
 sorted_targets n names copy sorted kept some same moved ascends filtered =

@@ -1,4 +1,4 @@
--- What happens to nodes that a caller holds, one thing after the other, is one run of the model; and what the start leads to agrees.
+-- What happens to nodes that a caller holds, step by step, is one run of the model; and nodes that the start leads to agree.
 use Rattle.std.proofs.Common.{◌≡◌, ◌⊎◌, ℕ, zero, suc, Bool, true, false, List, [], ◌∷◌, ◌++◌, map, length, replicate, slice_get, slice_set, Some, Result, Ok, Err, IfOk, IfErr, refl, sym, ap, subst, ◌∙◌, inl, append_assoc, Vec}
 use Rattle.std.specs.declared.alloc.Global.{Global}
 use Rattle.std.proofs.Math.ListN.{length-replicate}
@@ -32,7 +32,7 @@ use Rattle.wf_farm.specs.Start.{fresh_node}
 use Rattle.wf_farm.proofs.Deliveries.{IsActed, Stays, Acts, Tears, any_taken, any_lost, running_is, takes_acts, stays_halted, stays_itself, keeps_halted, left_here, left_before, node_eq, begins_itself}
 use Rattle.wf_farm.proofs.Turns.{world_of}
 
--- ---- a node is asked
+-- ---- a node is asked to step
 
 -- the action and the event that ask node i for this, whatever was sent
 record IsAsked (i : ℕ) (input : Input Definition) : Type 0 where
@@ -61,7 +61,7 @@ module _ {T : Type 0} (stands : ℕ → Stored Definition → Type 0) (w : World
   unfolding happens
   torn_event i action kept shows = one_event (Torn i action kept) shows
 
-  -- No event leads to what a node leaves that is asked, or that one, whole or torn.
+  -- No event, or that one, complete or a crash within it, leads to what a step leaves.
   asked_once : (i : ℕ) (input : Input Definition) (is : IsAsked i input) → IsActed stands i is.action w nodes sent → IsLedWith stands w nodes sent
   asked_once i input is (Stays shows) = no_event shows
   asked_once i input is (Acts shows) = one_event is.event (subst (Shows stands nodes sent) (sym (is.acts w)) shows)
@@ -78,7 +78,7 @@ module _ {T : Type 0} (honest : Type 0) (images : T → List ℕ → Type 0) (no
       asked_once stands w (slice_set nodes i after) (sent ++ said) i input is
       (takes_acts stands nodes sent i node after is.action input at (is.given (map message.view sent)) turns honest images said takes torn w shows)
 
-  -- Whatever a node does that is asked, the nodes are led on by it.
+  -- Whatever a node does that is asked to step, it leads the nodes on.
   pub takes_led : Takes honest images input node after said → AreLedSaying honest images nodes said (slice_set nodes i after)
   takes_led takes = record {
     any = takes_leads AnyPart takes (λ halts each. inl tt);
@@ -87,7 +87,7 @@ module _ {T : Type 0} (honest : Type 0) (images : T → List ℕ → Type 0) (no
     turn = keeps_turn nodes i node after at (stays_itself honest images node after input said takes);
   }
 
--- What a node answers is what it does.
+-- What a node returns is what it does.
 module _ {T : Type 0} (honest : Type 0) (content : T → List ℕ) (images : T → List ℕ → Type 0) (failures : T → ℕ) (before after : Node T) (input : Input Definition) where
   takes_either : (answer : Result (Vec Message Global) NodeFault) → IfOk answer (λ said. Takes honest images input before after said.items) → IfErr answer (λ f. Takes honest images input before after []) →
       Takes honest images input before after (said_by answer)
@@ -114,7 +114,7 @@ pub step_leads_on : {T : Type 0} (honest : Type 0) (content : T → List ℕ) (i
 step_leads_on honest content images failures = λ nodes i before after input answer at turns own refused steps.
     takes_led honest images nodes i before after input (said_by answer) at turns own (takes_answered honest content images failures before after input answer refused steps)
 
--- Nothing stands behind messages that are as they were.
+-- Nothing is appended to messages that are unchanged.
 pub nothing_behind : (sent sent_after : List Message) → sent_after ≡ sent → sent_after ≡ sent ++ []
 nothing_behind sent sent_after same = same ∙ sym (append-nil sent)
 
@@ -135,10 +135,10 @@ module _ {T : Type 0} (stands : ℕ → Stored Definition → Type 0) (w : World
     shows = subst (Shows stands nodes sent) (sym (steps_in_turn Definition definition_eq w events led.events)) led.shows;
   }
 
--- ---- what was said is heard
+-- ---- the messages sent are delivered
 
 module _ {T : Type 0} (stands : ℕ → Stored Definition → Type 0) (middle after : List (Node T)) (said : List Message) (w : World Definition) (sent : List Message) where
-  -- the world in which nothing but what was said was sent
+  -- the world in which only these messages were sent
   abbrev alone : World Definition
   alone = world_of w.nodes (map message.view said)
 
@@ -156,7 +156,8 @@ module _ {T : Type 0} (stands : ℕ → Stored Definition → Type 0) (middle af
     messages = ap (λ ms. map message.view sent ++ ms) shows.messages ∙ sym (map-append message.view sent more);
   }
 
-  -- The deliveries of what was said lead on from any world in which it was said last: only each message's number is higher, by as many as were sent before.
+  -- The deliveries of messages sent lead on from any world in which they were the last sent: only each message number is
+  -- increased, by the count of those sent before.
   heard_on : EarlierMessages Definition → (done : ℕ) → AreDelivered stands done middle said after → Shows stands middle (sent ++ said) w → IsLedTo stands w after
   unfolding Lead
   heard_on law done delivered shows =
@@ -186,7 +187,7 @@ deliveries_lead_on law honest images = λ nodes middle after said done led deliv
   turn = keeps_turn_twice nodes middle after led.turn delivered.turn;
 }
 
--- ---- one thing after the other
+-- ---- step by step
 
 module _ {T : Type 0} (stands : ℕ → Stored Definition → Type 0) where
   nothing_leads : (nodes : List (Node T)) → LeadTo stands nodes nodes
@@ -277,7 +278,7 @@ module _ {T : Type 0} (honest : Type 0) (images : T → List ℕ → Type 0) whe
 
 -- ---- the start
 
--- as many of one thing as there are nodes
+-- as many of one element as there are nodes
 one_each : {A B : Type 0} (xs : List A) (i : ℕ) (x : A) (y : B) → slice_get xs i ≡ Some x → slice_get (replicate (length xs) y) i ≡ Some y
 one_each [] i x y e = absurd (none-some x e)
 one_each (z ∷ xs) zero x y e = refl
@@ -308,13 +309,13 @@ fresh_on_tape T = λ left nodes fresh. fresh_reached (StandFor left) nodes fresh
 
 -- ---- the headline
 
--- an entry of a list stands in a list that the other begins
+-- an entry of a list is in every list that it is a prefix of
 entry_begins : (xs rest : List Definition) (k : ℕ) (d : Definition) → slice_get xs k ≡ Some d → slice_get (xs ++ rest) k ≡ Some d
 entry_begins [] rest k d e = absurd (none-some d e)
 entry_begins (x ∷ xs) rest zero d e = e
 entry_begins (x ∷ xs) rest (suc k) d e = entry_begins xs rest k d e
 
--- What a node tells as published begins what its node of the model's has stored.
+-- The list that a node reports as published is a prefix of what its node of the model has stored.
 told_begins : {T : Type 0} (halted : Bool) (stands : Stored Definition → Type 0) (node : Node T) (x : world.Node Definition) → delivering.IsNodeBy halted stands node x → IsBeginning node.parts.history x.stored.history
 told_begins false stands node x is = subst (λ (y : world.Node Definition). IsBeginning node.parts.history y.stored.history) (sym is) (begins_itself node.parts.history)
 told_begins true stands node x is = is.1
@@ -325,7 +326,7 @@ module _ {T : Type 0} (nodes : List (Node T)) (w : World Definition) (i : ℕ) (
   told_in definitions zero d begins e = absurd (none-some d e)
   told_in definitions (suc k) d (rest, whole) e = subst (λ (ds : List Definition). slice_get ds k ≡ Some d) whole (entry_begins definitions rest k d e)
 
-  -- what a node tells as published is published in the world
+  -- what a node reports as published is published in the world
   published_in : (s : ℕ) (d : Definition) → AreNodes AnyPart nodes w.nodes → slice_get nodes i ≡ Some node → definition_at node.parts.history s ≡ Some d → definition empty_map w i s ≡ Some d
   unfolding history history_of
   published_in s d are at e =

@@ -1,4 +1,4 @@
--- What a farm says of a pump.
+-- The result of a farm's pump.
 use Rattle.std.proofs.Common.{◌≡◌, ℕ, ◌+◌, ◌≤◌, Bool, List, length, Result, IfOk, IfErr, inr, sym, subst, ◌∙◌}
 use Rattle.wf_farm.specs.declared.fault.FarmFault.{FarmFault}
 use Rattle.wf_farm.specs.declared.progress.End.{End}

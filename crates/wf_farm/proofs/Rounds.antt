@@ -1,4 +1,4 @@
--- What a pump has delivered: one delivery more, and a round that is whole.
+-- The deliveries of a pump: one more delivery, and a complete round.
 use Rattle.std.proofs.Common.{◌≡◌, ℕ, zero, suc, ◌+◌, ◌<◌, ◌≤◌, Bool, true, false, Option, List, [], ◌∷◌, ◌++◌, length, take, get_or, refl, sym, ap, subst, ◌∙◌, arith, length-append, if◌then◌else◌, ◌==◌}
 use Rattle.std.proofs.lemmas.List.{append-nil, append_assoc, take_all, take_more}
 use Rattle.wf_codec.specs.declared.message.Message.{Message}
@@ -19,7 +19,7 @@ unfolding to_each
 to_each_append [] more k = refl
 to_each_append (i ∷ nodes) more k = ap (λ es. Deliver i k ∷ es) (to_each_append nodes more k)
 
--- one delivery more in a round
+-- one more delivery in a round
 one_more : (targets : List ℕ) (first whole some : ℕ) → some < length targets →
     deliveries targets first whole some ++ Deliver (get_or targets some 0) (first + whole) ∷ [] ≡ deliveries targets first whole (some + 1)
 unfolding to_each deliveries
@@ -36,7 +36,7 @@ rounds_more targets first (suc whole) =
     append_assoc (to_each targets first) (rounds targets (suc first) whole) (to_each targets (first + suc whole))
     ∙ ap (λ es. to_each targets first ++ es) (ap (λ k. rounds targets (suc first) whole ++ to_each targets k) (omega arith) ∙ rounds_more targets (suc first) whole)
 
--- a round that is whole is one round more
+-- a complete round is one more round
 whole_round : (targets : List ℕ) (first whole some : ℕ) → some ≡ length targets → deliveries targets first whole some ≡ deliveries targets first (whole + 1) 0
 unfolding to_each deliveries
 whole_round targets first whole some all =
@@ -51,7 +51,7 @@ begun_most : (some : ℕ) → begun some ≤ 1
 begun_most zero = omega arith
 begun_most (suc some) = omega arith
 
--- ---- how far a pump has come
+-- ---- the progress of a pump
 
 module _ (targets : List ℕ) (first : ℕ) (places : List Place) (sent : List Message) where
   -- Nothing is delivered yet.
@@ -108,6 +108,6 @@ module _ (targets : List ℕ) (first : ℕ) (places : List Place) (sent : List M
         most = omega (arith, may);
       }
 
-      -- A delivery more.
+      -- One more delivery.
       pub come_on : HasCome targets first (next (length targets) p) places sent after more
       come_on = come_by (p.some + 1 == length targets) refl

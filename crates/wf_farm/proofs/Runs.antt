@@ -11,7 +11,7 @@ use Rattle.wf_farm.specs.Event.{view}
 use Rattle.wf_farm.specs.Cluster.{Shows, KeepMembers, StayShown, Moves, Happens, HaveRun, last_refused}
 use Rattle.wf_farm.specs.Fault.{told}
 
--- one event more, at the end
+-- one more event, at the end
 pub steps_more : (w : World Definition) (events : List (Event Definition)) (event : Event Definition) →
     steps definition_eq w (events ++ event ∷ []) ≡ happens definition_eq (steps definition_eq w events) event
 unfolding steps
@@ -57,13 +57,13 @@ module _ (places : List Place) (sent : List Message) where
       HaveRun (take done (map view events)) number places sent after more → HaveRun (map view events) number places sent after more
   all_run events done number after more all ran = subst (λ es. HaveRun es number places sent after more) (ap (λ k. take k (map view events)) all ∙ take_all events) ran
 
-  -- Where an event changes nothing, the run stands where it stood.
+  -- An event that changes nothing leaves the run where it was.
   pub stays_run : (events : List (Event Definition)) (middle after : List Place) (said more : List Message) → Moves events places sent middle said → StayShown middle said after more →
       Moves events places sent after more
   unfolding Moves StayShown
   stays_run events middle after said more ran stays = λ w shows. stays (steps definition_eq w events) (ran w shows)
 
--- members are kept by two changes in turn
+-- two changes in turn keep members
 pub keep_twice : (places middle after : List Place) → KeepMembers places middle → KeepMembers middle after → KeepMembers places after
 keep_twice places middle after first second = record {
   as_many = second.as_many ∙ first.as_many;

@@ -1,4 +1,4 @@
--- One place: what the node there does is the farm's model's turn.
+-- One entry: what its node does is the turn of the farm's model.
 use Rattle.std.proofs.Common.{◌≡◌, ◌≢◌, ℕ, ◌≤◌, true, false, List, [], map, length, take, drop, slice_get, Option, Some, None, Result, Ok, Err, IfOk, IfErr, refl, sym, ap, subst, ◌∙◌, arith, inl, inr, Vec}
 use Rattle.std.proofs.lemmas.Bool.{both_ways}
 use Rattle.std.proofs.lemmas.List.{append-nil, length-map, take-append-drop}
@@ -42,11 +42,11 @@ node_of stored working = record { stored = stored; working = working }
 node_eq : (stored others : Stored Definition) (working held : Option (Working Definition)) → stored ≡ others → working ≡ held → node_of stored working ≡ node_of others held
 node_eq stored others working held e h = ap (λ s. node_of s working) e ∙ ap (λ x. node_of others x) h
 
--- the node of the model's that a running one is
+-- the node of the model that a running one is
 abbrev shown : Node tape.Kept → world.Node Definition
 shown node = node_of (stored_of node) (Some (working_of node))
 
--- A tape in memory counts no failure, so none is told of it.
+-- A tape in memory counts no failure, so none is reported for it.
 pub never_fails : HasRisen 0 0 → ⊥
 never_fails risen = elim risen [ inl less ↦ omega (arith, less) | inr last ↦ omega (arith, last) ]
 
@@ -76,19 +76,19 @@ module _ (node after : Node tape.Kept) (input : Input Definition) (said : List M
     refusal = λ x e. subst (λ y. None ≡ told (refusal_of (Some y) (Some input))) (sym e) stepped_refusal;
   }
 
--- A step that is done is the turn of the node at this place.
+-- A completed step is the turn of the node in this entry.
 pub step_done : (n i : ℕ) (node after : Node tape.Kept) (input : Input Definition) (said : List Message) → IsMember n i (Running node) → refusal_at node input ≡ None →
     IsRow node (row_of node input) said after → IsStepped n i input (Running node) (Running after) (map message.view said) None
 step_done n i node after input said member goes is =
     subst (λ m. IsStepped m i input (Running node) (Running after) (map message.view said) None) member.1
     (subst (λ j. IsStepped node.n j input (Running node) (Running after) (map message.view said) None) member.0 (done_here node after input said goes is))
 
--- its node is a member still
+-- its node is still a member
 pub done_member : (node after : Node tape.Kept) (input : Input Definition) (said : List Message) → IsRow node (row_of node input) said after → KeepsMember (Running node) (Running after)
 unfolding KeepsMember
 done_member node after input said is = λ n i member. (is.id ∙ member.0, is.n ∙ member.1, is.running)
 
--- No step says more than eight messages.
+-- No step sends more than eight messages.
 pub said_few : (node after : Node tape.Kept) (input : Input Definition) (said : List Message) → RowsAreShort Definition → IsRow node (row_of node input) said after → length said ≤ most_told
 said_few node after input said short is =
     omega (arith, length-map said message.view, ap length is.messages, short definition_eq node.n node.id (stored_of node) (working_of node) input)
@@ -111,12 +111,12 @@ step_refused n i node input why member refused =
     subst (λ m. IsStepped m i input (Running node) (Running node) [] (Some (number_of why))) member.1
     (subst (λ j. IsStepped node.n j input (Running node) (Running node) [] (Some (number_of why))) member.0 (refused_here node input why refused))
 
--- a node that is as it was but for its tape
+-- a node that is unchanged but for its tape
 pub same_stays : (node after : Node tape.Kept) → IsSameNode node after → Stays (Running node) (Running after)
 unfolding Stays
 same_stays node after same = λ x e. e ∙ node_eq _ _ _ _ (sym (ap stored_of same)) (ap Some (sym (ap working_of same)))
 
--- which number a fault has
+-- the number of an error
 number_why : (f : NodeFault) (number : ℕ) → number_in f ≡ Some number → (why : Refusal) × (fault.refusal_of f ≡ Some why) × (number_of why ≡ number)
 number_why fault_case.Memory number e = absurd (none-some number e)
 number_why fault_case.Busy number e = (table.Busy, refl, same_Some 2 number e)
@@ -133,7 +133,7 @@ unchanged_by f why e = (
   λ is. none-some why (ap fault.refusal_of (sym is) ∙ e),
 )
 
--- After a fault the node is a member still: its tape hasn't failed, since a tape in memory doesn't.
+-- After an error the node is still a member: its tape hasn't failed, since a tape in memory doesn't.
 module _ (node after : Node tape.Kept) (same : IsSameNode node after) where
   kept_member : after.halted ≡ false → KeepsMember (Running node) (Running after)
   unfolding KeepsMember
@@ -156,7 +156,7 @@ module _ (node after : Node tape.Kept) (same : IsSameNode node after) where
   denied_member fault_case.TapeFailed runs fails halted unchanged = absurd (never_fails (fails refl))
   denied_member fault_case.Nothing runs fails halted unchanged = unchanged_member fault_case.Nothing table.NothingToRetry refl unchanged
 
--- A step that a fault ends: the node is as it was, and the table's rejection is that of the farm's model.
+-- A step that ends in an error: the node is unchanged, and the table's rejection is that of the farm's model.
 pub step_denied : (n i : ℕ) (node after : Node tape.Kept) (input : Input Definition) (f : NodeFault) → IsMember n i (Running node) → fault.refusal_of f ≡ refusal_at node input →
     IsSameNode node after → (f ≢ fault_case.Memory → f ≢ fault_case.TapeFailed → after ≡ node) → IsDenied n i input (Running node) (Running after) f
 step_denied n i node after input f member refused same unchanged = record {
@@ -169,7 +169,7 @@ step_denied n i node after input f member refused same unchanged = record {
       (step_refused n i node input why.0 member (sym refused ∙ why.1)));
 }
 
--- ---- a step, whatever it answers
+-- ---- a step, whatever it returns
 
 module _ {A : Type 0} (node after : Node tape.Kept) (input : Input Definition) where
   pub any_done : (result : Result (Vec Message A) NodeFault) → (node.halted ≡ false → fault.refused_by result ≡ refusal_at node input) →
@@ -222,7 +222,7 @@ pub still_stopped : (kept : tape.Kept) → Stops (Stopped kept) (Stopped kept)
 unfolding Stops node_stopped
 still_stopped kept = λ n i member x is. (refl, is.1)
 
--- of a tape alone nothing is asked of a member
+-- a tape alone needs nothing to be a member
 pub stopped_member : (before : Place) (kept : tape.Kept) → KeepsMember before (Stopped kept)
 unfolding KeepsMember
 stopped_member before kept = λ n i member. tt
@@ -240,16 +240,16 @@ begins_itself bytes = ([], sym (append-nil bytes))
 begins_taken : (n : ℕ) (bytes : List ℕ) → IsBeginning (take n bytes) bytes
 begins_taken n bytes = (drop n bytes, sym (take-append-drop n bytes))
 
--- all the bytes of a tape are an image of it
+-- the whole contents of a tape are an image of it
 content_is_image : (kept : tape.Kept) → IsImageOf kept kept.bytes
 content_is_image kept = (begins_itself kept.bytes, begins_taken kept.synced kept.bytes)
 
--- What a tape stands for is one stored part.
+-- A tape stands for exactly one stored part.
 pub one_stored : AreReadOneWay → (kept : tape.Kept) (stored others : Stored Definition) → AllStandFor stored (IsImageOf kept) → AllStandFor others (IsImageOf kept) → stored ≡ others
 one_stored one kept stored others first second =
     one_stand one kept.bytes stored others (first kept.bytes (content_is_image kept)) (second kept.bytes (content_is_image kept))
 
--- What opens from a tape stored what the tape stands for, and has no proposal.
+-- A node opened from a tape stored what the tape stands for, and has no proposal.
 pub opened : AreReadOneWay → (kept : tape.Kept) (node : Node tape.Kept) → IsFoldOf (stored_of node) kept.bytes → working_of node ≡ Idle → Restarts (Stopped kept) (Running node)
 unfolding Restarts node_restarted working_restarted
 opened one kept node fold_of idle = λ x is.
@@ -262,7 +262,7 @@ pub still_running : (node : Node tape.Kept) → Restarts (Running node) (Running
 unfolding Restarts node_restarted working_restarted
 still_running node = λ x e. subst (λ y. node_restarted y ≡ shown node) (sym e) refl
 
--- A tape that is handed back stands for what it stood for.
+-- A tape that is returned stands for what it stood for.
 pub not_opened : (kept left : tape.Kept) → Follows ReadsSame (IsImageOf kept) (IsImageOf left) → Stays (Stopped kept) (Stopped left)
 unfolding Stays
 not_opened kept left follows = λ x is. (
@@ -323,7 +323,7 @@ module _ (n i : ℕ) (input : Input Definition) (stored : Stored Definition) whe
   stop_torn_before None free = rw (turn_stopped definition_eq n i (node_of stored None) input refl) refl
   stop_torn_before (Some working) free = stops_before_running working (refusal stored working input) refl (free ∙ ap told (running_refusal stored working input))
 
--- A step, and then a stop: the step is torn after its record.
+-- A step, and then a stop: a crash after the step's record.
 pub torn_after : (n i : ℕ) (input : Input Definition) (before middle after : Place) (said : List (model.Message Definition)) → IsStepped n i input before middle said None →
     IsChanged node_stopped middle after → IsTornAt world.After n i input before after None
 torn_after n i input before middle after said stepped stopped = record {
@@ -331,7 +331,7 @@ torn_after n i input before middle after said stepped stopped = record {
   refusal = stepped.refusal;
 }
 
--- A stop alone, where the step would be done: the step is torn before its record.
+-- A stop alone, where the step would be done: a crash before the step's record.
 pub torn_before : (n i : ℕ) (input : Input Definition) (before after : Place) → ((x : world.Node Definition) → IsNode before x → None ≡ told (refusal_of (Some x) (Some input))) →
     IsChanged node_stopped before after → IsTornAt world.Before n i input before after None
 torn_before n i input before after free stopped = record {
@@ -339,7 +339,7 @@ torn_before n i input before after free stopped = record {
   refusal = free;
 }
 
--- A rejected step that is torn changes nothing, whatever would be kept.
+-- A crash within a rejected step changes nothing, whatever would be kept.
 torn_refused : (kept : world.Kept) (n i : ℕ) (input : Input Definition) (before after : Place) (number : ℕ) → IsStepped n i input before after [] (Some number) → Stays before after →
     ((x : world.Node Definition) → IsNode before x → turn_at n i input x ≡ None) → IsTornAt kept n i input before after (Some number)
 unfolding node_torn Stays
@@ -348,7 +348,7 @@ torn_refused kept n i input before after number stepped stays none = record {
   refusal = stepped.refusal;
 }
 
--- where a rejection is told, there is no turn
+-- if a rejection is reported, there is no turn
 no_turn_running : (n i : ℕ) (input : Input Definition) (stored : Stored Definition) (working : Working Definition) (why : Option Refusal) (number : ℕ) → refusal stored working input ≡ why → Some number ≡ told why →
     turn_at n i input (node_of stored (Some working)) ≡ None
 no_turn_running n i input stored working None number e is = absurd (none-some number (sym is))
@@ -363,7 +363,7 @@ no_turn_parts n i input stored (Some working) number is =
 pub no_turn : (n i : ℕ) (input : Input Definition) (x : world.Node Definition) (number : ℕ) → Some number ≡ told (refusal_of (Some x) (Some input)) → turn_at n i input x ≡ None
 no_turn n i input x number is = no_turn_parts n i input x.stored x.working number is
 
--- A step that a fault ends is torn likewise: nothing has changed.
+-- A step that ends in an error likewise: nothing has changed.
 pub torn_denied : (kept : world.Kept) (n i : ℕ) (input : Input Definition) (before after : Place) (f : NodeFault) → IsDenied n i input before after f → IsDeniedTorn kept n i input before after f
 torn_denied kept n i input before after f denied = record {
   stays = denied.stays;
@@ -372,7 +372,7 @@ torn_denied kept n i input before after f denied = record {
       torn_refused kept n i input before after number stepped denied.stays (λ x is. no_turn n i input x number (stepped.refusal x is));
 }
 
--- Where no fault tells why not, the table doesn't refuse.
+-- If no error reports why not, the table doesn't reject.
 pub free_where_none : (why : Option Refusal) → fault.IsWhyNot why None → None ≡ told why
 free_where_none why none = sym (ap told none)
 
@@ -380,7 +380,7 @@ some_told : (why : Option Refusal) → (why ≡ None → ⊥) → (number : ℕ)
 some_told None not_none = absurd (not_none refl)
 some_told (Some why) not_none = (number_of why, refl)
 
--- A step that would be rejected is torn: nothing has changed, and the rejection is told.
+-- A crash within a step that would be rejected: nothing has changed, and the rejection is reported.
 pub refused_before : (kept : world.Kept) (n i : ℕ) (input : Input Definition) (place : Place) (f : NodeFault) →
     ((x : world.Node Definition) → IsNode place x → fault.IsWhyNot (refusal_of (Some x) (Some input)) (Some f)) → IsTornAt kept n i input place place (number_in f)
 unfolding node_torn
@@ -391,7 +391,7 @@ refused_before kept n i input place f why = record {
   refusal = λ x is. ap told (why x is).0;
 }
 
--- ---- why a step wouldn't be done
+-- ---- why a step would be rejected
 
 why_running : (node : Node tape.Kept) (x : world.Node Definition) (input : Input Definition) (result : Option NodeFault) → IsNode (Running node) x →
     fault.IsWhyNot (refusal (stored_of node) (working_of node) input) result → fault.IsWhyNot (refusal_of (Some x) (Some input)) result
@@ -399,7 +399,7 @@ why_running node x input result is why =
     subst (λ y. fault.IsWhyNot (refusal_of (Some y) (Some input)) result) (sym is)
     (subst (λ r. fault.IsWhyNot r result) (sym (running_refusal (stored_of node) (working_of node) input)) why)
 
--- the table's rejection of an action by its kind: a delivery and a question have none
+-- the table's rejection of an action by its kind: a delivery and a catch-up have none
 abbrev WhyNotAt : Stored Definition → Working Definition → table.Action Definition ℕ → Option NodeFault → Type 0
 WhyNotAt stored working (table.Propose d) result = fault.IsWhyNot (refuse_proposal stored working) result
 WhyNotAt stored working table.Retry result = fault.IsWhyNot (refuse_retry stored working) result
@@ -416,7 +416,7 @@ why_delivered None stored working input result given none = absurd (none-some in
 why_delivered (Some message) stored working input result given none =
     subst (λ y. fault.IsWhyNot (refusal stored working y) result) (same_Some (table.Deliver message) input given) (free_of_none None result refl none)
 
--- A proposal and a second try: the table asks for nothing of the definition. A question and a delivery are never rejected.
+-- A proposal and a retry: the table doesn't depend on the definition. A catch-up and a delivery are never rejected.
 pub why_not_running : (node : Node tape.Kept) (x : world.Node Definition) (sent : List (model.Message Definition)) (action : table.Action Definition ℕ) (input : Input Definition) (result : Option NodeFault) →
     IsNode (Running node) x → input_of sent action ≡ Some input → WhyNotAt (stored_of node) (working_of node) action result → fault.IsWhyNot (refusal_of (Some x) (Some input)) result
 unfolding input_of refusal
@@ -431,7 +431,7 @@ why_not_running node x sent (table.Deliver k) input result is given why = why_ru
 pub why_not_stopped : (kept : tape.Kept) (x : world.Node Definition) (input : Input Definition) → IsNode (Stopped kept) x → fault.IsWhyNot (refusal_of (Some x) (Some input)) None
 why_not_stopped kept x input is = stopped_refusal x input is.0
 
--- ---- crashes within a step, whichever node stands there
+-- ---- crashes within a step, whichever node is there
 
 -- A step, and then a stop.
 pub step_stops : (input : Input Definition) (before middle after : Place) (said : List (model.Message Definition)) → Steps input before middle said → KeepsMember before middle → Stops middle after →
@@ -443,20 +443,20 @@ pub denied_tears : (kept : world.Kept) (input : Input Definition) (before after 
 unfolding DeniesStep DeniesTear
 denied_tears kept input before after f denies = λ n i member. torn_denied kept n i input before after f (denies n i member)
 
--- A stop alone, where the table has no rejection.
+-- A stop alone, if the table has no rejection.
 pub stops_before : (action : table.Action Definition ℕ) (sent : List (model.Message Definition)) (input : Input Definition) (before after : Place) → TellsWhyNot before action None →
     input_of sent action ≡ Some input → Stops before after → Tears world.Before input before after
 unfolding TellsWhyNot Stops Tears
 stops_before action sent input before after free given stops = λ n i member.
     torn_before n i input before after (λ x is. free_where_none (refusal_of (Some x) (Some input)) (free n i x sent input member is given)) (stops n i member)
 
--- Nothing at all, where it has one.
+-- Nothing, if it has one.
 pub refused_stays : (kept : world.Kept) (action : table.Action Definition ℕ) (sent : List (model.Message Definition)) (input : Input Definition) (place : Place) (f : NodeFault) → TellsWhyNot place action (Some f) →
     input_of sent action ≡ Some input → (n i : ℕ) → IsMember n i place → IsTornAt kept n i input place place (number_in f)
 unfolding TellsWhyNot
 refused_stays kept action sent input place f why given n i member = refused_before kept n i input place f (λ x is. why n i x sent input member is given)
 
--- why not, as the places say it
+-- why not, as the entries report it
 pub tells_running : (node : Node tape.Kept) (action : table.Action Definition ℕ) (result : Option NodeFault) → (node.halted ≡ false → WhyNotAt (stored_of node) (working_of node) action result) →
     TellsWhyNot (Running node) action result
 unfolding TellsWhyNot
@@ -466,7 +466,7 @@ pub tells_stopped : (kept : tape.Kept) (action : table.Action Definition ℕ) �
 unfolding TellsWhyNot
 tells_stopped kept action = λ n i x sent input member is given. why_not_stopped kept x input is
 
--- A question and a delivery are never rejected.
+-- A catch-up and a delivery are never rejected.
 pub tells_no_question : (place : Place) → TellsWhyNot place table.CatchUp None
 tells_no_question (Running node) = tells_running node table.CatchUp None (λ runs. refl)
 tells_no_question (Stopped kept) = tells_stopped kept table.CatchUp

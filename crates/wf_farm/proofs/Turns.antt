@@ -1,4 +1,4 @@
--- Turns of the farm's model: what an event does to the world, said of its node alone.
+-- Turns of the farm's model: the effect of an event on the world, stated for its node alone.
 use Rattle.std.proofs.Common.{◌≡◌, ℕ, Bool, List, [], ◌++◌, length, slice_get, slice_set, Option, Some, None, refl, sym, ap, ◌∙◌}
 use Rattle.std.proofs.lemmas.List.{append-nil}
 use Rattle.wf_model.specs.Message.{Message}
@@ -85,7 +85,7 @@ module _ {V : Type 0} where
   unfolding refused_at
   refused_unsent w i action none = ap (λ x. refusal_of (slice_get w.nodes i) x) none ∙ refusal_no_input (slice_get w.nodes i)
 
-  -- ---- what an event leaves: its node is set, and what is said stands at the end
+  -- ---- after an event: its node is set, and the messages sent are at the end
 
   pub turn_sets : (w : World V) (i : ℕ) (node : Node V) (t : Option (Turn V)) → slice_get w.nodes i ≡ Some node →
       after_turn w i t ≡ record { nodes = slice_set w.nodes i (node_after t node); sent = w.sent ++ messages_of t }

@@ -33,7 +33,7 @@ fresh_more n i [] place are is member = (is, subst (λ k. IsMember n k place) (o
 fresh_more n i (p ∷ places) place are is member =
     (are.0, are.1, fresh_more n (suc i) places place are.2 is (subst (λ k. IsMember n k place) (omega arith) member))
 
--- One fresh node more, behind the others.
+-- One more fresh node, appended.
 pub one_more_fresh : (n id : ℕ) (places : List Place) (place : Place) → AreFresh n 0 places → length places ≡ id → IsNode place fresh_node → IsMember n id place → AreFresh n 0 (places ++ place ∷ [])
 one_more_fresh n id places place are long is member = fresh_more n 0 places place are is (subst (λ k. IsMember n k place) (omega (arith, long)) member)
 
@@ -71,7 +71,7 @@ reached_on in_turn places after_places sent after_sent more long reached moves =
       (moves (steps definition_eq (start (length places)) reached.events) reached.shows));
 }
 
--- A farm that a run moved is a farm.
+-- A farm after a run is a farm.
 pub farm_moved : StepsInTurn Definition → (places after_places : List Place) (sent after_sent : List Message) (pumped now : ℕ) (more : List (Event Definition)) → IsFarm places sent pumped →
     KeepMembers places after_places → Moves more places sent after_places after_sent → now ≤ length after_sent → IsFarm after_places after_sent now
 farm_moved in_turn places after_places sent after_sent pumped now more farm keeps moves within = record {
@@ -123,7 +123,7 @@ one_world one farm reached = record {
 
 -- ---- the headline
 
--- what a place stored is what its node stored
+-- the stored part of an entry is that of its node
 stored_at : AreReadOneWay → (place : Place) (node : world.Node Definition) (stored : Stored Definition) → IsNode place node → HasStored (Some place) stored → stored ≡ node.stored
 stored_at one (Running held) node stored is has = has ∙ sym (ap (λ x. x.stored) is)
 stored_at one (Stopped kept) node stored is has = one_stored one kept stored node.stored has is.1
@@ -142,7 +142,7 @@ published_by one places w i s d (Some place) stored are at has e =
     let here = node_at places w.nodes i place are at in
     entry_at stored.history w i s d (ap history_of here.1 ∙ ap (λ (x : Stored Definition). x.history) (sym (stored_at one place here.0 stored here.2 has))) e
 
--- what a place stored has the list of the world's node
+-- the stored part of an entry has the list of the world's node
 history_at : AreReadOneWay → (places : List Place) (w : World Definition) (i : ℕ) (there : Option Place) (stored : Stored Definition) → AreNodes places w.nodes → slice_get places i ≡ there →
     HasStored there stored → history w i ≡ stored.history
 unfolding history history_of
@@ -151,7 +151,7 @@ history_at one places w i (Some place) stored are at has =
     let here = node_at places w.nodes i place are at in
     ap history_of here.1 ∙ ap (λ (x : Stored Definition). x.history) (sym (stored_at one place here.0 stored here.2 has))
 
--- What a place has published before a run begins what it has published after it.
+-- What an entry's node has published before a run is a prefix of what it has published after it.
 pub grown : Agreement Definition → AreReadOneWay → StepsInTurn Definition → (places after_places : List Place) (sent after_sent : List Message) (more : List (Event Definition)) →
     length after_places ≡ length places → IsReached places sent → Moves more places sent after_places after_sent →
     (i : ℕ) (old new : Stored Definition) → HasStored (slice_get places i) old → HasStored (slice_get after_places i) new → IsBeginning old.history new.history

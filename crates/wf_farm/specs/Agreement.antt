@@ -1,4 +1,4 @@
--- The headline on a farm: what its nodes publish under one sequence is one definition.
+-- The headline for a farm: what its nodes publish under one sequence is one definition.
 use Rattle.std.specs.Prelude.{◌≡◌, ℕ, List, slice_get, Option, Some, None}
 use Rattle.wf_def.specs.Definition.{Definition}
 use Rattle.wf_model.specs.Stored.{Stored, definition_at}
@@ -12,7 +12,7 @@ use Rattle.wf_farm.specs.declared.place.Place.{Place}
 use Rattle.wf_farm.specs.declared.place.Place.TheVariants.{Running, Stopped}
 use Rattle.wf_farm.specs.Farm.{Farm, Shows, size}
 
--- what the node at a place stored, running or stopped
+-- the stored part of the node at an index, running or stopped
 abbrev pub HasStored : Option Place → Stored Definition → Type 0
 HasStored None stored = ⊥
 HasStored (Some (Running node)) stored = stored ≡ stored_of node
@@ -28,11 +28,11 @@ pub record Publishes (farm : Farm) (i s : ℕ) (d : Definition) : Type 0 where
 unfoldable pub HasOneHistory : Farm → Type 0
 HasOneHistory farm = (i j s : ℕ) (c d : Definition) → Publishes farm i s c → Publishes farm j s d → c ≡ d
 
--- What each place has published, running or stopped, stands at the beginning of what it has published afterwards.
+-- For each entry, running or stopped, the published list before is a prefix of the one afterwards.
 unfoldable pub HistoriesGrow : Farm → Farm → Type 0
 HistoriesGrow before after = (i : ℕ) (old new : Stored Definition) → HasStored (slice_get before.places i) old → HasStored (slice_get after.places i) new → IsBeginning old.history new.history
 
--- The farm is one world and no other, and some events lead to that from the start.
+-- The farm is exactly one world, and some events lead to it from the start.
 pub record IsOneWorld (farm : Farm) : Type 0 where
   pub the_world : World Definition
   pub shown : Shows farm the_world

@@ -1,4 +1,4 @@
--- What a farm's nodes answer to clients of the web map service.
+-- The answers of a farm's nodes to clients of the web map service.
 use Rattle.std.specs.Prelude.{◌≡◌, ℕ, List, codes, length, slice_get, Option, Some, None, Ok}
 use Rattle.wf_node.specs.Node.{Node}
 use Rattle.wf_tape.specs.MemoryTape.{Kept}
@@ -14,32 +14,32 @@ abbrev pub sequence_in : Option (Node Kept) → ℕ
 sequence_in None = 0
 sequence_in (Some node) = length node.parts.history
 
--- the last sequence that node i published, where it runs
+-- the last sequence that node i published, if it runs
 abbrev pub sequence_at : Farm → ℕ → ℕ
 sequence_at farm i = sequence_in (running_in (slice_get farm.places i))
 
--- Node i runs and stands at the sequence s, the last one that it published; and this is the answer at s to the query, of what it published.
+-- Node i runs, s is the last sequence that it published, and this is the answer to the query at s, from what it published.
 pub record Answers (farm : Farm) (i s : ℕ) (query : List ℕ) (answer : AnswerValue) : Type 0 where
   pub node : Node Kept
   pub runs : running_in (slice_get farm.places i) ≡ Some node
   pub stands : length node.parts.history ≡ s
   pub is_answer : IsAnswerOf s node.parts.history query answer
 
--- Nodes that stand at one sequence have one answer to a query: of one kind and one media type, and the same bytes.
+-- Nodes with the same last published sequence have one answer to a query: the same kind, media type and bytes.
 unfoldable pub HasOneAnswer : Farm → Type 0
 HasOneAnswer farm = (i j s : ℕ) (query : List ℕ) (answer another : AnswerValue) → Answers farm i s query answer → Answers farm j s query another → another ≡ answer
 
--- The query is a GetMap request (OGC 06-042, 7.3), and at a server of the sequence s, it is for the map of the sequence m.
+-- The query is a GetMap request (OGC 06-042, 7.3), and at a server whose last sequence is s it asks for the map of sequence m.
 pub record AsksForMap (m s : ℕ) (query : List ℕ) : Type 0 where
   pub request : parameter (codes "REQUEST") (pairs_of query) ≡ Some (codes "GetMap")
   pub sequence : map_sequence s (pairs_of query) ≡ Ok m
 
--- Nodes that a query asks for one map have one answer to it, at whatever sequences they stand.
+-- Nodes that a query asks for the same map have one answer to it, whatever their last published sequences.
 unfoldable pub HasOneMapAnswer : Farm → Type 0
 HasOneMapAnswer farm = (i j s t m : ℕ) (query : List ℕ) (answer another : AnswerValue) → AsksForMap m s query → AsksForMap m t query →
     Answers farm i s query answer → Answers farm j t query another → another ≡ answer
 
--- why no node answers: none runs there, else memory was wanted before anything was done
+-- why no node answers: none runs there, or an allocation failed before anything was done
 abbrev pub IsNoAnswer : Option (Node Kept) → FarmFault → Type 0
 IsNoAnswer None fault = fault ≡ NoNode
 IsNoAnswer (Some node) fault = fault ≡ Memory 0

@@ -1,4 +1,4 @@
--- The nodes and the messages of a farm, as a world of the model, and what events do to both.
+-- The nodes and messages of a farm as a world of the model, and the effect of events on both.
 use Rattle.std.specs.Prelude.{◌≡◌, ℕ, ⊤, List, [], ◌∷◌, length, map, slice_get, Option, Some, None}
 use Rattle.wf_codec.specs.Message as message
 use Rattle.wf_codec.specs.declared.message.Message.{Message}
@@ -11,33 +11,33 @@ use Rattle.wf_farm.specs.declared.place.Place.{Place}
 use Rattle.wf_farm.specs.Fault.{told}
 use Rattle.wf_farm.specs.Place.{IsNode, IsMember}
 
--- place by place, these nodes of the model's
+-- index by index, these nodes of the model
 abbrev pub AreNodes : List Place → List (world.Node Definition) → Type 0
 AreNodes [] [] = ⊤
 AreNodes [] (node ∷ nodes) = ⊥
 AreNodes (place ∷ places) [] = ⊥
 AreNodes (place ∷ places) (node ∷ nodes) = IsNode place node × AreNodes places nodes
 
--- The places and the messages are this world.
+-- The entries and the messages are this world.
 pub record Shows (places : List Place) (sent : List Message) (w : World Definition) : Type 0 where
   pub nodes : AreNodes places w.nodes
   pub messages : w.sent ≡ map message.view sent
 
--- at each place its own node stands, and none has failed
+-- each entry has the node of its index, and none has failed
 unfoldable pub AreMembers : List Place → Type 0
 AreMembers places = (i : ℕ) (place : Place) → slice_get places i ≡ Some place → IsMember (length places) i place
 
--- The members are as many as before, and none has failed.
+-- There are as many members as before, and none has failed.
 pub record KeepMembers (before after : List Place) : Type 0 where
   pub as_many : length after ≡ length before
   pub members : AreMembers before → AreMembers after
 
--- Whatever world was shown, it is shown after the change.
+-- The change keeps whatever world was shown.
 abbrev pub Turns : (World Definition → World Definition) → List Place → List Message → List Place → List Message → Type 0
 Turns change places sent places_after sent_after =
     (w : World Definition) → Shows places sent w → Shows places_after sent_after (change w)
 
--- nothing has changed that a world shows
+-- nothing that a world shows has changed
 unfoldable pub StayShown : List Place → List Message → List Place → List Message → Type 0
 StayShown places sent places_after sent_after = Turns (λ w. w) places sent places_after sent_after
 
@@ -45,11 +45,11 @@ StayShown places sent places_after sent_after = Turns (λ w. w) places sent plac
 unfoldable pub Moves : List (Event Definition) → List Place → List Message → List Place → List Message → Type 0
 Moves events places sent places_after sent_after = Turns (λ w. steps definition_eq w events) places sent places_after sent_after
 
--- what is told of an action or an event is why it is rejected in the world before
+-- the number reported for an action or an event is that of its rejection in the world before
 abbrev pub TellsWhy : (World Definition → Option Refusal) → Option ℕ → List Place → List Message → Type 0
 TellsWhy why number places sent = (w : World Definition) → Shows places sent w → number ≡ told (why w)
 
--- a step, a crash within a step and any event, done whole
+-- a step, a crash within a step, and any event, done completely
 pub record IsActed (i : ℕ) (action : Action Definition ℕ) (number : Option ℕ) (places : List Place) (sent : List Message) (places_after : List Place) (sent_after : List Message) : Type 0 where
   pub leads : Turns (λ w. after_turn w i (turn definition_eq w i action)) places sent places_after sent_after
   pub why : TellsWhy (λ w. refused_at w i action) number places sent
@@ -62,7 +62,7 @@ pub record Happens (event : Event Definition) (number : Option ℕ) (places : Li
   pub leads : Turns (λ w. happens definition_eq w event) places sent places_after sent_after
   pub why : TellsWhy (λ w. refused w event) number places sent
 
--- why the last of the events is rejected, None where there is none
+-- the rejection of the last event, None if there is no event or no rejection
 unfoldable pub last_refused : World Definition → List (Event Definition) → Option Refusal
 last_refused w [] = None
 last_refused w (event ∷ []) = refused w event

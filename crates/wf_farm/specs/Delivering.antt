@@ -1,4 +1,5 @@
--- Messages are delivered to nodes that a caller holds, over tapes of any kind: which world of the model the nodes are, and what the deliveries do to it.
+-- Delivery of messages to nodes that a caller holds, over any kind of tape: which world of the model the nodes are, and the
+-- effect of the deliveries on it.
 use Rattle.std.specs.Prelude.{◌≡◌, ◌⊎◌, ◌≤◌, ◌<◌, ◌+◌, ℕ, Bool, true, false, ⊤, List, [], ◌∷◌, ◌++◌, length, map, slice_get, slice_set, Some, None}
 use Rattle.wf_codec.specs.Message as message
 use Rattle.wf_codec.specs.declared.message.Message.{Message}
@@ -20,16 +21,16 @@ use Rattle.wf_farm.specs.Pump.{begun, most_deliveries}
 
 -- ---- nodes and a world
 
--- What is known of the stored part that the tape of a failed node is left with, by the node's number: nothing; or that the bytes which a crash
--- leaves of the tape stand for it.
+-- What is known of the stored part that the tape of a failed node stands for, by node number: nothing; or that the bytes which a
+-- crash leaves of the tape stand for it.
 abbrev pub AnyPart : ℕ → Stored Definition → Type 0
 AnyPart i stored = ⊤
 
 abbrev pub StandFor : (ℕ → List ℕ) → ℕ → Stored Definition → Type 0
 StandFor left i stored = StandsFor stored (left i)
 
--- The node is this one of the model's. One that runs shows both its parts. One whose tape failed is stopped; what it tells as published begins
--- what it has stored, which is what is known of its tape.
+-- The node is this node of the model. A running node has both its parts. A node whose tape failed is stopped; the list that it
+-- reports as published is a prefix of the stored one, and the stored part is as its tape is known to be.
 abbrev pub IsNodeBy : {T : Type 0} → Bool → (Stored Definition → Type 0) → Node T → world.Node Definition → Type 0
 IsNodeBy false stands node shown = shown ≡ record { stored = stored_of node; working = Some (working_of node) }
 IsNodeBy true stands node shown = (shown.working ≡ None) × IsBeginning node.parts.history shown.stored.history × stands shown.stored
@@ -37,7 +38,7 @@ IsNodeBy true stands node shown = (shown.working ≡ None) × IsBeginning node.p
 abbrev pub IsNode : {T : Type 0} → (Stored Definition → Type 0) → Node T → world.Node Definition → Type 0
 IsNode stands node shown = IsNodeBy node.halted stands node shown
 
--- node by node, these nodes of the model's
+-- node by node, these nodes of the model
 pub record AreNodes {T : Type 0} (stands : ℕ → Stored Definition → Type 0) (nodes : List (Node T)) (shown : List (world.Node Definition)) : Type 0 where
   pub as_many : length shown ≡ length nodes
   pub node_is : (i : ℕ) (node : Node T) → slice_get nodes i ≡ Some node → (x : world.Node Definition) × (slice_get shown i ≡ Some x) × IsNode (stands i) node x
@@ -47,11 +48,11 @@ pub record Shows {T : Type 0} (stands : ℕ → Stored Definition → Type 0) (n
   pub nodes_are : AreNodes stands nodes w.nodes
   pub messages : w.sent ≡ map message.view sent
 
--- At place i stands node i of n.
+-- The node at index i is node i of n.
 unfoldable pub StandAmong : {T : Type 0} → ℕ → List (Node T) → Type 0
 StandAmong {T} n nodes = (i : ℕ) (node : Node T) → slice_get nodes i ≡ Some node → (node.id ≡ i) × (node.n ≡ n)
 
--- At place i stands node i of as many as there are.
+-- The node at index i is node i of n, where n is the number of nodes.
 abbrev pub StandInTurn : {T : Type 0} → List (Node T) → Type 0
 StandInTurn nodes = StandAmong (length nodes) nodes
 
@@ -61,7 +62,7 @@ MayLeave {T} images nodes left = (i : ℕ) (node : Node T) → slice_get nodes i
 
 -- ---- the deliveries
 
--- a delivery, or one within which its node stops
+-- a delivery, or a crash within one
 abbrev pub IsOfMessage : Action Definition ℕ → Type 0
 IsOfMessage (table.Deliver k) = ⊤
 IsOfMessage (table.Propose d) = ⊥
@@ -81,28 +82,28 @@ unfoldable pub AreDeliveries : List (Event Definition) → Type 0
 AreDeliveries [] = ⊤
 AreDeliveries (event ∷ events) = IsDelivery event × AreDeliveries events
 
--- At most so many deliveries lead from the world to what the nodes and the messages are now.
+-- At most `most` deliveries lead from the world to what the nodes and the messages are now.
 pub record IsLed {T : Type 0} (stands : ℕ → Stored Definition → Type 0) (w : World Definition) (most : ℕ) (nodes : List (Node T)) (sent : List Message) : Type 0 where
   pub events : List (Event Definition)
   pub deliveries : AreDeliveries events
   pub at_most : length events ≤ most
   pub shows : Shows stands nodes sent (steps definition_eq w events)
 
--- Whatever world the nodes and the messages were, at most so many deliveries lead from it to what they are afterwards.
+-- From whatever world the nodes and the messages were, at most `most` deliveries lead to what they are afterwards.
 unfoldable pub Lead : {T : Type 0} → (ℕ → Stored Definition → Type 0) → ℕ → List (Node T) → List Message → List (Node T) → List Message → Type 0
 Lead stands most nodes sent nodes_after sent_after = (w : World Definition) → Shows stands nodes sent w → IsLed stands w most nodes_after sent_after
 
--- The same of nodes that were handed messages, and of some list of messages that are sent by then.
+-- The same for nodes to which messages were delivered, with some list of messages sent by then.
 pub record AreDelivered {T : Type 0} (stands : ℕ → Stored Definition → Type 0) (most : ℕ) (nodes : List (Node T)) (messages : List Message) (nodes_after : List (Node T)) : Type 0 where
   pub sent : List Message
   pub lead : Lead stands most nodes messages nodes_after sent
 
--- ---- one node, and how far the deliveries came
+-- ---- one node, and the progress of the deliveries
 
 module _ {T : Type 0} (honest : Type 0) (images : T → List ℕ → Type 0) where
-  -- What a node does that is handed an input. The input is lost, or the node rejects it, as a halted one does: the node is as it was. It is lost for allocation failure
-  -- within the step: the node is as it was but for its tape. It steps. Or its tape fails within the step, nothing is said, and each image stands for what was stored
-  -- before or after.
+  -- What a node does with an input. The input is lost, or rejected, as by a halted node: the node is unchanged. An allocation
+  -- fails within the step: the node is unchanged but for its tape. The node steps. Or its tape fails within the step, nothing is
+  -- sent, and each image stands for what was stored before or after.
   pub data Takes (input : Input Definition) (before after : Node T) (said : List Message) : Type 0 where
     Keeps : after ≡ before → said ≡ [] → Takes input before after said
     Spares : before.halted ≡ false → after.halted ≡ false → IsSameNode before after → said ≡ [] → Takes input before after said
@@ -110,13 +111,13 @@ module _ {T : Type 0} (honest : Type 0) (images : T → List ℕ → Type 0) whe
     Fails : before.halted ≡ false → refusal_at before input ≡ None → after.halted ≡ true → IsSameNode before after
         → (honest → EachStandsFor (stored_of before) (store (stored_of before) (row_of before input).entry) (images after.tape)) → said ≡ [] → Takes input before after said
 
--- How the deliveries ended: each message that there is by then went to each node; or they stopped, and some were left.
+-- How the deliveries ended: each message sent by then was delivered to each node; or they stopped, and some were left.
 abbrev pub IsEnd : Bool → Progress → List Message → Type 0
 IsEnd false p sent = (p.some ≡ 0) × (p.whole ≡ length sent)
 IsEnd true p sent = p.whole < length sent
 
 module _ {T : Type 0} (honest : Type 0) (images : T → List ℕ → Type 0) where
-  -- Message k was handed to node i, and what the node said was sent.
+  -- Message k was delivered to node i, and the node's messages were sent.
   pub record IsHanded (i k : ℕ) (nodes : List (Node T)) (sent : List Message) (nodes_after : List (Node T)) (sent_after : List Message) : Type 0 where
     pub node : Node T
     pub after : Node T
@@ -128,14 +129,14 @@ module _ {T : Type 0} (honest : Type 0) (images : T → List ℕ → Type 0) whe
     pub nodes_are : nodes_after ≡ slice_set nodes i after
     pub sent_are : sent_after ≡ sent ++ said
 
-  -- The messages were handed to each node in turn, ascending, one message after the other, as far as this: so many went to all nodes, and the next one to the first
-  -- `some`.
+  -- The messages were delivered to each node in turn, ascending, one message after the other, up to this progress: the first
+  -- `whole` messages to all nodes, and the next one to the first `some` nodes.
   pub data AreHanded (nodes : List (Node T)) (messages : List Message) : Progress → List (Node T) → List Message → Type 0 where
     First : AreHanded nodes messages (record { whole = 0; some = 0; done = 0 }) nodes messages
     Next : (p : Progress) (middle after : List (Node T)) (said more : List Message) → AreHanded nodes messages p middle said → IsHanded p.some p.whole middle said after more
         → AreHanded nodes messages (next (length nodes) p) after more
 
-  -- So many deliveries were made, in that order, and this is how they ended.
+  -- `done` deliveries were made, in that order, and this is how they ended.
   pub record AreHandedOut (nodes : List (Node T)) (messages : List Message) (done : ℕ) (stopped : Bool) (nodes_after : List (Node T)) : Type 0 where
     pub come : Progress
     pub sent : List Message
@@ -143,23 +144,23 @@ module _ {T : Type 0} (honest : Type 0) (images : T → List ℕ → Type 0) whe
     pub count : come.done ≡ done
     pub ended : IsEnd stopped come sent
 
--- ---- one delivery, and what it leaves as it was
+-- ---- one delivery, and what it leaves unchanged
 
 -- No event, or one delivery, leads from any world that is shown to what is shown afterwards.
 unfoldable pub TakeOne : {T : Type 0} → (ℕ → Stored Definition → Type 0) → List (Node T) → List Message → List (Node T) → List Message → Type 0
 TakeOne stands nodes sent nodes_after sent_after = (w : World Definition) → Shows stands nodes sent w →
     Shows stands nodes_after sent_after w ⊎ ((event : Event Definition) × IsDelivery event × Shows stands nodes_after sent_after (happens definition_eq w event))
 
--- a node whose tape failed stays as it is
+-- a node whose tape failed is unchanged
 unfoldable pub KeepHalted : {T : Type 0} → List (Node T) → List (Node T) → Type 0
 KeepHalted {T} before after = (i : ℕ) (node : Node T) → slice_get before i ≡ Some node → node.halted ≡ true → slice_get after i ≡ Some node
 
--- Each node's list of published maps is there still, and may have grown.
+-- Each node's list of published maps is kept, and may have grown.
 unfoldable pub EachGrows : {T : Type 0} → List (Node T) → List (Node T) → Type 0
 EachGrows {T} before after = (i : ℕ) (node : Node T) → slice_get before i ≡ Some node →
     (next : Node T) × (slice_get after i ≡ Some next) × IsGrown node.parts.history next.parts.history
 
--- The nodes are as many as before, and stand in turn still; what they published they have still.
+-- The number of nodes is unchanged and each keeps its index; each keeps what it published.
 pub record KeepTurn {T : Type 0} (before after : List (Node T)) : Type 0 where
   pub as_many : length after ≡ length before
   pub in_turn : StandInTurn before → StandInTurn after
@@ -173,7 +174,7 @@ module _ {T : Type 0} (honest : Type 0) (images : T → List ℕ → Type 0) whe
     pub halted : KeepHalted nodes nodes_after
     pub turn : KeepTurn nodes nodes_after
 
-  -- for the crate's own contracts: so far the deliveries have come
+  -- for the crate's own contracts: the deliveries have come this far
   pub record HaveCome (nodes : List (Node T)) (messages : List Message) (p : Progress) (nodes_after : List (Node T)) (sent : List Message) : Type 0 where
     pub any : Lead AnyPart p.done nodes messages nodes_after sent
     pub on_tape : honest → (left : ℕ → List ℕ) → MayLeave images nodes_after left → Lead (StandFor left) p.done nodes messages nodes_after sent
@@ -184,7 +185,7 @@ module _ {T : Type 0} (honest : Type 0) (images : T → List ℕ → Type 0) whe
     pub within : p.whole + begun p.some ≤ length sent
     pub most : p.done ≤ most_deliveries
 
-  -- what became of the deliveries: so many were made
+  -- the result of the deliveries: `done` were made
   pub record IsDelivered (nodes : List (Node T)) (messages : List Message) (done : ℕ) (nodes_after : List (Node T)) : Type 0 where
     pub any : AreDelivered AnyPart done nodes messages nodes_after
     pub on_tape : honest → (left : ℕ → List ℕ) → MayLeave images nodes_after left → AreDelivered (StandFor left) done nodes messages nodes_after

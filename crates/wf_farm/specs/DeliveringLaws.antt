@@ -1,4 +1,5 @@
--- A node that stays itself keeps its turn among the others, and each list of published maps is there still; a node whose tape failed stays as it is.
+-- A node that stays the same keeps its index among the others and its list of published maps; a node whose tape failed is
+-- unchanged.
 use Rattle.std.proofs.Common.{◌≡◌, ℕ, List, slice_get, slice_set, Some, length-set, refl, sym, ap, subst, ◌∙◌, inl, inr}
 use Rattle.std.proofs.lemmas.Bool.{cases_eq}
 use Rattle.std.proofs.lemmas.Option.{same_Some}

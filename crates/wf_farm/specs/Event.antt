@@ -1,4 +1,4 @@
--- Events as the farm's model has them.
+-- Events as the model's events.
 use Rattle.std.specs.Prelude.{ℕ}
 use Rattle.wf_def.specs.Definition.{Definition}
 use Rattle.wf_model.specs.Table as table

@@ -1,4 +1,4 @@
--- A farm as contracts see it, and what is true of each.
+-- The model of a farm in contracts, and the invariant of every farm.
 use Rattle.std.specs.Prelude.{◌≡◌, ◌≤◌, ◌<◌, ℕ, List, length, take, Option, Some, None}
 use Rattle.wf_codec.specs.declared.message.Message.{Message}
 use Rattle.wf_def.specs.Definition.{Definition}
@@ -13,8 +13,8 @@ use Rattle.wf_farm.specs.declared.fault.FarmFault.TheVariants.{Memory, NoNode}
 use Rattle.wf_farm.specs.Cluster as cluster
 use Rattle.wf_farm.specs.Cluster.{AreMembers, Moves}
 
--- Its nodes' places and all messages ever sent; from which message on they count as not pumped yet; and the number of
--- the rejection of the last run's last event, if that was rejected.
+-- Its nodes' entries and all messages ever sent; the number of the first message not pumped yet; and the number of the rejection
+-- of the last run's last event, if it was rejected.
 pub record Farm : Type 0 where
   pub places : List Place
   pub sent : List Message
@@ -25,11 +25,11 @@ pub record Farm : Type 0 where
 abbrev pub Shows : Farm → World Definition → Type 0
 Shows farm w = cluster.Shows farm.places farm.sent w
 
--- how many nodes it has
+-- the number of its nodes
 abbrev pub size : Farm → ℕ
 size farm = length farm.places
 
--- the node at a place, where one runs there
+-- the node in an entry, if it runs
 abbrev pub running_in : Option Place → Option (Node Kept)
 running_in None = None
 running_in (Some (Running node)) = Some node
@@ -40,7 +40,7 @@ pub record IsReached (places : List Place) (sent : List Message) : Type 0 where
   pub events : List (Event Definition)
   pub shows : cluster.Shows places sent (after definition_eq (length places) events)
 
--- What is true of each farm: it has 1 to 64 nodes, which run or wait to be restarted; and some events have led to it.
+-- The invariant of every farm: it has 1 to 64 nodes, running or stopped; and some events have led to it.
 pub record IsFarm (places : List Place) (sent : List Message) (pumped : ℕ) : Type 0 where
   pub some : 1 ≤ length places
   pub most : length places ≤ 64
@@ -52,11 +52,11 @@ pub record IsFarm (places : List Place) (sent : List Message) (pumped : ℕ) : T
 abbrev pub Runs : List (Event Definition) → Farm → Farm → Type 0
 Runs events before after = Moves events before.places before.sent after.places after.sent
 
--- The farm where memory was wanted: so many of the events are done.
+-- The farm after an allocation failure: the number of events that the error reports are done.
 abbrev pub RunsPart : FarmFault → List (Event Definition) → Farm → Farm → Type 0
 RunsPart (Memory done) events before after = (done < length events) × Runs (take done events) before after
 RunsPart NoNode events before after = ⊥
 
--- the fault is allocation failure before anything was done
+-- the error is allocation failure before anything was done
 abbrev pub IsAtOnce : FarmFault → Type 0
 IsAtOnce fault = fault ≡ Memory 0

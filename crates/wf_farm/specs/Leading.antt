@@ -1,5 +1,5 @@
--- Nodes that a caller holds, while they are asked and hear one another, also many times in turn: each state of them is one that some events lead to
--- from the state before, whatever was sent by then. So one run of the model leads from the start to what they are in the end.
+-- Nodes that a caller holds, while they are asked to step and messages are delivered, any number of times: some events lead from
+-- each of their states to the next, whatever was sent by then. So one run of the model leads from the start to their final state.
 use Rattle.std.specs.Prelude.{◌≡◌, ℕ, true, false, ⊤, List, [], ◌++◌, length, slice_get, slice_set, Some, Result, Ok, Err, Vec}
 use Rattle.std.specs.declared.alloc.Global.{Global}
 use Rattle.wf_codec.specs.declared.message.Message.{Message}
@@ -31,34 +31,34 @@ pub record IsLedTo {T : Type 0} (stands : ℕ → Stored Definition → Type 0) 
   pub events : List (Event Definition)
   pub shows : Shows stands nodes sent (steps definition_eq w events)
 
--- Whatever world the nodes were, and whatever was sent: some events lead from it to what the nodes are afterwards, and by these events exactly those messages
--- were sent.
+-- From whatever world the nodes were, and whatever was sent, some events lead to what the nodes are afterwards, and these events
+-- send exactly these messages.
 unfoldable pub LeadSaying : {T : Type 0} → (ℕ → Stored Definition → Type 0) → List (Node T) → List Message → List (Node T) → Type 0
 LeadSaying stands nodes said nodes_after = (w : World Definition) (sent : List Message) → Shows stands nodes sent w → IsLedWith stands w nodes_after (sent ++ said)
 
--- The same where some messages were sent.
+-- The same with some messages sent.
 unfoldable pub LeadTo : {T : Type 0} → (ℕ → Stored Definition → Type 0) → List (Node T) → List (Node T) → Type 0
 LeadTo stands nodes nodes_after = (w : World Definition) (sent : List Message) → Shows stands nodes sent w → IsLedTo stands w nodes_after
 
--- ---- the same over tapes of any kind, and over an honest one for whatever bytes a crash leaves of the tapes that failed
+-- ---- the same over any kind of tape, and over an honest one for whatever bytes a crash leaves of the tapes that failed
 
 module _ {T : Type 0} (honest : Type 0) (images : T → List ℕ → Type 0) where
-  -- Some events lead to what the nodes are afterwards, by which these messages were sent. A node whose tape failed before is as it was; each stands in its turn, and
-  -- what it published it has still.
+  -- Some events lead to what the nodes are afterwards, and send these messages. A node whose tape failed before is unchanged;
+  -- each keeps its index and what it published.
   pub record AreLedSaying (nodes : List (Node T)) (said : List Message) (nodes_after : List (Node T)) : Type 0 where
     pub any : LeadSaying AnyPart nodes said nodes_after
     pub on_tape : honest → (left : ℕ → List ℕ) → MayLeave images nodes_after left → LeadSaying (StandFor left) nodes said nodes_after
     pub halted : KeepHalted nodes nodes_after
     pub turn : KeepTurn nodes nodes_after
 
-  -- The same where some messages were sent.
+  -- The same with some messages sent.
   pub record AreLedOn (nodes nodes_after : List (Node T)) : Type 0 where
     pub any : LeadTo AnyPart nodes nodes_after
     pub on_tape : honest → (left : ℕ → List ℕ) → MayLeave images nodes_after left → LeadTo (StandFor left) nodes nodes_after
     pub halted : KeepHalted nodes nodes_after
     pub turn : KeepTurn nodes nodes_after
 
-  -- for the crate's own contracts: some events lead on, and what was sent by them stands behind what was sent before
+  -- for the crate's own contracts: some events lead on, and the messages that they send are appended to those sent before
   pub record SayMore (nodes : List (Node T)) (sent : List Message) (nodes_after : List (Node T)) (sent_after : List Message) : Type 0 where
     pub said : List Message
     pub behind : sent_after ≡ sent ++ said
@@ -81,55 +81,57 @@ pub record IsFresh {T : Type 0} (node : Node T) : Type 0 where
 unfoldable pub AreFresh : {T : Type 0} → List (Node T) → Type 0
 AreFresh {T} nodes = (i : ℕ) (node : Node T) → slice_get nodes i ≡ Some node → IsFresh node
 
--- What any two of the nodes have published under one sequence, also where their tapes failed since, is one definition.
+-- Any two of the nodes have published one definition under one sequence, even if their tapes have failed since.
 unfoldable pub HaveOneHistory : {T : Type 0} → List (Node T) → Type 0
 HaveOneHistory {T} nodes = (i j s : ℕ) (node other : Node T) (c d : Definition) → slice_get nodes i ≡ Some node → slice_get nodes j ≡ Some other →
     definition_at node.parts.history s ≡ Some c → definition_at other.parts.history s ≡ Some d → c ≡ d
 
--- Two of the nodes that stand at one sequence have one answer to a query of the web map service: of one kind and one media type, and the same bytes.
+-- Two of the nodes with the same last published sequence have one answer to a query of the web map service: the same kind, media
+-- type and bytes.
 unfoldable pub HaveOneAnswer : {T : Type 0} → List (Node T) → Type 0
 HaveOneAnswer {T} nodes = (i j s : ℕ) (node other : Node T) (query : List ℕ) (answer another : AnswerValue) → slice_get nodes i ≡ Some node → slice_get nodes j ≡ Some other →
     length node.parts.history ≡ s → length other.parts.history ≡ s → IsAnswerOf s node.parts.history query answer → IsAnswerOf s other.parts.history query another → another ≡ answer
 
--- Two of the nodes that a query asks for one map have one answer to it, at whatever sequences they stand.
+-- Two of the nodes that a query asks for the same map have one answer to it, whatever their last published sequences.
 unfoldable pub HaveOneMapAnswer : {T : Type 0} → List (Node T) → Type 0
 HaveOneMapAnswer {T} nodes = (i j s t m : ℕ) (node other : Node T) (query : List ℕ) (answer another : AnswerValue) → slice_get nodes i ≡ Some node → slice_get nodes j ≡ Some other →
     AsksForMap m s query → AsksForMap m t query → length node.parts.history ≡ s → length other.parts.history ≡ t →
     IsAnswerOf s node.parts.history query answer → IsAnswerOf t other.parts.history query another → another ≡ answer
 
--- ---- the laws
+-- ---- the theorems
 
--- what a node is asked by its holder: anything but a message
+-- an input that the holder gives a node: any but a delivery
 abbrev pub IsOwn : Input Definition → Type 0
 IsOwn (table.Propose d) = ⊤
 IsOwn table.Retry = ⊤
 IsOwn table.CatchUp = ⊤
 IsOwn (table.Deliver m) = ⊥
 
--- what a node says that answers so: nothing where it rejects, and where memory or its tape fails
+-- the messages of a node that returns this: none if it rejects, or an allocation or its tape fails
 abbrev pub said_by : Result (Vec Message Global) NodeFault → List Message
 said_by (Ok said) = said.items
 said_by (Err why) = []
 
--- One of the nodes is asked for a step, and answers: the nodes are led on, and exactly its messages were sent. A halted one rejects, and is as it was.
+-- One of the nodes is asked for a step, and returns: the nodes are led on, and exactly its messages were sent. A halted node
+-- rejects, and is unchanged.
 abbrev pub StepLeadsOn : {T : Type 0} → Type 0 → (T → List ℕ) → (T → List ℕ → Type 0) → (T → ℕ) → Type 0
 StepLeadsOn {T} honest content images failures = (nodes : List (Node T)) (i : ℕ) (before after : Node T) (input : Input Definition) (answer : Result (Vec Message Global) NodeFault) →
     slice_get nodes i ≡ Some before → StandInTurn nodes → IsOwn input → (before.halted ≡ true → (answer ≡ Err Halted) × (after ≡ before)) →
     (before.halted ≡ false → IsStep honest content images failures before input answer after) → AreLedSaying honest images nodes (said_by answer) (slice_set nodes i after)
 
--- Nodes that hear what was said are led on, however much was sent before.
+-- Nodes to which sent messages are delivered are led on, however many were sent before.
 abbrev pub DeliveriesLeadOn : {T : Type 0} → Type 0 → (T → List ℕ → Type 0) → Type 0
 DeliveriesLeadOn {T} honest images = (nodes middle after : List (Node T)) (said : List Message) (done : ℕ) →
     AreLedSaying honest images nodes said middle → IsDelivered honest images middle said done after → AreLedOn honest images nodes after
 
--- Nodes to which nothing happens are led to what they are; and nothing is said.
+-- Nodes to which nothing happens are led to themselves, and nothing is sent.
 abbrev pub NothingLeadsOn : {T : Type 0} → Type 0 → (T → List ℕ → Type 0) → Type 0
 NothingLeadsOn {T} honest images = (nodes : List (Node T)) → AreLedOn honest images nodes nodes
 
 abbrev pub NothingIsSaid : {T : Type 0} → Type 0 → (T → List ℕ → Type 0) → Type 0
 NothingIsSaid {T} honest images = (nodes : List (Node T)) → AreLedSaying honest images nodes [] nodes
 
--- Led on twice is led on; what was said by then is what was said first and what was said next.
+-- Two runs in turn are one run; the messages sent are those of the first and then those of the second.
 abbrev pub TwiceLeadsOn : {T : Type 0} → Type 0 → (T → List ℕ → Type 0) → Type 0
 TwiceLeadsOn {T} honest images = (nodes middle after : List (Node T)) → AreLedOn honest images nodes middle → AreLedOn honest images middle after → AreLedOn honest images nodes after
 
@@ -137,11 +139,12 @@ abbrev pub BothAreSaid : {T : Type 0} → Type 0 → (T → List ℕ → Type 0)
 BothAreSaid {T} honest images = (nodes middle after : List (Node T)) (said more : List Message) →
     AreLedSaying honest images nodes said middle → AreLedSaying honest images middle more after → AreLedSaying honest images nodes (said ++ more) after
 
--- What was said need not be heard.
+-- Messages sent need not be delivered.
 abbrev pub UnheardLeadsOn : {T : Type 0} → Type 0 → (T → List ℕ → Type 0) → Type 0
 UnheardLeadsOn {T} honest images = (nodes after : List (Node T)) (said : List Message) → AreLedSaying honest images nodes said after → AreLedOn honest images nodes after
 
--- What the start leads to is led on to what the start leads to; over an honest tape also with the bytes that a crash leaves of the tapes that failed.
+-- Nodes led on from reached nodes are reached; over an honest tape also with the bytes that a crash leaves of the tapes that
+-- failed.
 abbrev pub ReachedLeadsOn : {T : Type 0} → Type 0 → (T → List ℕ → Type 0) → Type 0
 ReachedLeadsOn {T} honest images = (nodes after : List (Node T)) → AreReached AnyPart nodes → AreLedOn honest images nodes after → AreReached AnyPart after
 
@@ -149,7 +152,7 @@ abbrev pub ReachedOnTape : {T : Type 0} → Type 0 → (T → List ℕ → Type 
 ReachedOnTape {T} honest images = honest → (left : ℕ → List ℕ) (nodes after : List (Node T)) → MayLeave images after left →
     AreReached (StandFor left) nodes → AreLedOn honest images nodes after → AreReached (StandFor left) after
 
--- Fresh nodes are the start, whatever bytes a crash leaves of the tapes that failed: none has.
+-- Fresh nodes are the start, whatever bytes a crash leaves of the tapes that failed: none failed.
 abbrev pub FreshAreReached : Type 0 → Type 0
 FreshAreReached T = (nodes : List (Node T)) → AreFresh nodes → AreReached AnyPart nodes
 

@@ -1,4 +1,4 @@
--- A node's place in the farm: which node of the farm's model it is, and what an event does to it.
+-- The entry of a node in the farm: which node of the model it is, and the effect of an event on it.
 use Rattle.std.specs.Prelude.{◌≡◌, ℕ, ⊤, false, List, [], Option, Some, None}
 use Rattle.wf_def.specs.Definition.{Definition}
 use Rattle.wf_def.specs.Equality.{definition_eq}
@@ -16,37 +16,37 @@ use Rattle.wf_farm.specs.declared.place.Place.TheVariants.{Running, Stopped}
 use Rattle.wf_farm.specs.Fault.{told}
 use Rattle.wf_farm.specs.Turn.{node_after, messages_of, node_torn, node_stopped, node_restarted}
 
--- The place is this node of the model's. A running one shows both its parts. A stopped one has no working part, and
--- stored what its tape stands for, whatever a crash leaves of it.
+-- The entry is this node of the model. A running node has both its parts. A stopped one has no working part, and its stored part
+-- is what its tape stands for, whatever a crash leaves of it.
 abbrev pub IsNode : Place → world.Node Definition → Type 0
 IsNode (Running node) shown = shown ≡ record { stored = stored_of node; working = Some (working_of node) }
 IsNode (Stopped tape) shown = (shown.working ≡ None) × AllStandFor shown.stored (IsImageOf tape)
 
--- Node i of n stands there, and its tape hasn't failed.
+-- The entry has node i of n, and its tape hasn't failed.
 abbrev pub IsMember : ℕ → ℕ → Place → Type 0
 IsMember n i (Running node) = (node.id ≡ i) × (node.n ≡ n) × (node.halted ≡ false)
 IsMember n i (Stopped tape) = ⊤
 
--- A node is changed so: whichever it was, it is now what `change` makes of it.
+-- A node is changed so: whichever it was, `change` maps it to what it is now.
 abbrev pub IsChanged : (world.Node Definition → world.Node Definition) → Place → Place → Type 0
 IsChanged change before after = (node : world.Node Definition) → IsNode before node → IsNode after (change node)
 
 unfoldable pub Stays : Place → Place → Type 0
 Stays before after = IsChanged (λ node. node) before after
 
--- whatever node of however many stands there, it still does
+-- the entry still has the node that it had, of the same number of nodes
 unfoldable pub KeepsMember : Place → Place → Type 0
 KeepsMember before after = (n i : ℕ) → IsMember n i before → IsMember n i after
 
--- The node stops: a stopped one stays so.
+-- The node stops; a stopped node stays stopped.
 unfoldable pub Stops : Place → Place → Type 0
 Stops before after = (n i : ℕ) → IsMember n i before → IsChanged node_stopped before after
 
--- A stopped node comes back: a running one stays as it is.
+-- A stopped node restarts; a running one is unchanged.
 unfoldable pub Restarts : Place → Place → Type 0
 Restarts before after = IsChanged node_restarted before after
 
--- the turn of node i of n, where that is this one
+-- the turn of node i of n, if the entry has that node
 abbrev pub turn_at : ℕ → ℕ → Input Definition → world.Node Definition → Option (Turn Definition)
 turn_at n i input node = turn_of definition_eq n i (Some node) (Some input)
 
@@ -56,16 +56,16 @@ pub record IsStepped (n i : ℕ) (input : Input Definition) (before after : Plac
   pub messages : (node : world.Node Definition) → IsNode before node → said ≡ messages_of (turn_at n i input node)
   pub refusal : (node : world.Node Definition) → IsNode before node → refused ≡ told (refusal_of (Some node) (Some input))
 
--- A crash within a step of node i of n, of which this was kept.
+-- A crash within a step of node i of n, which kept this.
 pub record IsTornAt (kept : world.Kept) (n i : ℕ) (input : Input Definition) (before after : Place) (refused : Option ℕ) : Type 0 where
   pub node : IsChanged (λ node. node_torn kept (turn_at n i input node) node) before after
   pub refusal : (node : world.Node Definition) → IsNode before node → refused ≡ told (refusal_of (Some node) (Some input))
 
--- The number of the table's rejection that a fault is; none where a growth was rejected.
+-- The number of the table's rejection that an error is; none for an allocation failure.
 abbrev pub number_in : NodeFault → Option ℕ
 number_in f = told (fault.refusal_of f)
 
--- A step that a fault ends leaves the node as it was. Where it is the table's rejection, that is the step.
+-- A step that ends in an error leaves the node unchanged. If the error is the table's rejection, that is the step.
 pub record IsDenied (n i : ℕ) (input : Input Definition) (before after : Place) (f : NodeFault) : Type 0 where
   pub stays : Stays before after
   pub refused : (number : ℕ) → number_in f ≡ Some number → IsStepped n i input before after [] (Some number)
@@ -74,7 +74,7 @@ pub record IsDeniedTorn (kept : world.Kept) (n i : ℕ) (input : Input Definitio
   pub stays : Stays before after
   pub refused : (number : ℕ) → number_in f ≡ Some number → IsTornAt kept n i input before after (Some number)
 
--- Whichever node stands there, and of however many: these say of it what the records above say of node i of n.
+-- The same for whichever node the entry has, of whatever number of nodes.
 unfoldable pub Steps : Input Definition → Place → Place → List (model.Message Definition) → Type 0
 Steps input before after said = (n i : ℕ) → IsMember n i before → IsStepped n i input before after said None
 
@@ -87,7 +87,7 @@ Tears kept input before after = (n i : ℕ) → IsMember n i before → IsTornAt
 unfoldable pub DeniesTear : world.Kept → Input Definition → Place → Place → NodeFault → Type 0
 DeniesTear kept input before after f = (n i : ℕ) → IsMember n i before → IsDeniedTorn kept n i input before after f
 
--- Why the node there wouldn't take an action's step: the fault of the table's rejection, None where there is none.
+-- Why the node in the entry would reject an action's step: the error of the table's rejection, None if there is none.
 unfoldable pub TellsWhyNot : Place → Action Definition ℕ → Option NodeFault → Type 0
 TellsWhyNot place action why = (n i : ℕ) (node : world.Node Definition) (sent : List (model.Message Definition)) (input : Input Definition) → IsMember n i place → IsNode place node →
     input_of sent action ≡ Some input → fault.IsWhyNot (refusal_of (Some node) (Some input)) why

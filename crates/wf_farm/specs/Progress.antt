@@ -1,4 +1,4 @@
--- How far a pump has come, and how it ended.
+-- The progress of a pump, and how it ended.
 use Rattle.std.specs.Prelude.{◌≡◌, ◌<◌, ◌≤◌, ◌+◌, ℕ, Bool, true, false, List, length, Result, Ok, Err, if◌then◌else◌, ◌==◌}
 use Rattle.wf_codec.specs.declared.message.Message.{Message}
 use Rattle.wf_farm.specs.declared.place.Place.{Place}
@@ -10,7 +10,7 @@ use Rattle.wf_farm.specs.declared.progress.Progress.{Progress}
 use Rattle.wf_farm.specs.Cluster.{Moves}
 use Rattle.wf_farm.specs.Pump.{begun, deliveries, most_deliveries}
 
--- one delivery more: to the next of so many targets, or the round is whole
+-- one more delivery: on to the next of `round` targets, or the round is complete
 abbrev pub next : ℕ → Progress → Progress
 next targets p = if p.some + 1 == targets
     then record { whole = p.whole + 1; some = 0; done = p.done + 1 }
@@ -24,13 +24,13 @@ pub record HasCome (targets : List ℕ) (first : ℕ) (p : Progress) (places : L
   pub within : first + p.whole + begun p.some ≤ length sent_after
   pub most : p.done ≤ most_deliveries
 
--- nothing is left; so many deliveries are done, and some are left; or memory was wanted before that
+-- nothing is left; the limit of deliveries is reached, and some are left; or an allocation failed before that
 abbrev pub IsEnd : ℕ → ℕ → Progress → End → Type 0
 IsEnd first count p Done = (p.some ≡ 0) × (first + p.whole ≡ count)
 IsEnd first count p Stopped = (p.done ≡ most_deliveries) × (first + p.whole < count)
 IsEnd first count p NoMemory = p.done < most_deliveries
 
--- what is told of the end
+-- the result for each end
 abbrev pub outcome : Progress → End → Result Bool FarmFault
 outcome p Done = Ok false
 outcome p Stopped = Ok true

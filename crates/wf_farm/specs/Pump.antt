@@ -1,4 +1,4 @@
--- What a pump delivers: each message that isn't pumped yet, by its number, to each of its targets, ascending.
+-- The deliveries of a pump: each message not pumped yet, by number, to each of its targets, ascending.
 use Rattle.std.specs.Prelude.{◌≡◌, ◌⊎◌, ◌<◌, ◌≤◌, ◌↔◌, ◌+◌, ℕ, zero, suc, Bool, true, false, List, [], ◌∷◌, ◌++◌, length, take, Contains}
 use Rattle.std.specs.List.Sorted.{IsStrictlyIncreasing}
 use Rattle.wf_def.specs.Definition.{Definition}
@@ -7,41 +7,41 @@ use Rattle.wf_farm.specs.declared.fault.FarmFault.{FarmFault}
 use Rattle.wf_farm.specs.declared.fault.FarmFault.TheVariants.{Memory, NoNode}
 use Rattle.wf_farm.specs.Farm.{Farm, Runs, size}
 
--- a pump does so many deliveries and no more
+-- the most deliveries of a pump
 abbrev pub most_deliveries : ℕ
 most_deliveries = 100000
 
--- whether a node is among those that are named; no name stands for every node
+-- whether a node is among the named ones; an empty list names every node
 abbrev pub IsNamed : ℕ → List ℕ → ℕ → Type 0
 IsNamed n [] i = i < n
 IsNamed n (first ∷ rest) i = Contains (first ∷ rest) i
 
--- the nodes that are named, each once, ascending
+-- the named nodes, each once, ascending
 pub record AreTargets (n : ℕ) (names targets : List ℕ) : Type 0 where
   pub ascending : IsStrictlyIncreasing targets
   pub named : (i : ℕ) → Contains targets i ↔ IsNamed n names i
 
--- message k to each of these nodes
+-- the deliveries of message k to each of these nodes
 unfoldable pub to_each : List ℕ → ℕ → List (Event Definition)
 to_each [] k = []
 to_each (i ∷ nodes) k = Deliver i k ∷ to_each nodes k
 
--- so many messages from number k on, each of them to each of these nodes
+-- the deliveries of `count` messages from number k on, each to each of these nodes
 unfoldable pub rounds : List ℕ → ℕ → ℕ → List (Event Definition)
 rounds nodes k zero = []
 rounds nodes k (suc count) = to_each nodes k ++ rounds nodes (suc k) count
 
--- whole rounds from message `first` on, and behind them the next message to the first `some` nodes
+-- whole rounds from message `first` on, then the next message to the first `some` nodes
 unfoldable pub deliveries : List ℕ → ℕ → ℕ → ℕ → List (Event Definition)
 deliveries nodes first whole some = rounds nodes first whole ++ to_each (take some nodes) (first + whole)
 
--- how many messages of a round have a first delivery, where `some` deliveries of it are done
+-- the number of messages that a partial round begins, where `some` of its deliveries are done
 abbrev pub begun : ℕ → ℕ
 begun zero = 0
 begun (suc some) = 1
 
--- What a pump has done: so many whole rounds from the first message on that wasn't pumped yet, and a part of the next
--- one. A message counts as pumped from its first delivery on.
+-- What a pump has done: `whole` rounds from the first message not pumped before, and a part of the next. A message counts as
+-- pumped from its first delivery on.
 pub record Pumps (names : List ℕ) (before after : Farm) : Type 0 where
   pub targets : List ℕ
   pub are_targets : AreTargets (size before) names targets
@@ -52,11 +52,12 @@ pub record Pumps (names : List ℕ) (before after : Farm) : Type 0 where
   pub pumped : after.pumped ≡ before.pumped + whole + begun some
   pub within : after.pumped ≤ length after.sent
 
--- how many deliveries that is
+-- the number of these deliveries
 abbrev pub count : {names : List ℕ} {before after : Farm} → Pumps names before after → ℕ
 count {names} {before} {after} pumps = length (deliveries pumps.targets before.pumped pumps.whole pumps.some)
 
--- Stopped early: so many deliveries are done and some are left. Else each message that there is now went to each target.
+-- Stopped early: the limit is reached and some deliveries are left. Otherwise each message sent by now was delivered to each
+-- target.
 abbrev pub IsEnd : {names : List ℕ} {before after : Farm} → Bool → Pumps names before after → Type 0
 IsEnd {names} {before} {after} true pumps = (count pumps ≡ most_deliveries) × (before.pumped + pumps.whole < length after.sent)
 IsEnd {names} {before} {after} false pumps = (count pumps ≤ most_deliveries) × (pumps.some ≡ 0) × (before.pumped + pumps.whole ≡ length after.sent)
@@ -64,7 +65,7 @@ IsEnd {names} {before} {after} false pumps = (count pumps ≤ most_deliveries) �
 abbrev pub IsPumped : List ℕ → Farm → Farm → Bool → Type 0
 IsPumped names before after stopped = (pumps : Pumps names before after) × IsEnd stopped pumps
 
--- Memory was wanted after so many deliveries; or before the first one, and then nothing is changed.
+-- An allocation failed after this number of deliveries; or before the first one, and then nothing is changed.
 abbrev pub IsPumpedPart : List ℕ → Farm → Farm → FarmFault → Type 0
 IsPumpedPart names before after (Memory done) = ((done ≡ 0) × (after ≡ before)) ⊎ ((pumps : Pumps names before after) × (count pumps ≡ done) × (done < most_deliveries))
 IsPumpedPart names before after NoNode = ⊥

@@ -1,4 +1,4 @@
--- The nodes that a farm begins with.
+-- The initial nodes of a farm.
 use Rattle.std.specs.Prelude.{ℕ, suc, ⊤, List, [], ◌∷◌, Some}
 use Rattle.wf_def.specs.Definition.{Definition}
 use Rattle.wf_model.specs.Stored.{nothing_stored}

@@ -1,10 +1,10 @@
--- What an event does to its node alone, and what it says.
+-- The effect of an event on its node alone, and the messages that it sends.
 use Rattle.std.specs.Prelude.{List, [], Option, Some, None}
 use Rattle.wf_model.specs.Message.{Message}
 use Rattle.wf_model.specs.Working.{Working, Idle}
 use Rattle.wf_model.specs.World.{Node, Turn, Kept, stored_after, kept_part}
 
--- the node after a step; one that isn't stepped stays
+-- the node after a step; a rejected step leaves it unchanged
 unfoldable pub node_after : {V : Type 0} → Option (Turn V) → Node V → Node V
 node_after None node = node
 node_after (Some turn) node = record { stored = stored_after turn; working = Some turn.row.working }
@@ -23,7 +23,7 @@ node_torn kept (Some turn) node = record { stored = kept_part kept turn; working
 unfoldable pub node_stopped : {V : Type 0} → Node V → Node V
 node_stopped node = record { stored = node.stored; working = None }
 
--- the working part of a node that was to be restarted: a stopped one begins anew
+-- the working part of a node after a restart: a stopped node gets an empty one
 unfoldable pub working_restarted : {V : Type 0} → Option (Working V) → Option (Working V)
 working_restarted None = Some Idle
 working_restarted (Some working) = Some working

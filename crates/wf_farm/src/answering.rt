@@ -1,4 +1,4 @@
-//! What a farm's nodes answer to clients.
+//! The answers of a farm's nodes to clients.
 
 ghost use Rattle.std.specs.Prelude.{◌≡◌, slice_get, IfOk, IfErr};
 ghost use Rattle.wf_farm.specs.Answering.{Answers, HasOneAnswer, HasOneMapAnswer, IsNoAnswer, sequence_at};
@@ -10,8 +10,8 @@ use std::alloc::Global;
 use wf_wms::Answer;
 
 impl Farm {
-    /// The answer of the node of that number to the query of a request to the web map service (OGC 06-042), at the last
-    /// sequence that the node published. F2 where no node of that number runs, and F1 with 0 where a growth was rejected.
+    /// Returns the answer of node `number` to the query of a web map service request (OGC 06-042), at the last sequence that the
+    /// node published. Err: F2 iff no such node runs; F1 with 0 if an allocation fails.
     #[tactic(auto, using(crate::proofs::Answered::none_runs, crate::proofs::Answered::memory_wanted))]
     pub fn answer(&self, alloc: Global, number: usize, query: &[u8]) -> Result<Answer, FarmFault>
         ensures answer { IfOk result (λ answer. Answers self.now number (sequence_at self.now number) query.now answer) }
@@ -27,9 +27,9 @@ impl Farm {
         }
     }
 
-    /// The headline's second half, of the farm that the caller holds: whatever happened to it, two of its nodes that
-    /// stand at one sequence answer the same query with the same bytes, of one kind and one media type. So do two nodes
-    /// whom it asks for one map (OGC 06-042, 7.3), at whatever sequences they stand.
+    /// The headline's second half, for the farm that the caller holds: whatever happened to it, two of its nodes with the same
+    /// last published sequence answer the same query with the same bytes, the same kind and the same media type. So do two nodes
+    /// asked for the same map (OGC 06-042, 7.3), whatever their last published sequences.
     #[tactic(auto, using(crate::proofs::Answered::one_answer, crate::proofs::Answered::one_map_answer))]
     pub fn answers_agree(&self)
         ensures standing { HasOneAnswer self.now }

@@ -1,4 +1,4 @@
-//! Nodes that a caller holds ask one another for what they missed.
+//! Nodes that a caller holds request the definitions that they missed.
 
 ghost use Rattle.std.specs.Prelude.{◌≡◌, ◌<◌, false, length};
 ghost use Rattle.wf_farm.specs.Asking.{AreAsked, AreCaughtUp, IsAsked};
@@ -13,18 +13,18 @@ use wf_codec::Message;
 use wf_node::{Input, Node};
 use wf_tape::Tape;
 
-/// What the nodes have said to their questions.
+/// The messages that the nodes sent when asked to catch up.
 struct Said {
     messages: Vec<Message>,
-    // For some question there was no memory.
+    // Some node wasn't asked: an allocation failed.
     lost: bool,
 }
 
-/// Each node in turn, ascending, asks for the next definition after those that it has published, and then the nodes hear one
-/// another, as [`deliver_all`] says. A node whose question finds no memory asks nothing, and that counts as having stopped
-/// early; no question that was asked is lost before it is heard.
+/// Asks each node in turn, ascending, to catch up: the node sends a request for the definition after the last that it published.
+/// Then all messages are delivered as by [`deliver_all`]. If an allocation fails, that node sends nothing, and the result reports
+/// an early stop; no request that was sent is lost before it is delivered.
 ///
-/// Some events lead from whatever world the nodes were to what they are then, over tapes of any kind.
+/// Some events lead from whatever world the nodes were to the world that they are afterwards, over any kind of tape.
 pub fn catch_up<T: Tape>(alloc: Global, nodes: &mut [Node<T>]) -> Pumped
     requires { StandInTurn nodes.old }
     ensures led { AreLedOn T.honest T.images nodes.old nodes.new }
@@ -39,14 +39,14 @@ pub fn catch_up<T: Tape>(alloc: Global, nodes: &mut [Node<T>]) -> Pumped
     }
 }
 
-/// One of the two, or both.
+/// Either or both.
 fn either(one: bool, other: bool) -> bool
     ensures { result ≡ false → (one ≡ false) × (other ≡ false) }
 {
     one || other
 }
 
-/// Asks each node.
+/// Asks each node to catch up.
 fn questions<T: Tape>(alloc: Global, nodes: &mut [Node<T>]) -> Said
     requires { StandInTurn nodes.old }
     ensures led { AreLedSaying T.honest T.images nodes.old result.messages.items nodes.new }
@@ -62,8 +62,8 @@ fn questions<T: Tape>(alloc: Global, nodes: &mut [Node<T>]) -> Said
     Said { messages, lost }
 }
 
-/// What the node at a place asks is put behind what the others did. Room for that is made before, since a node that has
-/// stepped can't go back. True where memory was wanted: nothing is asked then.
+/// Appends the messages of the node at index `place`, asked to catch up. Room is reserved first, since a node can't undo a step.
+/// Returns true if an allocation fails; then nothing is sent.
 fn question<T: Tape>(
     alloc: Global,
     nodes: &mut [Node<T>],

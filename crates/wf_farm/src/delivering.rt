@@ -1,4 +1,4 @@
-//! Messages are delivered to nodes that a caller holds, over tapes of any kind.
+//! Delivery of messages to nodes that a caller holds, over any kind of tape.
 
 ghost use Rattle.std.specs.Prelude.{◌≡◌, ◌≢◌, ◌<◌, ◌≤◌, ℕ, false, List, [], length, IfOk, IfErr, OnOk, OnErr};
 ghost use Rattle.wf_codec.specs.Message.{view as view_message};
@@ -18,24 +18,23 @@ use wf_model::rows_are_short;
 use wf_node::{Input, Node, NodeFault};
 use wf_tape::Tape;
 
-/// What became of messages that were to be delivered.
+/// The result of delivering messages.
 #[derive(Clone, Copy, Debug, PartialEq, Eq)]
 pub struct Pumped {
-    /// How many deliveries were made, lost ones too.
+    /// The number of deliveries made, lost ones included.
     pub deliveries: usize,
-    /// It ended early: after 100,000 deliveries, or where there was no memory for what the next one might say.
+    /// Whether it stopped early: after 100,000 deliveries, or because no room could be reserved for the messages of the next one.
     pub stopped: bool,
 }
 
-/// Each message goes to each node, once, ascending, and so does each message that a node hands out meanwhile, until none is
-/// left. It stops early after 100,000 deliveries, or where its own list of messages finds no memory. A delivery that a node
-/// rejects, or for which there is no memory, is lost, as the network may lose it; a node whose tape fails is halted, and
-/// takes none from then on.
+/// Delivers each message once to each node, ascending, and likewise each message that a node sends meanwhile, until none is left.
+/// Stops early after 100,000 deliveries, or if growing its own list of messages fails. A delivery that a node rejects, or for
+/// which an allocation fails, is lost, as on a network; a node whose tape fails is halted and accepts no further delivery.
 ///
-/// Node i of the slice is node i of as many as the slice has; there may be none. Whatever world of the model the nodes and
-/// the messages were, they are one that at most so many deliveries lead to: one at which a tape failed is torn. That holds
-/// over tapes of any kind; over an honest one also for whatever bytes a crash leaves of the tapes that failed. What a node has
-/// published it has still.
+/// Node i of the slice must be node i of n, where n is its length; it may be empty. Whatever world of the model the nodes and the
+/// messages were, at most `deliveries` deliveries lead to the world that they are afterwards; a delivery at which a tape failed
+/// is a crash within a step. This holds over any kind of tape; over an honest one also for whatever bytes a crash leaves of the
+/// tapes that failed. A node keeps what it published.
 pub fn deliver_all<T: Tape>(alloc: Global, nodes: &mut [Node<T>], messages: Vec<Message>) -> Pumped
     requires in_turn { StandInTurn nodes.old }
     ensures delivered { AreDelivered AnyPart result.deliveries nodes.old messages.items nodes.new }
@@ -58,7 +57,7 @@ pub fn deliver_all<T: Tape>(alloc: Global, nodes: &mut [Node<T>], messages: Vec<
     deliver_each(alloc, nodes, messages)
 }
 
-/// The same to some nodes.
+/// The same for at least one node.
 fn deliver_each<T: Tape>(alloc: Global, nodes: &mut [Node<T>], messages: Vec<Message>) -> Pumped
     requires some { 0 < length nodes.old }
     requires in_turn { StandInTurn nodes.old }
@@ -71,7 +70,7 @@ fn deliver_each<T: Tape>(alloc: Global, nodes: &mut [Node<T>], messages: Vec<Mes
     pumped
 }
 
-/// The same, where what the nodes hand out is put behind the messages.
+/// The same; the messages that the nodes send are appended to `sent`.
 fn deliver_more<T: Tape>(alloc: Global, nodes: &mut [Node<T>], sent: &mut Vec<Message>) -> Pumped
     requires some { 0 < length nodes.old }
     requires in_turn { StandInTurn nodes.old }
@@ -103,8 +102,8 @@ fn deliver_more<T: Tape>(alloc: Global, nodes: &mut [Node<T>], sent: &mut Vec<Me
     }
 }
 
-/// A message goes to a node, and what the node says is put behind the messages. Room for that is made before, since a node
-/// that has stepped can't go back; without room nothing is delivered.
+/// Delivers a message to a node, and appends the messages that the node sends. Room is reserved first, since a node can't undo a
+/// step; if that fails, nothing is delivered.
 fn deliver_one<T: Tape>(
     alloc: Global,
     nodes: &mut [Node<T>],
@@ -127,8 +126,8 @@ fn deliver_one<T: Tape>(
     Ok(())
 }
 
-/// A node is handed a copy of a message: what it says. Nothing where there is no memory for the copy, and the message is
-/// lost.
+/// Delivers a copy of a message to a node, and returns the messages that it sends. If the copy can't be allocated, the message is
+/// lost and nothing is sent.
 fn hand<T: Tape>(alloc: Global, node: &mut Node<T>, message: &Message) -> Vec<Message>
     ensures takes { Takes T.honest T.images (Deliver (view_message message.now)) node.old node.new result.items }
     ensures few { length result.items ≤ most_told }
@@ -139,7 +138,7 @@ fn hand<T: Tape>(alloc: Global, node: &mut Node<T>, message: &Message) -> Vec<Me
     }
 }
 
-/// What a node says to an input; nothing where it rejects, and where memory is wanted.
+/// Returns the messages that a node sends on an input; none if it rejects or an allocation fails.
 fn hear<T: Tape>(alloc: Global, node: &mut Node<T>, input: Input) -> Vec<Message>
     ensures takes { Takes T.honest T.images (view input) node.old node.new result.items }
     ensures few { length result.items ≤ most_told }
@@ -150,7 +149,7 @@ fn hear<T: Tape>(alloc: Global, node: &mut Node<T>, input: Input) -> Vec<Message
     }
 }
 
-/// What a node says to an input, nothing where it rejects; an error where memory is wanted, and then it has said nothing.
+/// Returns the messages that a node sends on an input, none if it rejects. Err if an allocation fails; then it has sent nothing.
 pub(crate) fn ask<T: Tape>(
     alloc: Global,
     node: &mut Node<T>,
@@ -167,7 +166,7 @@ pub(crate) fn ask<T: Tape>(
     }
 }
 
-/// What a node has said that didn't take a step: nothing; an error where memory was wanted.
+/// The messages of a node that made no step: none. Err if an allocation failed.
 fn rejected(alloc: Global, fault: NodeFault) -> Result<Vec<Message>, AllocError>
     ensures { IfOk result (λ said. (said.items ≡ []) × (fault ≢ NodeFault.Memory)) }
 {
@@ -182,7 +181,7 @@ fn rejected(alloc: Global, fault: NodeFault) -> Result<Vec<Message>, AllocError>
     }
 }
 
-/// A step of a node: what it says, or a fault, after which it has said nothing.
+/// Performs a step of a node. Returns the messages that it sends, or an error, after which it has sent none.
 fn step<T: Tape>(alloc: Global, node: &mut Node<T>, input: Input) -> Result<Vec<Message>, NodeFault>
     ensures taken { IfOk result (λ said. Takes T.honest T.images (view input) node.old node.new said.items) }
     ensures lost { IfErr result (λ _. Takes T.honest T.images (view input) node.old node.new []) }
@@ -190,7 +189,7 @@ fn step<T: Tape>(alloc: Global, node: &mut Node<T>, input: Input) -> Result<Vec<
     ensures rejects { IfErr result (λ fault. fault ≢ NodeFault.Memory → Answers T.honest T.images (view input) node.old node.new []) }
     ensures few { IfOk result (λ said. length said.items ≤ most_told) }
 {
-    // The law of the model: no row hands out more than eight messages.
+    // Theorem of the model: no transition sends more than eight messages.
     rows_are_short::<Canon>();
     node.step(alloc, input)
 }

@@ -1,37 +1,36 @@
 use wf_canon::Canon;
 
-/// What may happen to a farm, to the node of that number. It has no effect where there is no such node, where the
-/// message isn't sent, where the node is stopped (a restart excepted), where a running node is restarted, and where the
-/// node rejects.
+/// An event of a farm; the first number is the node's. It has no effect if the node doesn't exist, the message wasn't sent, the
+/// node is stopped (except for a restart), a running node is restarted, or the node rejects the step.
 #[derive(Drop)]
 pub enum Event {
-    /// The node begins a proposal of the definition.
+    /// The node starts a proposal of the definition.
     Propose(usize, Canon),
-    /// The node's running proposal begins anew.
+    /// The node restarts its running proposal.
     Retry(usize),
-    /// The node asks for the next definition.
+    /// The node requests the next definition.
     CatchUp(usize),
-    /// The node is handed the message of the second number. A message is numbered as it was sent, from 0.
+    /// The message of the second number is delivered to the node. Messages are numbered in the order sent, from 0.
     Deliver(usize, usize),
     /// The node stops, and loses its proposal.
     Stop(usize),
-    /// The stopped node comes back with what it had stored.
+    /// The stopped node restarts with what it had stored.
     Restart(usize),
-    /// The node stops within a step: it loses its proposal and all that the step would say, and keeps what it had
-    /// stored before the step or after.
+    /// The node crashes within a step: it loses its proposal and the messages of the step, and keeps what was stored before the
+    /// step or after it.
     Torn(usize, Action, Kept),
 }
 
-/// A step of some node.
+/// A step of a node.
 #[derive(Drop)]
 pub enum Action {
-    /// It begins a proposal of the definition.
+    /// It starts a proposal of the definition.
     Propose(Canon),
-    /// Its running proposal begins anew.
+    /// It restarts its running proposal.
     Retry,
-    /// It asks for the next definition.
+    /// It requests the next definition.
     CatchUp,
-    /// It is handed the message of this number.
+    /// The message of this number is delivered to it.
     Deliver(usize),
 }
 
@@ -40,6 +39,6 @@ pub enum Action {
 pub enum Kept {
     /// What was stored before the step.
     Before,
-    /// What is stored after it.
+    /// What was stored after it.
     After,
 }

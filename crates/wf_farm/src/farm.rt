@@ -11,12 +11,12 @@ use wf_model::steps_in_turn;
 use wf_node::Node;
 use wf_tape::{MemoryTape, records_are_read_one_way};
 
-/// A farm: its nodes, which run or wait to be restarted, and all messages that they ever sent. Each farm is reached
-/// from the start by some events, so that its nodes agree ([`Farm::agree`]).
+/// A farm: its nodes, running or stopped, and all messages that they ever sent. Every farm is reached from the start by some
+/// events, so its nodes agree ([`Farm::agree`]).
 #[derive(Drop)]
 pub struct Farm {
     pub(crate) cluster: Cluster,
-    // The first message that doesn't count as pumped.
+    // The number of the first message that doesn't count as pumped.
     pub(crate) pumped: usize,
     // The number of the last event's rejection.
     pub(crate) refused: Option<u8>,
@@ -51,8 +51,7 @@ impl Farm {
     ghost use Rattle.wf_farm.specs.Event.{view};
     ghost use Rattle.wf_farm.specs.Farm.{IsAtOnce, Runs, RunsPart, Shows, running_in, size};
 
-    /// A farm of n nodes, all of which run, with all parts empty: the model's start. F1 with 0 where a growth was
-    /// rejected.
+    /// Returns a farm of n nodes, all running, with all parts empty: the model's start. Err: F1 with 0 if an allocation fails.
     #[tactic(auto, using(crate::proofs::Worlds::farm_started))]
     pub fn new(alloc: Global, n: u8) -> Result<Farm, FarmFault>
         requires some { 1 ≤ n }
@@ -72,9 +71,9 @@ impl Farm {
         }
     }
 
-    /// The events happen, one after the other: what world the farm was, it is the model's world after them. F1 names how
-    /// many events were done where a growth was rejected, and the farm is the world after these. Either way no node's
-    /// published list goes back: it begins the one afterwards.
+    /// Applies the events in order: the farm becomes the model's world after them. Err: F1 with the number of events done if an
+    /// allocation fails; the farm is then the world after these. In either case each node's published list before is a prefix of
+    /// its list afterwards.
     #[tactic(auto, using(crate::proofs::Worlds::farm_moved))]
     pub fn run(&mut self, alloc: Global, events: &[Event]) -> Result<(), FarmFault>
         ensures done { OnOk result (Runs (map view events.now) self.old self.new) }
@@ -85,8 +84,8 @@ impl Farm {
         ensures size { size self.new ≡ size self.old }
         ensures pumped { self.new.pumped ≡ self.old.pumped }
     {
-        // The laws of the model and of the tape: the events of two lists in turn are those of the one list, lists only
-        // grow, and what a tape stands for is one stored part.
+        // Theorems of the model and of the tape: applying two lists of events in turn is applying their concatenation, lists only
+        // grow, and a tape stands for exactly one stored part.
         steps_in_turn::<Canon>();
         crate::law::agreement();
         records_are_read_one_way();
@@ -102,14 +101,14 @@ impl Farm {
         }
     }
 
-    /// The number of the fault by which the last event of the last run was rejected: 2, 3, 4 or 7. None where it wasn't.
+    /// The number of the error with which the last event of the last run was rejected: 2, 3, 4 or 7; None if it wasn't.
     pub fn refused(&self) -> Option<u8>
         ensures { result ≡ self.now.refused }
     {
         self.refused
     }
 
-    /// How many nodes the farm has, running and stopped ones: 1 to 64.
+    /// The number of nodes, running and stopped: 1 to 64.
     pub fn size(&self) -> usize
         ensures value { result ≡ size self.now }
         ensures some { 1 ≤ result }
@@ -118,36 +117,36 @@ impl Farm {
         self.cluster.places.len()
     }
 
-    /// The node of that number where it runs; None where it is absent or stopped.
+    /// The node of that number, if it exists and runs.
     pub fn node(&self, number: usize) -> Option<&Node<MemoryTape>>
         ensures { option_copied result ≡ running_in (slice_get self.now.places number) }
     {
         self.cluster.places.get(number)?.running()
     }
 
-    /// The message of that number; None where it isn't sent yet.
+    /// The message of that number, if it was sent.
     pub fn sent(&self, number: usize) -> Option<&Message>
         ensures { option_copied result ≡ slice_get self.now.sent number }
     {
         self.cluster.sent.get(number)
     }
 
-    /// How many messages were sent.
+    /// The number of messages sent.
     pub fn sent_count(&self) -> usize
         ensures { result ≡ length self.now.sent }
     {
         self.cluster.sent.len()
     }
 
-    /// All messages so far count as pumped. The world is as it was.
+    /// Marks all messages so far as pumped. The world is unchanged.
     pub fn skip(&mut self)
         ensures { self.new ≡ record self.old { pumped = length self.old.sent } }
     {
         self.pumped = self.cluster.sent.len();
     }
 
-    /// The headline, of the farm that the caller holds: whatever happened to it, no two of its nodes, running or
-    /// stopped, publish different definitions under one sequence. And the farm is one world of the model.
+    /// The headline, for the farm that the caller holds: whatever happened to it, no two of its nodes, running or stopped,
+    /// publish different definitions under one sequence. And the farm is exactly one world of the model.
     #[tactic(auto, using(crate::proofs::Worlds::agree_reached, crate::proofs::Worlds::one_world))]
     pub fn agree(&self)
         ensures agree { HasOneHistory self.now }

@@ -1,4 +1,4 @@
-//! Why a farm doesn't do what it is asked, and which rejections of a node it tells.
+//! Errors of a farm, and the rejections of a node that it reports.
 
 ghost use Rattle.std.specs.Prelude.{◌≡◌};
 ghost use Rattle.wf_farm.specs.Place.{number_in};
@@ -6,18 +6,18 @@ ghost use Rattle.wf_farm.specs.Place.{number_in};
 use thiserror::Error;
 use wf_node::NodeFault;
 
-/// Why a farm doesn't do what it is asked.
+/// Why a farm's operation fails.
 #[derive(Clone, Copy, Debug, PartialEq, Eq, Error)]
 pub enum FarmFault {
-    /// F1: a growth was rejected. So many events are done, or so many deliveries of a pump.
+    /// F1: an allocation failed, after this number of events, or of deliveries of a pump.
     #[error("F1: out of memory after {0}")]
     Memory(usize),
-    /// F2: the node is absent or stopped.
+    /// F2: the node doesn't exist or is stopped.
     #[error("F2: no such node runs")]
     NoNode,
 }
 
-/// The number of a rejection, 2, 3, 4 or 7; None for a fault that isn't the step table's.
+/// The number of a rejection, 2, 3, 4 or 7; None for an error that isn't a rejection of the step table.
 pub(crate) fn refusal_number(fault: NodeFault) -> Option<u8>
     ensures { result ≡ number_in fault }
 {

@@ -21,12 +21,12 @@ use wf_canon::Canon;
 use wf_codec::Message;
 use wf_node::{Input, NodeFault};
 
-/// The most messages that one step hands out: those that answer an Ask.
+/// The most messages that one step sends: the answer to an Ask.
 pub(crate) const MOST_SAID: usize = 8;
 
 impl Cluster {
-    /// The event happens whole, and the number of its rejection is answered, if its node rejects; or memory is wanted,
-    /// and the world is as it was.
+    /// Applies the event, and returns the number of its rejection, if its node rejects. If an allocation fails, the world is
+    /// unchanged.
     #[tactic(auto, using(crate::proofs::Events::same_members))]
     pub(crate) fn happen(&mut self, alloc: Global, event: &Event) -> Result<Option<u8>, AllocError>
         requires members { AreMembers self.old.places.items }
@@ -50,7 +50,7 @@ impl Cluster {
         }
     }
 
-    /// A node begins a proposal, if it is there and runs. Whether it rejects is asked before memory is.
+    /// Starts a proposal at a node, if it exists and runs. A rejection takes precedence over allocation failure.
     #[tactic(auto, using(crate::proofs::Events::same_members))]
     fn propose(
         &mut self,
@@ -76,8 +76,7 @@ impl Cluster {
         }
     }
 
-    /// A node's running proposal begins anew, if the node is there and runs. Whether it rejects is asked before memory
-    /// is.
+    /// Restarts a node's running proposal, if the node exists and runs. A rejection takes precedence over allocation failure.
     #[tactic(auto, using(crate::proofs::Events::same_members))]
     fn retry(&mut self, alloc: Global, node: usize) -> Result<Option<u8>, AllocError>
         requires members { AreMembers self.old.places.items }
@@ -95,7 +94,7 @@ impl Cluster {
         }
     }
 
-    /// A message is handed to a node, if both are there and the node runs.
+    /// Delivers a message to a node, if both exist and the node runs.
     #[tactic(auto, using(crate::proofs::Events::same_members))]
     pub(crate) fn deliver(
         &mut self,
@@ -121,8 +120,8 @@ impl Cluster {
         }
     }
 
-    /// A step of a node, if it is there and runs: what it says is sent. Room for that is made before, since a node that
-    /// has stepped can't go back.
+    /// Performs a step of a node, if it exists and runs, and sends its messages. Room is reserved first, since a node can't undo
+    /// a step.
     #[tactic(auto, using(crate::proofs::Events::same_members))]
     fn step(&mut self, alloc: Global, node: usize, input: Input) -> Result<Option<u8>, AllocError>
         requires members { AreMembers self.old.places.items }
@@ -149,7 +148,7 @@ impl Cluster {
         }
     }
 
-    /// A node stops, if it is there.
+    /// Stops a node, if it exists.
     #[tactic(auto, using(crate::proofs::Events::same_members))]
     fn stop(&mut self, alloc: Global, node: usize)
         requires members { AreMembers self.old.places.items }
@@ -162,7 +161,7 @@ impl Cluster {
         }
     }
 
-    /// A stopped node comes back, if it is there.
+    /// Restarts a stopped node, if it exists.
     #[tactic(auto, using(crate::proofs::Events::same_members))]
     fn restart(&mut self, alloc: Global, node: usize) -> Result<Option<u8>, AllocError>
         requires members { AreMembers self.old.places.items }
@@ -176,7 +175,7 @@ impl Cluster {
         if node >= n {
             return Ok(None);
         }
-        // There are at most 64 places, so each number is a node's.
+        // There are at most 64 nodes, so each index is a node number.
         let id = NodeId::new(node as u8).unwrap();
         match self.places[node].restart(alloc, id, n as u8) {
             Ok(()) => Ok(None),
@@ -184,7 +183,7 @@ impl Cluster {
         }
     }
 
-    /// A step of a node, if it is there and runs, that is torn before its record is stored or after.
+    /// A crash within a step of a node, if it exists and runs, before or after its record is stored.
     fn tear(
         &mut self,
         alloc: Global,
@@ -204,8 +203,8 @@ impl Cluster {
         }
     }
 
-    /// A step of a node, if it is there and runs, that is torn before its record is stored: nothing is done of it, and
-    /// the node stops, unless it would refuse. It allocates nothing.
+    /// A crash within a step of a node, if it exists and runs, before its record is stored: the step has no effect and the node
+    /// stops, unless it would reject the step. Allocates nothing.
     #[tactic(auto, using(crate::proofs::Events::same_members))]
     fn tear_before(&mut self, alloc: Global, node: usize, action: &Action) -> Option<u8>
         requires members { AreMembers self.old.places.items }
@@ -228,8 +227,8 @@ impl Cluster {
         }
     }
 
-    /// A step of a node, if it is there and runs, that is torn after its record is stored. Whether it has any effect is
-    /// asked before memory is.
+    /// A crash within a step of a node, if it exists and runs, after its record is stored. A step without effect takes precedence
+    /// over allocation failure.
     #[tactic(auto, using(crate::proofs::Events::same_members))]
     fn tear_after(
         &mut self,
@@ -255,7 +254,7 @@ impl Cluster {
         }
     }
 
-    /// The same of a step that isn't rejected: it is done, its messages are lost, and the node stops.
+    /// The same for a step that isn't rejected: it is done, its messages are lost, and the node stops.
     #[tactic(auto, using(crate::proofs::Events::same_members))]
     fn tear_done(
         &mut self,
@@ -282,7 +281,7 @@ impl Cluster {
         }
     }
 
-    /// Does the node of that number run?
+    /// Whether the node of that number exists and runs.
     fn runs(&self, node: usize) -> bool
         ensures value { result ≡ is_some (running_in (slice_get self.now.places.items node)) }
         ensures within { result ≡ true → node < length self.now.places.items }
@@ -293,7 +292,7 @@ impl Cluster {
         }
     }
 
-    /// Is there an input: the message, where the action is a delivery?
+    /// Whether the action has an input: if it is a delivery, whether its message was sent.
     #[tactic(auto, unfolding(wf_model::specs::World::input_of, wf_model::specs::World::delivered))]
     fn is_sent(&self, action: &Action) -> bool
         ensures { result ≡ is_some (input_of (map view_message self.now.sent.items) (view_action action.now)) }
@@ -306,7 +305,7 @@ impl Cluster {
         }
     }
 
-    /// The input of an action; None where its message isn't sent.
+    /// The input of an action; None if its message wasn't sent.
     #[tactic(auto, using(crate::proofs::Events::sent_message), unfolding(wf_model::specs::World::input_of, wf_model::specs::World::delivered))]
     fn input_of(&self, action: &Action) -> Result<Option<Input>, AllocError>
         ensures { IfOk result (λ input. option_map view_input input ≡ input_of (map view_message self.now.sent.items) (view_action action.now)) }
@@ -322,7 +321,7 @@ impl Cluster {
         }
     }
 
-    /// The delivery of a message; None where it isn't sent.
+    /// The delivery of a message; None if it wasn't sent.
     #[tactic(auto, using(crate::proofs::Events::sent_message), unfolding(wf_model::specs::World::input_of, wf_model::specs::World::delivered))]
     fn message(&self, number: usize) -> Result<Option<Input>, AllocError>
         ensures { IfOk result (λ input. option_map view_input input ≡ input_of (map view_message self.now.sent.items) (Deliver number)) }
@@ -337,7 +336,7 @@ impl Cluster {
     }
 }
 
-/// The messages are sent. There is room for them, so that nothing fails.
+/// Sends the messages. There is room for them, so nothing fails.
 pub(crate) fn send(sent: &mut Vec<Message>, mut said: Vec<Message>)
     requires { vec_len sent.old + vec_len said ≤ vec_capacity sent.old }
     ensures { sent.new.items ≡ sent.old.items ++ said.items }
@@ -347,7 +346,7 @@ pub(crate) fn send(sent: &mut Vec<Message>, mut said: Vec<Message>)
     };
 }
 
-/// The number of the table's rejection; else memory was wanted, since the tape of a node here doesn't fail.
+/// The number of the table's rejection. Otherwise an allocation failed, since the tape of a node here doesn't fail.
 fn answer(fault: NodeFault) -> Result<Option<u8>, AllocError>
     ensures number { IfOk result (λ number. number ≡ number_in fault) }
     ensures some { IfOk result IsSome }

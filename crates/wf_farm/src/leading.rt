@@ -1,5 +1,5 @@
-//! The laws of nodes that a caller holds: what happens to them one thing after the other is one run of the model, and what the
-//! model's start leads to agrees.
+//! Theorems about nodes that a caller holds: whatever happens to them, step by step, is one run of the model, and nodes reached
+//! from the model's start agree.
 
 ghost use Rattle.wf_farm.specs.Delivering.{AnyPart};
 ghost use Rattle.wf_farm.specs.Leading.{AreReached, BothAreSaid, DeliveriesLeadOn, FreshAreReached, FreshOnTape, HaveOneAnswer, HaveOneHistory, HaveOneMapAnswer, NothingIsSaid, NothingLeadsOn, ReachedLeadsOn, ReachedOnTape, StepLeadsOn, TwiceLeadsOn, UnheardLeadsOn};
@@ -10,22 +10,22 @@ use wf_node::Node;
 use wf_tape::Tape;
 use wf_wms::law::each_query_has_one_answer;
 
-/// A node that is asked to propose, to begin its proposal anew or to catch up leads the nodes on, whatever it answers, and
-/// exactly its messages are sent. A law: the call does nothing.
+/// A step Propose, Retry or CatchUp of a node leads the nodes on, whatever it returns, and sends exactly the messages that it
+/// returns. A theorem: the call does nothing.
 pub fn a_step_leads_on<T: Tape>()
     ensures { StepLeadsOn T.honest T.content T.images T.failed }
 {}
 
-/// Nodes that hear by [`deliver_all`](crate::deliver_all) what was said are led on, however much was sent before. A law: the
-/// call does nothing.
+/// Nodes to which sent messages are delivered by [`deliver_all`](crate::deliver_all) are led on, however many messages were sent
+/// before. A theorem: the call does nothing.
 pub fn deliveries_lead_on<T: Tape>()
     ensures { DeliveriesLeadOn T.honest T.images }
 {
-    // The law of the model: messages that were sent earlier change nothing but numbers.
+    // Theorem of the model: messages sent earlier only shift message numbers.
     earlier_messages::<Canon>();
 }
 
-/// Nothing leads nodes to what they are; being led on twice is being led on; and what was said need not be heard. A law: the
+/// The empty run leads nodes to themselves; two runs in turn are one run; and messages sent need not be delivered. A theorem: the
 /// call does nothing.
 pub fn leading_goes_on<T: Tape>()
     ensures still { NothingLeadsOn T.honest T.images }
@@ -35,20 +35,20 @@ pub fn leading_goes_on<T: Tape>()
     ensures lost { UnheardLeadsOn T.honest T.images }
 {}
 
-/// Nodes that the model's start leads to are led on to such. Over an honest tape that holds also with whatever bytes a crash
-/// leaves of the tapes that failed. A law: the call does nothing.
+/// Nodes led on from nodes that are reached from the model's start are reached. Over an honest tape that also holds for whatever
+/// bytes a crash leaves of the tapes that failed. A theorem: the call does nothing.
 pub fn reached_stays<T: Tape>()
     ensures any { ReachedLeadsOn T.honest T.images }
     ensures on_tape { ReachedOnTape T.honest T.images }
 {}
 
-/// Nodes with all parts empty are the model's start. A law: the call does nothing.
+/// Nodes with all parts empty are the model's start. A theorem: the call does nothing.
 pub fn fresh_nodes_are_reached<T: Tape>()
     ensures any { FreshAreReached T }
     ensures on_tape { FreshOnTape T }
 {}
 
-/// The headline, of the nodes that a caller holds, over tapes of any kind: where the model's start leads to them, no two of
+/// The headline, for the nodes that a caller holds, over any kind of tape: if they are reached from the model's start, no two of
 /// them, running or halted, have published different maps under one sequence. The call does nothing.
 pub fn reached_nodes_agree<T: Tape>(nodes: &[Node<T>])
     ensures { AreReached AnyPart nodes.now → HaveOneHistory nodes.now }
@@ -57,9 +57,10 @@ pub fn reached_nodes_agree<T: Tape>(nodes: &[Node<T>])
     crate::law::agreement();
 }
 
-/// The headline's second half, of the nodes that a caller holds, over tapes of any kind: where the model's start leads to them,
-/// two of them that stand at one sequence answer the same query with the same bytes, of one kind and one media type. So do two
-/// whom it asks for one map (OGC 06-042, 7.3), at whatever sequences they stand. The call does nothing.
+/// The headline's second half, for the nodes that a caller holds, over any kind of tape: if they are reached from the model's
+/// start, two of them with the same last published sequence answer the same query with the same bytes, the same kind and the same
+/// media type. So do two asked for the same map (OGC 06-042, 7.3), whatever their last published sequences. The call does
+/// nothing.
 pub fn reached_nodes_answer_alike<T: Tape>(nodes: &[Node<T>])
     ensures standing { AreReached AnyPart nodes.now → HaveOneAnswer nodes.now }
     ensures map { AreReached AnyPart nodes.now → HaveOneMapAnswer nodes.now }

@@ -1,4 +1,4 @@
-//! The node of a place, as others may look at it.
+//! Read access to the node of an entry.
 
 ghost use Rattle.std.specs.Prelude.{◌≡◌, Some};
 ghost use Rattle.std.specs.Option.{option_copied};
@@ -9,7 +9,7 @@ use wf_node::Node;
 use wf_tape::MemoryTape;
 
 impl Place {
-    /// The node, where it runs.
+    /// The node, if it runs.
     pub(crate) fn running(&self) -> Option<&Node<MemoryTape>>
         ensures { option_copied result ≡ running_in (Some self.now) }
     {

@@ -1,31 +1,34 @@
-//! A farm of nodes in memory, what may happen to it, and the law of agreement on it.
+//! A farm of Paxos nodes in memory, the events that may happen to it, and the agreement theorem for it.
 //!
-//! Its model: the world of `wf_model`, its nodes and all messages ever sent. A [`Farm`] is seen as its places, its
-//! messages and from which message on they count as not pumped yet; `Shows` (`specs/Farm.antt`) says which world that
-//! is: a node that runs shows both its parts, and a stopped one stored what its tape stands for. An [`Event`] is the
-//! model's, a message by its number.
+//! **Model.** The world of `wf_model`: its nodes and all messages ever sent. A [`Farm`] is modelled as its entries, one per node,
+//! its messages, and the number of the first message not pumped yet. `Shows` (`specs/Farm.antt`) relates it to a world: a running
+//! node has both its parts, stored and working; a stopped one has the stored part that its tape stands for. An [`Event`] is the
+//! model's event; it names a message by its number.
 //!
-//! It promises that a farm begins as the model's start; that a run of events leaves exactly the model's world after
-//! them, and that a pump is a run of deliveries and nothing else, of each message not pumped yet to each of its targets
-//! (`specs/Pump.antt`); where memory is wanted, the world after those that are done, as many as the fault names; that
-//! what a node published stays at the beginning of what it publishes after a run or a pump; and, since each farm is
-//! reached from the start, that no two of its nodes, running or stopped, publish different definitions under one
-//! sequence: [`Farm::agree`]. A node that runs answers clients as `wf_wms` does, from what it published
-//! ([`Farm::answer`]), and two that stand at one sequence, or that are asked for one map, answer the same query with the
-//! same bytes: [`Farm::answers_agree`]. The four laws are those of `wf_law`, at the program's definitions.
+//! **Promises.**
+//! - A new farm is the model's start.
+//! - A run of events leaves exactly the model's world after them. A pump is a run of deliveries only, of each message not pumped
+//!   yet to each of its targets (`specs/Pump.antt`). If an allocation fails, the farm is the world after the events or deliveries
+//!   done, whose number the error reports.
+//! - What a node published stays a prefix of what it publishes after a run or a pump.
+//! - No two nodes, running or stopped, publish different definitions under one sequence, since every farm is reached from the
+//!   start: [`Farm::agree`].
+//! - A running node answers clients as `wf_wms` does, from what it published ([`Farm::answer`]). Two nodes with the same last
+//!   published sequence, or asked for the same map, answer the same query with the same bytes: [`Farm::answers_agree`].
+//! - The four theorems of `wf_law` hold for the program's definitions.
 //!
-//! Nodes that a caller holds itself, over tapes of any kind, hear one another by [`deliver_all`]: each message goes to each
-//! of them in turn, until none is left, or it tells that it stopped; and whatever world of the model they and their messages
-//! were, they are one that at most so many deliveries lead to (`specs/Delivering.antt`). They ask for what they missed by
-//! [`catch_up`] (`specs/Asking.antt`).
+//! Nodes that a caller holds, over any kind of tape, receive one another's messages by [`deliver_all`]: each message is delivered
+//! to each node in turn, until none is left or it reports that it stopped early. Whatever world of the model the nodes and their
+//! messages were, at most the reported number of deliveries leads to the world that they are afterwards
+//! (`specs/Delivering.antt`). Nodes request missed definitions by [`catch_up`] (`specs/Asking.antt`).
 //!
-//! What is done to such nodes, one call after the other, is one run of the model, by laws: a step of one of them, and the
-//! deliveries of what it said, lead on from whatever world they were, however much was sent before ([`a_step_leads_on`],
-//! [`deliveries_lead_on`], [`leading_goes_on`]; `specs/Leading.antt`); nodes that were opened on empty tapes are the model's
-//! start ([`open_fresh`], [`fresh_nodes_are_reached`]), and what the start leads to is led on to such ([`reached_stays`]). So
-//! such nodes agree and answer as a farm's do: [`reached_nodes_agree`], [`reached_nodes_answer_alike`].
+//! Successive calls on such nodes are one run of the model, by theorems: a step of a node, and the deliveries of the messages
+//! that it sent, lead on from whatever world the nodes were, however many messages were sent before ([`a_step_leads_on`],
+//! [`deliveries_lead_on`], [`leading_goes_on`]; `specs/Leading.antt`); nodes opened on empty tapes are the model's start
+//! ([`open_fresh`], [`fresh_nodes_are_reached`]); and nodes led on from reached nodes are reached ([`reached_stays`]). So such
+//! nodes agree and answer as a farm's do: [`reached_nodes_agree`], [`reached_nodes_answer_alike`].
 //!
-//! It doesn't know time, nor whether anything is ever published, nor that a rejection for memory was needed, nor which
+//! **Doesn't.** There is no time, and no promise that anything is ever published, that an allocation had to fail, or which
 //! deliveries of `deliver_all` an allocation failure lost.
 #![tactic(auto)]
 

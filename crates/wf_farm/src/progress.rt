@@ -4,7 +4,7 @@ ghost use Rattle.wf_farm.specs.Pump.{begun};
 
 use crate::fault::FarmFault;
 
-/// How far a pump has come: so many whole rounds, so many deliveries of one round more, and so many in all.
+/// The progress of a pump: whole rounds, deliveries of the next round, and deliveries in total.
 #[derive(Clone, Copy)]
 pub struct Progress {
     pub whole: usize,
@@ -15,11 +15,11 @@ pub struct Progress {
 /// How a pump ended.
 #[derive(Clone, Copy)]
 pub enum End {
-    /// No delivery is left.
+    /// Each message was delivered to each target.
     Done,
-    /// As many deliveries are done as a pump does, and some are left.
+    /// The limit of deliveries was reached, and some are left.
     Stopped,
-    /// A growth was rejected.
+    /// An allocation failed.
     NoMemory,
 }
 
@@ -35,7 +35,7 @@ impl Progress {
         }
     }
 
-    /// One delivery more, where so many are a round.
+    /// After one more delivery, where a round has `round` deliveries.
     pub fn next(self, round: usize) -> Progress
         requires part { self.some < round }
         requires whole { self.whole + 1 < 2 ^ 64 }
@@ -58,7 +58,7 @@ impl Progress {
         }
     }
 
-    /// The first message that isn't pumped now, where that was `first` before.
+    /// The number of the first message that isn't pumped now; it was `first` before.
     pub fn pumped(self, first: usize) -> usize
         requires { first + self.whole + begun self.some < 2 ^ 64 }
         ensures { result ≡ first + self.whole + begun self.some }
@@ -70,7 +70,7 @@ impl Progress {
         }
     }
 
-    /// What is told of its end.
+    /// The result of the pump.
     pub fn told(self, end: End) -> Result<bool, FarmFault>
         ensures { result ≡ outcome self end }
     {

@@ -1,4 +1,4 @@
-//! A pump: each message that isn't pumped yet goes to each node that is named.
+//! A pump: each message that isn't pumped yet is delivered to each named node.
 
 ghost use Rattle.std.specs.Prelude.{◌≡◌, ◌<◌, ◌≤◌, length, IfOk, IfErr};
 ghost use Rattle.wf_farm.specs.Agreement.{HistoriesGrow};
@@ -21,11 +21,11 @@ use wf_tape::records_are_read_one_way;
 pub const MOST_DELIVERIES: usize = 100_000;
 
 impl Farm {
-    /// Each message that isn't pumped yet, by its number, new ones too, goes to each node that is named, once, ascending;
-    /// to each node, where none is named. A delivery without effect counts too, also one at an absent node. A message
-    /// counts as pumped from its first delivery on. True: it stopped after 100,000 deliveries, and some were left. F1
-    /// names how many deliveries were done where a growth was rejected, and the farm is the world after these. No node's
-    /// published list goes back: it begins the one afterwards.
+    /// Delivers each message not pumped yet, in order of number and including new ones, once to each named node, ascending; to
+    /// every node if none is named. A delivery without effect counts too, even to a node that doesn't exist. A message counts as
+    /// pumped from its first delivery on. Returns Ok(true) iff it stopped after 100,000 deliveries with some left. Err: F1 with
+    /// the number of deliveries done if an allocation fails; the farm is then the world after these. Each node's published list
+    /// before is a prefix of its list afterwards.
     pub fn pump(&mut self, alloc: Global, nodes: &[usize]) -> Result<bool, FarmFault>
         ensures done { IfOk result (IsPumped nodes.now self.old self.new) }
         ensures part { IfErr result (IsPumpedPart nodes.now self.old self.new) }
@@ -33,8 +33,8 @@ impl Farm {
         ensures size { size self.new ≡ size self.old }
         ensures refused { self.new.refused ≡ self.old.refused }
     {
-        // The laws of the model and of the tape: the events of two lists in turn are those of the one list, lists only
-        // grow, and what a tape stands for is one stored part.
+        // Theorems of the model and of the tape: applying two lists of events in turn is applying their concatenation, lists only
+        // grow, and a tape stands for exactly one stored part.
         steps_in_turn::<Canon>();
         crate::law::agreement();
         records_are_read_one_way();
@@ -48,8 +48,8 @@ impl Farm {
 }
 
 impl Cluster {
-    /// The messages from number `first` on go to each of the targets, until none is left, as many deliveries are done as
-    /// a pump does, or memory is wanted.
+    /// Delivers the messages from number `first` on to each target, until none is left, the limit of deliveries is reached, or an
+    /// allocation fails.
     fn pump(&mut self, alloc: Global, targets: &[usize], first: usize) -> (Progress, End)
         requires members { AreMembers self.old.places.items }
         requires some { 0 < length targets.now }

@@ -9,8 +9,8 @@ use crate::event::Event;
 use std::alloc::Global;
 
 impl Cluster {
-    /// The events happen in turn, and the number of the last one's rejection is answered, if it is rejected. Where memory
-    /// is wanted, so many of them have happened, and no other.
+    /// Applies the events in order, and returns the number of the last one's rejection, if it is rejected. Err: the number of
+    /// events that were applied before an allocation failed.
     #[tactic(auto, using(crate::proofs::Events::same_members))]
     pub(crate) fn run(&mut self, alloc: Global, events: &[Event]) -> Result<Option<u8>, usize>
         requires members { AreMembers self.old.places.items }

@@ -1,4 +1,4 @@
-//! The nodes that a farm begins with.
+//! The initial nodes of a farm.
 
 ghost use Rattle.std.specs.Prelude.{◌≡◌, ◌<◌, ◌≤◌, ◌+◌, [], length, IfOk, OnOk};
 ghost use Rattle.wf_model.specs.World.{start};
@@ -15,7 +15,7 @@ use wf_node::Node;
 use wf_tape::{MemoryTape, records_are_read_one_way};
 
 impl Cluster {
-    /// n nodes, all of which run, with all parts empty, and no message.
+    /// Returns n nodes, all running, with all parts empty, and no message.
     #[tactic(auto, using(crate::proofs::Worlds::start_shown, crate::proofs::Worlds::start_members, crate::proofs::Worlds::none_fresh))]
     pub(crate) fn new(alloc: Global, n: u8) -> Result<Cluster, AllocError>
         requires { n ≤ 64 }
@@ -26,7 +26,7 @@ impl Cluster {
     {
         let mut places = Vec::new(alloc);
         for number in 0..n {
-            // The number is below 64, so it is a node's.
+            // The index is below 64, so it is a node number.
             let id = NodeId::new(number).unwrap();
             add_node(alloc, &mut places, id, n)?;
         }
@@ -37,7 +37,7 @@ impl Cluster {
     }
 }
 
-/// Adds node `id` of n, with an empty tape.
+/// Appends node `id` of n, with an empty tape.
 #[tactic(auto, using(crate::proofs::Worlds::one_more_fresh))]
 fn add_node(alloc: Global, places: &mut Vec<Place>, id: NodeId, n: u8) -> Result<(), AllocError>
     requires most { n ≤ 64 }
@@ -70,7 +70,7 @@ fn first_node(alloc: Global, id: NodeId, n: u8) -> Result<Place, AllocError>
     }
 }
 
-/// Node `id` of n, on an empty tape in memory: it runs, with all parts empty. An error where a growth was rejected.
+/// Returns node `id` of n, on an empty tape in memory: it runs, with all parts empty. Err if an allocation fails.
 #[tactic(auto, using(crate::proofs::Steps::opened_fresh))]
 pub fn open_fresh(alloc: Global, id: NodeId, n: u8) -> Result<Node<MemoryTape>, AllocError>
     requires most { n ≤ 64 }
@@ -79,11 +79,11 @@ pub fn open_fresh(alloc: Global, id: NodeId, n: u8) -> Result<Node<MemoryTape>, 
     ensures id { IfOk result (λ node. node.id ≡ id) }
     ensures n { IfOk result (λ node. node.n ≡ n) }
 {
-    // The law of the tape: no bytes are read as no record.
+    // Theorem of the tape: an empty tape has no record.
     records_are_read_one_way();
     match Node::open(alloc, MemoryTape::new(Vec::new(alloc)), id, n) {
         Ok(node) => Ok(node),
-        // An empty tape is rejected for allocation failure alone.
+        // An empty tape is rejected only for allocation failure.
         Err((tape, _)) => {
             drop(tape);
             Err(AllocError)

@@ -1,4 +1,4 @@
-//! What an event does to one node.
+//! The effect of an event on one node.
 
 ghost use Rattle.std.specs.Prelude.{◌<◌, ◌≤◌, length, map, OnOk, OnErr, IfOk, IfErr};
 ghost use Rattle.wf_codec.specs.Message.{view as view_message};
@@ -17,7 +17,7 @@ use wf_node::{Input, Node, NodeFault};
 use wf_tape::{MemoryTape, records_are_read_one_way};
 
 impl Place {
-    /// A step of the node. A stopped node says nothing. A fault leaves the node as it was.
+    /// Performs a step of the node. A stopped node sends nothing. An error leaves the node unchanged.
     #[tactic(auto, using(crate::proofs::Steps::any_done, crate::proofs::Steps::any_denied, crate::proofs::Steps::any_few, crate::proofs::Steps::any_member, crate::proofs::Steps::stopped_steps, crate::proofs::Steps::same_member))]
     pub(crate) fn step(&mut self, alloc: Global, input: Input) -> Result<Vec<Message>, NodeFault>
         ensures done { IfOk result (λ said. Steps (view input) self.old self.new (map view_message said.items)) }
@@ -25,7 +25,7 @@ impl Place {
         ensures few { IfOk result (λ said. length said.items ≤ most_told) }
         ensures member { KeepsMember self.old self.new }
     {
-        // The law of the model: no row hands out more than eight messages.
+        // Theorem of the model: no transition sends more than eight messages.
         rows_are_short::<Canon>();
         match self {
             Place::Running(node) => node.step(alloc, input),
@@ -36,7 +36,7 @@ impl Place {
         }
     }
 
-    /// The node stops: its tape is all that is left of it. A stopped node stays so.
+    /// Stops the node: only its tape is left. A stopped node stays stopped.
     pub(crate) fn stop(&mut self, alloc: Global)
         ensures stopped { Stops self.old self.new }
         ensures member { KeepsMember self.old self.new }
@@ -45,7 +45,7 @@ impl Place {
         drop(replace(self, before.stopped()));
     }
 
-    /// What is left of a place where the node stops.
+    /// The entry of the node after it stopped.
     fn stopped(self) -> Place
         ensures stopped { Stops self result }
         ensures member { KeepsMember self result }
@@ -56,7 +56,7 @@ impl Place {
         }
     }
 
-    /// A stopped node opens with its tape, as node `id` of n. A running node stays as it is. Allocation failure leaves the
+    /// Restarts a stopped node from its tape, as node `id` of n. A running node is unchanged. An allocation failure leaves the
     /// node stopped, with what it had stored.
     pub(crate) fn restart(&mut self, alloc: Global, id: NodeId, n: u8) -> Result<(), AllocError>
         requires nodes { n ≤ 64 }
@@ -78,8 +78,7 @@ impl Place {
         }
     }
 
-    /// A place whose node comes back as node `id` of n; where memory is wanted, the place with the tape that was handed
-    /// back.
+    /// The entry with its node restarted as node `id` of n; if an allocation fails, the entry with its tape returned.
     #[tactic(auto, using(crate::proofs::Steps::opened, crate::proofs::Steps::not_opened, crate::proofs::Steps::still_running))]
     fn reopened(self, alloc: Global, id: NodeId, n: u8) -> Result<Place, Place>
         requires nodes { n ≤ 64 }
@@ -89,19 +88,19 @@ impl Place {
         ensures member { IfOk result (λ after. IsMember n id self → IsMember n id after) }
         ensures err_member { IfErr result (λ after. IsMember n id self → IsMember n id after) }
     {
-        // The law of the tape: what it stands for is one stored part.
+        // Theorem of the tape: it stands for exactly one stored part.
         records_are_read_one_way();
         match self {
             Place::Running(node) => Ok(Place::Running(node)),
             Place::Stopped(tape) => match Node::open(alloc, tape, id, n) {
                 Ok(node) => Ok(Place::Running(node)),
-                // A tape in memory that a node left is rejected for allocation failure alone.
+                // A tape in memory that a node left is rejected only for allocation failure.
                 Err((tape, _)) => Err(Place::Stopped(tape)),
             },
         }
     }
 
-    /// What stands in a place while its node is moved: a tape without a byte. It allocates nothing.
+    /// The placeholder of an entry while its node is moved: an empty tape. Allocates nothing.
     fn blank(alloc: Global) -> Place {
         Place::Stopped(MemoryTape::new(Vec::new(alloc)))
     }

@@ -1,11 +1,11 @@
-//! The nodes that a pump delivers to.
+//! The targets of a pump.
 
 ghost use Rattle.std.specs.Prelude.{◌≡◌, ◌<◌, [], length, IfOk};
 ghost use Rattle.wf_farm.specs.Pump.{AreTargets};
 
 use std::alloc::{AllocError, Global};
 
-/// The nodes that are named, each once, ascending; every node of n where none is named.
+/// The named nodes, each once, ascending; every node of n if none is named.
 pub(crate) fn targets_of(alloc: Global, names: &[usize], n: usize) -> Result<Vec<usize>, AllocError>
     requires { 0 < n }
     ensures targets { IfOk result (λ targets. AreTargets n names.now targets.items) }

@@ -1,4 +1,4 @@
-//! A step that is torn: the node stops within it.
+//! A crash within a step: the node stops within it.
 
 ghost use Rattle.std.specs.Prelude.{IfErr, OnOk};
 ghost use Rattle.wf_def.specs.Definition.{Definition};
@@ -14,8 +14,8 @@ use std::alloc::Global;
 use wf_node::{Input, NodeFault};
 
 impl Place {
-    /// A step after which the node stops at once, and nobody hears it. A stopped node stays so. A fault leaves the node
-    /// as it was.
+    /// Performs a step and stops the node at once; its messages are lost. A stopped node is unchanged. An error leaves the node
+    /// unchanged.
     #[tactic(auto, using(crate::proofs::Steps::step_stops, crate::proofs::Steps::denied_tears, crate::proofs::Steps::member_twice))]
     pub(crate) fn tear_after(&mut self, alloc: Global, input: Input) -> Result<(), NodeFault>
         ensures done { OnOk result (Tears world.After (view input) self.old self.new) }
@@ -32,7 +32,7 @@ impl Place {
         }
     }
 
-    /// Why a step wouldn't be done now; None where it would, and where the node is stopped. It allocates nothing.
+    /// The error with which a step would be rejected now; None if it would be done, or the node is stopped. Allocates nothing.
     #[tactic(auto, using(crate::proofs::Steps::tells_no_question, crate::proofs::Steps::tells_no_delivery))]
     pub(crate) fn refusal(&self, action: &Action) -> Option<NodeFault>
         ensures { TellsWhyNot self.now (view_action action.now) result }
@@ -45,7 +45,7 @@ impl Place {
         }
     }
 
-    /// Why no proposal would begin now; None where one would, and where the node is stopped. It allocates nothing.
+    /// The error with which a proposal would be rejected now; None if it would start, or the node is stopped. Allocates nothing.
     #[tactic(auto, using(crate::proofs::Steps::tells_running, crate::proofs::Steps::tells_stopped))]
     pub(crate) fn proposal_refusal(&self) -> Option<NodeFault>
         ensures { (d : Definition) → TellsWhyNot self.now (Propose d) result }
@@ -56,8 +56,8 @@ impl Place {
         }
     }
 
-    /// Why the running proposal wouldn't begin anew now; None where it would, and where the node is stopped. It takes no
-    /// memory.
+    /// The error with which a retry of the running proposal would be rejected now; None if it would restart, or the node is
+    /// stopped. Allocates nothing.
     #[tactic(auto, using(crate::proofs::Steps::tells_running, crate::proofs::Steps::tells_stopped))]
     pub(crate) fn retry_refusal(&self) -> Option<NodeFault>
         ensures { TellsWhyNot self.now Retry result }

@@ -1,4 +1,4 @@
--- Letters bit by bit: what a label inks is in the square of a set bit, and so in its box.
+-- Letters bit by bit: the pixels that a label inks lie in squares of set bits, and so in its box.
 use Rattle.std.proofs.Common.{◌≡◌, ℕ, zero, suc, ◌+◌, ◌-◌, ◌*◌, ◌/◌, ◌%◌, ◌^◌, ◌<◌, ◌≤◌, ◌==◌, Bool, true, false, ◌&&◌, List, [], ◌∷◌, length, All, Option, Some, None, is_some, slice_get, slice_index, ℤ, pos, inl, inr, refl, sym, ap, ◌∙◌, true≢false, arith}
 use Rattle.std.specs.Prelude.{nat_le}
 use Rattle.std.specs.Str.{chars}
@@ -22,7 +22,7 @@ use Rattle.wf_label.proofs.InkLemmas.{inked-first}
 
 -- ---- one bit of a glyph
 
--- a bit of a line, by its power of two
+-- a bit of a row, by its power of two
 bit_value : (row across : ℕ) → across < 3 → has_bit row across ≡ (row / 2 ^ (2 - across) % 2 == 1)
 unfolding has_bit
 bit_value row zero inside = refl
@@ -52,7 +52,7 @@ within_columns row across set = elim (cases_lt across 3) [
   | inr far ↦ absurd (true≢false (sym set ∙ no_fourth row across far))
 ]
 
--- a character of the text stands at a place of it
+-- the index of a character lies within the text
 within_text : (text : List ℕ) (place c : ℕ) → slice_get text place ≡ Some c → place < length text
 within_text text place c is = elim (cases_lt place (length text)) [
   | inl inside ↦ inside
@@ -62,7 +62,7 @@ within_text text place c is = elim (cases_lt place (length text)) [
 -- ---- one label
 
 module _ (label : PlacedValue) (column row : ℕ) (some : 0 < label.scale) where
-  -- the pixel lies in the square of the bit that it is in
+  -- the pixel lies in the square of its bit
   in_its_bit : (a b : ℕ) → bit_at label.scale label.left column ≡ Some a → bit_at label.scale label.bottom row ≡ Some b → is_in (bit_frame label a b) column row ≡ true
   unfolding is_in_bits
   in_its_bit a b wide high =
@@ -131,12 +131,12 @@ letters_ink_their_set_bits label column row some = (letter_bit label column row 
 
 -- ---- its box
 
--- what lies in a part of a span lies in the span
+-- a position in a part of a span lies in the span
 in_wider_span : (first : ℤ) (from size whole k : ℕ) → from + size ≤ whole → is_between (plus first (pos from)) (plus (plus first (pos from)) (pos size)) k ≡ true → is_between first (plus first (pos whole)) k ≡ true
 unfolding is_between is_less plus
 in_wider_span first from size whole k fits inside = grind (arith, ints)
 
--- so many bits of a size, and one more, fit into the bits there are
+-- the squares of the bits up to this one fit into those of all bits
 bits_fit : (scale bit bits : ℕ) → bit < bits → scale * bit + scale ≤ scale * bits
 bits_fit scale bit bits within = omega (arith, mul-le-mul_left {m = bit + 1} {n = bits} scale (omega arith))
 
@@ -161,7 +161,7 @@ letters_stay_in_their_box label column row some inked_here = set_bit_in_box labe
 
 -- ---- pictures
 
--- a pixel that no box takes isn't inked
+-- a pixel outside all boxes isn't inked
 not_inked : (labels : List PlacedValue) (below : Color) (column row : ℕ) → All (λ label. 0 < label.scale) labels → is_taken labels column row ≡ false → inked labels below (pos column) (pos row) ≡ below
 unfolding is_taken inked ink_of
 not_inked [] below column row all free = refl

@@ -1,4 +1,4 @@
--- The label order: the definition of all labels lists the one sorted order of them.
+-- The label order: `candidates` lists all labels in their one sorted order.
 use Rattle.std.proofs.Common.{◌≡◌, ℕ, zero, suc, ◌+◌, ◌<◌, ◌≤◌, ◌==◌, Bool, true, false, cond, List, [], ◌∷◌, ◌++◌, map, length, get_or, reverse, filter, filter_map, flat_map, All, IsPermutation, Option, Some, None, IfSome, is_some, slice_get, option_map, nat_cmp, Ordering, Less, Equal, inl, inr, refl, sym, ap, subst, ◌∙◌, true≢false, arith}
 use Rattle.std.specs.Cmp.{IsTotalOrder, nat_cmp_is}
 use Rattle.std.specs.List.{cons_option, enumerate_from}
@@ -33,7 +33,7 @@ label_order_total =
     then_total (on_total (λ (l : RankedLabel). l.priority) (back_total nat_cmp_total))
     (then_total (on_total (λ (l : RankedLabel). l.layer) (back_total nat_cmp_total)) (on_total (λ (l : RankedLabel). l.feature) nat_cmp_total))
 
--- the order of one priority: the later layer first, of one layer the earlier feature
+-- the order within a priority: the later layer first; within a layer, the earlier feature
 abbrev walk_order : RankedLabel → RankedLabel → Ordering
 walk_order a b = ordering_then (nat_cmp b.layer a.layer) (nat_cmp a.feature b.feature)
 
@@ -58,11 +58,11 @@ earlier_first a b same less = ap (λ r. ordering_then r (nat_cmp a.feature b.fea
 -- ---- one layer
 
 module _ (view : ViewValue) (number : ℕ) (layer : LayerDefinition) where
-  -- a label of this layer, and of a feature from this one on
+  -- a label of this layer, of feature k or a later one
   abbrev IsFrom : ℕ → RankedLabel → Type 0
   IsFrom k label = (label.layer ≡ number) × (k ≤ label.feature)
 
-  -- a feature more in front of those behind it
+  -- one more feature before the later ones
   feature_sorted : (k : ℕ) (found : Option CandidateValue) (rest : List RankedLabel) → IsStrictlySortedBy walk_order rest → All (IsFrom (k + 1)) rest →
       IsStrictlySortedBy walk_order (cons_option (option_map (ranked number k) found) rest)
   unfolding IsStrictlySortedBy
@@ -104,11 +104,11 @@ module _ (definition : Definition) (view : ViewValue) where
   abbrev labels_at : ℕ × ℕ → List RankedLabel
   labels_at listed = ranked_labels view listed.0 (slice_get definition.layers listed.1)
 
-  -- all labels as the walk meets them
+  -- all labels in the order of the walk
   abbrev walked_from : ℕ → List ℕ → List RankedLabel
   walked_from number layers = flat_map labels_at (reverse (enumerate_from number layers))
 
-  -- a layer's labels come behind those of the layers that are listed later
+  -- a layer's labels come after those of the layers that are listed later
   walked_more : (number i : ℕ) (layers : List ℕ) → walked_from number (i ∷ layers) ≡ walked_from (number + 1) layers ++ ranked_labels view number (slice_get definition.layers i)
   walked_more number i layers = flat_map-reverse_more labels_at (number, i) (enumerate_from (number + 1) layers)
 
@@ -138,7 +138,7 @@ module _ (definition : Definition) (view : ViewValue) where
 abbrev IsRank : RankedLabel → Type 0
 IsRank label = (1 ≤ label.priority) × (label.priority ≤ most_priority)
 
--- what holds of each item holds of the one that is read
+-- a property of all items holds for the one at an index
 IfSome-get : {X : Type 0} (P : X → Type 0) (xs : List X) (i : ℕ) → All P xs → IfSome (slice_get xs i) P
 IfSome-get {X} P xs i all = by_case (slice_get xs i) refl where
   by_case : (o : Option X) → slice_get xs i ≡ o → IfSome o P
@@ -181,7 +181,7 @@ walked_within definition view layers limits =
 
 -- ---- what the definition lists
 
--- a label with its priority alone
+-- a label with its priority only
 abbrev without_place : RankedLabel → CandidateValue
 without_place label = record { priority = label.priority; label = label.label }
 
@@ -218,7 +218,7 @@ layers_walked definition view number (i ∷ layers) =
     ∙ ap (λ (l : List CandidateValue). flat_map entries (reverse layers) ++ l) (entry_walked view number (slice_get definition.layers i))
     ∙ sym (flat_map-reverse_more entries i layers)
 
--- one label more, of the priority or of another
+-- one more label, of the priority or of another
 one_chosen : (b : Bool) (label : RankedLabel) (rest : List RankedLabel) (found : List PlacedValue) → found ≡ map label_of_ranked rest →
     cons_option (if b then Some label.label else None) found ≡ map label_of_ranked (cond b (label ∷ rest) rest)
 one_chosen true label rest found same = ap (λ (l : List PlacedValue). label.label ∷ l) same

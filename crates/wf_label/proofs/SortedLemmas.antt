@@ -1,4 +1,4 @@
--- Sorted lists: joined, gathered level by level, and that a list has one sorted order where no two items tie.
+-- Sorted lists: joined; gathered level by level; a list has one sorted order if no two items tie.
 use Rattle.std.proofs.Common.{◌≡◌, ℕ, zero, suc, ◌+◌, ◌<◌, ◌≤◌, ◌==◌, ◌⊎◌, true, false, List, [], ◌∷◌, ◌++◌, length, get_or, reverse, filter, flat_map, All, Contains, IsPermutation, IsSorted, Ordering, Less, Equal, Greater, is_eq, is_lt, inl, inr, refl, sym, ap, subst, ◌∙◌, true≢false, arith}
 use Rattle.std.specs.Cmp.{IsTotalOrder}
 use Rattle.std.specs.List.{IsDistinct}
@@ -15,7 +15,7 @@ use Rattle.std.proofs.lemmas.Map.Keys.{IsDistinct-from_sorted, IsDistinct-IsPerm
 
 -- ---- joined
 
--- behind a sorted list comes another, each item of which is behind each item of the first
+-- a sorted list followed by another whose items all come after the first's
 pub IsStrictlySortedBy-append : {K : Type 0} (R : K → K → Ordering) (xs ys : List K) → IsStrictlySortedBy R xs → IsStrictlySortedBy R ys →
     All (λ x. All (λ y. R x y ≡ Less) ys) xs → IsStrictlySortedBy R (xs ++ ys)
 unfolding IsStrictlySortedBy
@@ -54,7 +54,7 @@ module _ {K : Type 0} {R : K → K → Ordering} (o : IsTotalOrder R) where
     | inr later ↦ later
   ]
 
-  -- two strictly sorted lists with the same items are one list
+  -- two strictly sorted lists with the same items are equal
   same_items : (xs ys : List K) → IsStrictlySortedBy R xs → IsStrictlySortedBy R ys → All (Contains ys) xs → All (Contains xs) ys → xs ≡ ys
   unfolding IsStrictlySortedBy
   same_items [] [] first second there back = refl
@@ -74,7 +74,7 @@ module _ {K : Type 0} {R : K → K → Ordering} (o : IsTotalOrder R) where
   less_from Equal s is below apart = absurd (true≢false (sym (ap is_eq is) ∙ apart))
   less_from Greater s is below apart = is
 
-  -- sorted, where no two items tie
+  -- a sorted list in which no two items tie is strictly sorted
   strict_from_distinct : (xs : List K) → IsSorted R xs → IsDistinct (eq_by_cmp R) xs → IsStrictlySortedBy R xs
   unfolding IsStrictlySortedBy
   strict_from_distinct [] sorted apart = tt
@@ -88,7 +88,7 @@ module _ {K : Type 0} {R : K → K → Ordering} (o : IsTotalOrder R) where
       let less : R (get_or xs k d) (get_or xs (k + 1) d) ≡ Less = Less-from_sorted R xs k (k + 1) d strict (omega arith) within in
       ap is_lt (o.antisymm (get_or xs (k + 1) d) (get_or xs k d) ∙ ap ordering_reverse less)
 
-  -- a list that is sorted and holds what a strictly sorted one holds is that one
+  -- a sorted permutation of a strictly sorted list equals it
   pub one_order : (first second : List K) → IsPermutation first second → IsStrictlySortedBy R first → IsSorted R second → second ≡ first
   one_order first second moved strict sorted =
       let apart : IsDistinct (eq_by_cmp R) second = IsDistinct-IsPermutation (eq_by_cmp R) ((eq_by_cmp_equiv o).symm) first second moved (IsDistinct-from_sorted R first strict) in
@@ -98,7 +98,7 @@ module _ {K : Type 0} {R : K → K → Ordering} (o : IsTotalOrder R) where
 
 -- ---- from the last to the first
 
--- what the items give from the last to the first: the first item's comes last
+-- from the last item to the first: what the first item gives comes last
 pub flat_map-reverse_more : {X Y : Type 0} (f : X → List Y) (x : X) (xs : List X) → flat_map f (reverse (x ∷ xs)) ≡ flat_map f (reverse xs) ++ f x
 flat_map-reverse_more {X} {Y} f x xs =
     ap (flat_map f) (reverse-append (x ∷ []) xs) ∙ flat_map-append f (reverse xs) (x ∷ [])
@@ -137,7 +137,7 @@ module _ {K : Type 0} (level : K → ℕ) where
       let other : (level x == suc n) ≡ false = ne_eqb (level x) (suc n) (λ e. omega arith) in
       rw other (ap (λ (l : List K). filter (λ y. level y == suc n) xs ++ l) (above_levels n x xs (omega arith)))
 
-  -- an item of one of the levels is there once more
+  -- an item of one of the levels is added once
   one_item_more : (n : ℕ) (x : K) (xs : List K) → 1 ≤ level x → level x ≤ n → IsPermutation (x ∷ by_levels level n xs) (by_levels level n (x ∷ xs))
   unfolding by_levels
   one_item_more zero x xs least most = absurd (omega arith)
@@ -156,7 +156,7 @@ module _ {K : Type 0} (level : K → ℕ) where
         rw other (IsPermutation-trans (x ∷ (front ++ rest)) (front ++ x ∷ rest) (front ++ by_levels level n (x ∷ xs)) behind below)
   ]
 
-  -- the levels have all items, each once
+  -- the levels together have all items, each once
   pub IsPermutation-by_levels : (n : ℕ) (xs : List K) → All (λ x. (1 ≤ level x) × (level x ≤ n)) xs → IsPermutation xs (by_levels level n xs)
   IsPermutation-by_levels n [] all = subst (λ (l : List K). IsPermutation [] l) (sym (levels_of_none n)) (IsPermutation-refl [])
   IsPermutation-by_levels n (x ∷ xs) all =
@@ -190,7 +190,7 @@ module _ {K : Type 0} (level : K → ℕ) where
         let first : All (λ y. R x y ≡ Less) xs = λ k d within. alike x (get_or xs k d) (here ∙ sym (others k d within)) (behind k d within) in
         (recursion_from_All (λ y. R x y ≡ Less) xs first, level_sorted n xs sorted.1 others)
 
-    -- the higher level before the lower, and each level as the list is sorted
+    -- higher levels come first, and each level is sorted as the list is
     pub IsStrictlySortedBy-by_levels : (n : ℕ) (xs : List K) → IsStrictlySortedBy S xs → IsStrictlySortedBy R (by_levels level n xs)
     unfolding by_levels IsStrictlySortedBy
     IsStrictlySortedBy-by_levels zero xs sorted = tt

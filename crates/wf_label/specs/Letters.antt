@@ -1,4 +1,4 @@
--- Which pixels letters ink, bit by bit, and that they stay in their labels' boxes.
+-- The pixels that letters ink, bit by bit; they lie in their labels' boxes.
 use Rattle.std.specs.Prelude.{◌≡◌, ◌↔◌, ℕ, ◌+◌, ◌-◌, ◌*◌, ◌/◌, ◌%◌, ◌^◌, ◌<◌, true, false, List, slice_get, slice_index, Some, pos}
 use Rattle.std.specs.List.{All}
 use Rattle.std.specs.Str.{chars}
@@ -10,9 +10,9 @@ use Rattle.wf_label.specs.Ink.{IsInked, inks}
 use Rattle.wf_label.specs.Placed.{PlacedValue}
 use Rattle.wf_label.specs.Taken.{is_taken}
 
--- The pixel lies in the square of a bit that is set: of the character at this index of the text, in one of its glyph's five rows from
--- the top, its line, and of the three bits across it from the left. The character's cell is 4 bits wide and 6 high; the glyph leaves
--- the cell's last column and its lowest row free.
+-- The pixel lies in the square of a set bit: of the character at this index of the text (`place`), in this one of its glyph's
+-- five rows, counted from the top (`line`), at this one of the row's three bits, counted from the left (`across`). A character's
+-- cell is 4 bits wide and 6 high; the glyph leaves the cell's last column and lowest row free.
 pub record IsInSetBit (label : PlacedValue) (column row : ℕ) : Type 0 where
   pub place : ℕ
   pub character : ℕ
@@ -24,15 +24,15 @@ pub record IsInSetBit (label : PlacedValue) (column row : ℕ) : Type 0 where
   pub set : slice_index (glyph character) line / 2 ^ (2 - across) % 2 ≡ 1
   pub inside : is_in (bit_frame label (4 * place + across) (5 - line)) column row ≡ true
 
--- a label whose bits have a size inks the pixels in the squares of its set bits, and no others
+-- a label of positive scale inks exactly the pixels in the squares of its set bits
 abbrev pub LettersInkTheirSetBits : Type 0
 LettersInkTheirSetBits = (label : PlacedValue) (column row : ℕ) → 0 < label.scale → (inks label (pos column) (pos row) ≡ true) ↔ IsInSetBit label column row
 
--- and so none outside its box
+-- so it inks none outside its box
 abbrev pub LettersStayInTheirBox : Type 0
 LettersStayInTheirBox = (label : PlacedValue) (column row : ℕ) → 0 < label.scale → inks label (pos column) (pos row) ≡ true → is_in (frame_of label) column row ≡ true
 
--- where labels were drawn over a picture, a pixel outside each one's box has its old colour
+-- when labels are drawn over a picture, pixels outside all their boxes keep their colour
 abbrev pub PixelsOutsideBoxesStay : Type 0
 PixelsOutsideBoxesStay = (labels : List PlacedValue) (old new : PixmapValue) → All (λ label. 0 < label.scale) labels → IsInked labels old new →
     (i : ℕ) → i < old.width * old.height →

@@ -1,4 +1,4 @@
--- The order of a map's labels: all of them, sorted by three numbers.
+-- The order of a map's labels: all labels, sorted by three numbers.
 use Rattle.std.specs.Prelude.{◌≡◌, ℕ, List, [], Option, Some, None, map, slice_get, option_map, IsPermutation, IsSorted}
 use Rattle.std.specs.List.{enumerate_from, filter_map, flat_map}
 use Rattle.std.specs.Ordering.{nat_cmp, ordering_then}
@@ -10,8 +10,7 @@ use Rattle.wf_label.specs.Label.{candidates}
 use Rattle.wf_label.specs.Placed.{PlacedValue}
 use Rattle.wf_label.specs.Walk.{CandidateValue, candidate_of}
 
--- A label with the three numbers that it is sorted by: its priority, which of the listed layers has it, and which of that layer's
--- features. Layers and features count from 0.
+-- A label with its three sort keys: its priority, the index of its layer in the list, and the index of its feature in that layer.
 pub record RankedLabel : Type 0 where
   pub priority : ℕ
   pub layer : ℕ
@@ -20,27 +19,27 @@ pub record RankedLabel : Type 0 where
 
 -- ---- all labels
 
--- a label with the numbers of its layer and of its feature
+-- a label with the indices of its layer and feature
 abbrev pub ranked : ℕ → ℕ → CandidateValue → RankedLabel
 ranked layer feature c = record { priority = c.priority; layer = layer; feature = feature; label = c.label }
 
--- the label of a feature with its number in the layer, where the feature has one
+-- the label of a feature, if it has one, with the feature's index in the layer
 unfoldable pub ranked_label : ViewValue → ℕ → LayerDefinition → ℕ × FeatureDefinition → Option RankedLabel
 ranked_label view number layer feature = option_map (ranked number feature.0) (candidate_of view layer feature.1)
 
--- those of a layer, feature by feature
+-- the labels of a layer, feature by feature
 abbrev pub ranked_labels : ViewValue → ℕ → Option (List ℕ × LayerDefinition) → List RankedLabel
 ranked_labels view number None = []
 ranked_labels view number (Some entry) = filter_map (ranked_label view number entry.1) (enumerate_from 0 entry.1.features)
 
--- all labels of the listed layers, each named by its index in the map: layer by layer, from the first to the last
+-- all labels of the listed layers, layer by layer, from the first to the last; a layer is listed by its index in the map
 unfoldable pub all_labels : Definition → List ℕ → ViewValue → List RankedLabel
 all_labels definition layers view =
     flat_map (λ listed. ranked_labels view listed.0 (slice_get definition.layers listed.1)) (enumerate_from 0 layers)
 
 -- ---- sorted
 
--- the higher priority first; of one priority the layer that is listed later; of one layer the earlier feature
+-- the higher priority first; within a priority, the layer that is listed later; within a layer, the earlier feature
 abbrev pub label_order : RankedLabel → RankedLabel → Ordering
 label_order a b = ordering_then (nat_cmp b.priority a.priority) (ordering_then (nat_cmp b.layer a.layer) (nat_cmp a.feature b.feature))
 
@@ -49,13 +48,13 @@ pub record IsInLabelOrder (definition : Definition) (layers : List ℕ) (view : 
   pub all : IsPermutation (all_labels definition layers view) labels
   pub sorted : IsSorted label_order labels
 
--- there is one such list and no other, and the definition lists its labels
+-- there is exactly one such list, and `candidates` lists its labels
 pub record HasOneLabelOrder (definition : Definition) (layers : List ℕ) (view : ViewValue) : Type 0 where
   pub order : List RankedLabel
   pub is : IsInLabelOrder definition layers view order
   pub only : (others : List RankedLabel) → IsInLabelOrder definition layers view others → others ≡ order
   pub listed : candidates definition layers view ≡ map (λ entry. entry.label) order
 
--- of whatever map within the limits, whichever of its layers are listed, in whatever view
+-- for every map within the limits, every list of layers and every view
 abbrev pub CandidatesAreSorted : Type 0
 CandidatesAreSorted = (definition : Definition) (layers : List ℕ) (view : ViewValue) → IsWithinLimits definition → HasOneLabelOrder definition layers view

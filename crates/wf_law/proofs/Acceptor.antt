@@ -1,4 +1,4 @@
--- The rows of a node that is asked for a promise or a vote, or for what it published.
+-- The transitions of a node that receives a Prepare, an Accept or an Ask.
 use Rattle.std.proofs.Common.{◌≡◌, ℕ, ◌<◌, Bool, true, false, List, [], ◌∷◌, Option, Some, None, refl, sym, subst, inl, inr, append-nil, leb-false, nat_le}
 use Rattle.std.proofs.lemmas.Bool.{false≢true}
 use Rattle.wf_ballot.specs.Ballot.{Ballot, below}
@@ -17,7 +17,7 @@ use Rattle.wf_law.proofs.Emitting.{WorkingFacts-longer, WorkingFacts-stored, IsA
 use Rattle.wf_law.proofs.Ballots.{same_ballot-true}
 
 module _ {V : Type 0} (n i : ℕ) (stored : Stored V) (sent : List (Message V)) where
-  -- ---- the three forms of a row
+  -- ---- the three forms of a transition
 
   pub quiet_facts : (working : Working V) → StoredFacts n i stored sent → WorkingFacts i stored sent working → RowFacts n i stored sent (quiet working)
   unfolding quiet store
@@ -49,7 +49,7 @@ module _ {V : Type 0} (n i : ℕ) (stored : Stored V) (sent : List (Message V)) 
   }
 
 module _ {V : Type 0} (n i : ℕ) (stored : Stored V) (working : Working V) (sent : List (Message V)) (facts : NodeFacts n i stored working sent) where
-  -- ---- what is published is told
+  -- ---- what is published is sent
 
   pub told_facts : (s : ℕ) → RowFacts n i stored sent (says working (told stored.history s))
   told_facts s =
@@ -64,9 +64,9 @@ module _ {V : Type 0} (n i : ℕ) (stored : Stored V) (working : Working V) (sen
       says_facts n i stored sent working (told_from stored.history s most_told) facts.stored facts.working
       (told_answers n sent (told_from stored.history s most_told) are) (told_sends n i stored sent (told_from stored.history s most_told) facts.is_node are)
 
-  -- ---- a ballot that comes too late is told so, with the promise
+  -- ---- a ballot that comes too late is answered with a Nack, with the promise
 
-  -- Both ballots of a Nack stand in messages: the late one in its own, the promise's where it was asked for.
+  -- Both ballots of a Nack are in messages: the late one in its own, the promise's in the request for it.
   nack_facts : (s : ℕ) (b : Ballot) (promise : Option Ballot) → Stands sent b → promise_at stored s ≡ promise → is_refused promise b ≡ true →
       RowFacts n i stored sent (says working (nack i s b promise))
   nack_facts s b None stands promise refused = absurd (false≢true refused)
@@ -84,7 +84,7 @@ module _ {V : Type 0} (n i : ℕ) (stored : Stored V) (working : Working V) (sen
 
   -- ---- a promise
 
-  -- a vote that the promise covered is below the ballot that rises over that promise
+  -- a vote within the promise is below the ballot that exceeds that promise
   lower_vote : (promise : Option Ballot) (b c : Ballot) → is_above promise b ≡ true → NotBelow promise c → below c b ≡ true
   lower_vote None b c h k = absurd k
   lower_vote (Some q) b c h k = not_below-below c q b k h
@@ -94,8 +94,8 @@ module _ {V : Type 0} (n i : ℕ) (stored : Stored V) (working : Working V) (sen
   vote_known s (Some v) e c (inl h) = record { message = Accept s v.ballot v.definition; was_sent = facts.stored.vote_asked s v e; is_in = inl h }
   vote_known s (Some v) e c (inr h) = absurd h
 
-  -- A Promise goes out after its record: the new promise is its ballot, the vote told is the one stored, which is
-  -- not below any that this node gave at the open sequence, and is below the ballot that it now promises.
+  -- A Promise is sent after its record: the new promise is its ballot; the reported vote is the stored one, which is not below
+  -- any vote that this node sent at the open sequence, and is below the ballot that it now promises.
   promise_may : (s : ℕ) (b : Ballot) → published stored < s → is_above (promise_at stored s) b ≡ true → Stands sent b →
       MaySend n i (with_promise stored s b) sent (Promise i s b (stored.votes s))
   promise_may s b is_open lower stands = record {
@@ -121,7 +121,7 @@ module _ {V : Type 0} (n i : ℕ) (stored : Stored V) (working : Working V) (sen
       (subst (λ x. WorkingFacts i x sent working) e (WorkingFacts-stored i stored (with_promise stored s b) sent working refl refl facts.working))
       tt (subst (λ x. MaySend n i x sent (Promise i s b (stored.votes s))) e (promise_may s b is_open lower stands))
 
-  -- the answer to a Prepare of an open sequence, by how its ballot stands to the promise
+  -- the answer to a Prepare of an open sequence, by how its ballot compares with the promise
   prepare_open_facts : (s : ℕ) (b : Ballot) (promise : Option Ballot) (above refused : Bool) → published stored < s → promise_at stored s ≡ promise → IsIn (Prepare s b) sent →
       is_above promise b ≡ above → is_refused promise b ≡ refused → RowFacts n i stored sent (prepare_open i stored working s b promise)
   unfolding prepare_open
@@ -151,7 +151,7 @@ module _ {V : Type 0} (n i : ℕ) (stored : Stored V) (working : Working V) (sen
   accept_known s b d kept is_sent c (inl e) = inr (record { message = Accept s b d; was_sent = is_sent; is_in = inl e })
   accept_known s b d kept is_sent c (inr k) = absurd k
 
-  -- the answer is given again where the vote stands at this ballot
+  -- the answer is sent again if the vote is at this ballot
   again_facts : (s : ℕ) (b : Ballot) (d : V) (v : Vote V) → published stored < s → is_refused (promise_at stored s) b ≡ false → stored.votes s ≡ Some v → v.ballot ≡ b →
       IsIn (Accept s b d) sent → RowFacts n i stored sent (says working (Accepted i s b ∷ []))
   again_facts s b d v is_open lower vote same is_sent =
@@ -167,7 +167,7 @@ module _ {V : Type 0} (n i : ℕ) (stored : Stored V) (working : Working V) (sen
       } in
       says_facts n i stored sent working (Accepted i s b ∷ []) facts.stored facts.working (tt, tt) (may, tt)
 
-  -- A vote goes out after its record: promise and vote are at its ballot then, and no promise of this node is above it.
+  -- A vote is sent after its record: promise and vote are at its ballot then, and no promise of this node is above it.
   vote_may : (s : ℕ) (b : Ballot) (d : V) → published stored < s → is_refused (promise_at stored s) b ≡ false → IsIn (Accept s b d) sent →
       MaySend n i (with_vote stored s b d) sent (Accepted i s b)
   vote_may s b d is_open lower is_sent = record {
@@ -203,7 +203,7 @@ module _ {V : Type 0} (n i : ℕ) (stored : Stored V) (working : Working V) (sen
       RowFacts n i stored sent (vote_for i stored working s b d)
   vote_facts s b d is_open lower is_sent = voted_by s b d (stored.votes s) (votes_at (stored.votes s) b) is_open lower is_sent refl refl
 
-  -- the answer to an Accept of an open sequence, by how its ballot stands to the promise
+  -- the answer to an Accept of an open sequence, by how its ballot compares with the promise
   accept_open_facts : (s : ℕ) (b : Ballot) (d : V) (promise : Option Ballot) (refused : Bool) → published stored < s → promise_at stored s ≡ promise → IsIn (Accept s b d) sent →
       is_refused promise b ≡ refused → RowFacts n i stored sent (accept_open i stored working s b d promise)
   unfolding accept_open

@@ -1,4 +1,4 @@
--- What the model's tests on ballots, phases and sets of nodes say.
+-- What the model's tests on ballots, phases and sets of nodes mean.
 use Rattle.std.proofs.Common.{◌≡◌, ◌⊎◌, ℕ, ◌<◌, Bool, true, ◌==◌, nat_lt, ◌&&◌, not, refl, inl, inr, eqb-true, eq-eqb}
 use Rattle.std.proofs.lemmas.Bool.{and_parts, or_cases, cases_Bool, ltb-true}
 use Rattle.wf_ballot.specs.Ballot.{Ballot}
@@ -19,7 +19,7 @@ same_phase-true Accepting Accepting h = refl
 same_phase-true Preparing Accepting h = cc
 same_phase-true Accepting Preparing h = cc
 
--- a member of a set with one node more
+-- a member of a set with one more node
 pub and_node-true : (nodes : ℕ → Bool) (i j : ℕ) → and_node nodes i j ≡ true → (j ≡ i) ⊎ (nodes j ≡ true)
 unfolding and_node
 and_node-true nodes i j h = elim (or_cases (j == i) (nodes j) h) [ inl e ↦ inl (eqb-true j i e) | inr k ↦ inr k ]
@@ -32,14 +32,14 @@ pub and_node-old : (nodes : ℕ → Bool) (i j : ℕ) → nodes j ≡ true → a
 unfolding and_node
 and_node-old nodes i j h = elim (cases_Bool (j == i)) [ inl e ↦ rw e refl | inr e ↦ rw (e, h) refl ]
 
--- what a proposal hears is an answer to it, in its phase, from a node of the farm
+-- what a proposal counts is an answer to it, in its phase, from a node of the farm
 pub record Heard {V : Type 0} (n : ℕ) (p : Proposal V) (phase : Phase) (sender s : ℕ) (b : Ballot) : Type 0 where
   pub in_phase : p.phase ≡ phase
   pub at_sequence : p.sequence ≡ s
   pub at_ballot : p.ballot ≡ b
   pub is_node : sender < n
 
--- The test is a conjunction: each part says one of the facts.
+-- The test is a conjunction: each conjunct is one of the facts.
 pub hears-true : {V : Type 0} (n : ℕ) (p : Proposal V) (phase : Phase) (sender s : ℕ) (b : Ballot) → hears n p phase sender s b ≡ true → Heard n p phase sender s b
 unfolding hears is_at
 hears-true n p phase sender s b h =

@@ -1,5 +1,4 @@
--- The argument of agreement, on the messages' facts alone: what was chosen at a ballot is asked for at every
--- later one.
+-- The proof of agreement, from the messages' facts alone: what was chosen at a ballot is carried by each Accept at a later one.
 use Rattle.std.proofs.Common.{◌≡◌, ◌⊎◌, ℕ, Bool, true, false, List, Option, Some, None, sym, subst, ◌∙◌, inl, inr}
 use Rattle.std.proofs.lemmas.Bool.{both_ways}
 use Rattle.wf_ballot.specs.Ballot.{Ballot, below}
@@ -22,8 +21,8 @@ module _ {V : Type 0} (n : ℕ) (sent : List (Message V)) (facts : MessageFacts 
   abbrev Carries : Ballot → Type 0
   Carries c = (e : V) → below b c ≡ true → IsIn (Accept s c e) sent → e ≡ d
 
-  -- The best vote that was told isn't below b: a node both voted at b and promised at c, and told that vote
-  -- or a later one. So it is the vote at b, or a later Accept carried it.
+  -- The best reported vote isn't below b: some node both voted at b and promised at c, and reported that vote or a later one. So
+  -- it is the vote at b, or a later Accept carried it.
   of_best : (c : Ballot) (e : V) (best : Vote V) → ((a : Ballot) → below a c ≡ true → Carries a) → below best.ballot b ≡ false → (nodes : ℕ → Bool) →
       IsTold sent s c nodes best → e ≡ best.definition → e ≡ d
   of_best c e best earlier not_below nodes told carried =
@@ -34,7 +33,7 @@ module _ {V : Type 0} (n : ℕ) (sent : List (Message V)) (facts : MessageFacts 
         | inr (inr lower) ↦ absurd (both_ways (below best.ballot b) not_below lower)
       ]
 
-  -- a vote not below b was told, and the best one isn't below that
+  -- a vote not below b was reported, and the best one isn't below that
   by_best : (c : Ballot) (e : V) (best vote : Option (Vote V)) (nodes : ℕ → Bool) → ((a : Ballot) → below a c ≡ true → Carries a) → VoteNotBelow vote b → IsWithin vote best →
       BestIsTold sent s c nodes best → IsCarried best e → e ≡ d
   by_best c e best None nodes earlier not_below within told carried = absurd not_below
@@ -61,7 +60,7 @@ module _ {V : Type 0} (n : ℕ) (sent : List (Message V)) (facts : MessageFacts 
         | inr same ↦ (facts.one_accept s s b e d (subst (λ x. IsIn (Accept s x e) sent) (sym same) first.asked) asked).1
       ]
 
--- one definition at most is chosen for a sequence
+-- at most one definition is chosen for a sequence
 pub one_chosen : {V : Type 0} (n : ℕ) (sent : List (Message V)) → MessageFacts n sent → (s : ℕ) (c d : V) → IsChosen n sent s c → IsChosen n sent s d → c ≡ d
 one_chosen n sent facts s c d first second =
     elim (below-total first.ballot second.ballot) [

@@ -1,4 +1,4 @@
--- Messages that were sent earlier change nothing but numbers: of each action, of each event, and so of a run.
+-- Messages sent earlier only shift message numbers: for each action, each event, and so a run.
 use Rattle.std.proofs.Common.{◌≡◌, ℕ, suc, ◌+◌, Bool, List, [], ◌∷◌, ◌++◌, length, slice_get, slice_set, Option, Some, None, refl, ap, ◌∙◌, arith, append_assoc}
 use Rattle.wf_model.specs.Message.{Message}
 use Rattle.wf_model.specs.Stored.{Stored}
@@ -8,7 +8,7 @@ use Rattle.wf_model.specs.Table.{Action}
 use Rattle.wf_model.specs.World.{Node, World, Event, Propose, Retry, CatchUp, Deliver, Stop, Restart, Torn, Kept, Turn, delivered, input_of, stored_after, with_node, after_turn, after_torn, stop_running, after_stop, restart_stopped, after_restart, turn_of, turn, happens, steps}
 use Rattle.wf_law.specs.Earlier.{sent_before, raised_action, raised_event, raised, EarlierMessages}
 
--- what stands behind a beginning, counted from the whole list's head
+-- an element after a prefix, by its index in the whole list
 get_behind : {A : Type 0} (xs ys : List A) (k : ℕ) → slice_get (xs ++ ys) (length xs + k) ≡ slice_get ys k
 get_behind [] ys k = let none_on : 0 + k ≡ k = omega arith in ap (slice_get ys) none_on
 get_behind (x ∷ xs) ys k =
@@ -23,9 +23,9 @@ module _ {V : Type 0} where
   node_of stored working = record { stored = stored; working = working }
 
 module _ {V : Type 0} (earlier : List (Message V)) where
-  -- ---- what is left of a world
+  -- ---- the rest of a world
 
-  -- what a turn says stands behind all that was sent
+  -- the messages of a turn come after all messages sent before
   turn_before : (w : World V) (i : ℕ) (t : Option (Turn V)) → after_turn (sent_before earlier w) i t ≡ sent_before earlier (after_turn w i t)
   unfolding after_turn with_node sent_before
   turn_before w i None = refl

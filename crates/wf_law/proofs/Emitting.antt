@@ -1,4 +1,4 @@
--- The messages of a row go out: none, one, or a list. And what a running proposal keeps meanwhile.
+-- The messages of a transition are sent: none, one, or a list. And what a running proposal keeps meanwhile.
 use Rattle.std.proofs.Common.{◌≡◌, ℕ, ◌+◌, ◌<◌, ◌≤◌, List, [], ◌∷◌, ◌++◌, zero, suc, Option, Some, None, refl, sym, subst, inl, inr, append_assoc, append-nil}
 use Rattle.std.specs.Prelude.{⊤}
 use Rattle.wf_ballot.specs.Ballot.{Ballot}
@@ -63,7 +63,7 @@ module _ {V : Type 0} (sent new : List (Message V)) where
   PhaseFacts-longer p Preparing unasked facts = PreparingFacts-longer p unasked facts
   PhaseFacts-longer p Accepting unasked facts = AcceptingFacts-longer p facts
 
-  -- a node's working part keeps its facts while no Accept at a ballot of its own goes out
+  -- a node's working part keeps its facts while no Accept at a ballot of its own is sent
   pub WorkingFacts-longer : (j : ℕ) (stored : Stored V) (working : Working V) → ((b : Ballot) → b.node ≡ j → IsUnasked new b) →
       WorkingFacts j stored sent working → WorkingFacts j stored (sent ++ new) working
   WorkingFacts-longer j stored Idle unasked facts = tt
@@ -83,7 +83,7 @@ working_other n i stored sent new j other working differs sends facts =
     WorkingFacts-longer sent new j other working
     (λ b of_j t d h. let of_i : b.node ≡ i = asks_own n i stored sent new t b d sends h in let same : j ≡ i = cc in differs same) facts
 
--- the stored part changes under a running proposal, but not what is published
+-- the stored part of a running proposal's node changes, but not what is published
 pub WorkingFacts-stored : {V : Type 0} (i : ℕ) (stored stored' : Stored V) (sent : List (Message V)) (working : Working V) → stored.tried ≡ stored'.tried →
     published stored ≡ published stored' → WorkingFacts i stored sent working → WorkingFacts i stored' sent working
 unfolding next_sequence
@@ -97,7 +97,7 @@ WorkingFacts-stored i stored stored' sent (Running p) same_tried same_published 
 WorkingFacts-stored i stored stored' sent (Won s) same_tried same_published facts = tt
 WorkingFacts-stored i stored stored' sent (Overtaken s) same_tried same_published facts = tt
 
--- ---- answers, which ask for nothing
+-- ---- answers, which are no requests
 
 abbrev pub IsAnswer : {V : Type 0} → Message V → Type 0
 IsAnswer (Prepare s b) = ⊥
@@ -131,7 +131,7 @@ answers_ask i working [] answers m h = absurd h
 answers_ask i working (a ∷ rest) answers m (inl e) = subst (IsOwnAsk i working) (sym e) (answer_asks i working a answers.0)
 answers_ask i working (a ∷ rest) answers m (inr h) = answers_ask i working rest answers.1 m h
 
--- ---- published entries are told
+-- ---- published entries are sent
 
 -- the messages are Chosen, each of what is chosen
 abbrev pub IsTold : {V : Type 0} → ℕ → List (Message V) → Message V → Type 0

@@ -1,5 +1,5 @@
--- What holds in every world that is reached: facts of the messages alone, of what a node stored, and of its
--- running proposal. And what a message must meet that a node may send.
+-- What holds in every reached world: facts of the messages alone, of what a node stored, and of its running proposal. And what a
+-- message must satisfy for a node to send it.
 use Rattle.std.proofs.Common.{◌≡◌, ◌⊎◌, ℕ, ◌<◌, ◌≤◌, true, false, List, [], ◌∷◌, ◌++◌, Option, Some, None}
 use Rattle.std.specs.Prelude.{⊤}
 use Rattle.wf_ballot.specs.Ballot.{Ballot, below}
@@ -10,7 +10,7 @@ use Rattle.wf_model.specs.Table.{Row, store}
 use Rattle.wf_model.specs.Chosen.{IsIn, Told, IsChosen}
 use Rattle.wf_law.specs.Laws.{ballots_of, NotBelow, VotesInOrder, VoteNotBelow, HasPromised, BestIsTold, IsBacked}
 
--- the ballot stands in a message that was sent
+-- the ballot is in a message that was sent
 pub record Stands {V : Type 0} (sent : List (Message V)) (b : Ballot) : Type 0 where
   pub message : Message V
   pub was_sent : IsIn message sent
@@ -25,7 +25,7 @@ IsAsked sent s vote = IsIn (Accept s vote.ballot vote.definition) sent
 pub record MessageFacts {V : Type 0} (n : ℕ) (sent : List (Message V)) : Type 0 where
   pub one_accept : (s t : ℕ) (b : Ballot) (c d : V) → IsIn (Accept s b c) sent → IsIn (Accept t b d) sent → (s ≡ t) × (c ≡ d)
   pub backed : (s : ℕ) (b : Ballot) (d : V) → IsIn (Accept s b d) sent → IsBacked n sent s b d
-  -- a node that promised at b had told each vote that it gave below b, or a later one
+  -- a node that promised at b had reported each vote that it sent below b, or a later one
   pub told : (i s : ℕ) (b c : Ballot) (vote : Option (Vote V)) → Told sent s b vote i → IsIn (Accepted i s c) sent →
       below c b ≡ true → VoteNotBelow vote c
   pub told_asked : (i s : ℕ) (b : Ballot) (vote : Vote V) → Told sent s b (Some vote) i → IsAsked sent s vote
@@ -48,7 +48,7 @@ pub record StoredFacts {V : Type 0} (n i : ℕ) (stored : Stored V) (sent : List
   pub promised : (s : ℕ) (b : Ballot) (vote : Option (Vote V)) → Told sent s b vote i → published stored < s → NotBelow (promise_at stored s) b
   pub accepted : (s : ℕ) (b : Ballot) → IsIn (Accepted i s b) sent → published stored < s → NotBelow (promise_at stored s) b
   pub voted : (s : ℕ) (b : Ballot) → IsIn (Accepted i s b) sent → published stored < s → VoteNotBelow (stored.votes s) b
-  -- a stored vote was asked for and isn't above the promise, whose ballot stands in a message
+  -- an Accept was sent for a stored vote, which isn't above the promise, whose ballot is in a message
   pub vote_asked : (s : ℕ) (vote : Vote V) → stored.votes s ≡ Some vote → IsAsked sent s vote
   pub vote_within : (s : ℕ) (vote : Vote V) → stored.votes s ≡ Some vote → NotBelow (promise_at stored s) vote.ballot
   pub promise_stands : (s : ℕ) (b : Ballot) → promise_at stored s ≡ Some b → Stands sent b
@@ -83,7 +83,7 @@ WorkingFacts i stored sent (Overtaken s) = ⊤
 
 -- ---- what node i may send
 
--- a ballot of its own that it tried, or one that it was told
+-- a ballot of its own that it tried, or one that it received
 abbrev pub IsKnown : {V : Type 0} → ℕ → Stored V → List (Message V) → Ballot → Type 0
 IsKnown i stored sent b = ((b.node ≡ i) × (b.round ≤ stored.tried)) ⊎ Stands sent b
 
@@ -105,7 +105,7 @@ pub record MayVote {V : Type 0} (i : ℕ) (stored : Stored V) (sent : List (Mess
   pub vote : VoteNotBelow (stored.votes s) b
   pub order : (c : Ballot) (v : Option (Vote V)) → Told sent s c v i → below b c ≡ false
 
--- what a message of each kind must meet
+-- what a message of each kind must satisfy
 abbrev pub IsMeet : {V : Type 0} → ℕ → ℕ → Stored V → List (Message V) → Message V → Type 0
 IsMeet n i stored sent (Prepare s b) = ⊤
 IsMeet n i stored sent (Promise sender s b vote) = MayPromise i stored sent sender s b vote
@@ -129,7 +129,7 @@ pub record NodeFacts {V : Type 0} (n i : ℕ) (before : Stored V) (at_work : Wor
   pub stored : StoredFacts n i before sent
   pub working : WorkingFacts i before sent at_work
 
--- the messages go out one after the other
+-- the messages are sent one after the other
 abbrev pub Sends : {V : Type 0} → ℕ → ℕ → Stored V → List (Message V) → List (Message V) → Type 0
 Sends n i stored sent [] = ⊤
 Sends n i stored sent (message ∷ rest) = MaySend n i stored sent message × Sends n i stored (sent ++ message ∷ []) rest
@@ -141,7 +141,7 @@ IsRunningAt (Running p) s b = (p.sequence ≡ s) × (p.ballot ≡ b)
 IsRunningAt (Won t) s b = ⊥
 IsRunningAt (Overtaken t) s b = ⊥
 
--- what a node asks for is its own proposal's
+-- what a node requests is its own proposal's
 abbrev pub IsOwnAsk : {V : Type 0} → ℕ → Working V → Message V → Type 0
 IsOwnAsk i working (Prepare s b) = (b.node ≡ i) × IsRunningAt working s b
 IsOwnAsk i working (Promise sender s b vote) = ⊤
@@ -151,7 +151,7 @@ IsOwnAsk i working (Nack sender s b promise) = ⊤
 IsOwnAsk i working (Chosen s d) = ⊤
 IsOwnAsk i working (Ask s) = ⊤
 
--- What a row must keep: its record is stored first, its messages go out after that.
+-- What a transition must keep: its record is stored first, its messages are sent after that.
 pub record RowFacts {V : Type 0} (n i : ℕ) (before : Stored V) (sent : List (Message V)) (row : Row V) : Type 0 where
   pub stored : StoredFacts n i (store before row.entry) sent
   pub sends : Sends n i (store before row.entry) sent row.messages

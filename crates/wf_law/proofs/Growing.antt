@@ -12,7 +12,7 @@ use Rattle.wf_model.specs.StepsLaws.{steps_in_turn}
 use Rattle.wf_law.specs.Laws.{IsBeginning}
 use Rattle.wf_law.proofs.Worlds.{get-set_same, get-set_other, WorldFacts, SomeTurnFacts, turn_facts, happens_facts, after_facts}
 
--- ---- beginnings of lists
+-- ---- prefixes of lists
 
 begins_itself : {A : Type 0} (xs : List A) → IsBeginning xs xs
 begins_itself xs = ([], append-nil xs)

@@ -34,7 +34,7 @@ module _ {V : Type 0} (sent new : List (Message V)) where
   BestIsTold-longer s b nodes (Some vote) h =
       record { teller = h.teller; is_member = h.is_member; said = member-before (Promise h.teller s b (Some vote)) sent new h.said }
 
-  -- the same majority promised, and told the same
+  -- the same majority promised, and reported the same votes
   pub IsBacked-longer : {n s : ℕ} {b : Ballot} {d : V} → IsBacked n sent s b d → IsBacked n (sent ++ new) s b d
   IsBacked-longer {n} {s} {b} {d} h = record {
     best = h.best;

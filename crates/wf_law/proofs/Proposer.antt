@@ -1,4 +1,4 @@
--- The rows of a node that proposes, and those of a chosen definition; and the whole table.
+-- The transitions of a node that proposes, and those for a chosen definition; and the whole table.
 use Rattle.std.proofs.Common.{◌≡◌, ℕ, ◌+◌, ◌<◌, ◌≤◌, ◌==◌, nat_lt, max, cond, Bool, true, false, List, [], ◌∷◌, ◌++◌, Option, Some, None, refl, sym, subst, inl, inr, arith, le_refl, eqb-true}
 use Rattle.std.specs.Prelude.{⊤}
 use Rattle.std.proofs.lemmas.Bool.{false≢true}
@@ -59,7 +59,7 @@ module _ {V : Type 0} (sent : List (Message V)) (s : ℕ) (b : Ballot) (nodes : 
   told_higher best vote true e h said = rw e (told_by vote said)
   told_higher best vote false e h said = rw e (still_told best h)
 
-  -- the best vote was told by a node that is heard
+  -- the best vote was reported by a node that is counted
   told_better : (best vote : Option (Vote V)) → BestIsTold sent s b nodes best → Told sent s b vote sender →
       BestIsTold sent s b (and_node nodes sender) (better best vote)
   unfolding better
@@ -74,7 +74,7 @@ carried_is None own = tt
 carried_is (Some best) own = refl
 
 module _ {V : Type 0} (n i : ℕ) (stored : Stored V) (sent : List (Message V)) where
-  -- ---- the row of a proposal, which only a running one has
+  -- ---- the transition of a proposal, which only a running one has
 
   when_running_facts : (working : Working V) (row_of : Proposal V → Row V) → NodeFacts n i stored working sent →
       ((p : Proposal V) → NodeFacts n i stored (Running p) sent → RowFacts n i stored sent (row_of p)) → RowFacts n i stored sent (when_running working row_of)
@@ -83,9 +83,9 @@ module _ {V : Type 0} (n i : ℕ) (stored : Stored V) (sent : List (Message V)) 
   when_running_facts (Won t) row_of facts of_running = quiet_facts n i stored sent (Won t) facts.stored facts.working
   when_running_facts (Overtaken t) row_of facts of_running = quiet_facts n i stored sent (Overtaken t) facts.stored facts.working
 
-  -- ---- a proposal begins
+  -- ---- a proposal starts
 
-  -- the proposal that begins at a round
+  -- the proposal that starts at a round
   abbrev begun : V → ℕ → Proposal V
   begun own round = record {
     sequence = next_sequence stored;
@@ -97,7 +97,7 @@ module _ {V : Type 0} (n i : ℕ) (stored : Stored V) (sent : List (Message V)) 
     seen = 0;
   }
 
-  -- no Accept is out at a ballot of a round that its node hasn't tried
+  -- no Accept was sent at a ballot of a round that its node hasn't tried
   untried : StoredFacts n i stored sent → (round t : ℕ) (d : V) → stored.tried < round →
       IsIn (Accept t (record { round = round; node = i }) d) (sent ++ Prepare (next_sequence stored) (record { round = round; node = i }) ∷ []) → ⊥
   untried facts round t d higher h =
@@ -107,8 +107,8 @@ module _ {V : Type 0} (n i : ℕ) (stored : Stored V) (sent : List (Message V)) 
         | inr e ↦ cc
       ]
 
-  -- The round is stored before the Prepare goes out, so the ballot is one that this node tried; no Accept of it
-  -- is out, since it tried no such round before; and nobody is heard yet.
+  -- The round is stored before the Prepare is sent, so this node has tried the ballot's round; no Accept of it was sent, since it
+  -- tried no such round before; and no answer is counted yet.
   begin_facts : (own : V) (round : ℕ) → i < n → stored.tried < round → StoredFacts n i stored sent → RowFacts n i stored sent (begin_at i stored own round)
   unfolding begin_at stores store with_record published next_sequence nobody
   begin_facts own round is_node higher facts =
@@ -138,9 +138,9 @@ module _ {V : Type 0} (n i : ℕ) (stored : Stored V) (sent : List (Message V)) 
         ];
       }
 
-  -- ---- a promise comes
+  -- ---- a promise is received
 
-  -- Who was heard before told a vote within the best one before, so within the better one; who is heard now told
+  -- The nodes counted before reported votes within the best one before, so within the better one; the node counted now reported
   -- its vote, and the better one isn't below it.
   with_promise_facts : (p : Proposal V) (sender : ℕ) (vote : Option (Vote V)) → PreparingFacts sent p → Told sent p.sequence p.ballot vote sender →
       PreparingFacts sent (with_promise p sender vote)
@@ -155,7 +155,7 @@ module _ {V : Type 0} (n i : ℕ) (stored : Stored V) (sent : List (Message V)) 
     told = told_better sent p.sequence p.ballot p.heard sender p.best vote facts.told said;
   }
 
-  -- A majority promised: the Accept goes out, and it is backed by the nodes that were heard.
+  -- A majority promised: the Accept is sent, and the nodes counted back it.
   asking_facts : (p : Proposal V) → i < n → StoredFacts n i stored sent → ProposalFacts i stored sent p → PreparingFacts sent p →
       is_majority_of (count_nodes n p.heard) n ≡ true →
       RowFacts n i stored sent (says (Running (asking_votes p)) (Accept p.sequence p.ballot (carried p.best p.own) ∷ []))
@@ -227,7 +227,7 @@ module _ {V : Type 0} (n i : ℕ) (stored : Stored V) (sent : List (Message V)) 
   promise_facts working sender s b vote facts said =
       when_running_facts working _ facts (λ p facts. promise_by p sender s b vote (hears n p Preparing sender s b) facts refl said)
 
-  -- ---- a Nack comes
+  -- ---- a Nack is received
 
   seen_facts : (p : Proposal V) (seen : ℕ) (phase : Phase) → PhaseFacts sent p phase → PhaseFacts sent (record p { seen = seen }) phase
   seen_facts p seen Preparing facts = record { fresh = facts.fresh; heard = facts.heard; told = facts.told }
@@ -252,7 +252,7 @@ module _ {V : Type 0} (n i : ℕ) (stored : Stored V) (sent : List (Message V)) 
   unfolding on_nack
   nack_facts working s b q facts = when_running_facts working _ facts (λ p facts. nack_by p s b q (is_at p s b) facts refl)
 
-  -- ---- begin, begin anew, ask for the next definition
+  -- ---- start, restart, request the next definition
 
   propose_facts : (own : V) → i < n → StoredFacts n i stored sent → RowFacts n i stored sent (on_propose i stored own)
   unfolding on_propose
@@ -273,7 +273,7 @@ module _ {V : Type 0} (n i : ℕ) (stored : Stored V) (sent : List (Message V)) 
   catch_up_by working true facts e = rw e (asks_next working facts)
   catch_up_by working false facts e = rw e (quiet_facts n i stored sent working facts.stored facts.working)
 
-  -- ---- votes come, and a chosen definition
+  -- ---- votes are received, and a chosen definition
 
   module _ (same : V → V → Bool) where
     ends_by : (before : Stored V) (all : List (Message V)) (s : ℕ) (is_own : Bool) → WorkingFacts i before all (cond is_own (Won s) (Overtaken s))
@@ -294,7 +294,7 @@ module _ {V : Type 0} (n i : ℕ) (stored : Stored V) (sent : List (Message V)) 
     chosen_may : (s : ℕ) (d : V) (kept : Stored V) → i < n → IsChosen n sent s d → MaySend n i kept sent (Chosen s d)
     chosen_may s d kept is_node chosen = record { is_node = is_node; known = λ c is_in. absurd is_in; meet = chosen }
 
-    -- A majority voted: the definition is chosen, stored and told.
+    -- A majority voted: the definition is chosen, stored and sent.
     voted_facts : (p : Proposal V) → i < n → StoredFacts n i stored sent → ProposalFacts i stored sent p → AcceptingFacts sent p →
         is_majority_of (count_nodes n p.heard) n ≡ true →
         RowFacts n i stored sent (stores (ended same p (carried p.best p.own)) (Published p.sequence (carried p.best p.own)) (Chosen p.sequence (carried p.best p.own)))
@@ -320,7 +320,7 @@ module _ {V : Type 0} (n i : ℕ) (stored : Stored V) (sent : List (Message V)) 
     voted_by p true is_node facts proposal accepting e = rw e (voted_facts p is_node facts proposal accepting e)
     voted_by p false is_node facts proposal accepting e = rw e (quiet_facts n i stored sent (Running p) facts proposal)
 
-    -- Who is heard now said its vote at this sequence and ballot; the rest were heard before.
+    -- The node counted now sent its vote at this sequence and ballot; the others were counted before.
     heard_vote : (p : Proposal V) (sender : ℕ) → i < n → StoredFacts n i stored sent → ProposalFacts i stored sent p →
         p.phase ≡ Accepting → IsIn (Accepted sender p.sequence p.ballot) sent → RowFacts n i stored sent (voted same n (with_vote p sender))
     unfolding with_vote

@@ -1,4 +1,4 @@
--- One message goes out, and all facts stay: those of the messages, of the node that sends, of every other node.
+-- One message is sent, and all facts stay: those of the messages, of the sending node, of every other node.
 use Rattle.std.proofs.Common.{◌≡◌, ℕ, ◌<◌, false, List, [], ◌∷◌, ◌++◌, Some, refl, sym, subst, inl, inr}
 use Rattle.std.specs.Prelude.{⊤}
 use Rattle.std.proofs.lemmas.Bool.{both_ways}
@@ -41,7 +41,7 @@ VotesInOrder-last [] (Ask s) h k = (tt, tt)
 VotesInOrder-last (message ∷ later) last h k =
     (one_later message later last h.0 (k message (inl refl)), VotesInOrder-last later last h.1 (λ m is_in. k m (inr is_in)))
 
--- Of the messages before it only a Promise forbids a vote, and a vote may go out only if it is below none of those.
+-- Of the messages before it only a Promise forbids a vote, and a vote may be sent only if it is below none of those.
 none_below : {V : Type 0} (n i : ℕ) (stored : Stored V) (sent : List (Message V)) (last : Message V) → IsMeet n i stored sent last →
     (message : Message V) → IsIn message sent → NoneBelowLast message last
 none_below n i stored sent last meet (Prepare s b) is_in = tt
@@ -145,8 +145,8 @@ module _ {V : Type 0} (n i : ℕ) (stored : Stored V) (sent : List (Message V)) 
 
   -- ---- every other node
 
-  -- The last message is this node's: it is no promise and no vote of another one, and each ballot in it is its own
-  -- or stood in a message before.
+  -- The last message is this node's: it is no promise and no vote of another one, and each ballot in it is its own or was in a
+  -- message before.
   pub send_other : (j : ℕ) (other : Stored V) → (j ≡ i → ⊥) → StoredFacts n j other sent → MaySend n i stored sent last → StoredFacts n j other (sent ++ last ∷ [])
   send_other j other differs facts may = record {
     tried = λ message b is_in in_message of_j.

@@ -1,4 +1,4 @@
--- A record is stored, with no message out, and what its node stored keeps its facts. This is a crash within a step too.
+-- A record is stored, no message is sent, and what its node stored keeps its facts. This is a crash within a step too.
 use Rattle.std.proofs.Common.{◌≡◌, ◌⊎◌, ℕ, zero, suc, ◌+◌, ◌<◌, ◌≤◌, true, false, List, [], ◌∷◌, ◌++◌, length, slice_get, Option, Some, None, refl, sym, ap, subst, inl, inr, arith, length-append, lt-ltb}
 use Rattle.std.proofs.lemmas.Bool.{cases_eq}
 use Rattle.std.proofs.lemmas.Option.{none-some, same_Some}
@@ -62,7 +62,7 @@ pub is_accepted : {V : Type 0} (stored : Stored V) (s : ℕ) (b : Ballot) (d : V
 unfolding with_record
 is_accepted stored s b d is_open = rw (lt-ltb (published stored) s is_open) refl
 
--- one definition more is published
+-- one more definition is published
 pub published-more : {V : Type 0} (stored : Stored V) (s : ℕ) (d : V) → published (with_record stored (Published s d)) ≡ published stored + 1
 unfolding published with_record
 published-more stored s d = length-append stored.history (d ∷ [])
@@ -159,8 +159,8 @@ module _ {V : Type 0} (n i : ℕ) (stored : Stored V) (sent : List (Message V)) 
   unfolding published
   same_sequence s t first second = omega arith
 
-  -- The sequence is published, so nothing is asked of its promise and vote any more, and they are gone. Elsewhere
-  -- nothing changed, and the definition that is new is chosen.
+  -- The sequence is published, so nothing more is required of its promise and vote, and they are removed. Elsewhere nothing
+  -- changed, and the new definition is chosen.
   pub store_published : (s : ℕ) (d : V) → s ≡ published stored + 1 → IsChosen n sent s d → StoredFacts n i stored sent → StoredFacts n i (with_record stored (Published s d)) sent
   unfolding with_record
   store_published s d is_next is_chosen facts =

@@ -1,4 +1,4 @@
--- The four laws, from the facts of every world that is reached.
+-- The four theorems, from the facts of every world that is reached.
 use Rattle.std.proofs.Common.{◌≡◌, ℕ, zero, suc, ◌<◌, Bool, List, [], ◌∷◌, ◌++◌, length, drop, slice_get, slice_set, Option, Some, None, refl, sym, subst, ◌∙◌, inl, inr, arith}
 use Rattle.std.proofs.lemmas.Bool.{cases_lt}
 use Rattle.std.proofs.lemmas.Option.{none-some, same_Some}
@@ -49,7 +49,7 @@ module _ {V : Type 0} (n : ℕ) (w : World V) (facts : WorldFacts n w) where
   own_ballots_in : OwnBallotsIn w
   own_ballots_in = record { tried = λ message b. tried_facts b message; one_accept = facts.messages.one_accept }
 
--- an ask of a node whose proposal runs is that proposal's
+-- a request of a node whose proposal runs is that proposal's
 proposes : {V : Type 0} (w : World V) (i s : ℕ) (b : Ballot) (stored : Stored V) (working : Working V) → slice_get w.nodes i ≡ Some (record { stored = stored; working = Some working }) →
     IsRunningAt working s b → Proposes w i s b
 proposes w i s b stored Idle is_there running = absurd running
@@ -69,7 +69,7 @@ asks_itself w i stored working (Chosen s d) is_there own = tt
 asks_itself w i stored working (Ask s) is_there own = tt
 
 module _ {V : Type 0} (w : World V) (i : ℕ) where
-  -- nothing goes out
+  -- nothing is sent
   silent : (w' : World V) (m : Message V) → w'.sent ≡ w.sent → IsIn m (drop (length w.sent) w'.sent) → AsksForItself w' i m
   silent w' m e is_new = absurd (subst (λ (x : List (Message V)). IsIn m x) (drop-itself w.sent) (subst (λ (x : List (Message V)). IsIn m (drop (length w.sent) x)) e is_new))
 
@@ -140,7 +140,7 @@ module _ {V : Type 0} (n : ℕ) (w : World V) (facts : WorldFacts n w) where
         bound = elim (cases_lt (published node.stored) s) [ inl is_open ↦ inr (open_case node.stored member.stored is_open) | inr closed ↦ inl closed ];
       }
 
-  -- Each part is a fact of the world: of its messages, or of the node that sent or stored.
+  -- Each field is a fact of the world: of its messages, or of the node that sent or stored.
   kept_promises_in : KeptPromisesIn w
   kept_promises_in = record {
     promised = λ i s b vote is_sent. bound i s b (facts.messages.senders i s b vote is_sent) (λ stored known is_open. known.promised s b vote is_sent is_open);

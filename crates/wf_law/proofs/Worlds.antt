@@ -15,7 +15,7 @@ use Rattle.wf_law.proofs.Facts.{MessageFacts, StoredFacts, WorkingFacts, NodeFac
 use Rattle.wf_law.proofs.Emitting.{emit_messages, emit_own, emit_other, working_other}
 use Rattle.wf_law.proofs.Proposer.{WasSent, row_facts}
 
--- ---- nodes by their numbers
+-- ---- nodes by number
 
 pub get-set_same : {A : Type 0} (xs : List A) (i : ℕ) (x y : A) → slice_get xs i ≡ Some y → slice_get (slice_set xs i x) i ≡ Some x
 get-set_same [] i x y e = absurd (none-some y e)
@@ -99,9 +99,9 @@ start_facts {V} n = record {
       subst (MemberFacts n i []) (get-replicate n new i node e) (record { stored = nothing_facts n i; running = tt });
 }
 
--- ---- a node changes, and no message goes out
+-- ---- a node changes, and no message is sent
 
--- Node i is the new one, and every other node is as it was.
+-- Node i is the new one, and every other node is unchanged.
 running_other : {V : Type 0} (n : ℕ) (w : World V) (i : ℕ) (stored : Stored V) (working : Option (Working V)) (old : Node V) → WorldFacts n w → slice_get w.nodes i ≡ Some old →
     StoredFacts n i stored w.sent → RunningFacts i stored w.sent working → (j : ℕ) (node : Node V) → slice_get (slice_set w.nodes i (record { stored = stored; working = working })) j ≡ Some node →
     MemberFacts n j w.sent node
@@ -141,7 +141,7 @@ module _ {V : Type 0} (same : V → V → Bool) (n : ℕ) (w : World V) (facts :
   SomeWasSent None = ⊤
   SomeWasSent (Some input) = WasSent n i nothing_stored w.sent same input
 
-  -- A step that isn't rejected is a row, from what is known of its node.
+  -- A step that isn't rejected is a transition, from what is known of its node.
   turn_by : (stored : Stored V) (working : Working V) (input : Input V) (is_refused : Bool) → slice_get w.nodes i ≡ Some (record { stored = stored; working = Some working }) →
       WasSent n i nothing_stored w.sent same input → is_some (refusal stored working input) ≡ is_refused → SomeTurnFacts n w i (turn_running same n i stored (Some working) input)
   unfolding turn_running
@@ -187,17 +187,17 @@ module _ {V : Type 0} (same : V → V → Bool) (n : ℕ) (w : World V) (facts :
       subst (λ k. SomeTurnFacts n w i (turn_of same k i (slice_get w.nodes i) (input_of w.sent action))) (sym facts.size)
       (turn_of_facts (slice_get w.nodes i) (input_of w.sent action) refl (input_was_sent action))
 
--- ---- what a step leaves
+-- ---- after a step
 
 module _ {V : Type 0} (n : ℕ) (w : World V) (facts : WorldFacts n w) (i : ℕ) where
-  -- every other node, while the row's messages go out
+  -- every other node, while the transition's messages are sent
   other_running : (t : Turn V) (known : TurnFacts n w i t) (j : ℕ) (stored : Stored V) (working : Option (Working V)) → (j ≡ i → ⊥) →
       RunningFacts j stored w.sent working → RunningFacts j stored (w.sent ++ t.row.messages) working
   other_running t known j stored None differs h = tt
   other_running t known j stored (Some working) differs h =
       working_other n i (store t.stored t.row.entry) w.sent t.row.messages j stored working differs known.step.sends h
 
-  -- Node i is what its row makes of it, and every other node keeps its facts while the row's messages go out.
+  -- Node i is what its transition makes of it, and every other node keeps its facts while the transition's messages are sent.
   after_members : (t : Turn V) (known : TurnFacts n w i t) (j : ℕ) (node : Node V) →
       slice_get (slice_set w.nodes i (record { stored = store t.stored t.row.entry; working = Some t.row.working })) j ≡ Some node →
       MemberFacts n j (w.sent ++ t.row.messages) node

@@ -1,4 +1,4 @@
--- Messages that were sent before all that a world tells of: they change the numbers of its messages, and nothing else.
+-- Messages sent before all messages of a world: they shift the numbers of its messages, and change nothing else.
 use Rattle.std.specs.Prelude.{◌≡◌, ℕ, ◌+◌, Bool, List, [], ◌∷◌, ◌++◌, length}
 use Rattle.wf_model.specs.Message.{Message}
 use Rattle.wf_model.specs.Table as table
@@ -10,7 +10,7 @@ use Rattle.wf_model.specs.World.{World, Event, steps}
 unfoldable pub sent_before : {V : Type 0} → List (Message V) → World V → World V
 sent_before earlier w = record w { sent = earlier ++ w.sent }
 
--- An action, an event and events, each message by a number that is higher by so many.
+-- An action, an event and a list of events, each message number increased by `many`.
 unfoldable pub raised_action : {V : Type 0} → ℕ → Action V ℕ → Action V ℕ
 raised_action many (table.Propose d) = table.Propose d
 raised_action many table.Retry = table.Retry
@@ -30,7 +30,7 @@ unfoldable pub raised : {V : Type 0} → ℕ → List (Event V) → List (Event 
 raised many [] = []
 raised many (event ∷ events) = raised_event many event ∷ raised many events
 
--- What events lead to from a world, they lead to with any messages sent before, once each message's number is higher by as many.
+-- Events lead from a world to the same world with any messages sent before, once each message number is increased by their count.
 abbrev pub EarlierMessages : Type 0 → Type 0
 EarlierMessages V = (same : V → V → Bool) (earlier : List (Message V)) (w : World V) (events : List (Event V)) →
     steps same (sent_before earlier w) (raised (length earlier) events) ≡ sent_before earlier (steps same w events)

@@ -1,4 +1,4 @@
--- The law of agreement, and the facts that it rests on, as statements about the world after any events.
+-- The agreement theorem and the theorems that it is built on, as statements about the world after any events.
 use Rattle.std.specs.Prelude.{◌≡◌, ◌⊎◌, ℕ, ◌≤◌, Bool, true, false, ⊤, List, [], ◌∷◌, ◌++◌, length, drop, slice_get, Option, Some, None}
 use Rattle.wf_ballot.specs.Ballot.{Ballot, below}
 use Rattle.wf_ballot.specs.Majority.{Majority}
@@ -15,7 +15,7 @@ abbrev pub vote_ballots : {V : Type 0} → Option (Vote V) → List Ballot
 vote_ballots None = []
 vote_ballots (Some vote) = vote.ballot ∷ []
 
--- the ballots that stand in a message
+-- the ballots that a message contains
 abbrev pub ballots_of : {V : Type 0} → Message V → List Ballot
 ballots_of (Prepare s b) = b ∷ []
 ballots_of (Promise i s b vote) = b ∷ vote_ballots vote
@@ -25,18 +25,18 @@ ballots_of (Nack i s b promise) = b ∷ promise ∷ []
 ballots_of (Chosen s d) = []
 ballots_of (Ask s) = []
 
--- node i is there, with this stored part
+-- node i exists, with this stored part
 pub record NodeHas {V : Type 0} (w : World V) (i : ℕ) (stored : Stored V) : Type 0 where
   pub working : Option (Working V)
   pub is_there : slice_get w.nodes i ≡ Some (record { stored = stored; working = working })
 
--- the ballot's node tried its round, or a later one
+-- the ballot's node has tried its round, or a later one
 pub record IsTried {V : Type 0} (w : World V) (b : Ballot) : Type 0 where
   pub stored : Stored V
   pub node : NodeHas w b.node stored
   pub tried : b.round ≤ stored.tried
 
--- node i runs a proposal at this sequence and ballot
+-- node i runs a proposal with this sequence and ballot
 pub record Proposes {V : Type 0} (w : World V) (i s : ℕ) (b : Ballot) : Type 0 where
   pub stored : Stored V
   pub proposal : Proposal V
@@ -54,7 +54,7 @@ node_of (world.Stop i) = i
 node_of (world.Restart i) = i
 node_of (world.Torn i action kept) = i
 
--- what a node asks for, it asks for at a ballot of its own, and its proposal at that ballot runs
+-- a node sends Prepare and Accept only at a ballot of its own, and its proposal at that ballot is running
 abbrev pub AsksForItself : {V : Type 0} → World V → ℕ → Message V → Type 0
 AsksForItself w i (Prepare s b) = (b.node ≡ i) × Proposes w i s b
 AsksForItself w i (Accept s b d) = (b.node ≡ i) × Proposes w i s b
@@ -64,8 +64,8 @@ pub record OwnBallotsIn {V : Type 0} (w : World V) : Type 0 where
   pub tried : (message : Message V) (b : Ballot) → IsIn message w.sent → IsIn b (ballots_of message) → IsTried w b
   pub one_accept : (s t : ℕ) (b : Ballot) (c d : V) → IsIn (Accept s b c) w.sent → IsIn (Accept t b d) w.sent → (s ≡ t) × (c ≡ d)
 
--- A ballot is used by its own node's proposals alone, for one sequence and one definition, also after a
--- restart that lost the working part.
+-- A ballot is used only by proposals of its own node, for one sequence and one definition, even after a restart that lost the
+-- working part.
 pub record OwnBallots (V : Type 0) : Type 0 where
   pub facts : (same : V → V → Bool) (n : ℕ) (events : List (Event V)) → OwnBallotsIn (after same n events)
   pub asked : (same : V → V → Bool) (n : ℕ) (events : List (Event V)) (event : Event V) (message : Message V) →
@@ -78,13 +78,13 @@ abbrev pub NotBelow : Option Ballot → Ballot → Type 0
 NotBelow None b = ⊥
 NotBelow (Some promise) b = below promise b ≡ false
 
--- node i published s, or still has a promise at s that isn't below b
+-- node i has published s, or still has a promise at s that isn't below b
 pub record IsBound {V : Type 0} (w : World V) (i s : ℕ) (b : Ballot) : Type 0 where
   pub stored : Stored V
   pub node : NodeHas w i stored
   pub bound : (s ≤ published stored) ⊎ NotBelow (promise_at stored s) b
 
--- no vote below a promise of that node goes out among the messages after it
+-- no message after a promise of that node is a vote below it
 abbrev pub NoVoteBelow : {V : Type 0} → Message V → List (Message V) → Type 0
 NoVoteBelow (Promise i s b vote) later = (c : Ballot) → IsIn (Accepted i s c) later → below c b ≡ false
 NoVoteBelow message later = ⊤
@@ -100,8 +100,8 @@ pub record KeptPromisesIn {V : Type 0} (w : World V) : Type 0 where
   pub stored_vote : (i s : ℕ) (stored : Stored V) (vote : Vote V) → NodeHas w i stored → stored.votes s ≡ Some vote → IsIn (Accept s vote.ballot vote.definition) w.sent
   pub told_vote : (i s : ℕ) (b : Ballot) (vote : Vote V) → Told w.sent s b (Some vote) i → IsIn (Accept s vote.ballot vote.definition) w.sent
 
--- A node keeps what it promised: it stays bound until the sequence is published, it doesn't vote below its
--- promise, and each vote that it keeps or tells was asked for.
+-- A node keeps its promises: it stays bound until the sequence is published, it sends no vote below its promise, and for each
+-- vote that it stores or reports an Accept was sent.
 abbrev pub KeptPromises : Type 0 → Type 0
 KeptPromises V = (same : V → V → Bool) (n : ℕ) (events : List (Event V)) → KeptPromisesIn (after same n events)
 
@@ -112,35 +112,35 @@ abbrev pub VoteNotBelow : {V : Type 0} → Option (Vote V) → Ballot → Type 0
 VoteNotBelow None b = ⊥
 VoteNotBelow (Some vote) b = below vote.ballot b ≡ false
 
--- a reported vote isn't above the best one; where there is no best one, none was reported
+-- a reported vote isn't above the best one; where there is no best one, no vote was reported
 abbrev pub IsWithin : {V : Type 0} → Option (Vote V) → Option (Vote V) → Type 0
 IsWithin None best = ⊤
 IsWithin (Some vote) best = VoteNotBelow best vote.ballot
 
--- node i promised at the sequence and ballot, and told a vote not above the best one
+-- node i promised at the sequence and ballot, and reported a vote not above the best one
 pub record HasPromised {V : Type 0} (sent : List (Message V)) (s : ℕ) (b : Ballot) (best : Option (Vote V)) (i : ℕ) : Type 0 where
   pub vote : Option (Vote V)
   pub said : Told sent s b vote i
   pub within : IsWithin vote best
 
--- one of these nodes told the vote
+-- one of these nodes reported the vote
 pub record IsTold {V : Type 0} (sent : List (Message V)) (s : ℕ) (b : Ballot) (nodes : ℕ → Bool) (vote : Vote V) : Type 0 where
   pub teller : ℕ
   pub is_member : nodes teller ≡ true
   pub said : Told sent s b (Some vote) teller
 
--- the best vote, where there is one, was told by one of these nodes
+-- the best vote, if there is one, was reported by one of these nodes
 abbrev pub BestIsTold : {V : Type 0} → List (Message V) → ℕ → Ballot → (ℕ → Bool) → Option (Vote V) → Type 0
 BestIsTold sent s b nodes None = ⊤
 BestIsTold sent s b nodes (Some vote) = IsTold sent s b nodes vote
 
--- d is the best vote's definition, where there is one
+-- d is the definition of the best vote, if there is one
 abbrev pub IsCarried : {V : Type 0} → Option (Vote V) → V → Type 0
 IsCarried None d = ⊤
 IsCarried (Some vote) d = d ≡ vote.definition
 
--- A majority promised at the sequence and ballot, and d is the definition of the highest vote that they
--- told, or they told none.
+-- A majority promised at the sequence and ballot, and d is the definition of the highest vote that they reported, or they
+-- reported none.
 pub record IsBacked {V : Type 0} (n : ℕ) (sent : List (Message V)) (s : ℕ) (b : Ballot) (d : V) : Type 0 where
   pub best : Option (Vote V)
   pub majority : Majority n (HasPromised sent s b best)
@@ -166,8 +166,8 @@ pub record AgreementIn {V : Type 0} (n : ℕ) (w : World V) : Type 0 where
   pub told_is_chosen : (s : ℕ) (d : V) → IsIn (Chosen s d) w.sent → IsChosen n w.sent s d
   pub same_definition : (empty : V) (i j s : ℕ) (c d : V) → definition empty w i s ≡ Some c → definition empty w j s ≡ Some d → c ≡ d
 
--- Whatever happens, one definition at most is chosen for a sequence, nodes publish what is chosen, so no two
--- of them publish different definitions under one sequence, and what a node published it keeps.
+-- At every time, at most one definition is chosen for a sequence, and nodes publish only what is chosen. So no two nodes publish
+-- different definitions under one sequence, and a node keeps what it published.
 pub record Agreement (V : Type 0) : Type 0 where
   pub facts : (same : V → V → Bool) (n : ℕ) (events : List (Event V)) → AgreementIn n (after same n events)
   pub grows : (same : V → V → Bool) (n i : ℕ) (events more : List (Event V)) →

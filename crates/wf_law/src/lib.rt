@@ -1,47 +1,47 @@
-//! The law of agreement, over the definitions of `wf_model` alone: for every number of nodes and every list
-//! of proposals, retries, deliveries, losses, repeats, reorderings, stops, restarts and crashes within a step, no two
-//! nodes publish different definitions under one sequence, and no list ever loses a definition.
+//! The agreement theorem of multi-decree Paxos, over the definitions of `wf_model` alone. A sequence is an index of the
+//! replicated log, and a definition is the value chosen there; a node publishes the chosen values in order. For every number of
+//! nodes and every list of proposals, retries, deliveries, losses, duplicates, reorderings, stops, restarts and crashes within a
+//! step, no two nodes publish different definitions under one sequence, and no node ever loses a published definition.
 //!
-//! **Model.** `wf_model`'s worlds and events. `specs/Laws.antt` has the statements, which say of the world
-//! after any events what holds there.
+//! **Model.** The worlds and events of `wf_model`. `specs/Laws.antt` states what holds in the world after any list of events.
 //!
-//! **Promises.** Four laws, in the order in which they rest on one another, and a fifth, [`earlier_messages`], by which
-//! runs that were observed apart are joined to one: messages sent earlier change nothing but numbers. Each is a function
-//! with nothing to do, so that its contract is the law; called at a type of definitions, it gives the law there.
+//! **Promises.** Four theorems, each built on those before it, and a fifth, [`earlier_messages`], which joins separately observed
+//! runs into one: messages sent earlier only shift message numbers. Each theorem is a function with an empty body; its contract
+//! is the theorem, and calling it at a type of definitions states it for that type.
 //!
-//! **Doesn't.** That anything is ever chosen or published, or that a node answers: safety alone. And it says
-//! nothing of code: the crates above tie each step of a node to a row of the table.
+//! **Doesn't.** It proves safety, not liveness: nothing says that a definition is ever chosen or published, or that a node
+//! answers. It says nothing of code: the crates that use it relate each step of a node to a transition of the step table.
 #![tactic(auto)]
 
 ghost use Rattle.wf_law.specs.Earlier.{EarlierMessages};
 ghost use Rattle.wf_law.specs.Laws.{Agreement, KeptPromises, OwnBallots, PromisedMajority};
 
-/// A ballot is used by its own node's proposals alone, at a round that the node stored before, for one
-/// sequence and one definition, also after a restart that lost the proposal.
+/// A ballot is used only by proposals of its own node, at a round that the node stored before, for one sequence and one
+/// definition, even after a restart that lost the proposal.
 pub fn own_ballots<V>()
     ensures { OwnBallots V }
 {}
 
-/// A node keeps what it promised: until the sequence is published its promise never falls, it sends no vote
-/// below it, and each vote that it stored or told was asked for.
+/// A node keeps its promises: until the sequence is published its promise never decreases, it sends no vote below it, and for
+/// each vote that it stored or reported an Accept was sent.
 pub fn kept_promises<V>()
     ensures { KeptPromises V }
 {}
 
-/// Each Accept has a majority of promises behind it and carries the highest vote that they told. So above a
-/// ballot at which a definition was chosen, each Accept carries that one.
+/// Each Accept is backed by a majority of promises and carries the highest vote that they reported. So each Accept at a ballot
+/// above one at which a definition was chosen carries that definition.
 pub fn promised_majority<V>()
     ensures { PromisedMajority V }
 {}
 
-/// One definition at most is chosen for a sequence; what is published or told as chosen is chosen; so nodes
-/// that both published a sequence have the same definition there; and lists only grow.
+/// At most one definition is chosen for a sequence; whatever is published or sent as Chosen is chosen; so nodes that both
+/// published a sequence have the same definition there; and the published lists only grow.
 pub fn agreement<V>()
     ensures { Agreement V }
 {}
 
-/// Messages that were sent earlier change nothing but numbers: what events lead to from a world, they lead to also where
-/// any messages were sent before all of its own, once each message's number is higher by as many.
+/// Messages sent earlier only shift message numbers: events that lead from one world to another also do so where any messages
+/// were sent before all of its own, once each message number is increased by their count.
 pub fn earlier_messages<V>()
     ensures { EarlierMessages V }
 {}

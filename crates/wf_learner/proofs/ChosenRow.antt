@@ -1,4 +1,4 @@
--- The row of a Chosen, by what a history shows.
+-- The transition of a Chosen, in terms of a history's model.
 use Rattle.std.proofs.Common.{◌≡◌, ℕ, ◌+◌, Bool, true, false, nat_lt, ◌==◌, List, length, refl, sym, subst}
 use Rattle.wf_def.specs.Definition.{Definition}
 use Rattle.wf_model.specs.Stored.{Stored, published, next_sequence, with_record}
@@ -7,7 +7,7 @@ use Rattle.wf_model.specs.Table.{store, on_chosen, says, quiet}
 use Rattle.wf_learner.specs.declared.learned.Learned.{Learned}
 use Rattle.wf_learner.specs.History.{with_chosen, learned_at, asked, IsChosenRow}
 
--- at each outcome of the table's two tests
+-- for each outcome of the table's two tests
 row_history : (same : Definition → Definition → Bool) (stored : Stored Definition) (working : Working Definition) (s : ℕ) (d : Definition) (is_next is_later : Bool) →
     (s == length stored.history + 1) ≡ is_next → nat_lt (length stored.history + 1) s ≡ is_later →
     (store stored (on_chosen same stored working s d).entry).history ≡ with_chosen stored.history s d
@@ -34,7 +34,7 @@ chosen_row old s d = record {
       (row_asks same stored working s d (s == length stored.history + 1) (nat_lt (length stored.history + 1) s) refl refl);
 }
 
--- what becomes of the definition, and the definitions after that, are the row's
+-- the result of learning, and the definitions after that, are the transition's
 pub chosen_row_as : (old : List Definition) (s : ℕ) (d : Definition) (new : List Definition) (learned : Learned) →
     new ≡ with_chosen old s d → learned ≡ learned_at old s → IsChosenRow old s d new learned
 chosen_row_as old s d new learned grown judged =

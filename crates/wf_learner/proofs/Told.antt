@@ -1,4 +1,4 @@
--- Published definitions by their sequence, and what is told of them.
+-- Published definitions by their sequence, and the Chosen messages for them.
 use Rattle.std.proofs.Common.{◌≡◌, ℕ, zero, suc, ◌+◌, ◌-◌, ◌<◌, ◌≤◌, List, [], ◌∷◌, ◌++◌, length, slice_get, Some, None, map, arith, add-one, append_assoc, append-nil, refl, sym, ◌∙◌, ap, inl, inr, lt_of_not-le}
 use Rattle.std.proofs.lemmas.Bool.{cases_lt}
 use Rattle.std.proofs.lemmas.List.{map-append}
@@ -13,7 +13,7 @@ use Rattle.wf_codec.specs.Message.{view as view_message}
 use Rattle.wf_codec.specs.declared.message.Message as code
 use Rattle.wf_learner.specs.History.{map_at}
 
--- the definition of sequence s stands one place before it in the list
+-- the definition of sequence s has index s - 1 in the list
 pub definition_before : (definitions : List Definition) (s : ℕ) → 1 ≤ s → definition_at definitions s ≡ slice_get definitions (s - 1)
 unfolding definition_at
 definition_before definitions zero from_one = absurd (omega arith)
@@ -25,7 +25,7 @@ unfolding map_at
 map_published definitions zero from_one = absurd (omega arith)
 map_published definitions (suc k) from_one = refl
 
--- A definition stands at a published sequence, and past them stands none.
+-- A sequence with a definition is published, and later ones have none.
 pub is_published : (definitions : List Definition) (s : ℕ) (d : Definition) → definition_at definitions s ≡ Some d → s ≤ length definitions
 unfolding definition_at
 is_published definitions zero d is = omega arith
@@ -36,7 +36,7 @@ unfolding definition_at
 none_past definitions zero past = refl
 none_past definitions (suc k) past = slice_get_past definitions k (omega arith)
 
--- A published definition is told by one Chosen, and else nothing is told.
+-- A published definition is sent as one Chosen; for others nothing is sent.
 pub told_published : (definitions : List Definition) (s : ℕ) (d : Definition) → definition_at definitions s ≡ Some d → told definitions s ≡ Chosen s d ∷ []
 unfolding told told_of
 told_published definitions s d is = rw is
@@ -45,7 +45,7 @@ pub told_unpublished : (definitions : List Definition) (s : ℕ) → definition_
 unfolding told told_of
 told_unpublished definitions s is = rw is
 
--- What is told is published.
+-- What is sent is published.
 pub published_where_told : (definitions : List Definition) (s : ℕ) (m : Message Definition) → m ∷ [] ≡ told definitions s → s ≤ length definitions
 published_where_told definitions s m is =
     elim (cases_lt (length definitions) s) [
@@ -53,7 +53,7 @@ published_where_told definitions s m is =
       | inr within ↦ within
     ]
 
--- Nothing is told of a number that is no slot's.
+-- Nothing is sent for a number that isn't a slot's.
 pub told_of_no_slot : (definitions : List Definition) (s : ℕ) → length definitions ≤ last_sequence → (IsSlot s → ⊥) → told definitions s ≡ []
 unfolding told told_of definition_at
 told_of_no_slot definitions zero short no_slot = refl
@@ -61,7 +61,7 @@ told_of_no_slot definitions (suc k) short no_slot =
     let past : last_sequence < suc k = lt_of_not-le (λ small. no_slot (record { from_one = omega arith; to_last = small })) in
     told_unpublished definitions (suc k) (none_past definitions (suc k) (omega arith))
 
--- One message more is what is told of one sequence more.
+-- One more message is the one of the next sequence.
 pub one_more : (definitions : List Definition) (s : ℕ) (before after : List code.Message) (m : code.Message) →
     after ≡ before ++ m ∷ [] → view_message m ∷ [] ≡ told definitions s → map view_message after ≡ map view_message before ++ told definitions s
 one_more definitions s before after m is tells =
@@ -71,7 +71,7 @@ pub none_more : (definitions : List Definition) (s : ℕ) (messages : List code.
     map view_message messages ≡ map view_message messages ++ told definitions s
 none_more definitions s messages nothing = rw nothing (sym (append-nil (map view_message messages)))
 
--- ---- an Ask, sequence by sequence: what is told so far, and what is still to be told
+-- ---- an Ask, sequence by sequence: the messages so far, and those still to come
 
 pub none_told : (definitions : List Definition) (messages : List code.Message) (number s left : ℕ) → messages ≡ [] → number ≡ s → number + left ≡ s + most_told →
     map view_message messages ++ told_from definitions number left ≡ told_from definitions s most_told

@@ -1,4 +1,4 @@
--- What a history shows, and what a chosen definition does to it.
+-- The model of a history, and the effect of a chosen definition on it.
 use Rattle.std.specs.Prelude.{◌≡◌, ℕ, zero, suc, ◌+◌, ◌≤◌, Bool, true, nat_lt, ◌==◌, if◌then◌else◌, List, [], ◌∷◌, ◌++◌, length, Option, Some}
 use Rattle.wf_ballot.specs.Sequence.{last_sequence}
 use Rattle.wf_def.specs.Definition.{Definition, empty_map}
@@ -9,13 +9,12 @@ use Rattle.wf_model.specs.Table.{store, on_chosen}
 use Rattle.wf_learner.specs.declared.learned.Learned.{Learned}
 use Rattle.wf_learner.specs.declared.learned.Learned.TheVariants.{Published, Known, Missing}
 
--- Its definitions, sequence 1 first, and whether there is room for one more. Contracts on anything but
--- memory read the list alone.
+-- Its definitions, sequence 1 first, and whether there is room for one more. Only contracts about memory use the second.
 pub record History : Type 0 where
   pub definitions : List Definition
   pub has_room : Bool
 
--- what is true of each history
+-- what holds of each history
 pub record IsHistory (first : Definition) (definitions : List Definition) : Type 0 where
   pub is_empty : first ≡ empty_map
   pub to_last : length definitions ≤ last_sequence
@@ -24,33 +23,33 @@ pub record IsHistory (first : Definition) (definitions : List Definition) : Type
 abbrev pub HasRoom : History → Type 0
 HasRoom h = h.has_room ≡ true
 
--- the map of a sequence: the empty one at 0, none above what is published
+-- the map of a sequence: the empty one at 0, None above the published ones
 unfoldable pub map_at : List Definition → ℕ → Option Definition
 map_at definitions zero = Some empty_map
 map_at definitions (suc k) = definition_at definitions (suc k)
 
--- the sequence that comes next
+-- the next sequence
 abbrev pub next_of : List Definition → ℕ
 next_of definitions = length definitions + 1
 
--- what becomes of a definition that is chosen at slot s
+-- the result of learning a definition that is chosen at slot s
 abbrev pub learned_at : List Definition → ℕ → Learned
 learned_at definitions s =
     if s == next_of definitions then Published
     else (if nat_lt (next_of definitions) s then Missing (next_of definitions) else Known)
 
--- the definitions after that: one more where its slot is the next
+-- the definitions after that: one more if its slot is the next
 abbrev pub with_chosen : List Definition → ℕ → Definition → List Definition
 with_chosen definitions s d = if s == next_of definitions then definitions ++ d ∷ [] else definitions
 
--- the question for the slot that is missing, if one is
+-- the Ask for the slot that is missing, if one is
 abbrev pub asked : Learned → List (model.Message Definition)
 asked Published = []
 asked Known = []
 asked (Missing s) = model.Ask s ∷ []
 
--- The table's row of a Chosen, at a node with the old history, whatever else it stored and holds and
--- however it tells definitions apart: it leaves the new history, and asks for the slot that is missing.
+-- The table's transition of a Chosen, at a node with the old history, whatever its other state and the test of equal definitions:
+-- it leaves the new history, and asks for the slot that is missing.
 pub record IsChosenRow (old : List Definition) (s : ℕ) (d : Definition) (new : List Definition) (learned : Learned) : Type 0 where
   pub history : (same : Definition → Definition → Bool) (stored : Stored Definition) (working : Working Definition) → stored.history ≡ old →
       (store stored (on_chosen same stored working s d).entry).history ≡ new

@@ -11,16 +11,16 @@ use wf_def::map::MapDef;
 /// The most definitions that answer one Ask.
 pub const MOST_TOLD: u16 = 8;
 
-/// The map definitions that a node published, one an update sequence, from 1 on. Sequence 0 is the empty
-/// map. Nothing is ever taken from it or changed in it.
+/// The map definitions that a node published, one for each update sequence from 1 on. Sequence 0 is the empty map. Nothing is
+/// ever removed from it or changed in it.
 pub struct History {
-    // The definition of slot 1 is the first.
+    // The first is the definition of slot 1.
     entries: Vec<Canon>,
     // The map of sequence 0.
     first: MapDef,
 }
 
-// By hand: a crate above proves one call where it drops a history, and not each part of one anew.
+// Written by hand: callers then prove one call where they drop a history, not one for each part.
 impl Drop for History {
     fn drop(self) {
         let History { entries, first } = self;
@@ -63,7 +63,7 @@ impl History {
         })
     }
 
-    /// The last published sequence, 0 where there is none: how many definitions are published.
+    /// The last published sequence, which is the number of published definitions; 0 if there is none.
     pub fn published(&self) -> Seq
         ensures value { result ≡ length self.now.definitions }
         ensures in_range { IsSequence result }
@@ -71,7 +71,7 @@ impl History {
         Seq::new(self.entries.len() as u16).unwrap()
     }
 
-    /// The slot that comes next; None where the last one is published. A node that catches up asks for it.
+    /// The next slot; None if the last one is published. A node that catches up asks for it.
     pub fn next_slot(&self) -> Option<Slot>
         ensures open { IsSome result ↔ (length self.now.definitions < last_sequence) }
         ensures value { IfSome result (λ slot. slot ≡ next_of self.now.definitions) }
@@ -79,14 +79,14 @@ impl History {
         Slot::new(self.entries.len() as u16 + 1)
     }
 
-    /// The map of a sequence, the empty one for 0; None above what is published.
+    /// The map of a sequence, the empty one for 0; None above the published ones.
     #[tactic(auto, using(crate::proofs::Told::map_published), unfolding(crate::specs::History::map_at))]
     pub fn get(&self, seq: Seq) -> Option<&MapDef>
         ensures value { option_copied result ≡ map_at self.now.definitions seq }
         ensures within { IfSome result (λ map. IsWithinLimits map.now) }
     {
         if seq.number() == 0 {
-            // What a map tells of itself is within the limits, and so is the map.
+            // The parts of a map are within the limits, and so is the map.
             let _ = self.first.extent();
             return Some(&self.first);
         }
@@ -101,7 +101,7 @@ impl History {
         self.entry(slot.number())
     }
 
-    // The definition of the sequence of this number, which isn't 0.
+    // The definition of the sequence of this number, which must not be 0.
     fn entry(&self, number: u16) -> Option<&Canon>
         requires { 1 ≤ number }
         ensures { option_copied result ≡ definition_at self.now.definitions number }
@@ -109,8 +109,8 @@ impl History {
         self.entries.get(number as usize - 1)
     }
 
-    /// Chosen with the definition that is published at the slot, if there is one: the answer to a Prepare
-    /// or an Accept of a published slot. Memory is wanted for a published slot alone.
+    /// Chosen with the definition that is published at the slot, if there is one: the answer to a Prepare or an Accept of a
+    /// published slot. Allocation can fail only for a published slot.
     #[tactic(auto, using(crate::proofs::Told::told_published, crate::proofs::Told::told_unpublished, crate::proofs::Told::is_published))]
     pub fn chosen(&self, slot: Slot) -> Result<Option<Message>, AllocError>
         ensures row { IfOk result (λ message. option_to_list (option_map view_message message) ≡ told self.now.definitions slot) }
@@ -122,8 +122,8 @@ impl History {
         }
     }
 
-    /// Answers `Ask(slot)`: Chosen for each published slot from this one on, eight at most. Memory is
-    /// wanted only where there is something to tell.
+    /// Answers `Ask(slot)`: Chosen for each published slot from this one on, at most eight. Allocation can fail only if there is
+    /// something to send.
     pub fn answer_ask(&self, alloc: Global, slot: Slot) -> Result<Vec<Message>, AllocError>
         ensures row { IfOk result (λ messages. map view_message messages.items ≡ told_from self.now.definitions slot most_told) }
         ensures memory { OnErr result (slot ≤ length self.now.definitions) }
@@ -135,13 +135,13 @@ impl History {
         Ok(messages)
     }
 
-    // Adds Chosen for the sequence of this number, if that is published.
+    // Appends Chosen for the sequence of this number, if that is published.
     #[tactic(auto, using(crate::proofs::Told::told_of_no_slot, crate::proofs::Told::none_more, crate::proofs::Told::one_more, crate::proofs::Told::published_where_told))]
     fn tell(&self, number: u16, messages: &mut Vec<Message>) -> Result<(), AllocError>
         ensures ok { OnOk result (map view_message messages.new.items ≡ map view_message messages.old.items ++ told self.now.definitions number) }
         ensures memory { OnErr result (number ≤ length self.now.definitions) }
     {
-        // The list is no longer than there are slots: a number that is none has no definition.
+        // The list is no longer than there are slots: a number that isn't a slot's has no definition.
         let _ = &self.entries;
         let Some(slot) = Slot::new(number) else {
             return Ok(());
@@ -152,9 +152,8 @@ impl History {
         Ok(())
     }
 
-    /// Learns that the definition is chosen at the slot. It is published where its slot is the next; else
-    /// nothing changes, and the answer says why. Memory is wanted only for the next slot, and only where
-    /// there is no room; an error changes nothing.
+    /// Learns that the definition is chosen at the slot. It is published if the slot is the next; otherwise nothing changes, and
+    /// the result says why. Allocation can fail only for the next slot, and only if there is no room; an error changes nothing.
     pub fn learn(&mut self, slot: Slot, canon: Canon) -> Result<Learned, AllocError>
         ensures learned { IfOk result (λ learned. learned ≡ learned_at self.old.definitions slot) }
         ensures grown { OnOk result (self.new.definitions ≡ with_chosen self.old.definitions slot canon) }
@@ -172,7 +171,7 @@ impl History {
         Ok(learned)
     }
 
-    // What becomes of a definition that is chosen at the slot.
+    // The result for a definition that is chosen at the slot.
     fn judge(&self, slot: Slot) -> Learned
         ensures { result ≡ learned_at self.now.definitions slot }
     {

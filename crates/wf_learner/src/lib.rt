@@ -1,15 +1,15 @@
 //! The learner of a node: its history, the list of published map definitions.
 //!
-//! Its model: a `History` is seen as the list of its definitions, sequence 1 first, and whether there is
-//! room for one more (`specs/History.antt`). The list is the farm's model of what a node published.
+//! Model: a `History` is the list of its definitions, sequence 1 first, and whether there is room for one more
+//! (`specs/History.antt`). The list is what the node published, as in wf_model.
 //!
-//! It promises that the list grows by its next definition or stays; that a chosen definition does to it
-//! what the row of the farm's table says, and that the learner tells which slot is missing where the row
-//! asks for it; that an Ask is answered by the row's messages, at most eight; and that learning takes no
-//! memory where there is room. Each definition is within the limits, and sequence 0 is the empty map.
+//! Promises: the list grows by its next definition or is unchanged. The effect of a chosen definition on it is that of the
+//! transition of wf_model's step table, and the learner returns which slot is missing if the transition asks for it. An Ask is
+//! answered by the transition's messages, at most eight. Learning doesn't allocate if there is room. Each definition is within
+//! the limits, and sequence 0 is the empty map.
 //!
-//! It doesn't know whether a definition was chosen, and keeps no records: the node that it is part of puts
-//! the record of a definition on its tape before it has it learned.
+//! Not here: whether a definition was chosen, and storing records (the node writes a definition's record to its tape before the
+//! learner learns it).
 #![tactic(auto)]
 
 mod history;

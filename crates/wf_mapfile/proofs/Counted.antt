@@ -1,4 +1,4 @@
--- What was counted while a block was read is what its value has.
+-- The counts made while a block is read equal those of its value.
 use Rattle.std.proofs.Common.{◌≡◌, Bool, true, false, List, ℕ, length, refl, sym, ap, ◌∙◌}
 use Rattle.std.specs.Prelude.{nat_lt, Option, Some, None, if◌then◌else◌, sum_by}
 use Rattle.wf_def.specs.Definition.{FeatureDefinition, LayerDefinition}
@@ -29,7 +29,7 @@ built true name x l e =
     (ap (λ (p : Entry). p.0) same, ap (λ (p : Entry). p.1) same)
 built false name x l e = absurd (let impossible : ⊥ = cc in impossible)
 
--- a layer has the name and the features that were said
+-- a layer has the name and the features of its slots
 pub record AsSaid (said : LayerSlots) (l : Entry) : Type 0 where
   pub name : said.single.name ≡ Some l.0
   pub features : said.features ≡ l.1.features

@@ -16,12 +16,12 @@ features_in entry = length entry.1.features
 abbrev points_in : Entry → ℕ
 points_in entry = sum_by points_of_feature entry.1.features
 
--- no layers are no more than a map may have
+-- an empty list is within the limits of a map
 pub no_layers : AreGathered [] most_features most_points
 unfolding all_differ
 no_layers = record { names = λ k d below. absurd (omega arith); most = omega arith; unlike = refl; features = omega arith; points = omega arith }
 
--- with one more layer there are no more than a map may have
+-- with one more layer the list is within the limits of a map
 pub one_more : (others : List Entry) (features points : ℕ) (x : Entry) → AreGathered others features points → IsLayerName x.0 → length others < most_layers → has_layer others x.0 ≡ false →
     features_in x ≤ features → points_in x ≤ points → AreGathered (others ++ x ∷ []) (features - features_in x) (points - points_in x)
 one_more others features points x gathered name room new fewer less = record {
@@ -32,7 +32,7 @@ one_more others features points x gathered name room new fewer less = record {
   points = omega (arith, sum_by_push points_in others x, gathered.points, less);
 }
 
--- the room behind the layers is what is counted down
+-- the counters are how many more features and points the map may have
 pub left_over : (layers : List Entry) (features points : ℕ) → AreGathered layers features points → (features ≡ features_left layers) × (points ≡ points_left layers)
 unfolding features_left points_left
 left_over layers features points gathered = (omega (arith, gathered.features), omega (arith, gathered.points))

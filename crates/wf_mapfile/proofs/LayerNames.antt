@@ -1,4 +1,4 @@
--- Which texts are layers' names.
+-- Which texts are layer names.
 use Rattle.std.proofs.Common.{◌≡◌, ℕ, Bool, true, not, List, length, ap}
 use Rattle.std.specs.Prelude.{IsTrue, ◌↔◌}
 use Rattle.std.specs.Cmp.{first_so, second_so}

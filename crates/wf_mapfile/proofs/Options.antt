@@ -1,4 +1,4 @@
--- What comes next where a reader gave something.
+-- Sequencing readers, if the first returned something.
 use Rattle.std.proofs.Common.{◌≡◌, refl}
 use Rattle.std.specs.Prelude.{Option, Some, None}
 use Rattle.wf_mapfile.specs.Grammar.{◌>>=◌}

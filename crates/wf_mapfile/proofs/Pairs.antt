@@ -1,4 +1,4 @@
--- METADATA read in one pass says what its pairs say.
+-- Reading METADATA in one pass returns the values of its pairs.
 use Rattle.std.proofs.Common.{◌≡◌, ℕ, zero, suc, ◌+◌, ◌-◌, ◌<◌, ◌≤◌, Bool, true, false, not, ◌&&◌, ◌||◌, List, [], ◌∷◌, length, map, arith, refl, sym, ap, subst, ◌∙◌}
 use Rattle.std.specs.Prelude.{Option, Some, None, is_some, codes, if◌then◌else◌, bytes_eq}
 use Rattle.std.specs.Cmp.{first_so, second_so}
@@ -45,12 +45,12 @@ abbrev pub fresh : (List ℕ → Bool) → List (List ℕ) → Bool
 fresh seen [] = true
 fresh seen (key ∷ keys) = not (seen key) && fresh (λ other. bytes_eq key other || seen other) keys
 
--- each pair's value in its slot, the last one over those before it
+-- each pair's value in its slot, the last one replacing those before it
 abbrev keep_all : Metadata → List Pair → Metadata
 keep_all slots [] = slots
 keep_all slots (pair ∷ others) = keep_all (keep slots pair.0 pair.1) others
 
--- what the slots are behind pairs, where the keys were not seen
+-- the slots after pairs, if their keys were not seen
 abbrev kept_after : (List ℕ → Bool) → Metadata → List Pair × List Token → Option (Metadata × List Token)
 kept_after seen slots x = if fresh seen (keys_of x.0) then Some (keep_all slots x.0, x.1) else None
 
@@ -71,7 +71,7 @@ module _ (n : ℕ) (seen : List ℕ → Bool) (slots : Metadata) (name : List �
   after_value false is (Some value) =
       rest _ _ value.1 ∙ bind_same (pairs n value.1) _ _ (λ x. sym (rw is)) ∙ sym (bind_assoc (pairs n value.1) _ (kept_after seen slots))
 
--- behind the first pair, or behind END
+-- after the first pair, or after END
 after_end : (n : ℕ) (seen : List ℕ → Bool) (slots : Metadata) (tokens : List Token) →
     ((seen : List ℕ → Bool) (slots : Metadata) (tokens : List Token) → collect seen slots n tokens ≡ (pairs n tokens >>= kept_after seen slots)) → (closed : Option (List Token)) →
     option_or (closed >>= ended slots) (new_pair seen tokens >>= collect_rest seen slots n)
@@ -89,7 +89,7 @@ unfolding collect pairs
 collect-pairs zero seen slots tokens = refl
 collect-pairs (suc n) seen slots tokens = after_end n seen slots tokens (collect-pairs n) (end tokens)
 
--- which keys were seen counts, not how that is known
+-- the result depends on which keys were seen, not on how that is tested
 pub new_pair-same : (seen others : List ℕ → Bool) (tokens : List Token) → ((key : List ℕ) → seen key ≡ others key) → new_pair seen tokens ≡ new_pair others tokens
 unfolding new_pair
 new_pair-same seen others tokens same = bind_same (text tokens) _ _ (λ key. rw (same (str_to_ascii_lowercase key.0)))
@@ -106,7 +106,7 @@ collect-same (suc n) seen others slots tokens same =
 pub bytes_eq-comm : (a b : List ℕ) → bytes_eq a b ≡ bytes_eq b a
 bytes_eq-comm a b = same_from_decides (bytes_eq a b) (bytes_eq b a) (bytes_eq-Decides a b) (Decides-like (bytes_eq b a) sym sym (bytes_eq-Decides b a))
 
--- keys are fresh where none was seen and no two are equal
+-- keys are fresh if none was seen and no two are equal
 not_seen-or : (name : List ℕ) (seen : List ℕ → Bool) (keys : List (List ℕ)) →
     list_all (λ key. not (bytes_eq name key || seen key)) keys ≡ (not (list_any (bytes_eq name) keys) && list_all (λ key. not (seen key)) keys)
 not_seen-or name seen [] = refl
@@ -129,7 +129,7 @@ fresh-all_differ seen (key ∷ keys) =
       split false true false differ = refl
       split false false none differ = refl
 
--- the last value under a key, over what is there already
+-- the last value under a key, or else the value that is there already
 abbrev last_at : List ℕ → Option (List ℕ) → List Pair → Option (List ℕ)
 last_at key slot [] = slot
 last_at key slot (pair ∷ others) = last_at key (if bytes_eq pair.0 key then Some pair.1 else slot) others
@@ -157,7 +157,7 @@ last_at-value_at key [] differ slot = refl
 last_at-value_at key (pair ∷ others) differ slot =
     last_at-pair key slot pair others (not_so _ (first_so _ _ differ)) (last_at-value_at key others (second_so _ _ differ)) (bytes_eq pair.0 key) refl
 
--- a pair goes to one slot at most, since the keys of the slots are unlike
+-- a pair goes to at most one slot, since the keys of the slots are distinct
 unlike : (key a b : List ℕ) → bytes_eq a b ≡ false → bytes_eq key a ≡ true → bytes_eq key b ≡ false
 unlike key a b differ same = rw ((bytes_eq-Decides key a).0 same) differ
 
@@ -208,7 +208,7 @@ pub none_seen : (keys : List (List ℕ)) → list_all (λ key. not false) keys �
 none_seen [] = refl
 none_seen (key ∷ keys) = none_seen keys
 
--- METADATA is what is kept of its pairs when they are read
+-- METADATA is what is kept of the pairs that are read
 kept_of : (all : List Pair) (rest : List Token) (differ : Bool) → all_differ (keys_of all) ≡ differ →
     (if differ then ended (kept all) rest else None) ≡ (if differ then ended (keep_all no_metadata all) rest else None)
 kept_of all rest true is = ap (λ slots. ended slots rest) (sym (keep_all-kept all is))
@@ -221,7 +221,7 @@ pub metadata_read : (tokens : List Token) → metadata tokens ≡ collect (λ ke
 unfolding metadata
 metadata_read tokens = bind_same (pairs (length tokens) tokens) _ _ kept_after-none ∙ sym (collect-pairs (length tokens) (λ key. false) no_metadata tokens)
 
--- behind a pair, where the keys that were seen are known in another way
+-- after a pair, with another test of which keys were seen
 pub collect_more : (seen others : List ℕ → Bool) (slots : Metadata) (n i : ℕ) (tokens rest : List Token) (key value : List ℕ) → i < n → is_some (end tokens) ≡ false →
     new_pair seen tokens ≡ Some ((key, value), rest) → ((other : List ℕ) → others other ≡ (if bytes_eq key other then true else seen other)) →
     collect seen slots (n - i) tokens ≡ collect others (keep slots key value) (n - (i + 1)) rest

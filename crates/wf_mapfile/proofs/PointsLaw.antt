@@ -21,7 +21,7 @@ pub points_past : (most : ℕ) (part : List Point) (n i : ℕ) (tokens : List To
 unfolding points_behind
 points_past most part n i tokens past = let none : n - i ≡ 0 = omega arith in rw none
 
--- a point behind those so far
+-- a point appended to those so far
 pub points_more : (most : ℕ) (part : List Point) (n i : ℕ) (tokens rest : List Token) (next : Point) → i < n → is_some (end tokens) ≡ false →
     (if nat_lt (length part) most then point tokens else None) ≡ Some (next, rest) →
     points_behind most part (n - i) tokens ≡ points_behind most (part ++ next ∷ []) (n - (i + 1)) rest
@@ -38,6 +38,6 @@ points_more most part n i tokens rest next below closed read =
     behind true o k e = rw e refl
     behind false o k e = absurd (let impossible : ⊥ = cc in impossible)
 
--- a point for which there is room is one of so many
+-- with a point for which there is room there are at most n
 pub points_fit : (most : ℕ) (part : List Point) (next : Point) → nat_lt (length part) most ≡ true → length (part ++ next ∷ []) ≤ most
 points_fit most part next room = simp length-append (grind (arith, nat_tests))

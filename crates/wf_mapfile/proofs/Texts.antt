@@ -1,4 +1,4 @@
--- What stands behind the first bytes of a text is a text, where those are ASCII.
+-- The rest of a text after its first bytes is a text, if those bytes are ASCII.
 use Rattle.std.proofs.Common.{◌≡◌, ℕ, suc, ◌<◌, Bool, true, false, not, ◌&&◌, List, [], ◌∷◌, ◌++◌, length, min, take, drop, get_or, arith, refl, sym, ap, ◌∙◌}
 use Rattle.std.specs.Prelude.{nat_le, codes, ◌==◌, if◌then◌else◌, Some, None, Result, Ok, Err}
 use Rattle.std.specs.Char.{to_ascii_lowercase}
@@ -31,7 +31,7 @@ quotes_behind : (xs ys : List ℕ) → has_both_quotes ys ≡ true → has_both_
 quotes_behind xs ys quotes =
     both _ _ (any_behind (λ b. b == 34) xs ys (first_so _ _ quotes)) (any_behind (λ b. b == 39) xs ys (second_so _ _ quotes))
 
--- a text cut where a character begins
+-- a text cut at the beginning of a character
 behind : (xs ys : List ℕ) → IsUtf8 xs → IsUtf8 ys → is_text (xs ++ ys) ≡ true → is_text ys ≡ true
 unfolding is_text
 behind xs ys front back may =
@@ -58,14 +58,14 @@ utf8 : (bs : List ℕ) → is_text bs ≡ true → IsUtf8 bs
 unfolding is_text
 utf8 bs may = IsUtf8-from_is_utf8 bs (second_so _ _ (first_so _ _ (first_so _ _ may)))
 
--- behind six bytes, the last of them ASCII
+-- after six bytes, the last of them ASCII
 behind_sign : (bs : List ℕ) → 5 < length bs → get_or bs 5 0 < 128 → is_text bs ≡ true → is_text (drop 6 bs) ≡ true
 behind_sign bs long sign may =
     let whole : IsUtf8 bs = utf8 bs may in
     let boundary : IsCharBoundary bs 6 = IsCharBoundary-after_ascii bs 5 whole long sign in
     behind (take 6 bs) (drop 6 bs) (IsUtf8-take bs 6 whole boundary) (IsUtf8-drop bs 6 whole boundary) (ap is_text (take-append-drop 6 bs) ∙ may)
 
--- the same letters, in small
+-- the same letters, in lower case
 names_by : (bs : List ℕ) → is_text bs ≡ true → str_to_ascii_lowercase (take 6 bs) ≡ str_to_ascii_lowercase (codes "ITEMS=") → is_text (drop 6 bs) ≡ true
 names_by [] may all = let letters : [] ≡ 105 ∷ 116 ∷ 101 ∷ 109 ∷ 115 ∷ 61 ∷ [] = all in absurd (let impossible : ⊥ = cc in impossible)
 names_by (a ∷ []) may all = let letters : to_ascii_lowercase a ∷ [] ≡ 105 ∷ 116 ∷ 101 ∷ 109 ∷ 115 ∷ 61 ∷ [] = all in absurd (let impossible : ⊥ = cc in impossible)
@@ -82,7 +82,7 @@ names_by (a ∷ b ∷ c ∷ d ∷ e ∷ f ∷ rest) may all =
 pub names-text : (bs : List ℕ) → is_text bs ≡ true → str_eq_ignore_ascii_case (take 6 bs) (codes "ITEMS=") ≡ true → is_text (drop 6 bs) ≡ true
 names-text bs may same = names_by bs may ((bytes_eq-Decides (str_to_ascii_lowercase (take 6 bs)) (str_to_ascii_lowercase (codes "ITEMS="))).0 same)
 
--- the first six bytes, where there are so many
+-- the first six bytes, if there are that many
 pub cut_take : (bs : List ℕ) → take (min (length bs) 6) bs ≡ take 6 bs
 cut_take [] = refl
 cut_take (a ∷ []) = refl

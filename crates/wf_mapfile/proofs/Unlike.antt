@@ -1,4 +1,4 @@
--- Layers of unlike names.
+-- Layers of distinct names.
 use Rattle.std.proofs.Common.{◌≡◌, ℕ, Bool, true, false, ◌||◌, List, [], ◌∷◌, ◌++◌, refl, ap, ◌∙◌}
 use Rattle.std.specs.Cmp.{first_so, second_so}
 use Rattle.std.specs.Prelude.{bytes_eq}
@@ -22,7 +22,7 @@ pub has_layer-more : (layers : List Entry) (x : Entry) (name : List ℕ) → has
 has_layer-more [] x name = ap (λ same. same || false) (bytes_eq-comm name x.0)
 has_layer-more (y ∷ layers) x name = ap (λ more. bytes_eq name y.0 || more) (has_layer-more layers x name) ∙ taken_by (bytes_eq name y.0) (bytes_eq x.0 name) (has_layer layers name)
 
--- with one more layer, whose name is new, the names are still unlike
+-- with one more layer, whose name is new, the names are still distinct
 pub differ-push : (layers : List Entry) (x : Entry) → all_differ (layer_names layers) ≡ true → has_layer layers x.0 ≡ false → all_differ (layer_names (layers ++ x ∷ [])) ≡ true
 unfolding all_differ
 differ-push [] x differ new = refl

@@ -1,4 +1,4 @@
--- CLASS: which features are drawn alike, and how.
+-- CLASS: which features it contains, and how they are drawn.
 use Rattle.std.specs.Prelude.{ℕ, Bool, false, if◌then◌else◌, List, [], ◌∷◌, codes, Option, Some, None, unwrap_or}
 use Rattle.wf_def.specs.Limit.{most_styles}
 use Rattle.wf_def.specs.Definition.{ClassDefinition}
@@ -21,14 +21,14 @@ begins_pattern (Word (b ∷ bytes) ∷ rest) = is_slash b
 unfoldable pub expression : List Token → Option (List ℕ × List Token)
 expression tokens = if begins_pattern tokens then None else text tokens
 
--- what a keyword says that comes at most once, beside what was said
+-- the slots after a keyword that comes at most once
 unfoldable pub class_once : ClassOnce → List ℕ → List Token → Option (ClassOnce × List Token)
 class_once said = step_by (
     (codes "NAME", once said.name text (λ x. record said { name = Some x })) ∷
     (codes "EXPRESSION", once said.expression expression (λ x. record said { expression = Some x })) ∷
     (codes "LABEL", once said.label label (λ x. record said { label = Some x })) ∷ [])
 
--- what a keyword says beside what was said
+-- the slots after a keyword
 unfoldable pub class_put : ClassSlots → List ℕ → List Token → Option (ClassSlots × List Token)
 class_put said = step_or (
     (codes "STYLE", again most_styles said.styles style (λ more. record said { styles = more })) ∷ [])
@@ -37,7 +37,7 @@ class_put said = step_or (
 abbrev pub no_class : ClassSlots
 no_class = record { styles = []; single = record { name = None; expression = None; label = None } }
 
--- a class from what was said: a name that wasn't is empty
+-- the class of the slots: an absent name is empty
 unfoldable pub class_of : ClassSlots → ClassDefinition
 class_of said = record {
   name = unwrap_or said.single.name [];

@@ -1,4 +1,4 @@
--- A colour of a mapfile: three whole numbers from 0 to 255, or a string `#rrggbb`.
+-- A colour of a mapfile: three integers from 0 to 255, or a string `#rrggbb`.
 use Rattle.std.specs.Prelude.{ℕ, ◌+◌, ◌-◌, ◌*◌, ◌==◌, ◌&&◌, nat_le, if◌then◌else◌, List, [], ◌∷◌, Option, Some, None}
 use Rattle.std.specs.Option.{option_map_or}
 use Rattle.wf_def.specs.declared.color.Color.{Color}
@@ -18,7 +18,7 @@ hex_byte high low = do
   l ← hex_digit low
   Some (16 * h + l)
 
--- what follows the `#`
+-- the colour of the six digits after the `#`
 unfoldable pub hex_color : List ℕ → Option Color
 hex_color (a ∷ b ∷ c ∷ d ∷ e ∷ f ∷ []) = do
   r ← hex_byte a b
@@ -40,7 +40,7 @@ hash_digits (Word bytes) = None
 hash_digits (Quoted []) = None
 hash_digits (Quoted (b ∷ digits)) = if b == 35 then Some digits else None
 
--- a string that begins with `#` is a colour, any other argument the first of three numbers
+-- a string that begins with `#` is a colour; any other argument is the first of three numbers
 unfoldable pub color : List Token → Option (Color × List Token)
 color [] = None
 color (token ∷ rest) = option_map_or (λ digits. hex_color digits >>= λ c. Some (c, rest)) (hash_digits token) (rgb_color (token ∷ rest))

@@ -17,23 +17,23 @@ point tokens = do
   y ← number x.1
   Some (record { x = x.0; y = y.0 }, y.1)
 
--- points up to END, behind those so far, and at most so many in all
+-- at most n points up to END, appended to those so far
 unfoldable pub points_behind : ℕ → List Point → ℕ → List Token → Option (List Point × List Token)
 points_behind most part zero tokens = None
 points_behind most part (suc left) tokens =
     option_or (end tokens >>= λ rest. Some (part, rest)) (again most part point (λ more. more) tokens >>= λ x. points_behind most x.0 left x.1)
 
--- what follows the word POINTS, up to its END: at most so many points, each of which is a token at least
+-- what follows the word POINTS, up to its END: at most n points, each of at least one token
 unfoldable pub points : ℕ → List Token → Option (List Point × List Token)
 points most tokens = points_behind most [] (length tokens) tokens
 
--- what a keyword says that comes at most once, beside what was said
+-- the slots after a keyword that comes at most once
 unfoldable pub feature_once : FeatureOnce → List ℕ → List Token → Option (FeatureOnce × List Token)
 feature_once said = step_by (
     (codes "ITEMS", once said.items text (λ x. record said { items = Some x })) ∷
     (codes "TEXT", once said.text text (λ x. record said { text = Some x })) ∷ [])
 
--- what a keyword says beside what was said, where so many points may come in all
+-- the slots after a keyword, if at most n points may come in all
 unfoldable pub feature_put : ℕ → FeatureSlots → List ℕ → List Token → Option (FeatureSlots × List Token)
 feature_put most said = step_or (
     (codes "POINTS", any_times said.parts (points (most - sum_by length said.parts)) (λ more. record said { parts = more })) ∷ [])
@@ -42,11 +42,11 @@ feature_put most said = step_or (
 abbrev pub no_feature : FeatureSlots
 no_feature = record { parts = []; single = record { items = None; text = None } }
 
--- a feature from what was said, where there is a part: a text that wasn't is empty
+-- the feature of the slots, if there is a part: absent texts are empty
 unfoldable pub feature_of : FeatureSlots → Option FeatureDefinition
 feature_of said = def.feature_of said.parts (unwrap_or said.single.items []) (unwrap_or said.single.text [])
 
--- what follows the word FEATURE, up to its END: a shape of at most so many points
+-- what follows the word FEATURE, up to its END: a shape of at most n points
 unfoldable pub feature : ℕ → List Token → Option (FeatureDefinition × List Token)
 feature most tokens = do
   x ← block (feature_put most) no_feature tokens

@@ -1,5 +1,5 @@
--- Readers of tokens: each gives what stands at the front of a list of tokens, with the tokens after it, or
--- nothing where that isn't there. The blocks of a mapfile are made of them.
+-- Readers of tokens: each returns the value at the front of a list of tokens and the tokens after it, or None if the value isn't
+-- there. The blocks of a mapfile are made of them.
 use Rattle.std.specs.Prelude.{ℕ, Bool, if◌then◌else◌, ℤ, List, [], ◌∷◌, codes, Option, Some, None}
 use Rattle.std.specs.Result.{result_ok}
 use Rattle.std.specs.Str.{str_eq_ignore_ascii_case}
@@ -8,7 +8,7 @@ use Rattle.wf_def.specs.Text.{is_text}
 use Rattle.wf_def.specs.Whole.{whole_between}
 use Rattle.wf_token.specs.Token.{Token, Word, Quoted}
 
--- what comes next is read from the tokens that are left
+-- the second reader reads the tokens that the first leaves
 infixl 10 ◌>>=◌
 abbrev pub ◌>>=◌ : {A B : Type 0} → Option A → (A → Option B) → Option B
 None >>= f = None
@@ -23,13 +23,13 @@ choice (entry ∷ others) name = if str_eq_ignore_ascii_case name entry.0 then S
 unfoldable pub is_end : List ℕ → Bool
 is_end word = str_eq_ignore_ascii_case word (codes "END")
 
--- a word, as a keyword is
+-- a word, such as a keyword
 unfoldable pub word : List Token → Option (List ℕ × List Token)
 word [] = None
 word (Quoted bytes ∷ rest) = None
 word (Word bytes ∷ rest) = Some (bytes, rest)
 
--- an argument: what a string holds, or a word other than END
+-- an argument: the text of a string, or a word other than END
 unfoldable pub argument : List Token → Option (List ℕ × List Token)
 argument [] = None
 argument (Quoted bytes ∷ rest) = Some (bytes, rest)
@@ -55,7 +55,7 @@ number tokens = do
   value ← result_ok (micro.number x.0)
   Some (value, x.1)
 
--- a whole number in a range
+-- an integer in a range
 unfoldable pub whole : ℕ → ℕ → List Token → Option (ℕ × List Token)
 whole least most tokens = do
   x ← number tokens

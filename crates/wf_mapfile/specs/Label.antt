@@ -36,7 +36,7 @@ label_positions =
 abbrev pub truths : List (List ℕ × Bool)
 truths = (codes "TRUE", true) ∷ (codes "FALSE", false) ∷ []
 
--- letters of pixels are the one kind that there is
+-- bitmap letters are the only kind
 abbrev pub label_kinds : List (List ℕ × Unit {0})
 label_kinds = (codes "BITMAP", tt) ∷ []
 
@@ -52,7 +52,7 @@ truth tokens = chosen truths tokens
 unfoldable pub label_kind : List Token → Option (Unit {0} × List Token)
 label_kind tokens = chosen label_kinds tokens
 
--- what a keyword says beside what was said: each comes at most once, and the last is dropped
+-- the slots after a keyword: each comes at most once, and the last is dropped
 unfoldable pub label_put : LabelSlots → List ℕ → List Token → Option (LabelSlots × List Token)
 label_put said = step_by (
     (codes "COLOR", once said.color color (λ x. record said { color = Some x })) ∷
@@ -69,7 +69,7 @@ no_label = record { color = None; size = None; position = None; priority = None;
 abbrev pub black : Color
 black = record { r = 0; g = 0; b = 0 }
 
--- a label from what was said, with defaults for what wasn't
+-- the label of the slots, with defaults for absent ones
 unfoldable pub label_of : LabelSlots → LabelDefinition
 label_of said = record {
   color = unwrap_or said.color black;

@@ -20,11 +20,11 @@ use Rattle.wf_mapfile.specs.Web.{no_metadata}
 use Rattle.wf_mapfile.specs.Class.{class}
 use Rattle.wf_mapfile.specs.Feature.{feature}
 
--- whether a text may stand in a list between commas (44): it isn't empty and has no comma
+-- whether a text may be a layer's name: it isn't empty and has no comma (44)
 unfoldable pub is_layer_name : List ℕ → Bool
 is_layer_name name = nat_lt 0 (length name) && not (list_any (λ b. b == 44) name)
 
--- the test finds exactly the texts that are names by the limits of a map
+-- the test is true iff the text is a layer's name by the limits of a map
 abbrev pub LayerNamesAreTested : Type 0
 LayerNamesAreTested = (name : List ℕ) → IsText name → (is_layer_name name ≡ true) ↔ IsLayerName name
 
@@ -55,21 +55,21 @@ new_name others tokens = do
   x ← layer_name tokens
   if has_layer others x.0 then None else Some x
 
--- how many features and points the map may have behind these layers
+-- how many features and points the map may have after these layers
 unfoldable pub features_left : List (List ℕ × LayerDefinition) → ℕ
 features_left layers = most_features - feature_count layers
 
 unfoldable pub points_left : List (List ℕ × LayerDefinition) → ℕ
 points_left layers = most_points - point_count layers
 
--- what a keyword says whose text is dropped: each comes at most once
+-- the slots after a dropped keyword: each comes at most once
 unfoldable pub layer_dropped : LayerDropped → List ℕ → List Token → Option (LayerDropped × List Token)
 layer_dropped said = step_by (
     (codes "STATUS", once said.status text (λ x. record said { status = Some tt })) ∷
     (codes "UNITS", once said.units text (λ x. record said { units = Some tt })) ∷
     (codes "TEMPLATE", once said.template text (λ x. record said { template = Some tt })) ∷ [])
 
--- what a keyword says that comes at most once, beside what was said, behind these layers: a name is none of theirs
+-- the slots after a keyword that comes at most once, given the layers before: a name differs from theirs
 unfoldable pub layer_once : List (List ℕ × LayerDefinition) → LayerOnce → List ℕ → List Token → Option (LayerOnce × List Token)
 layer_once others said = step_or (
     (codes "NAME", once said.name (new_name others) (λ x. record said { name = Some x })) ∷
@@ -80,7 +80,7 @@ layer_once others said = step_or (
     (codes "METADATA", once said.metadata metadata (λ x. record said { metadata = Some x })) ∷ [])
     (λ keyword tokens. put_into (λ x. record said { dropped = x }) (layer_dropped said.dropped keyword tokens))
 
--- what a keyword says beside what was said, behind these layers: no more features and points than the map may still have
+-- the slots after a keyword, given the layers before: at most as many features and points as are left for the map
 unfoldable pub layer_put : List (List ℕ × LayerDefinition) → LayerSlots → List ℕ → List Token → Option (LayerSlots × List Token)
 layer_put others said = step_or (
     (codes "CLASS", again most_classes said.classes class (λ more. record said { classes = more })) ∷
@@ -96,7 +96,7 @@ no_layer_once = record { name = None; kind = None; class_item = None; label_item
 abbrev pub no_layer : LayerSlots
 no_layer = record { classes = []; features = []; single = no_layer_once }
 
--- a layer with its name from what was said: NAME and TYPE must be, the title is the name where none was, the other texts are empty
+-- the layer of the slots, with its name: NAME and TYPE are required, the title defaults to the name, other texts to empty
 unfoldable pub layer_of : LayerSlots → Option (List ℕ × LayerDefinition)
 layer_of said = do
   name ← said.single.name
@@ -105,7 +105,7 @@ layer_of said = do
   l ← def.layer_of kind title (unwrap_or said.single.class_item []) (unwrap_or said.single.label_item []) (unwrap_or said.single.items []) said.classes said.features
   Some (name, l)
 
--- what follows the word LAYER, up to its END, behind these layers
+-- what follows the word LAYER, up to its END, given the layers before
 unfoldable pub layer : List (List ℕ × LayerDefinition) → List Token → Option ((List ℕ × LayerDefinition) × List Token)
 layer others tokens = do
   x ← block (layer_put others) no_layer tokens

@@ -46,7 +46,7 @@ projection tokens = do
   rest ← end x.1
   Some (value, rest)
 
--- what a keyword says that is judged and dropped: each comes at most once
+-- the slots after a keyword that is checked and dropped: each comes at most once
 unfoldable pub map_dropped : MapDropped → List ℕ → List Token → Option (MapDropped × List Token)
 map_dropped said = step_by (
     (codes "SIZE", once said.size two_numbers (λ x. record said { size = Some tt })) ∷
@@ -56,7 +56,7 @@ map_dropped said = step_by (
     (codes "IMAGETYPE", once said.image_type text (λ x. record said { image_type = Some tt })) ∷
     (codes "SHAPEPATH", once said.shape_path text (λ x. record said { shape_path = Some tt })) ∷ [])
 
--- what a keyword says that comes at most once, beside what was said
+-- the slots after a keyword that comes at most once
 unfoldable pub map_once : MapOnce → List ℕ → List Token → Option (MapOnce × List Token)
 map_once said = step_or (
     (codes "NAME", once said.name text (λ x. record said { name = Some x })) ∷
@@ -65,7 +65,7 @@ map_once said = step_or (
     (codes "WEB", once said.web web (λ x. record said { web = Some x })) ∷ [])
     (λ keyword tokens. put_into (λ x. record said { dropped = x }) (map_dropped said.dropped keyword tokens))
 
--- what a keyword says beside what was said: a layer stands behind those before it
+-- the slots after a keyword: a layer is appended to those before it
 unfoldable pub map_put : MapSlots → List ℕ → List Token → Option (MapSlots × List Token)
 map_put said = step_or (
     (codes "LAYER", again most_layers said.layers (layer said.layers) (λ more. record said { layers = more })) ∷ [])
@@ -80,8 +80,7 @@ no_map_once = record { name = None; extent = None; projection = None; web = None
 abbrev pub no_map : MapSlots
 no_map = record { layers = []; single = no_map_once }
 
--- a map's definition from what was said, with defaults for what wasn't: the name is `map`, the title is the
--- name, the abstract is empty
+-- a map's definition, with defaults for what is absent: the name is `map`, the title is the name, the abstract is empty
 unfoldable pub definition : Option (List ℕ) → ExtentValue → Projection → kept.Metadata → List (List ℕ × LayerDefinition) → Definition
 definition name extent projection web layers = let name = unwrap_or name (codes "map") in record {
   name = name;
@@ -93,7 +92,7 @@ definition name extent projection web layers = let name = unwrap_or name (codes 
   layers = layers;
 }
 
--- a map from what was said: EXTENT and PROJECTION must be
+-- the map of the slots: EXTENT and PROJECTION are required
 unfoldable pub map_of : MapSlots → Option Definition
 map_of said = do
   extent ← said.single.extent

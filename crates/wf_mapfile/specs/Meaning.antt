@@ -1,4 +1,4 @@
--- What a mapfile means.
+-- The meaning of a mapfile.
 use Rattle.std.specs.Prelude.{◌≡◌, ℕ, ◌&&◌, ◌==◌, nat_le, if◌then◌else◌, List, length, codes, Option, Some, None}
 use Rattle.std.specs.Str.{is_utf8, str_eq_ignore_ascii_case}
 use Rattle.wf_def.specs.Definition.{Definition}
@@ -17,14 +17,14 @@ file tokens = do
   all ← if str_eq_ignore_ascii_case x.0 (codes "MAP") then map x.1 else None
   if length all.1 == 0 then Some all.0 else None
 
--- a mapfile of at most 65,536 bytes, in UTF-8
+-- the meaning of bytes: that of a file of at most 65,536 bytes, in UTF-8
 unfoldable pub meaning : List ℕ → Option Definition
 meaning bytes = if nat_le (length bytes) longest_mapfile && is_utf8 bytes then tokens bytes >>= file else None
 
--- a text means at most one definition
+-- the bytes mean this definition; they mean at most one
 abbrev pub Means : List ℕ → Definition → Type 0
 Means bytes d = meaning bytes ≡ Some d
 
--- a text that isn't a mapfile
+-- the bytes aren't a mapfile
 abbrev pub MeansNothing : List ℕ → Type 0
 MeansNothing bytes = (d : Definition) → ¬ (Means bytes d)

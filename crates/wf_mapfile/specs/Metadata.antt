@@ -7,7 +7,7 @@ use Rattle.wf_mapfile.specs.declared.slots.Metadata.{Metadata}
 use Rattle.wf_token.specs.Token.{Token}
 use Rattle.wf_mapfile.specs.Grammar.{◌>>=◌, text, end}
 
--- at most so many pairs up to END, each a key in small letters and its value
+-- at most n pairs up to END, each a key in lower case and its value
 unfoldable pub pairs : ℕ → List Token → Option (List (List ℕ × List ℕ) × List Token)
 pairs zero tokens = None
 pairs (suc most) tokens = option_or (end tokens >>= λ rest. Some ([], rest)) (do
@@ -26,7 +26,7 @@ unfoldable pub value_at : List ℕ → List (List ℕ × List ℕ) → Option (L
 value_at key [] = None
 value_at key (pair ∷ others) = if bytes_eq pair.0 key then Some pair.1 else value_at key others
 
--- what is kept: the values under the keys that a map or a layer asks for
+-- the values that are kept: those under the keys that a map or a layer uses
 unfoldable pub kept : List (List ℕ × List ℕ) → Metadata
 kept all = record {
   title = value_at (codes "wms_title") all;

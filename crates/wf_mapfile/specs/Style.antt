@@ -8,7 +8,7 @@ use Rattle.wf_mapfile.specs.Grammar.{◌>>=◌, whole}
 use Rattle.wf_mapfile.specs.Steps.{once, step_by, block}
 use Rattle.wf_mapfile.specs.Color.{color}
 
--- what a keyword says beside what was said: each comes at most once
+-- the slots after a keyword: each comes at most once
 unfoldable pub style_put : StyleSlots → List ℕ → List Token → Option (StyleSlots × List Token)
 style_put said = step_by (
     (codes "COLOR", once said.color color (λ x. record said { color = Some x })) ∷
@@ -19,7 +19,7 @@ style_put said = step_by (
 abbrev pub no_style : StyleSlots
 no_style = record { color = None; outline_color = None; width = None; size = None }
 
--- a style from what was said: a colour that wasn't is none, a width or a size that wasn't is one pixel
+-- the style of the slots: an absent colour is none, an absent width or size is one pixel
 unfoldable pub style_of : StyleSlots → StyleDefinition
 style_of said = record {
   color = said.color;

@@ -7,7 +7,7 @@ use Rattle.wf_mapfile.specs.Grammar.{◌>>=◌, text}
 use Rattle.wf_mapfile.specs.Steps.{once, step_by, block}
 use Rattle.wf_mapfile.specs.Metadata.{metadata}
 
--- what a keyword says beside what was said: each comes at most once
+-- the slots after a keyword: each comes at most once
 unfoldable pub web_put : WebSlots → List ℕ → List Token → Option (WebSlots × List Token)
 web_put said = step_by (
     (codes "METADATA", once said.metadata metadata (λ x. record said { metadata = Some x })) ∷

@@ -1,4 +1,4 @@
-//! Blocks: keywords, each with what it asks for, up to END.
+//! Blocks: keywords with their arguments, up to END.
 ghost use Rattle.std.specs.Prelude.{◌≡◌, length, OnOk, Some};
 ghost use Rattle.wf_mapfile.specs.Reading.{Gives};
 ghost use Rattle.wf_mapfile.specs.Steps.{fill};
@@ -9,29 +9,29 @@ use crate::parser::Parser;
 use std::mem::replace;
 use wf_token::token::Token;
 
-/// A block while it is read: what its keywords said so far, within what they may say.
+/// A block while it is read: what its keywords have set so far, within their limits.
 pub trait Slots {
     ghost use Rattle.std.specs.Prelude.{◌≡◌, ℕ, List, Option, OnOk};
     ghost use Rattle.wf_token.specs.Token.{Token};
     ghost use Rattle.wf_mapfile.specs.Reading.{Gives};
 
-    // What was said, in the words of the block's definition.
+    // The slots' value, in the terms of the block's definition.
     ghost Said: { Type 0 };
 
     ghost said: { Self → Said };
 
-    // What limits the block from outside, as the layers before a layer; nothing for most.
+    // What limits the block from outside, such as the layers before a layer; nothing for most.
     ghost Within: { Type 0 };
 
     ghost within: { Self → Within };
 
-    // The definition of the block: what a keyword says beside what was said.
+    // The definition of the block: the slots after a keyword.
     ghost put: { Within → Said → List ℕ → List Token → Option (Said × List Token) };
 
-    // What is known of the block beside what was said.
+    // What holds of the block besides its slots.
     ghost Holds: { Self → Type 0 } = { λ _. Unit {0} };
 
-    /// Reads what a keyword asks for, and keeps it.
+    /// Reads a keyword's arguments and stores them.
     fn take(&mut self, keyword: Token<'_>, parser: &mut Parser<'_>) -> Result<(), MapFault>
         requires holds { Holds self.old }
         ensures read { Gives (λ _. (said self.new, parser.new)) result (put (within self.old) (said self.old) keyword.entry.text.now parser.old) }
@@ -39,7 +39,7 @@ pub trait Slots {
         ensures holds { OnOk result (Holds self.new) };
 }
 
-/// Reads keywords up to the block's END, and keeps what they ask for.
+/// Reads keywords up to the block's END and stores their arguments.
 #[tactic(auto, using(crate::proofs::Blocks::fill_step, crate::proofs::Blocks::fill_past))]
 pub fn fill_block<S: Slots>(parser: &mut Parser<'_>, slots: &mut S) -> Result<(), MapFault>
     requires holds { S.Holds slots.old }
@@ -57,15 +57,15 @@ pub fn fill_block<S: Slots>(parser: &mut Parser<'_>, slots: &mut S) -> Result<()
     Err(parser.missing_end())
 }
 
-/// Keeps what a keyword said.
+/// Stores a keyword's value.
 pub fn keep<T: Drop>(slot: &mut Option<T>, said: T)
     ensures { slot.new ≡ Some said }
 {
     drop(replace(slot, Some(said)));
 }
 
-/// Reads what a keyword asks for that comes at most once, and keeps it in its slot, or what is made of it. A macro, since two exits
-/// by `?` are six calls to prove wherever they stand.
+/// Reads the arguments of a keyword that comes at most once, and stores them, or what a function makes of them, in its slot. A
+/// macro, since two exits by `?` are six calls to prove wherever they stand.
 macro_rules! once {
     ($slot:expr, $place:expr, $read:expr) => {
         once!($slot, $place, $read, said => said)

@@ -1,4 +1,4 @@
-//! CLASS: which features are drawn alike, and how.
+//! CLASS: which features it contains, and how they are drawn.
 ghost use Rattle.std.specs.Prelude.{◌≡◌, IfOk, MatchResult, false, length, nat_lt, true};
 ghost use Rattle.wf_mapfile.specs.Class.{begins_pattern, class, class_of, class_once, expression, no_class};
 ghost use Rattle.wf_mapfile.specs.Reading.{Gives, is_memory};
@@ -44,7 +44,7 @@ impl Slots for ClassSlots {
 }
 
 impl ClassOnce {
-    /// Reads what a keyword asks for that comes at most once, and keeps it.
+    /// Reads the arguments of a keyword that comes at most once, and stores them.
     #[tactic(auto, unfolding(crate::specs::Class::class_once))]
     fn take(&mut self, keyword: Token<'_>, parser: &mut Parser<'_>) -> Result<(), MapFault>
         ensures { Gives (λ _. (self.new, parser.new)) result (class_once self.old keyword.entry.text.now parser.old) }
@@ -64,7 +64,7 @@ impl ClassOnce {
     }
 }
 
-/// Rejects another style where there is no room for it.
+/// Rejects another style if there is no room for it.
 fn room(styles: &Styles) -> Result<(), MapFault>
     ensures { MatchResult result (λ _. nat_lt (length styles.now) most_styles ≡ true) (λ e. (nat_lt (length styles.now) most_styles ≡ false) × (is_memory e ≡ false)) }
 {
@@ -84,7 +84,7 @@ impl ClassSlots {
         }
     }
 
-    /// What the block says in the end, with an empty name where there is none.
+    /// The class of the slots; the name is empty if there is none.
     #[tactic(auto, unfolding(crate::specs::Class::class_of))]
     fn filled(self, alloc: Global) -> Result<Class, AllocError>
         ensures { IfOk result (λ c. c ≡ class_of self) }

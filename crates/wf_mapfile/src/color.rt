@@ -1,4 +1,4 @@
-//! Colours: three whole numbers, or a string `#rrggbb`.
+//! Colours: three integers, or a string `#rrggbb`.
 ghost use Rattle.std.specs.Prelude.{◌≡◌, ◌<◌, ◌==◌, IfSome, option_copied};
 ghost use Rattle.wf_mapfile.specs.Color.{color, hash_digits, hex_byte, hex_color, hex_digit, rgb_color};
 ghost use Rattle.wf_mapfile.specs.Reading.{Gives};
@@ -27,7 +27,7 @@ impl Parser<'_> {
         }
     }
 
-    /// Reads the three parts of a colour, each from 0 to 255.
+    /// Reads the three components of a colour, each from 0 to 255.
     #[tactic(auto, unfolding(crate::specs::Color::rgb_color))]
     fn rgb_color(&mut self) -> Result<Color, MapFault>
         ensures { Gives (λ c. (c, self.new)) result (rgb_color self.old) }
@@ -85,7 +85,7 @@ fn hex_byte(high: u8, low: u8) -> Option<u8>
     Some(16 * high + low)
 }
 
-/// What a hexadecimal digit counts, in either letter case.
+/// The value of a hexadecimal digit, in either letter case.
 #[tactic(auto, unfolding(crate::specs::Color::hex_digit))]
 fn hex_digit(byte: u8) -> Option<u8>
     ensures value { result ≡ hex_digit byte }

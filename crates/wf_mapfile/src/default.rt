@@ -1,9 +1,9 @@
-//! What stands where a keyword didn't come.
+//! Defaults of keywords that are absent.
 ghost use Rattle.std.specs.Prelude.{◌≡◌, ◌≤◌, unwrap_or};
 
 use wf_def::whole::Whole;
 
-/// The number, or else the least of its range.
+/// The number, or the least of its range.
 pub fn or_least<const LEAST: u8, const MOST: u8>(
     slot: Option<Whole<LEAST, MOST>>,
 ) -> Whole<LEAST, MOST>

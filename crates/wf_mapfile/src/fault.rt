@@ -1,28 +1,28 @@
-//! Why bytes are no mapfile.
+//! Why bytes aren't a mapfile.
 use std::alloc::{AllocError, AllocFailed};
 use std::error::Error;
 use std::fmt;
 
-/// The first fault of a mapfile, from the left. A place counts bytes from the front of the file, from 0.
+/// The first error of a mapfile, from the left. Byte offsets count from the front of the file, from 0.
 #[derive(Clone, Copy, PartialEq, Eq)]
 pub enum MapFault {
-    /// Memory ran out; the bytes may be a mapfile.
+    /// Allocation failed; the bytes may be a mapfile.
     Memory,
     /// The file is longer than a mapfile may be.
     TooLong,
     /// The file isn't UTF-8: the first byte of the ill-formed sequence.
     NotUtf8(usize),
-    /// A quote or a comment that stays open (its first byte), or a byte that no token may hold.
+    /// A quote or a comment that isn't closed (its first byte), or a byte that no token may hold.
     BadToken(usize),
-    /// Not the keyword, block, choice or kind of argument that is wanted.
+    /// Not the keyword, block, choice or kind of argument that is expected.
     UnexpectedWord(usize),
     /// The file ends inside MAP: its length.
     MissingEnd(usize),
-    /// A number or a colour of a wrong form.
+    /// A malformed number or colour.
     BadNumber(usize),
     /// A value outside its range: its token, or the keyword EXTENT of an empty extent.
     OutOfRange(usize),
-    /// A keyword that must come, or MAP itself, is missing.
+    /// A required keyword, or MAP itself, is missing.
     Missing,
     /// A keyword or a metadata key that comes a second time.
     Repeated(usize),
@@ -33,7 +33,7 @@ pub enum MapFault {
 }
 
 impl MapFault {
-    /// The number that names the fault.
+    /// The code of the error.
     fn code(self) -> &'static str {
         match self {
             MapFault::Memory => "M1",
@@ -51,7 +51,7 @@ impl MapFault {
         }
     }
 
-    /// Where the fault is, if it is at one place.
+    /// The byte offset of the error, if it has one.
     fn place(self) -> Option<usize> {
         match self {
             MapFault::NotUtf8(place)
@@ -67,7 +67,7 @@ impl MapFault {
     }
 }
 
-// By hand: derived, each case prints its text by calls of its own.
+// Written by hand: if it were derived, each case would print its text by calls of its own.
 impl fmt::Display for MapFault {
     fn fmt<W: fmt::Write>(&self, f: &mut fmt::Formatter<W>) -> fmt::Result {
         f.write_str(self.code())?;

@@ -19,9 +19,9 @@ use wf_token::token::Token;
 #[derive(Drop)]
 struct FeatureReading {
     slots: FeatureSlots,
-    /// How many points may come in all.
+    /// The most points that may come.
     most: usize,
-    /// How many points came.
+    /// The number of points read so far.
     points: usize,
 }
 
@@ -57,7 +57,7 @@ impl Slots for FeatureReading {
 }
 
 impl FeatureOnce {
-    /// Reads what a keyword asks for that comes at most once, and keeps it.
+    /// Reads the arguments of a keyword that comes at most once, and stores them.
     #[tactic(auto, unfolding(crate::specs::Feature::feature_once))]
     fn take(&mut self, keyword: Token<'_>, parser: &mut Parser<'_>) -> Result<(), MapFault>
         ensures { Gives (λ _. (self.new, parser.new)) result (feature_once self.old keyword.entry.text.now parser.old) }
@@ -85,7 +85,7 @@ impl FeatureSlots {
         }
     }
 
-    /// What the block says in the end, with empty texts for those that weren't said.
+    /// The feature of the slots; absent texts are empty.
     #[tactic(auto, unfolding(crate::specs::Feature::feature_of))]
     fn filled(self, alloc: Global) -> Result<Feature, MapFault>
         ensures { Gives (λ f. f) result (feature_of self) }
@@ -99,8 +99,8 @@ impl FeatureSlots {
 }
 
 impl Parser<'_> {
-    /// Reads a shape up to its END (MapServer mapfile reference, FEATURE), of at most so many points, and answers with it how
-    /// many it has.
+    /// Reads a shape of at most `most` points up to its END (MapServer mapfile reference, FEATURE), and returns it with the
+    /// number of its points.
     #[tactic(auto, unfolding(crate::specs::Feature::feature), using(crate::proofs::Counted::feature_counted))]
     pub fn feature(&mut self, most: usize) -> Result<(Feature, usize), MapFault>
         ensures read { Gives (λ f. (f.0, self.new)) result (feature most self.old) }
@@ -121,7 +121,7 @@ impl Parser<'_> {
         Ok((slots.filled(self.alloc())?, points))
     }
 
-    /// Reads points up to END (MapServer mapfile reference, POINTS), at most so many.
+    /// Reads at most n points up to END (MapServer mapfile reference, POINTS).
     #[tactic(auto, unfolding(crate::specs::Feature::points), using(crate::proofs::PointsLaw::points_step, crate::proofs::PointsLaw::points_past))]
     fn points(&mut self, most: usize) -> Result<Part, MapFault>
         ensures read { Gives (λ part. (part, self.new)) result (points most self.old) }
@@ -139,7 +139,7 @@ impl Parser<'_> {
         Err(self.missing_end())
     }
 
-    /// Reads a point, where there is room for one: too many is answered at the first number.
+    /// Reads a point, if there is room for one; otherwise the error is at its first number.
     #[tactic(auto, unfolding(crate::specs::Feature::point))]
     fn next_point(&mut self, room: bool) -> Result<Point, MapFault>
         ensures read { Gives (λ p. (p, self.new)) result (if room then point self.old else None) }

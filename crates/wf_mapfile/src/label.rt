@@ -58,7 +58,7 @@ impl Slots for LabelSlots {
 }
 
 impl LabelSlots {
-    /// What the block says in the end, with defaults for what wasn't said.
+    /// The label of the slots, with defaults for absent ones.
     #[tactic(auto, unfolding(crate::specs::Label::label_of))]
     fn filled(self) -> Label
         ensures { result ≡ label_of self }
@@ -85,7 +85,7 @@ impl Parser<'_> {
         Ok(slots.filled())
     }
 
-    /// Reads how large letters are.
+    /// Reads the size of letters.
     #[tactic(auto, unfolding(crate::specs::Label::label_size))]
     fn label_size(&mut self) -> Result<LabelSize, MapFault>
         ensures { Gives (λ s. (s, self.new)) result (label_size self.old) }
@@ -99,7 +99,7 @@ impl Parser<'_> {
         ])
     }
 
-    /// Reads where a text stands to its point.
+    /// Reads a text's position relative to its point.
     #[tactic(auto, unfolding(crate::specs::Label::label_position))]
     fn label_position(&mut self) -> Result<LabelPosition, MapFault>
         ensures { Gives (λ p. (p, self.new)) result (label_position self.old) }
@@ -125,7 +125,7 @@ impl Parser<'_> {
         self.chosen(&[("TRUE", true), ("FALSE", false)])
     }
 
-    /// Reads the kind of letters, of which there is one.
+    /// Reads the kind of letters; there is only one.
     #[tactic(auto, unfolding(crate::specs::Label::label_kind))]
     fn label_kind(&mut self) -> Result<(), MapFault>
         ensures { Gives (λ k. (k, self.new)) result (label_kind self.old) }

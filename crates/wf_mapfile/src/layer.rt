@@ -1,4 +1,4 @@
-//! LAYER: features of one kind, with what they are drawn by.
+//! LAYER: features of one kind, and how they are drawn.
 ghost use Rattle.std.specs.Prelude.{◌≡◌, ◌≤◌, [], None, Some, IfOk, IfSome, MatchOption, MatchResult, OnOk, codes, drop, is_some, take, true, false, length, nat_lt, sum_by, unwrap_or};
 ghost use Rattle.std.specs.Str.{str_eq_ignore_ascii_case};
 ghost use Rattle.wf_def.specs.Layer as def;
@@ -28,7 +28,7 @@ struct LayerReading<'a> {
     slots: LayerSlots,
     /// The layers before this one.
     others: &'a Layers,
-    /// How many points came.
+    /// The number of points read so far.
     points: usize,
 }
 
@@ -69,7 +69,7 @@ impl Slots for LayerReading<'_> {
     }
 }
 
-/// Rejects another feature where there are as many as may come.
+/// Rejects another feature if there are `most` already.
 fn feature_room(features: &Features, most: usize) -> Result<(), MapFault>
     ensures { MatchResult result (λ _. nat_lt (length features.now) most ≡ true) (λ e. (nat_lt (length features.now) most ≡ false) × (is_memory e ≡ false)) }
 {
@@ -79,7 +79,7 @@ fn feature_room(features: &Features, most: usize) -> Result<(), MapFault>
     Ok(())
 }
 
-/// Rejects another class where there is no room for it.
+/// Rejects another class if there is no room for it.
 fn class_room(classes: &Classes) -> Result<(), MapFault>
     ensures { MatchResult result (λ _. nat_lt (length classes.now) most_classes ≡ true) (λ e. (nat_lt (length classes.now) most_classes ≡ false) × (is_memory e ≡ false)) }
 {
@@ -90,7 +90,8 @@ fn class_room(classes: &Classes) -> Result<(), MapFault>
 }
 
 impl LayerOnce {
-    /// Reads what a keyword asks for that comes at most once, and keeps it. The name is none of the layers before.
+    /// Reads the arguments of a keyword that comes at most once, and stores them. The name must differ from those of the layers
+    /// before.
     #[tactic(auto, unfolding(crate::specs::Layer::layer_once))]
     fn take(
         &mut self,
@@ -124,7 +125,7 @@ impl LayerOnce {
 }
 
 impl LayerDropped {
-    /// Reads what a keyword asks for that is dropped, and keeps that it came.
+    /// Reads the arguments of a dropped keyword, and stores that it came.
     #[tactic(auto, unfolding(crate::specs::Layer::layer_dropped))]
     fn take(&mut self, keyword: Token<'_>, parser: &mut Parser<'_>) -> Result<(), MapFault>
         ensures { Gives (λ _. (self.new, parser.new)) result (layer_dropped self.old keyword.entry.text.now parser.old) }
@@ -155,7 +156,7 @@ impl LayerSlots {
         }
     }
 
-    /// What the block says in the end, with defaults for what wasn't said.
+    /// The layer of the slots, with defaults for absent ones.
     #[tactic(auto, unfolding(crate::specs::Layer::layer_of))]
     fn filled(self, alloc: Global) -> Result<(LayerName, Layer), MapFault>
         ensures { Gives (λ l. l) result (layer_of self) }
@@ -185,7 +186,7 @@ impl LayerSlots {
 }
 
 impl LayerOnce {
-    /// What it says in the end, with defaults for what wasn't said.
+    /// The values of the slots, with defaults for absent ones.
     fn filled(self, alloc: Global) -> Result<LayerHead, AllocError>
         requires name { is_some self.name ≡ true }
         requires kind { is_some self.kind ≡ true }
@@ -236,7 +237,7 @@ impl LayerOnce {
     }
 }
 
-/// Three texts, each empty where it wasn't said.
+/// Three texts, each empty if it is absent.
 fn texts_or_empty(
     alloc: Global,
     first: Option<Text>,
@@ -271,7 +272,7 @@ fn texts_or_empty(
     }
 }
 
-/// What a layer is beside its classes and features.
+/// A layer without its classes and features.
 struct LayerHead {
     name: LayerName,
     kind: LayerKind,
@@ -282,7 +283,7 @@ struct LayerHead {
 }
 
 impl LayerHead {
-    /// The layer of these classes and features, with its name.
+    /// The layer with these classes and features, and its name.
     fn with(self, classes: Classes, features: Features) -> Result<(LayerName, Layer), MapFault>
         ensures { MatchResult result (λ l. (def.layer_of self.kind self.title self.class_item self.label_item self.items classes features ≡ Some l.1) × (l.0 ≡ self.name)) (λ _. def.layer_of self.kind self.title self.class_item self.label_item self.items classes features ≡ None) }
     {
@@ -307,7 +308,7 @@ impl LayerHead {
 }
 
 impl LayerReading<'_> {
-    /// The layer that was read, with its name and how many points it has.
+    /// The layer that was read, with its name and the number of its points.
     #[tactic(auto, using(crate::proofs::Counted::layer_counted))]
     fn filled(self, alloc: Global) -> Result<LayerRead, MapFault>
         requires name { IfSome self.slots.single.name (λ name. has_layer self.others.now name ≡ false) }
@@ -336,7 +337,7 @@ impl LayerReading<'_> {
     }
 }
 
-/// The title that the pairs give, or else the name.
+/// The title of the metadata, or the name if there is none.
 fn title_or(metadata: Option<Metadata>, name: &Text) -> Result<Text, AllocError>
     ensures { IfOk result (λ t. t ≡ unwrap_or (unwrap_or metadata no_metadata).title name.now) }
 {
@@ -355,8 +356,8 @@ fn title_or(metadata: Option<Metadata>, name: &Text) -> Result<Text, AllocError>
 }
 
 impl Parser<'_> {
-    /// Reads a layer up to its END (MapServer mapfile reference, LAYER), which stands behind others: its name is none of theirs,
-    /// and it has no more features and points than the map may still have.
+    /// Reads a layer up to its END (MapServer mapfile reference, LAYER), after other layers: its name differs from theirs, and it
+    /// has at most as many features and points as are left for the map.
     #[tactic(auto, unfolding(crate::specs::Layer::layer))]
     pub fn layer(&mut self, others: &Layers) -> Result<LayerRead, MapFault>
         ensures read { Gives (λ l. ((l.name, l.layer), self.new)) result (layer others.now self.old) }
@@ -379,7 +380,7 @@ impl Parser<'_> {
         }
     }
 
-    /// Reads a name that none of the other layers has.
+    /// Reads a name that none of the layers before has.
     #[tactic(auto, unfolding(crate::specs::Layer::new_name))]
     fn new_name(&mut self, others: &Layers) -> Result<LayerName, MapFault>
         ensures read { Gives (λ name. (name, self.new)) result (new_name others.now self.old) }
@@ -393,7 +394,7 @@ impl Parser<'_> {
         Ok(name)
     }
 
-    /// Reads a text that may stand in a list between commas (MapServer mapfile reference, LAYER NAME).
+    /// Reads a layer's name: a text that isn't empty and has no comma (MapServer mapfile reference, LAYER NAME).
     #[tactic(auto, unfolding(crate::specs::Layer::layer_name))]
     fn layer_name(&mut self) -> Result<LayerName, MapFault>
         ensures { Gives (λ name. (name, self.new)) result (layer_name self.old) }
@@ -403,7 +404,7 @@ impl Parser<'_> {
         LayerName::new(text).ok_or(MapFault::OutOfRange(place))
     }
 
-    /// Reads what the features are (MapServer mapfile reference, LAYER TYPE).
+    /// Reads the kind of features (MapServer mapfile reference, LAYER TYPE).
     #[tactic(auto, unfolding(crate::specs::Layer::layer_kind))]
     fn layer_kind(&mut self) -> Result<LayerKind, MapFault>
         ensures { Gives (λ kind. (kind, self.new)) result (layer_kind self.old) }

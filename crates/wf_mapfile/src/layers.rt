@@ -12,13 +12,13 @@ use wf_def::limits::{MOST_FEATURES, MOST_LAYERS, MOST_POINTS};
 use wf_def::map::MapDef;
 use wf_def::text::Text;
 
-/// The test by which a layer's name is rejected finds exactly the texts that may be one. A law about the definitions: the call does
+/// The Boolean test of layer names is true iff the text may be a layer's name. A theorem about the definitions: the call does
 /// nothing.
 pub fn layer_names_are_tested()
     ensures { LayerNamesAreTested }
 {}
 
-/// What a layer is called: a text that isn't empty and has no comma.
+/// A layer's name: a text that isn't empty and has no comma.
 #[derive(Drop)]
 pub struct LayerName {
     text: Text,
@@ -36,7 +36,7 @@ impl Model for LayerName {
 }
 
 impl LayerName {
-    /// The text as a name, where it may be one.
+    /// The text as a name, if it may be one.
     pub fn new(text: Text) -> Option<Self>
         ensures { result ≡ (if is_layer_name text then Some text else None) }
     {
@@ -69,11 +69,11 @@ impl LayerName {
 /// A layer as it was read.
 #[derive(Drop)]
 pub struct LayerRead {
-    /// What it is called.
+    /// Its name.
     pub name: LayerName,
     /// The layer.
     pub layer: Layer,
-    /// How many points it has.
+    /// The number of its points.
     pub points: usize,
 }
 
@@ -81,9 +81,9 @@ pub struct LayerRead {
 #[derive(Drop)]
 pub struct Layers {
     entries: Vec<(LayerName, Layer)>,
-    /// How many more features may come.
+    /// How many more features the map may have.
     features: usize,
-    /// How many more points may come.
+    /// How many more points the map may have.
     points: usize,
 }
 
@@ -118,7 +118,7 @@ impl Layers {
         self.entries.len() >= MOST_LAYERS
     }
 
-    /// How many more features may come.
+    /// How many more features the map may have.
     #[tactic(auto, unfolding(crate::specs::Layer::features_left))]
     pub fn features_left(&self) -> usize
         ensures { result ≡ features_left self.now }
@@ -126,7 +126,7 @@ impl Layers {
         self.features
     }
 
-    /// How many more points may come.
+    /// How many more points the map may have.
     #[tactic(auto, unfolding(crate::specs::Layer::points_left))]
     pub fn points_left(&self) -> usize
         ensures { result ≡ points_left self.now }
@@ -134,7 +134,7 @@ impl Layers {
         self.points
     }
 
-    /// Whether a layer has the name.
+    /// Whether a layer has that name.
     pub fn has_layer(&self, name: &LayerName) -> bool
         ensures { result ≡ has_layer self.now name.now }
     {
@@ -147,7 +147,7 @@ impl Layers {
         false
     }
 
-    /// Puts a layer behind the others, where it may stand there. After allocation failure they are as they were.
+    /// Appends a layer that may follow the others. After allocation failure they are unchanged.
     #[tactic(auto, unfolding(crate::specs::Layer::features_left, crate::specs::Layer::points_left))]
     pub fn push(&mut self, read: LayerRead) -> Result<(), AllocError>
         requires room { length self.old < most_layers }
@@ -171,7 +171,7 @@ impl Layers {
         Ok(())
     }
 
-    /// A map without layers, with these.
+    /// A map without layers, with these added.
     pub fn into_map(self, map: MapDef) -> Result<MapDef, AllocError>
         requires { map.layers ≡ [] }
         ensures { IfOk result (λ whole. whole ≡ record map { layers = self }) }

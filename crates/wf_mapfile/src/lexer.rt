@@ -1,3 +1,3 @@
-//! The lexer, which is `wf_token`'s.
+//! The lexer, re-exported from `wf_token`.
 
 pub use wf_token::lexer::{is_slash, tokenize};

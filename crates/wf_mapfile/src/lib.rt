@@ -1,16 +1,16 @@
-//! The mapfile reader: bytes to a map definition, or to the first fault from the left.
+//! The mapfile reader: from bytes to a map definition, or to the first error from the left.
 //!
-//! A mapfile is a text (MapServer mapfile reference, the part of it that `specs/Meaning.antt` defines). Its model is the definition
-//! that it means: `meaning` of the bytes, by a grammar over tokens that has no comments, letter case, order of keywords or dropped
-//! words on the side of the definition.
+//! A mapfile is a text (MapServer mapfile reference, the part of it that `specs/Meaning.antt` defines). Model: `meaning` of the
+//! bytes, the definition that they mean or none. `meaning` is a grammar over tokens; a definition has no comments, letter case,
+//! keyword order or dropped keywords.
 //!
-//! It promises, of [`read`], that what is read is what the bytes mean, and that a fault other than allocation failure comes only
-//! where they mean no map. Each byte is looked at a bounded number of times. Which fault is answered, and its place, is tested and
-//! not proved. It says nothing of files or of how a definition is written (wf_canon).
+//! Promises, of [`read`]: if it returns a map, that map is what the bytes mean; if it returns an error other than allocation
+//! failure, the bytes mean no map. It looks at each byte a bounded number of times. Which error is returned, and its byte offset,
+//! is tested and not proved. Not here: files, and how a definition is written (wf_canon).
 //!
-//! The way through it: wf_token's lexer (bytes to tokens), `parser` (readers of tokens), `block` (keywords up to END, for any block), then
-//! one module a block (`map`, `web`, `metadata`, `layer`, `class`, `style`, `label`, `feature`), each keyword filling its slot of
-//! `slots` as the table of the block's definition says. `layers` has the layers so far, and what the map may still hold behind them.
+//! Modules: wf_token's lexer (bytes to tokens), `parser` (readers of tokens), `block` (keywords up to END, for any block), and
+//! one module for each block (`map`, `web`, `metadata`, `layer`, `class`, `style`, `label`, `feature`); each keyword fills its
+//! slot in `slots`. `layers` holds the layers read so far and how many more features and points the map may have.
 #![tactic(auto)]
 
 mod block;

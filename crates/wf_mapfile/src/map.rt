@@ -21,10 +21,10 @@ use wf_def::map::MapDef;
 use wf_def::text::Text;
 use wf_token::token::Token;
 
-/// What a map is called that has no NAME.
+/// The name of a map without NAME.
 const DEFAULT_NAME: &str = "map";
 
-/// The address of a service that names none.
+/// The address of a service without one.
 const DEFAULT_ADDRESS: &str = "http://localhost/wms?";
 
 impl Slots for MapSlots {
@@ -55,7 +55,7 @@ impl Slots for MapSlots {
 }
 
 impl MapOnce {
-    /// Reads what a keyword asks for that comes at most once, and keeps it.
+    /// Reads the arguments of a keyword that comes at most once, and stores them.
     #[tactic(auto, unfolding(crate::specs::Map::map_once))]
     fn take(&mut self, keyword: Token<'_>, parser: &mut Parser<'_>) -> Result<(), MapFault>
         ensures { Gives (λ _. (self.new, parser.new)) result (map_once self.old keyword.entry.text.now parser.old) }
@@ -78,7 +78,7 @@ impl MapOnce {
 }
 
 impl MapDropped {
-    /// Reads what a keyword asks for that is dropped, and keeps that it came.
+    /// Reads the arguments of a dropped keyword, and stores that it came.
     #[tactic(auto, unfolding(crate::specs::Map::map_dropped))]
     fn take(&mut self, keyword: Token<'_>, parser: &mut Parser<'_>) -> Result<(), MapFault>
         ensures { Gives (λ _. (self.new, parser.new)) result (map_dropped self.old keyword.entry.text.now parser.old) }
@@ -104,7 +104,7 @@ impl MapDropped {
     }
 }
 
-/// Rejects another layer where there is no room for it.
+/// Rejects another layer if there is no room for it.
 fn layer_room(layers: &Layers) -> Result<(), MapFault>
     ensures { MatchResult result (λ _. nat_lt (length layers.now) most_layers ≡ true) (λ e. (nat_lt (length layers.now) most_layers ≡ false) × (is_memory e ≡ false)) }
 {
@@ -124,7 +124,7 @@ impl MapSlots {
         }
     }
 
-    /// What the block says in the end, with defaults for what wasn't said.
+    /// The map of the slots, with defaults for absent ones.
     #[tactic(auto, unfolding(crate::specs::Map::map_of, crate::specs::Map::definition))]
     fn filled(self, alloc: Global) -> Result<MapDef, MapFault>
         ensures { Gives (λ d. d) result (map_of self) }
@@ -181,7 +181,7 @@ impl MapSlots {
     }
 }
 
-/// What a map tells of its service.
+/// The texts of a map's service.
 #[derive(Drop)]
 struct Service {
     title: Text,
@@ -190,7 +190,7 @@ struct Service {
 }
 
 impl Service {
-    /// The texts of the service of a map of this name, with defaults for those that weren't said.
+    /// The texts of the service of a map of this name, with defaults for absent ones.
     fn new(alloc: Global, name: &Text, web: Option<Metadata>) -> Result<Self, AllocError>
         ensures { IfOk result (λ s. s ≡ record { title = unwrap_or (unwrap_or web no_metadata).title name.now; abstract_text = unwrap_or (unwrap_or web no_metadata).abstract_text []; address = unwrap_or (unwrap_or web no_metadata).address (codes "http://localhost/wms?") }) }
     {
@@ -255,7 +255,8 @@ impl Parser<'_> {
         Ok(())
     }
 
-    /// Reads a box (MapServer mapfile reference, EXTENT). A box whose minima aren't below its maxima is out of range at the keyword.
+    /// Reads a box (MapServer mapfile reference, EXTENT). If its minima aren't below its maxima, it is out of range at the
+    /// keyword.
     #[tactic(auto, unfolding(crate::specs::Map::extent))]
     fn extent(&mut self, keyword: usize) -> Result<Extent, MapFault>
         ensures { Gives (λ e. (e, self.new)) result (extent self.old) }

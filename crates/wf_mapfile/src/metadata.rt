@@ -25,7 +25,7 @@ impl Metadata {
         }
     }
 
-    /// Keeps the value of a pair whose key has a slot. The key is in small letters.
+    /// Stores the value of a pair whose key has a slot. The key is in lower case.
     #[tactic(auto, unfolding(crate::specs::Pairs::keep))]
     fn keep(&mut self, key: &str, value: Text)
         ensures { self.new ≡ keep self.old key.now value }
@@ -43,8 +43,8 @@ impl Metadata {
 }
 
 impl Parser<'_> {
-    /// Reads pairs of texts up to END (MapServer mapfile reference, METADATA). Keys are read without regard to ASCII letter case,
-    /// and no key may come a second time, whether it is kept or not.
+    /// Reads pairs of texts up to END (MapServer mapfile reference, METADATA). Keys are compared without regard to ASCII letter
+    /// case, and no key may come twice, whether its value is kept or not.
     #[tactic(auto, using(crate::proofs::Pairs::metadata_read))]
     pub fn metadata(&mut self) -> Result<Metadata, MapFault>
         ensures { Gives (λ m. (m, self.new)) result (metadata self.old) }
@@ -62,7 +62,7 @@ impl Parser<'_> {
         }
     }
 
-    /// Reads pairs up to END, each with a key that is none of those before it, and keeps their values.
+    /// Reads pairs up to END, each with a key that differs from those before it, and stores their values.
     #[tactic(auto, using(crate::proofs::Pairs::collect_step, crate::proofs::Pairs::collect_past))]
     fn pairs(&mut self, keys: &mut HashSet<String>, kept: &mut Metadata) -> Result<(), MapFault>
         ensures { Gives (λ _. (kept.new, self.new)) result (collect (λ key. contains_text keys.old key) kept.old (length self.old) self.old) }
@@ -78,7 +78,7 @@ impl Parser<'_> {
         Err(self.missing_end())
     }
 
-    /// Reads a pair whose key, in small letters, is none of these.
+    /// Reads a pair whose key, in lower case, differs from these.
     #[tactic(auto, unfolding(crate::specs::Pairs::new_pair))]
     fn new_pair(&mut self, keys: &HashSet<String>) -> Result<(String, Text), MapFault>
         ensures { Gives (λ pair. ((string_bytes pair.0, pair.1), self.new)) result (new_pair (λ key. contains_text keys.now key) self.old) }

@@ -1,4 +1,4 @@
-//! The parser: readers of the tokens that are left.
+//! The parser: readers of the remaining tokens.
 ghost use Rattle.std.specs.Prelude.{◌≡◌, ◌∷◌, [], drop, false, is_some, length, IfOk, MatchOption, MatchResult, Some, None, if◌then◌else◌};
 ghost use Rattle.wf_def.specs.Text.{IsText, is_text};
 ghost use Rattle.wf_token.specs.Token.{token_value, token_values};
@@ -15,7 +15,7 @@ use wf_def::text::{Text, checked};
 use wf_def::whole::Whole;
 use wf_token::token::{Token, TokenKind};
 
-/// What is left of a file's tokens, seen as their values.
+/// The remaining tokens of a file. Model: their values.
 #[derive(Drop)]
 pub struct Parser<'a> {
     alloc: Global,
@@ -36,7 +36,7 @@ impl<'a> Model for Parser<'a> {
 }
 
 impl<'a> Parser<'a> {
-    /// A parser of a file's tokens, in a file of so many bytes.
+    /// A parser of a file's tokens; `end` is the file's length in bytes.
     pub fn new(alloc: Global, tokens: &'a [Token<'a>], end: usize) -> Self
         ensures { result ≡ token_values tokens.now }
     {
@@ -48,14 +48,14 @@ impl<'a> Parser<'a> {
         }
     }
 
-    /// How many tokens are left.
+    /// The number of remaining tokens.
     pub fn len(&self) -> usize
         ensures { result ≡ length self.now }
     {
         self.tokens.len() - self.at
     }
 
-    /// The first token that is left.
+    /// Takes the first remaining token.
     pub fn next(&mut self) -> Result<Token<'a>, MapFault>
         ensures { MatchResult result (λ t. self.old ≡ token_value t ∷ self.new) (λ e. (self.old ≡ []) × (is_memory e ≡ false)) }
     {
@@ -67,12 +67,12 @@ impl<'a> Parser<'a> {
         Ok(token)
     }
 
-    /// The allocator of what is read.
+    /// The allocator for the values that are read.
     pub fn alloc(&self) -> Global {
         self.alloc
     }
 
-    /// The first token that is left, which stays.
+    /// The first remaining token, without taking it.
     pub fn peek(&self) -> Option<Token<'a>>
         ensures { MatchOption result (self.now ≡ []) (λ t. self.now ≡ token_value t ∷ drop 1 self.now) }
     {
@@ -82,7 +82,7 @@ impl<'a> Parser<'a> {
         Some(self.tokens[self.at])
     }
 
-    /// Where the first token that is left stands, or the file's end.
+    /// The byte offset of the first remaining token, or the file's length.
     pub fn place(&self) -> usize {
         match self.peek() {
             Some(token) => token.place,
@@ -90,7 +90,7 @@ impl<'a> Parser<'a> {
         }
     }
 
-    /// The fault of a file that ends too early.
+    /// The error of a file that ends too early.
     pub fn missing_end(&self) -> MapFault
         ensures { is_memory result ≡ false }
     {
@@ -115,7 +115,7 @@ impl<'a> Parser<'a> {
         }
     }
 
-    /// Reads a word, as a keyword is.
+    /// Reads a word, such as a keyword.
     #[tactic(auto, unfolding(crate::specs::Grammar::word))]
     pub fn word(&mut self) -> Result<Token<'a>, MapFault>
         ensures { Gives (λ t. (t.text.now, self.new)) result (word self.old) }
@@ -163,7 +163,7 @@ impl<'a> Parser<'a> {
         self.text_at(token.text, token.place)
     }
 
-    /// Reads a text where it stands in the file, without a copy.
+    /// Reads a text without copying it from the file.
     #[tactic(auto, unfolding(crate::specs::Grammar::text))]
     pub fn text_there(&mut self) -> Result<&'a str, MapFault>
         ensures read { Gives (λ t. (t.now, self.new)) result (text self.old) }
@@ -173,7 +173,7 @@ impl<'a> Parser<'a> {
         text_of(token.text, token.place)
     }
 
-    /// What a token says, as a text.
+    /// The bytes of a token as a text.
     pub fn text_at(&self, bytes: &[u8], place: usize) -> Result<Text, MapFault>
         ensures { Gives (λ t. t) result (if is_text bytes.now then Some bytes.now else None) }
     {
@@ -194,7 +194,7 @@ impl<'a> Parser<'a> {
         }
     }
 
-    /// Reads a whole number from `LEAST` to `MOST`.
+    /// Reads an integer from `LEAST` to `MOST`.
     #[tactic(auto, unfolding(crate::specs::Grammar::whole))]
     pub fn whole<const LEAST: u8, const MOST: u8>(&mut self) -> Result<Whole<LEAST, MOST>, MapFault>
         ensures { Gives (λ n. (n, self.new)) result (whole LEAST MOST self.old) }

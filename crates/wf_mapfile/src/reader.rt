@@ -15,29 +15,29 @@ use wf_token::token::{LexFault, LexFaultKind};
 /// The longest mapfile, in bytes.
 pub const MOST_MAPFILE_BYTES: usize = 65_536;
 
-/// The constant is the number that the definitions name. A law: the call does nothing.
+/// The constant is the number in the definitions. A theorem: the call does nothing.
 pub fn limit_of_mapfiles()
     ensures { MOST_MAPFILE_BYTES ≡ longest_mapfile }
 {}
 
-/// Reads a mapfile (MapServer mapfile reference): what it means, or the first fault from the left.
+/// Reads a mapfile (MapServer mapfile reference): returns its meaning, or the first error from the left.
 ///
-/// `TooLong` is checked first, `NotUtf8` second, both without memory; after these the file is judged token by token, and a missing
-/// keyword at the END of its block. `Memory` tells nothing more of the file. Each byte is looked at a bounded number of times.
+/// `TooLong` is checked first and `NotUtf8` second, both without allocating; then tokens are checked in order, and a missing
+/// keyword at the END of its block. `Memory` says nothing about the file. Each byte is looked at a bounded number of times.
 pub fn read(alloc: Global, bytes: &[u8]) -> Result<MapDef, MapFault>
-    // Over 65,536 bytes nothing else is looked at.
+    // Over 65,536 bytes nothing else is checked.
     ensures too_long { longest_mapfile < length bytes.now → result ≡ Err MapFault.TooLong }
-    // Within them, bytes that are no UTF-8 are rejected for that, before anything is read.
+    // Otherwise, bytes that aren't UTF-8 are rejected for that, before anything is read.
     ensures not_utf8 { length bytes.now ≤ longest_mapfile → is_utf8 bytes.now ≡ false → IsNotUtf8 result }
-    // What is read is what the bytes mean.
+    // A returned map is what the bytes mean.
     ensures meant { IfOk result (λ map. Means bytes.now map) }
-    // A fault other than allocation failure comes only where the bytes mean no map.
+    // An error other than allocation failure is returned only if the bytes mean no map.
     ensures refused { IfErr result (λ fault. is_memory fault ≡ false → MeansNothing bytes.now) }
 {
     read_meaning(alloc, bytes)
 }
 
-/// What the bytes mean, or the first fault.
+/// The meaning of the bytes, or the first error.
 #[tactic(auto, unfolding(crate::specs::Meaning::meaning))]
 fn read_meaning(alloc: Global, bytes: &[u8]) -> Result<MapDef, MapFault>
     ensures too_long { longest_mapfile < length bytes.now → result ≡ Err MapFault.TooLong }
@@ -57,7 +57,7 @@ fn read_meaning(alloc: Global, bytes: &[u8]) -> Result<MapDef, MapFault>
     }
 }
 
-/// Rejects what isn't UTF-8.
+/// Rejects bytes that aren't UTF-8.
 fn check_utf8(bytes: &[u8]) -> Result<(), MapFault>
     ensures ok { OnOk result (is_utf8 bytes.now ≡ true) }
     ensures err { OnErr result ((is_utf8 bytes.now ≡ false) × IsNotUtf8 result) }
@@ -68,8 +68,8 @@ fn check_utf8(bytes: &[u8]) -> Result<(), MapFault>
     }
 }
 
-/// The first fault of a file whose tokens end at a fault: the parser's, unless the parser came to that place. Allocation failure is
-/// answered only where the parser wanted it.
+/// The first error of a file whose tokens end at an error: the parser's, unless the parser reached that byte offset. Allocation
+/// failure is returned only if the parser's allocation failed.
 fn first_fault(parsed: Result<MapDef, MapFault>, no_tokens: bool, lexed: LexFault) -> MapFault
     ensures { is_memory result ≡ true → parsed ≡ Err result }
 {

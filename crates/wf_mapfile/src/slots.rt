@@ -1,4 +1,4 @@
-//! What the keywords of the blocks fill, one slot each. A dropped keyword's slot tells that it came.
+//! The slots that the keywords of the blocks fill. A dropped keyword's slot says only that it came.
 
 pub mod class;
 pub mod feature;
@@ -9,12 +9,12 @@ pub mod style;
 
 use wf_def::text::Text;
 
-/// What is kept of METADATA (OGC 06-042 7.2.4.2).
+/// The values of METADATA that are kept (OGC 06-042 7.2.4.2).
 #[derive(Drop)]
 pub struct Metadata {
-    /// The title of the service, for readers.
+    /// The human-readable title of the service.
     pub title: Option<Text>,
-    /// What the service offers, in some sentences.
+    /// A short description of the service.
     pub abstract_text: Option<Text>,
     /// The address that requests are sent to.
     pub address: Option<Text>,
@@ -25,7 +25,7 @@ pub struct Metadata {
 pub struct WebSlots {
     /// The pairs that are kept.
     pub metadata: Option<Metadata>,
-    /// The folder of pictures.
+    /// The directory of pictures.
     pub image_path: Option<()>,
     /// The address of pictures.
     pub image_url: Option<()>,

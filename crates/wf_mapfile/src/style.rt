@@ -47,7 +47,7 @@ impl Slots for StyleSlots {
 }
 
 impl StyleSlots {
-    /// What the block says in the end, with defaults for what wasn't said.
+    /// The style of the slots, with defaults for absent ones.
     #[tactic(auto, unfolding(crate::specs::Style::style_of))]
     fn filled(self) -> Style
         ensures { result ≡ style_of self }

@@ -42,7 +42,7 @@ impl Slots for WebSlots {
 }
 
 impl WebSlots {
-    /// What the block says in the end.
+    /// The metadata of the slots; empty if there is none.
     fn filled(self) -> Metadata
         ensures { result ≡ unwrap_or self.metadata no_metadata }
     {

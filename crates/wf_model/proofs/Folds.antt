@@ -1,4 +1,4 @@
--- What records fold to: nothing is left open of a published sequence, and each vote has a promise.
+-- The fold of records: it has no promise and no vote of a published sequence, and each vote has a promise.
 use Rattle.std.proofs.Common.{◌≡◌, ℕ, ◌+◌, ◌<◌, nat_lt, Bool, true, false, List, [], ◌∷◌, Some, None, IsSome, refl, sym, subst, inl, inr, arith, length-append, eqb-true, ltb-true}
 use Rattle.std.proofs.lemmas.Bool.{cases_eq}
 use Rattle.std.proofs.lemmas.Option.{none-some, same_Some}
@@ -8,9 +8,9 @@ use Rattle.wf_model.specs.Stored.{Stored, Record, Tried, Promised, Accepted, Pub
 use Rattle.wf_model.specs.Fits.{IsOpenAlone, FoldsAreOpen, VotesArePromised}
 use Rattle.wf_model.specs.PutLaws.{put-same, put-other, at_put}
 
--- ---- what each record keeps, the fold keeps
+-- ---- what each record preserves, the fold preserves
 
--- A list of records is folded by its first one, where that fits, and the rest.
+-- A list of records is folded by its first, if that fits, and the rest.
 fold_next : {V : Type 0} (r : Record V) (rest : List (Record V)) (stored folded : Stored V) (fit : Bool) → fits stored r ≡ fit →
     fold_from stored (r ∷ rest) ≡ Some folded → (fits stored r ≡ true) × (fold_from (with_record stored r) rest ≡ Some folded)
 unfolding fold_from
@@ -25,7 +25,7 @@ fold_keeps P step (r ∷ rest) stored folded known e =
     let (fit, e') = fold_next r rest stored folded (fits stored r) refl e in
     fold_keeps P step rest (with_record stored r) folded (step stored known r fit) e'
 
--- ---- promises and votes are of open sequences alone
+-- ---- promises and votes are of open sequences only
 
 module _ {V : Type 0} (stored : Stored V) (known : IsOpenAlone stored) where
   promised_open : (s : ℕ) (b : Ballot) (is_open : Bool) → nat_lt (published stored) s ≡ is_open → IsOpenAlone (with_record stored (Promised s b))
@@ -79,7 +79,7 @@ abbrev ArePromised : {V : Type 0} → Stored V → Type 0
 ArePromised {V} stored = (t : ℕ) (vote : Vote V) → stored.votes t ≡ Some vote → IsSome (promise_at stored t)
 
 module _ {V : Type 0} (stored : Stored V) (known : ArePromised stored) where
-  -- A promise more takes none away.
+  -- Another promise removes none.
   promised_kept : (s : ℕ) (b : Ballot) (is_open : Bool) → nat_lt (published stored) s ≡ is_open → ArePromised (with_record stored (Promised s b))
   unfolding with_record
   promised_kept s b true e = rw e (λ t vote has. at_put IsSome stored.promises s (Some b) t (λ same. refl) (λ differs. known t vote has))
@@ -93,7 +93,7 @@ module _ {V : Type 0} (stored : Stored V) (known : ArePromised stored) where
       (λ differs. known t vote (rw (put-other stored.votes s (Some (record { ballot = b; definition = d })) t differs) at has)))
   accepted_kept s b d false e = rw e known
 
-  -- Promise and vote of the sequence that is published go together.
+  -- Promise and vote of the sequence that is published are removed together.
   published_kept : (s : ℕ) (d : V) → ArePromised (with_record stored (Published s d))
   unfolding with_record
   published_kept s d = λ t vote. elim (cases_eq t s) [

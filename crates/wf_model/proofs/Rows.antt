@@ -1,4 +1,4 @@
--- Each row's record fits what its node stored.
+-- Each transition's record fits its node's stored state.
 use Rattle.std.proofs.Common.{◌≡◌, ℕ, ◌+◌, ◌==◌, nat_lt, nat_le, max, Bool, true, false, cond, List, [], ◌∷◌, Option, refl, sym, subst, eq-eqb}
 use Rattle.wf_ballot.specs.Ballot.{Ballot}
 use Rattle.wf_ballot.specs.Majority.{count_nodes, is_majority_of}
@@ -11,7 +11,7 @@ use Rattle.wf_model.specs.Table.{Row, Input, Propose, Retry, CatchUp, Deliver, s
 use Rattle.wf_model.specs.Fits.{IsForNext, RowFits, RecordsFit}
 
 module _ {V : Type 0} (stored : Stored V) where
-  -- ---- the forms of a row
+  -- ---- the forms of a transition
 
   quiet_fits : (working : Working V) → IsForNext stored working → RowFits stored (quiet working)
   unfolding quiet store
@@ -21,7 +21,7 @@ module _ {V : Type 0} (stored : Stored V) where
   unfolding says store
   says_fits working messages next = record { fits = tt; for_next = next }
 
-  -- the row of a proposal, which only a running one has
+  -- the transition of a proposal, which only a running one has
   when_running_fits : (working : Working V) (row_of : Proposal V → Row V) → IsForNext stored working →
       ((p : Proposal V) → p.sequence ≡ next_sequence stored → RowFits stored (row_of p)) → RowFits stored (when_running working row_of)
   when_running_fits Idle row_of next fit = quiet_fits Idle tt

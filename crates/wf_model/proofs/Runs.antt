@@ -1,4 +1,4 @@
--- The worked examples, by computing each run.
+-- The example runs, by computing each.
 use Rattle.std.proofs.Common.{◌≡◌, ℕ, [], ◌∷◌, refl, Some}
 use Rattle.wf_ballot.specs.Ballot.{below}
 use Rattle.wf_ballot.specs.Majority.{count_nodes, is_majority_of}
@@ -10,7 +10,7 @@ use Rattle.wf_model.specs.World.{refusal_running, refusal_of, refused_at, refuse
 use Rattle.wf_model.specs.Chosen.{history_of, history, definition}
 use Rattle.wf_model.specs.Examples.{full_history, full_rounds, only, a, b, empty, same_map, histories, Runs, PublishedAt, OvertakenAt, standing_of, standing, run, Leaves, none, just, to_each, pump, thrice_back, alone, three_pumped, two_of_four, three_of_four, half_accepted, comes_back, taken_over, voted_once, late_accept, two_told, old_accept, outrun, behind, catches_up, new_round, repeated, torn, torn_then, sent_from, ballot, vote}
 
--- opens all that a run computes with
+-- unfolds all definitions that a run computes with
 abbrev computed : ℕ
 unfolding below count_nodes is_majority_of nothing_stored published next_sequence definition_at put with_record nobody and_node better carried same_ballot same_phase is_at store quiet says stores rounds_full round_known refuse_proposal refuse_retry refusal begin_at on_propose on_retry on_catch_up told_of told told_from on_ask promise_to prepare_open on_prepare votes_at vote_for accept_open on_accept hears with_promise asking_votes promised on_promise with_vote on_nack ended ends voted on_accepted on_chosen on_message row delivered input_of stored_after kept_part with_node after_turn after_torn stop_running after_stop restart_stopped after_restart turn_running turn_of turn happens steps start after history_of history definition same_map histories standing_of standing to_each pump thrice_back alone three_pumped two_of_four three_of_four half_accepted comes_back taken_over voted_once late_accept two_told old_accept outrun behind catches_up new_round repeated torn torn_then sent_from refusal_running refusal_of refused_at refused full_history full_rounds only
 computed = 0

@@ -1,4 +1,4 @@
--- No row hands out more than eight messages: one at most, but where an Ask is answered.
+-- No transition sends more than eight messages: at most one, except when an Ask is answered.
 use Rattle.std.proofs.Common.{◌≡◌, ℕ, zero, suc, ◌+◌, ◌==◌, ◌≤◌, nat_lt, nat_le, Bool, true, false, List, [], ◌∷◌, length, Option, Some, None, refl, length-append, arith}
 use Rattle.wf_ballot.specs.Ballot.{Ballot}
 use Rattle.wf_ballot.specs.Majority.{count_nodes, is_majority_of}
@@ -17,7 +17,7 @@ nack_short V me s b None = omega arith
 nack_short V me s b (Some promise) = omega arith
 
 module _ {V : Type 0} where
-  -- ---- the forms of a row
+  -- ---- the forms of a transition
 
   quiet_short : (working : Working V) → IsShort (quiet working)
   unfolding quiet
@@ -37,7 +37,7 @@ module _ {V : Type 0} where
   when_running_short (Won s) row_of short = quiet_short (Won s)
   when_running_short (Overtaken s) row_of short = quiet_short (Overtaken s)
 
-  -- ---- published definitions are told
+  -- ---- published definitions are sent
 
   told_of_short : (s : ℕ) (d : Option V) → length (told_of s d) ≤ 1
   unfolding told_of

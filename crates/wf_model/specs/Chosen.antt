@@ -1,4 +1,4 @@
--- What is voted, chosen and published in a world, read off the messages that were sent and the nodes' lists.
+-- What is voted, chosen and published in a world, by the messages that were sent and the nodes' histories.
 use Rattle.std.specs.Prelude.{◌≡◌, ◌⊎◌, ℕ, zero, suc, List, [], ◌∷◌, length, slice_get, Option, Some, None}
 use Rattle.wf_ballot.specs.Ballot.{Ballot}
 use Rattle.wf_ballot.specs.Majority.{Majority}
@@ -10,12 +10,12 @@ abbrev pub IsIn : {A : Type 0} → A → List A → Type 0
 IsIn x [] = ⊥
 IsIn x (y ∷ ys) = (x ≡ y) ⊎ IsIn x ys
 
--- Node i voted for d at the sequence and ballot: it said so, and d is what it was asked for.
+-- Node i voted for d at the sequence and ballot: it sent Accepted, and an Accept for d was sent.
 pub record Voted {V : Type 0} (sent : List (Message V)) (s : ℕ) (b : Ballot) (d : V) (i : ℕ) : Type 0 where
   pub said : IsIn (Accepted i s b) sent
   pub asked : IsIn (Accept s b d) sent
 
--- Node i promised at the ballot, and told this of the sequence: its vote there, or that it has none.
+-- Node i promised at the ballot, and reported this for the sequence: its vote there, or that it has none.
 abbrev pub Told : {V : Type 0} → List (Message V) → ℕ → Ballot → Option (Vote V) → ℕ → Type 0
 Told sent s b vote i = IsIn (Promise i s b vote) sent
 
@@ -24,7 +24,7 @@ pub record IsChosen {V : Type 0} (n : ℕ) (sent : List (Message V)) (s : ℕ) (
   pub ballot : Ballot
   pub majority : Majority n (Voted sent s ballot d)
 
--- the list of a node, running or stopped, and how many definitions are in it
+-- a node's published definitions, whether it runs or is stopped, and their number
 unfoldable pub history_of : {V : Type 0} → Option (Node V) → List V
 history_of None = []
 history_of (Some node) = node.stored.history
@@ -35,7 +35,7 @@ history w i = history_of (slice_get w.nodes i)
 unfoldable pub published_by : {V : Type 0} → World V → ℕ → ℕ
 published_by w i = length (history w i)
 
--- the definition of sequence s at node i: the empty map for 0, and nothing above what it published
+-- the definition of sequence s at node i: the empty map for 0, and None above what it published
 unfoldable pub definition : {V : Type 0} → V → World V → ℕ → ℕ → Option V
 definition empty w i zero = Some empty
 definition empty w i (suc k) = slice_get (history w i) k

@@ -1,4 +1,4 @@
--- Worked examples: short runs, with what they leave. Each is proved by computing the run.
+-- Example runs and what they leave. Each is proved by computing the run.
 use Rattle.std.specs.Prelude.{◌≡◌, ℕ, zero, suc, Bool, true, false, List, [], ◌∷◌, ◌++◌, length, map, replicate, drop, slice_get, Option, Some, None, option_and_then}
 use Rattle.wf_ballot.specs.Ballot.{Ballot, last_round}
 use Rattle.wf_ballot.specs.Sequence.{last_sequence}
@@ -8,7 +8,7 @@ use Rattle.wf_model.specs.Working.{Working, Idle, Running, Won, Overtaken}
 use Rattle.wf_model.specs.World.{World, Node, Event, Propose, Retry, CatchUp, Deliver, Stop, Restart, Torn, Kept, after}
 use Rattle.wf_model.specs.Table as table
 
--- two definitions, and the empty one
+-- two definitions, and the empty map
 pub data Map : Type 0 where
   a b empty : Map
 
@@ -18,13 +18,13 @@ same_map b b = true
 same_map empty empty = true
 same_map x y = false
 
--- ---- what is looked at
+-- ---- what is observed
 
 -- what each node published
 unfoldable pub histories : List (Node Map) → List (List Map)
 histories nodes = map (λ node. node.stored.history) nodes
 
--- how a node's proposal stands
+-- the state of a node's proposal
 pub data Standing : Type 0 where
   Stopped NoProposal Runs : Standing
   PublishedAt OvertakenAt : (sequence : ℕ) → Standing
@@ -39,11 +39,11 @@ standing_of (Some (Overtaken s)) = OvertakenAt s
 unfoldable pub standing : World Map → ℕ → Standing
 standing w i = standing_of (option_and_then (λ (node : Node Map). node.working) (slice_get w.nodes i))
 
--- the world after these events, begun with n nodes
+-- the world after these events, from a start with n nodes
 abbrev pub run : ℕ → List (Event Map) → World Map
 run n events = after same_map n events
 
--- it leaves these published lists, and so many messages were sent
+-- the run leaves these published lists, and that many messages were sent
 abbrev pub Leaves : ℕ → List (Event Map) → List (List Map) → ℕ → Type 0
 Leaves n events lists messages = (histories (run n events).nodes ≡ lists) × (length (run n events).sent ≡ messages)
 
@@ -71,12 +71,12 @@ vote round node d = record { ballot = ballot round node; definition = d }
 unfoldable pub to_each : List ℕ → ℕ → List (Event Map)
 to_each nodes k = map (λ i. Deliver i k) nodes
 
--- the messages from number k on, `count` of them, each to each of the nodes
+-- the messages from number k on, n of them, each to each of the nodes
 unfoldable pub pump : List ℕ → ℕ → ℕ → List (Event Map)
 pump nodes k zero = []
 pump nodes k (suc count) = to_each nodes k ++ pump nodes (suc k) count
 
--- each message below `count`, the last first, three times to each of the nodes
+-- each message below n, the last first, three times to each of the nodes
 unfoldable pub thrice_back : List ℕ → ℕ → List (Event Map)
 thrice_back nodes zero = []
 thrice_back nodes (suc k) = (to_each nodes k ++ (to_each nodes k ++ to_each nodes k)) ++ thrice_back nodes k
@@ -90,19 +90,19 @@ alone = Propose 0 a ∷ Deliver 0 0 ∷ Deliver 0 1 ∷ Deliver 0 2 ∷ Deliver 
 unfoldable pub three_pumped : List (Event Map)
 three_pumped = Propose 0 a ∷ pump (0 ∷ 1 ∷ 2 ∷ []) 0 9
 
--- two of four nodes hear the proposal: that is no majority
+-- two of four nodes receive the proposal: that is no majority
 unfoldable pub two_of_four : List (Event Map)
 two_of_four = Propose 0 a ∷ pump (0 ∷ 1 ∷ []) 0 3
 
--- then a third one hears it
+-- then a third one receives it
 unfoldable pub three_of_four : List (Event Map)
 three_of_four = two_of_four ++ (Deliver 2 0 ∷ pump (0 ∷ 1 ∷ 2 ∷ 3 ∷ []) 3 7)
 
--- node 0 has an Accept out that it alone hears, so it voted and no other node did
+-- node 0 receives its own Accept, and no other node does, so it alone has voted
 unfoldable pub half_accepted : List (Event Map)
 half_accepted = Propose 0 a ∷ Deliver 0 0 ∷ Deliver 1 0 ∷ Deliver 0 1 ∷ Deliver 0 2 ∷ Deliver 0 3 ∷ []
 
--- and stops; the two others publish another definition meanwhile; it comes back, proposes again, and is told
+-- it stops; the other two publish another definition meanwhile; it comes back, proposes again, and is sent that definition
 unfoldable pub comes_back : List (Event Map)
 comes_back =
     half_accepted ++ (
@@ -110,38 +110,37 @@ comes_back =
     Restart 0 ∷ Propose 0 a ∷ Deliver 2 12 ∷ Deliver 0 13 ∷ []
     )
 
--- it doesn't stop: its vote is reported to the other proposer, which has to take it over
+-- instead of stopping, it reports its vote to the other proposer, which must adopt it
 unfoldable pub taken_over : List (Event Map)
 taken_over =
     half_accepted ++ (
     Propose 2 b ∷ Deliver 0 5 ∷ Deliver 2 5 ∷ Deliver 2 6 ∷ Deliver 2 7 ∷ Deliver 0 8 ∷ Deliver 2 8 ∷ Deliver 2 9 ∷ Deliver 2 10 ∷ []
     )
 
--- its Accept comes to it twice: it answers twice, and one answer's vote isn't counted twice
+-- it receives its Accept twice: it answers twice, and its vote isn't counted twice
 unfoldable pub voted_once : List (Event Map)
 voted_once = half_accepted ++ (Deliver 0 3 ∷ Deliver 0 4 ∷ Deliver 0 5 ∷ [])
 
--- node 0's Accept reaches no one before node 1, with a higher ballot, publishes b; then nodes 0 and 2 hear it
+-- node 1, with a higher ballot, publishes b before node 0's Accept reaches any node; then nodes 0 and 2 receive it
 unfoldable pub late_accept : List (Event Map)
 late_accept =
     Propose 0 a ∷ Deliver 0 0 ∷ Deliver 1 0 ∷ Deliver 0 1 ∷ Deliver 0 2 ∷
     Propose 1 b ∷ Deliver 1 4 ∷ Deliver 2 4 ∷ Deliver 1 5 ∷ Deliver 1 6 ∷ Deliver 1 7 ∷ Deliver 2 7 ∷ Deliver 1 8 ∷ Deliver 1 9 ∷
     Deliver 0 3 ∷ Deliver 2 3 ∷ Deliver 0 11 ∷ Deliver 0 12 ∷ []
 
--- node 0 tries again, and is told its own vote for a and node 2's for b, which is at the higher ballot
+-- node 0 retries; it is sent its own vote for a and node 2's for b, which is at the higher ballot
 unfoldable pub two_told : List (Event Map)
 two_told = late_accept ++ (Retry 0 ∷ Deliver 2 13 ∷ Deliver 0 13 ∷ Deliver 0 14 ∷ Deliver 0 15 ∷ [])
 
--- its first Accept comes to it again: it voted there, and has promised more since
+-- it receives its first Accept again: it voted at that ballot, and has promised a higher one since
 unfoldable pub old_accept : List (Event Map)
 old_accept = two_told ++ (Deliver 0 3 ∷ [])
 
--- node 1 tries three rounds, and node 2 hears of the third one alone; node 0 comes with its first one, is rejected,
--- and tries again
+-- node 1 tries three rounds, and node 2 receives only the third; node 0 comes with its first, is rejected, and retries
 unfoldable pub outrun : List (Event Map)
 outrun = Propose 1 b ∷ Retry 1 ∷ Retry 1 ∷ Deliver 2 2 ∷ Propose 0 a ∷ Deliver 2 4 ∷ Deliver 0 5 ∷ Retry 0 ∷ []
 
--- two proposals more, that node 2 hears nothing of until it hears of the last one's end, and asks
+-- two more proposals, of which node 2 receives nothing until the last one's Chosen; it then asks
 unfoldable pub behind : List (Event Map)
 behind =
     three_pumped ++ (
@@ -150,24 +149,24 @@ behind =
     Deliver 2 22 ∷ Deliver 0 23 ∷ Deliver 2 24 ∷ Deliver 2 25 ∷ []))))
     )
 
--- two of three nodes publish; the third one heard nothing, and asks by itself
+-- two of three nodes publish; the third one received nothing, and asks by itself
 unfoldable pub catches_up : List (Event Map)
 catches_up = Propose 0 a ∷ (pump (0 ∷ 1 ∷ []) 0 7 ++ (CatchUp 2 ∷ Deliver 1 7 ∷ Deliver 2 8 ∷ []))
 
--- node 1 asks for votes, stops, comes back and proposes something else
+-- node 1 asks for votes, stops, comes back and makes another proposal
 unfoldable pub new_round : List (Event Map)
 new_round =
     Propose 1 b ∷ Deliver 1 0 ∷ Deliver 0 0 ∷ Deliver 1 1 ∷ Deliver 1 2 ∷ Deliver 1 3 ∷ Stop 1 ∷ Restart 1 ∷ Propose 1 a ∷ []
 
--- all messages come three times more, in the wrong order
+-- all messages are delivered three times more, in reverse order
 unfoldable pub repeated : List (Event Map)
 repeated = three_pumped ++ thrice_back (0 ∷ 1 ∷ 2 ∷ []) 9
 
--- a step is torn, its node comes back, and the same message comes again
+-- a crash within a step, its node comes back, and the same message is delivered again
 unfoldable pub torn : Kept → List (Event Map)
 torn kept = Propose 0 a ∷ Deliver 0 0 ∷ Deliver 0 1 ∷ Torn 1 (table.Deliver 0) kept ∷ Restart 1 ∷ Deliver 1 0 ∷ []
 
--- then the proposer tries again, and all nodes hear what is sent from then on
+-- then the proposer retries, and all nodes receive what is sent from then on
 unfoldable pub torn_then : Kept → ℕ → List (Event Map)
 torn_then kept messages = torn kept ++ (Retry 0 ∷ pump (0 ∷ 1 ∷ 2 ∷ []) messages 9)
 
@@ -178,6 +177,6 @@ full_history = record { tried = 1; promises = λ s. None; votes = λ s. None; hi
 unfoldable pub full_rounds : Stored Map
 full_rounds = record { tried = last_round; promises = λ s. None; votes = λ s. None; history = [] }
 
--- a farm of one node, with this stored part and no proposal
+-- a farm of one node, with this stored state and no proposal
 unfoldable pub only : Stored Map → World Map
 only stored = record { nodes = record { stored = stored; working = Some Idle } ∷ []; sent = [] }

@@ -1,5 +1,5 @@
--- What the rows and the fold keep by themselves: a row's record fits what its node stored; no promise and no
--- vote is stored of a sequence that is published; and where a vote is stored, so is a promise.
+-- Invariants of the transitions and the fold: a transition's record fits its node's stored state; no promise and no vote of a
+-- published sequence is stored; and if a vote is stored, so is a promise.
 use Rattle.std.specs.Prelude.{◌≡◌, ℕ, ◌≤◌, Bool, true, ⊤, List, length, Option, Some, None, IsSome}
 use Rattle.wf_model.specs.Message.{Vote}
 use Rattle.wf_model.specs.Stored.{Stored, Record, published, next_sequence, promise_at, fits, fold}
@@ -13,37 +13,37 @@ IsForNext stored (Running proposal) = proposal.sequence ≡ next_sequence stored
 IsForNext stored (Won s) = ⊤
 IsForNext stored (Overtaken s) = ⊤
 
--- a record that is stored fits
+-- a transition's record fits, if it has one
 abbrev pub Fits : {V : Type 0} → Stored V → Option (Record V) → Type 0
 Fits stored None = ⊤
 Fits stored (Some r) = fits stored r ≡ true
 
--- the row's record fits, and the proposal that runs after it is for the next sequence then
+-- the transition's record fits, and the proposal that runs after it is for the next sequence then
 pub record RowFits {V : Type 0} (before : Stored V) (row : Row V) : Type 0 where
   pub fits : Fits before row.entry
   pub for_next : IsForNext (store before row.entry) row.working
 
--- Each row's record fits the fold, where the running proposal is for the next sequence; and then it stays so.
+-- If the running proposal is for the next sequence, each transition's record fits, and the proposal remains for the next
+-- sequence.
 abbrev pub RecordsFit : Type 0 → Type 0
 RecordsFit V = (same : V → V → Bool) (n me : ℕ) (stored : Stored V) (working : Working V) (input : Input V) → IsForNext stored working →
     RowFits stored (row same n me stored working input)
 
--- No row hands out more messages than answer one Ask.
+-- No transition sends more messages than answer one Ask.
 abbrev pub RowsAreShort : Type 0 → Type 0
 RowsAreShort V = (same : V → V → Bool) (n me : ℕ) (stored : Stored V) (working : Working V) (input : Input V) →
     length (row same n me stored working input).messages ≤ most_told
 
--- promises and votes are of sequences above the published list alone
+-- promises and votes are of sequences above the published ones only
 pub record IsOpenAlone {V : Type 0} (stored : Stored V) : Type 0 where
   pub promises : (s : ℕ) → s ≤ published stored → promise_at stored s ≡ None
   pub votes : (s : ℕ) → s ≤ published stored → stored.votes s ≡ None
 
--- what any list of records folds to has no promise and no vote of a published sequence
+-- a fold of any list of records has no promise and no vote of a published sequence
 abbrev pub FoldsAreOpen : Type 0 → Type 0
 FoldsAreOpen V = (records : List (Record V)) (stored : Stored V) → fold records ≡ Some stored → IsOpenAlone stored
 
--- Where any list of records leaves a vote, it leaves a promise too: who writes the vote down again, and then
--- the promise where that is another ballot, has written down both.
+-- If a fold of any list of records has a vote at a sequence, it has a promise there.
 abbrev pub VotesArePromised : Type 0 → Type 0
 VotesArePromised V = (records : List (Record V)) (stored : Stored V) (s : ℕ) (vote : Vote V) → fold records ≡ Some stored →
     stored.votes s ≡ Some vote → IsSome (promise_at stored s)

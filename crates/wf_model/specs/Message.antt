@@ -1,6 +1,5 @@
--- What nodes say to one another. All definitions here are generic in the type of what is agreed on, `V`:
--- nothing of the protocol depends on what a map definition is. A message names no addressee, since the
--- network may hand any message to any node.
+-- The messages between nodes. All definitions here are generic in the type of what is agreed on, `V`: the protocol doesn't depend
+-- on what a map definition is. A message names no receiver, since the network may deliver any message to any node.
 use Rattle.std.specs.Prelude.{ℕ, Option}
 use Rattle.wf_ballot.specs.Ballot.{Ballot}
 
@@ -9,7 +8,7 @@ pub record Vote (V : Type 0) : Type 0 where
   pub ballot : Ballot
   pub definition : V
 
--- The seven messages. `sender` is the node that answers, `sequence` the update sequence that it is about.
+-- The seven messages. `sender` is the node that answers, `sequence` the update sequence concerned.
 pub data Message (V : Type 0) : Type 0 where
   Prepare : (sequence : ℕ) (ballot : Ballot) → Message V
   Promise : (sender sequence : ℕ) (ballot : Ballot) (vote : Option (Vote V)) → Message V

@@ -1,4 +1,4 @@
--- Runs in turn, and rejected events.
+-- Concatenated runs, and rejected events.
 use Rattle.std.proofs.Common.{◌≡◌, ℕ, Bool, List, [], ◌∷◌, ◌++◌, length, slice_get, Option, Some, None, refl, ap}
 use Rattle.std.proofs.lemmas.Option.{none-some}
 use Rattle.wf_model.specs.Stored.{Stored}
@@ -14,7 +14,7 @@ module _ {V : Type 0} (same : V → V → Bool) where
   in_turn w [] more = refl
   in_turn w (event ∷ rest) more = in_turn (happens same w event) rest more
 
-  -- ---- a rejected step is no turn
+  -- ---- a rejected step has no effect
 
   not_run : (n i : ℕ) (stored : Stored V) (working : Option (Working V)) (input : Input V) (why : Refusal) →
       refusal_running stored working input ≡ Some why → turn_running same n i stored working input ≡ None

@@ -1,5 +1,5 @@
--- What one step of a node does: the table's rows, one small function each. A row is data: the record to
--- store, the messages to hand out after that, and the working part to come.
+-- What one step of a node does: the transitions of the step table, one small function each. A transition is data: the record to
+-- store, the messages to send after that, and the next working part.
 use Rattle.std.specs.Prelude.{ℕ, zero, suc, ◌+◌, max, Bool, true, false, not, List, [], ◌∷◌, ◌++◌, Option, Some, None, ◌==◌, nat_lt, nat_le, ◌&&◌, if◌then◌else◌}
 use Rattle.wf_ballot.specs.Ballot.{last_round, Ballot, below}
 use Rattle.wf_ballot.specs.Sequence.{last_sequence}
@@ -9,22 +9,22 @@ use Rattle.wf_model.specs.Stored as stored_part
 use Rattle.wf_model.specs.Stored.{Stored, Record, published, next_sequence, definition_at, promise_at, with_record}
 use Rattle.wf_model.specs.Working.{Phase, Preparing, Accepting, Proposal, Working, Idle, Running, Won, Overtaken, nobody, and_node, better, carried, same_ballot, same_phase, is_at}
 
--- how many published definitions answer one Ask at most
+-- the most published definitions that answer one Ask
 abbrev pub most_told : ℕ
 most_told = 8
 
--- The entry is the record that the step stores, None where it stores none.
+-- A transition. The entry is the record that the step stores, None if it stores none.
 pub record Row (V : Type 0) : Type 0 where
   pub entry : Option (Record V)
   pub messages : List (Message V)
   pub working : Working V
 
--- what is stored after a row's entry
+-- the stored state after a transition's record
 unfoldable pub store : {V : Type 0} → Stored V → Option (Record V) → Stored V
 store stored None = stored
 store stored (Some r) = with_record stored r
 
--- a row that stores nothing and sends nothing; one that only answers; one that stores and answers
+-- a transition that stores nothing and sends nothing; one that only sends; one that stores and sends
 unfoldable pub quiet : {V : Type 0} → Working V → Row V
 quiet working = record { entry = None; messages = []; working = working }
 
@@ -34,15 +34,15 @@ says working messages = record { entry = None; messages = messages; working = wo
 unfoldable pub stores : {V : Type 0} → Working V → Record V → Message V → Row V
 stores working r message = record { entry = Some r; messages = message ∷ []; working = working }
 
--- the row of the running proposal; while none runs, nothing happens
+-- the transition of the running proposal; if none runs, nothing happens
 abbrev pub when_running : {V : Type 0} → Working V → (Proposal V → Row V) → Row V
 when_running (Running proposal) row_of = row_of proposal
 when_running working row_of = quiet working
 
--- ---- what a node is asked to do
+-- ---- actions of a node
 
--- A proposal, a second try of the running one, a question for the next definition, or a message that is
--- delivered: `M` is the message itself for a node's step, and its number in an event.
+-- A proposal, a retry of the running one, a question for the next definition, or a delivered message: `M` is the message itself
+-- in a node's input, and its number in an event.
 pub data Action (V M : Type 0) : Type 0 where
   Propose : (definition : V) → Action V M
   Retry : Action V M
@@ -60,7 +60,7 @@ pub data Refusal : Type 0 where
 unfoldable pub rounds_full : ℕ → Option Refusal
 rounds_full round = if nat_le last_round round then Some RoundsFull else None
 
--- the highest round that a proposal knows of: its node's own, or one told in a Nack
+-- the highest round that a proposal knows of: its node's own, or one reported in a Nack
 unfoldable pub round_known : {V : Type 0} → Stored V → Proposal V → ℕ
 round_known stored proposal = max stored.tried proposal.seen
 
@@ -72,8 +72,8 @@ unfoldable pub refuse_retry : {V : Type 0} → Stored V → Working V → Option
 refuse_retry stored (Running proposal) = rounds_full (round_known stored proposal)
 refuse_retry stored working = Some NothingToRetry
 
--- A rejected step changes nothing. A running node rejects a proposal; none begins past the last sequence or
--- the last round; only a running proposal is tried again.
+-- A rejected step changes nothing. A running node rejects a proposal; none begins past the last sequence or the last round; only
+-- a running proposal is retried.
 unfoldable pub refusal : {V : Type 0} → Stored V → Working V → Input V → Option Refusal
 refusal stored working (Propose d) = refuse_proposal stored working
 refusal stored working Retry = refuse_retry stored working
@@ -82,8 +82,8 @@ refusal stored working (Deliver message) = None
 
 -- ---- proposals begin
 
--- A proposal of `own` begins, or begins anew, at a round that its node hasn't tried: the round is stored
--- before anyone is asked for a promise.
+-- A proposal of `own` begins, or begins again, at a round that its node hasn't tried: the round is stored before any Prepare is
+-- sent.
 unfoldable pub begin_at : {V : Type 0} → ℕ → Stored V → V → ℕ → Row V
 begin_at me stored own round =
     let ballot : Ballot = record { round = round; node = me } in
@@ -109,7 +109,7 @@ unfoldable pub on_catch_up : {V : Type 0} → Stored V → Working V → Row V
 on_catch_up stored working =
     if nat_lt (published stored) last_sequence then says working (Ask (next_sequence stored) ∷ []) else quiet working
 
--- ---- published definitions are told
+-- ---- published definitions are sent
 
 -- Chosen for the published definition of sequence s, if there is one
 unfoldable pub told_of : {V : Type 0} → ℕ → Option V → List (Message V)
@@ -129,7 +129,7 @@ on_ask stored working s = says working (told_from stored.history s most_told)
 
 -- ---- the acceptor
 
--- the ballot is above the promise, or there is no promise; the ballot is below the promise
+-- the ballot is above the promise, or there is no promise; and: the ballot is below the promise
 abbrev pub is_above : Option Ballot → Ballot → Bool
 is_above None b = true
 is_above (Some promise) b = below promise b
@@ -138,7 +138,7 @@ abbrev pub is_refused : Option Ballot → Ballot → Bool
 is_refused None b = false
 is_refused (Some promise) b = below b promise
 
--- the Nack that names the promise
+-- the Nack with the promise
 abbrev pub nack : {V : Type 0} → ℕ → ℕ → Ballot → Option Ballot → List (Message V)
 nack me s b None = []
 nack me s b (Some promise) = Nack me s b promise ∷ []
@@ -148,7 +148,7 @@ unfoldable pub promise_to : {V : Type 0} → ℕ → Stored V → Working V → 
 promise_to me stored working s b =
     stores working (stored_part.Promised s b) (Promise me s b (stored.votes s))
 
--- a Prepare of a sequence that isn't published, by the promise that holds there
+-- a Prepare of a sequence that isn't published, by the promise there
 unfoldable pub prepare_open : {V : Type 0} → ℕ → Stored V → Working V → ℕ → Ballot → Option Ballot → Row V
 prepare_open me stored working s b promise =
     if is_above promise b then promise_to me stored working s b
@@ -165,13 +165,13 @@ unfoldable pub votes_at : {V : Type 0} → Option (Vote V) → Ballot → Bool
 votes_at None b = false
 votes_at (Some vote) b = same_ballot vote.ballot b
 
--- It repeats its answer where it voted at this ballot, and else it votes.
+-- It repeats its answer if it voted at this ballot, and otherwise it votes.
 unfoldable pub vote_for : {V : Type 0} → ℕ → Stored V → Working V → ℕ → Ballot → V → Row V
 vote_for me stored working s b d =
     if votes_at (stored.votes s) b then says working (Accepted me s b ∷ [])
     else stores working (stored_part.Accepted s b d) (Accepted me s b)
 
--- an Accept of a sequence that isn't published, by the promise that holds there: none below it gets a vote
+-- an Accept of a sequence that isn't published, by the promise there: below the promise there is no vote
 unfoldable pub accept_open : {V : Type 0} → ℕ → Stored V → Working V → ℕ → Ballot → V → Option Ballot → Row V
 accept_open me stored working s b d promise =
     if is_refused promise b then says working (nack me s b promise)
@@ -184,12 +184,12 @@ on_accept me stored working s b d =
 
 -- ---- the proposer
 
--- A proposal hears an answer in its phase, to its sequence and ballot, from a node below n that it hasn't heard.
+-- A proposal counts an answer if it is of its phase, sequence and ballot, from a node below n whose answer it hasn't counted.
 unfoldable pub hears : {V : Type 0} → ℕ → Proposal V → Phase → ℕ → ℕ → Ballot → Bool
 hears n proposal phase sender s b =
     same_phase proposal.phase phase && (is_at proposal s b && (nat_lt sender n && not (proposal.heard sender)))
 
--- the proposal after a promise, and the same once a majority has promised: nobody is heard of its Accept yet
+-- the proposal after a promise, and once a majority has promised: no answer to its Accept is counted yet
 unfoldable pub with_promise : {V : Type 0} → Proposal V → ℕ → Option (Vote V) → Proposal V
 with_promise proposal sender vote =
     record proposal { heard = and_node proposal.heard sender; best = better proposal.best vote }
@@ -214,11 +214,11 @@ unfoldable pub on_nack : {V : Type 0} → Working V → ℕ → Ballot → Ballo
 on_nack working s b promise = when_running working (λ proposal.
     if is_at proposal s b then quiet (Running (record proposal { seen = max proposal.seen promise.round })) else quiet (Running proposal))
 
--- ---- the rows that tell a node's own definition from another's
+-- ---- the transitions that distinguish a node's own definition from another's
 
--- `same` tests two definitions for equality. The law of agreement asks nothing of it.
+-- `same` tests two definitions for equality. The theorem of agreement requires nothing of it.
 module _ {V : Type 0} (same : V → V → Bool) where
-  -- how a proposal ends where d is published at its sequence
+  -- how a proposal ends if d is published at its sequence
   unfoldable pub ended : Proposal V → V → Working V
   ended proposal d = if same proposal.own d then Won proposal.sequence else Overtaken proposal.sequence
 
@@ -239,13 +239,13 @@ module _ {V : Type 0} (same : V → V → Bool) where
   on_accepted n working sender s b = when_running working (λ proposal.
       if hears n proposal Accepting sender s b then voted n (with_vote proposal sender) else quiet (Running proposal))
 
-  -- A chosen definition is published where its sequence is the next; further on, the definitions between are asked for.
+  -- A chosen definition is published if its sequence is the next; if it is later, the missing definitions are asked for.
   unfoldable pub on_chosen : Stored V → Working V → ℕ → V → Row V
   on_chosen stored working s d =
       if s == next_sequence stored then record { entry = Some (stored_part.Published s d); messages = []; working = ends working d }
       else (if nat_lt (next_sequence stored) s then says working (Ask (next_sequence stored) ∷ []) else quiet working)
 
-  -- ---- the table: the row of node `me` of n
+  -- ---- the table: the transition of node `me` of n
 
   unfoldable pub on_message : ℕ → ℕ → Stored V → Working V → Message V → Row V
   on_message n me stored working (Prepare s b) = on_prepare me stored working s b

@@ -1,5 +1,4 @@
--- What a running node holds beside its tape, and loses when it stops: at most one proposal, or how the
--- last one ended.
+-- The volatile state of a running node, lost when it stops: at most one proposal, or how the last one ended.
 use Rattle.std.specs.Prelude.{ℕ, Bool, true, false, Option, Some, None, ◌==◌, ◌&&◌, ◌||◌, if◌then◌else◌}
 use Rattle.wf_ballot.specs.Ballot.{Ballot, below}
 use Rattle.wf_model.specs.Message.{Vote}
@@ -8,8 +7,8 @@ use Rattle.wf_model.specs.Message.{Vote}
 pub data Phase : Type 0 where
   Preparing Accepting : Phase
 
--- A running proposal: its sequence and ballot, the definition that its node would publish, the phase, the
--- nodes heard in that phase, the best vote that they reported, and the highest round that a Nack told.
+-- A running proposal: its sequence and ballot, its node's own definition, the phase, the nodes whose answers are counted in that
+-- phase, the best vote that they reported, and the highest round that a Nack reported.
 pub record Proposal (V : Type 0) : Type 0 where
   pub sequence : ℕ
   pub ballot : Ballot
@@ -27,7 +26,7 @@ pub data Working (V : Type 0) : Type 0 where
   Won : (sequence : ℕ) → Working V
   Overtaken : (sequence : ℕ) → Working V
 
--- the empty set of nodes, and a set with one node more
+-- the empty set of nodes, and a set with one more node
 unfoldable pub nobody : ℕ → Bool
 nobody i = false
 
@@ -40,7 +39,7 @@ better None vote = vote
 better (Some best) None = Some best
 better (Some best) (Some vote) = if below best.ballot vote.ballot then Some vote else Some best
 
--- what a proposal asks votes for: the best reported vote's definition, and its own where none was reported
+-- the definition that a proposal asks votes for: that of the best reported vote, or its own if none was reported
 unfoldable pub carried : {V : Type 0} → Option (Vote V) → V → V
 carried None own = own
 carried (Some best) own = best.definition

@@ -1,4 +1,4 @@
--- The farm: its nodes and all messages ever sent, what may happen, and whole runs.
+-- The farm: its nodes and all messages ever sent, the events, and whole runs.
 use Rattle.std.specs.Prelude.{ℕ, Bool, List, [], ◌∷◌, ◌++◌, length, replicate, slice_get, slice_set, Option, Some, None, is_some, if◌then◌else◌}
 use Rattle.wf_model.specs.Message.{Message}
 use Rattle.wf_model.specs.Stored.{Stored, nothing_stored}
@@ -6,24 +6,23 @@ use Rattle.wf_model.specs.Working.{Working, Idle}
 use Rattle.wf_model.specs.Table as table
 use Rattle.wf_model.specs.Table.{Action, Input, Refusal, Row, row, refusal, store}
 
--- a node: what it stored, and its working part, None while it is stopped
+-- a node: its stored state, and its working part, None while it is stopped
 pub record Node (V : Type 0) : Type 0 where
   pub stored : Stored V
   pub working : Option (Working V)
 
--- Node 0, 1, 2 and so on, and message 0, 1, 2 and so on. Nothing is ever taken from the list of messages:
--- a loss is a delivery that never comes.
+-- Nodes 0, 1, 2 and so on, and messages 0, 1, 2 and so on. Nothing is ever removed from the list of messages: a lost message is
+-- one that is never delivered.
 pub record World (V : Type 0) : Type 0 where
   pub nodes : List (Node V)
   pub sent : List (Message V)
 
--- which stored part a crash within a step leaves
+-- whether a crash within a step leaves the stored state of before it or after it
 pub data Kept : Type 0 where
   Before After : Kept
 
--- What may happen, to the node of that number: a step; a stop and a restart; a step that is torn. A
--- delivery names a message that was sent, by its number, so none can be invented; it may come late,
--- again, in any order, or never.
+-- What may happen to the node of that number: a step; a stop and a restart; a crash within a step. A delivery names a sent
+-- message by its number, so none can be invented; a message may be delivered late, repeatedly, in any order, or never.
 pub data Event (V : Type 0) : Type 0 where
   Propose : (node : ℕ) (definition : V) → Event V
   Retry : (node : ℕ) → Event V
@@ -33,12 +32,12 @@ pub data Event (V : Type 0) : Type 0 where
   Restart : (node : ℕ) → Event V
   Torn : (node : ℕ) (action : Action V ℕ) (kept : Kept) → Event V
 
--- a step that has an effect: what its node had stored, and its row
+-- a step that has an effect: its node's stored state before it, and its transition
 pub record Turn (V : Type 0) : Type 0 where
   pub stored : Stored V
   pub row : Row V
 
--- an action's message by its number, None where it isn't sent yet
+-- the input of a message's delivery, None if the message isn't sent yet
 unfoldable pub delivered : {V : Type 0} → Option (Message V) → Option (Input V)
 delivered None = None
 delivered (Some message) = Some (table.Deliver message)
@@ -49,7 +48,7 @@ input_of sent table.Retry = Some table.Retry
 input_of sent table.CatchUp = Some table.CatchUp
 input_of sent (table.Deliver k) = delivered (slice_get sent k)
 
--- the stored part that a crash within a step leaves
+-- the stored state that a crash within a step leaves
 unfoldable pub stored_after : {V : Type 0} → Turn V → Stored V
 stored_after turn = store turn.stored turn.row.entry
 
@@ -59,7 +58,7 @@ kept_part After turn = stored_after turn
 
 -- ---- rejected steps
 
--- why a step is rejected: its node is there and runs, its message is sent, and the table rejects it
+-- the table's rejection of a step, if its node runs and its message is sent
 unfoldable pub refusal_running : {V : Type 0} → Stored V → Option (Working V) → Input V → Option Refusal
 refusal_running stored None input = None
 refusal_running stored (Some working) input = refusal stored working input
@@ -72,7 +71,7 @@ refusal_of (Some node) (Some input) = refusal_running node.stored node.working i
 unfoldable pub refused_at : {V : Type 0} → World V → ℕ → Action V ℕ → Option Refusal
 refused_at w i action = refusal_of (slice_get w.nodes i) (input_of w.sent action)
 
--- the rejection of an event's step, also of a torn one; None where it isn't rejected
+-- the rejection of an event's step, also if the step crashes; None if it isn't rejected
 unfoldable pub refused : {V : Type 0} → World V → Event V → Option Refusal
 refused w (Propose i d) = refused_at w i (table.Propose d)
 refused w (Retry i) = refused_at w i table.Retry
@@ -84,17 +83,17 @@ refused w (Torn i action kept) = refused_at w i action
 
 -- ---- effects on the world
 
--- node i is this one now
+-- the world in which node i is this one
 unfoldable pub with_node : {V : Type 0} → World V → ℕ → Stored V → Option (Working V) → World V
 with_node w i stored working = record w { nodes = slice_set w.nodes i (record { stored = stored; working = working }) }
 
--- A whole step: its record is stored, then its messages go out.
+-- A whole step: its record is stored, then its messages are sent.
 unfoldable pub after_turn : {V : Type 0} → World V → ℕ → Option (Turn V) → World V
 after_turn w i None = w
 after_turn w i (Some turn) =
     record (with_node w i (stored_after turn) (Some turn.row.working)) { sent = w.sent ++ turn.row.messages }
 
--- A crash within a step loses the working part and all output; its record is stored or not.
+-- A crash within a step loses the working part and all messages; its record is stored or not.
 unfoldable pub after_torn : {V : Type 0} → World V → ℕ → Kept → Option (Turn V) → World V
 after_torn w i kept None = w
 after_torn w i kept (Some turn) = with_node w i (kept_part kept turn) None
@@ -108,7 +107,7 @@ unfoldable pub after_stop : {V : Type 0} → World V → ℕ → Option (Node V)
 after_stop w i None = w
 after_stop w i (Some node) = stop_running w i node.stored node.working
 
--- A stopped node comes back with what it had stored, and no proposal. A running node can't be restarted.
+-- A stopped node comes back with its stored state, and no proposal. A running node can't be restarted.
 unfoldable pub restart_stopped : {V : Type 0} → World V → ℕ → Stored V → Option (Working V) → World V
 restart_stopped w i stored None = with_node w i stored (Some Idle)
 restart_stopped w i stored (Some working) = w
@@ -118,7 +117,7 @@ after_restart w i None = w
 after_restart w i (Some node) = restart_stopped w i node.stored node.working
 
 module _ {V : Type 0} (same : V → V → Bool) where
-  -- A step has an effect where its node is there and runs, its message is sent, and it isn't rejected.
+  -- A step has an effect if its node runs, its message is sent, and it isn't rejected.
   unfoldable pub turn_running : ℕ → ℕ → Stored V → Option (Working V) → Input V → Option (Turn V)
   turn_running n i stored None input = None
   turn_running n i stored (Some working) input =
@@ -147,7 +146,7 @@ module _ {V : Type 0} (same : V → V → Bool) where
   steps w [] = w
   steps w (event ∷ rest) = steps (happens w event) rest
 
--- n nodes that run, with all parts empty
+-- n running nodes, all empty
 unfoldable pub start : {V : Type 0} → ℕ → World V
 start n = record { nodes = replicate n (record { stored = nothing_stored; working = Some Idle }); sent = [] }
 

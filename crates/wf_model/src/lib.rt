@@ -1,21 +1,19 @@
-//! The farm as its definitions: what nodes say and store, what one step does, what may happen, and what is
-//! chosen and published then. Every contract about consensus in the crates above speaks in these words.
+//! The protocol's definitions: what nodes send and store, what one step does, which events may happen, and what is then chosen
+//! and published. All contracts about consensus in other crates use these definitions.
 //!
-//! **Model.** A node is what its tape stands for (the last round that it tried, its promise and its vote at
-//! each sequence, the published definitions) and a working part that a stop loses (at most one proposal).
-//! `Table` has a row for each input: the record to store, the messages to hand out after that, the working
-//! part to come. A world is the nodes and the list of all messages ever sent; an event names a message by
-//! its number, so that messages are lost, repeated and reordered at will, and never invented. All of it is
-//! generic in the type of what is agreed on, with a test `same` that tells a proposal's own definition from
-//! another's.
+//! **Model.** A node is the state that its tape records (the last round it tried, its promise and its vote at each sequence, the
+//! published definitions) and a working part that a stop loses (at most one proposal). `Table` has a transition for each input:
+//! the record to store, the messages to send after that, and the next working part. A world is the nodes and the list of all
+//! messages ever sent. An event names a message by its number, so messages may be lost, repeated and reordered, but never
+//! invented. All of it is generic in the type of what is agreed on, with a test `same` that distinguishes a proposal's own
+//! definition from another's.
 //!
-//! **Promises.** Each row's record fits what was stored, whatever the messages say, and no row hands out more than
-//! eight messages. Whatever records are
-//! folded, they leave no promise and no vote of a published sequence, and no vote without a promise. The
-//! events of two lists in turn are the events of one, and a rejected event changes nothing. Short runs leave
-//! what they should, by computing them.
+//! **Promises.** Each transition's record fits the stored state, whatever the messages are, and no transition sends more than
+//! eight messages. A fold of records leaves no promise and no vote of a published sequence, and no vote without a promise.
+//! Running two lists of events in turn is running their concatenation, and a rejected event changes nothing. Example runs, proved
+//! by computing them, leave the expected worlds.
 //!
-//! **Doesn't.** There is no code here, and no law of agreement: that is `wf_law`'s.
+//! **Not here.** Code, and the theorem of agreement, which is `wf_law`'s.
 #![tactic(auto)]
 
 ghost use Rattle.std.specs.Prelude.{◌≡◌, [], ◌∷◌, Some};
@@ -27,39 +25,39 @@ ghost use Rattle.wf_model.specs.Steps.{RefusedChangesNothing, StepsInTurn};
 ghost use Rattle.wf_model.specs.Table.{Busy, NothingToRetry, RoundsFull, SequenceFull};
 ghost use Rattle.wf_model.specs.World.{happens, refused, After, Before, CatchUp, Propose, Retry};
 
-/// Each row's record fits what its node stored: what a row publishes is of the next sequence. A running
-/// proposal is for the next sequence, and stays so.
+/// Each transition's record fits its node's stored state: a record that publishes is of the next sequence. A running proposal is
+/// for the next sequence, and remains so.
 pub fn records_fit<V>()
     ensures { RecordsFit V }
 {}
 
-/// No row hands out more than eight messages, so that whoever sends them can make room before the step.
+/// No transition sends more than eight messages, so the sender can reserve room before the step.
 pub fn rows_are_short<V>()
     ensures { RowsAreShort V }
 {}
 
-/// Whatever records are folded, they leave no promise and no vote of a published sequence.
+/// A fold of records leaves no promise and no vote of a published sequence.
 pub fn folds_are_open<V>()
     ensures { FoldsAreOpen V }
 {}
 
-/// Whatever records are folded, where they leave a vote they leave a promise.
+/// If a fold of records leaves a vote, it leaves a promise at its sequence.
 pub fn votes_are_promised<V>()
     ensures { VotesArePromised V }
 {}
 
-/// The events of two lists, one list after the other, are the events of the one list.
+/// Running two lists of events in turn is running their concatenation.
 pub fn steps_in_turn<V>()
     ensures { StepsInTurn V }
 {}
 
-/// A rejected event leaves the world as it was, a torn one too.
+/// A rejected event leaves the world unchanged, and so does a rejected event with a crash within its step.
 pub fn refused_changes_nothing<V>()
     ensures { RefusedChangesNothing V }
 {}
 
-/// One node is its own majority: five messages, from Prepare to Chosen. Of three nodes each hears each message.
-/// Two of four nodes hear a proposal, which is no majority and publishes nothing; with a third one it is.
+/// One node is its own majority: five messages, from Prepare to Chosen. With three nodes, each receives each message. Two of four
+/// nodes receiving a proposal is no majority and publishes nothing; a third makes it one.
 pub fn majorities()
     ensures one { Leaves 1 alone (just a ∷ []) 5 }
     ensures proposal { standing (run 1 alone) 0 ≡ PublishedAt 1 }
@@ -68,8 +66,8 @@ pub fn majorities()
     ensures three_of_four { Leaves 4 three_of_four (just a ∷ just a ∷ just a ∷ just a ∷ []) 10 }
 {}
 
-/// A proposer stops when it alone has voted, another one's definition is published, and the first one comes
-/// back and is told. A stop loses a proposal, and not its round: that isn't used again.
+/// A proposer stops when it alone has voted, another node's definition is published, and the first comes back and is sent it. A
+/// stop loses a proposal but not its round, which isn't used again.
 pub fn stopped_proposer()
     ensures leaves { Leaves 3 comes_back (just b ∷ none ∷ just b ∷ []) 14 }
     ensures proposal { standing (run 3 comes_back) 0 ≡ OvertakenAt 1 }
@@ -78,9 +76,8 @@ pub fn stopped_proposer()
     ensures asked { sent_from (run 2 new_round) 3 ≡ Accept 1 (ballot 1 1) b ∷ Accepted 1 1 (ballot 1 1) ∷ Prepare 1 (ballot 2 1) ∷ [] }
 {}
 
-/// A node voted for the first proposer's definition, so the second one, which hears of it, publishes that. Of
-/// two reported votes the one at the higher ballot is taken over, also where the other one is the proposer's
-/// own and is told last.
+/// A node voted for the first proposer's definition, so the second, to which the vote is reported, publishes that definition. Of
+/// two reported votes the one at the higher ballot is adopted, even if the other is the proposer's own and is reported last.
 pub fn reported_vote()
     ensures leaves { Leaves 3 taken_over (none ∷ none ∷ just a ∷ []) 12 }
     ensures taken { standing (run 3 taken_over) 2 ≡ OvertakenAt 1 }
@@ -90,9 +87,9 @@ pub fn reported_vote()
         Promise 2 1 (ballot 2 0) (Some (vote 1 1 b)) ∷ Promise 0 1 (ballot 2 0) (Some (vote 1 0 a)) ∷ Accept 1 (ballot 2 0) b ∷ [] }
 {}
 
-/// An Accept comes late, to a node that has promised a higher ballot: it is rejected, with the promise. A vote
-/// there would publish a beside b. So it is where the node voted at that ballot before it promised the higher
-/// one. A Prepare below the promise is rejected likewise; its proposer's next try is above the promise's round.
+/// A late Accept reaches a node that has promised a higher ballot: it is rejected, with the promise. A vote there would publish
+/// both a and b. So is one at whose ballot the node voted before it promised the higher one. A Prepare below the promise is
+/// rejected likewise; its proposer's next attempt is above the promise's round.
 pub fn refused_ballots()
     ensures leaves { Leaves 3 late_accept (none ∷ just b ∷ none ∷ []) 13 }
     ensures accept { sent_from (run 3 late_accept) 11 ≡ Accepted 0 1 (ballot 1 0) ∷ Nack 2 1 (ballot 1 0) (ballot 1 1) ∷ [] }
@@ -100,8 +97,8 @@ pub fn refused_ballots()
     ensures prepare { sent_from (run 3 outrun) 4 ≡ Prepare 1 (ballot 1 0) ∷ Nack 2 1 (ballot 1 0) (ballot 3 1) ∷ Prepare 1 (ballot 4 0) ∷ [] }
 {}
 
-/// A node that missed two sequences asks for the first of them, is told both, and publishes them in order. A
-/// node that missed all catches up by asking, and asks for nothing once the last sequence is published.
+/// A node that missed two sequences asks for the first of them, is sent both, and publishes them in order. A node that missed all
+/// catches up by asking, and asks for nothing once the last sequence is published.
 pub fn node_behind()
     ensures leaves { Leaves 3 behind ((a ∷ b ∷ a ∷ []) ∷ (a ∷ b ∷ a ∷ []) ∷ (a ∷ b ∷ a ∷ []) ∷ []) 26 }
     ensures asked { sent_from (run 3 behind) 23 ≡ Ask 2 ∷ Chosen 2 b ∷ Chosen 3 a ∷ [] }
@@ -110,16 +107,16 @@ pub fn node_behind()
     ensures full { happens same_map (only full_history) (CatchUp 0) ≡ only full_history }
 {}
 
-/// Messages that come again, late and in the wrong order are answered, and change nothing that is published. An
-/// Accept that comes twice is answered twice, and its node's vote isn't counted twice.
+/// Messages that are repeated, late or reordered are answered, and change nothing that is published. An Accept that arrives twice
+/// is answered twice, and its node's vote isn't counted twice.
 pub fn repeated_messages()
     ensures leaves { Leaves 3 repeated (just a ∷ just a ∷ just a ∷ []) 27 }
     ensures voted_once { Leaves 3 voted_once (none ∷ none ∷ none ∷ []) 6 }
     ensures answers { sent_from (run 3 voted_once) 4 ≡ Accepted 0 1 (ballot 1 0) ∷ Accepted 0 1 (ballot 1 0) ∷ [] }
 {}
 
-/// A step is torn after its record was stored, or before: either way the node answers again, or not at all,
-/// and a second try publishes.
+/// A crash within a step, after its record was stored or before: either way the node answers again, or not at all, and a second
+/// attempt publishes.
 pub fn torn_step()
     ensures after_sent { Leaves 3 (torn After) (none ∷ none ∷ none ∷ []) 2 }
     ensures after_leaves { Leaves 3 (torn_then After 2) (just a ∷ just a ∷ just a ∷ []) 11 }
@@ -127,8 +124,8 @@ pub fn torn_step()
     ensures before_leaves { Leaves 3 (torn_then Before 3) (just a ∷ just a ∷ just a ∷ []) 12 }
 {}
 
-/// A running node rejects another proposal, a node without one has nothing to try again, and no proposal
-/// begins past sequence 4,096 or round 4,294,967,295. A rejected step changes nothing.
+/// A running node rejects another proposal, a node without one has nothing to retry, and no proposal begins past sequence 4,096
+/// or round 4,294,967,295. A rejected step changes nothing.
 pub fn refused_steps()
     ensures busy { refused (run 1 (Propose 0 a ∷ [])) (Propose 0 b) ≡ Some Busy }
     ensures busy_unchanged { run 1 (Propose 0 a ∷ Propose 0 b ∷ []) ≡ run 1 (Propose 0 a ∷ []) }

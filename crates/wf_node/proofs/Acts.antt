@@ -1,4 +1,4 @@
--- What a row does, is done for its input.
+-- The step of an input is made if its transition's effects are.
 use Rattle.std.proofs.Common.{◌≡◌, ℕ, Bool, true, false, List, Option, Some, None, option_map, Result, Ok, Err, IsSome, Vec, refl, sym, subst, ap, ◌∙◌}
 use Rattle.wf_acceptor.specs.Answer as answered
 use Rattle.wf_acceptor.specs.declared.answer.Answer.{Answer}
@@ -28,11 +28,11 @@ use Rattle.wf_node.specs.Proposed.{fault_of}
 use Rattle.wf_node.specs.Parts.{Parts, stored_of}
 use Rattle.wf_node.proofs.Replies.{change_as, change_from, memory_changes, says_changes}
 
--- the table's row of an input at the parts of a node
+-- the table's transition of an input at the parts of a node
 abbrev pub row_at : Parts → Proposer → Input Definition → Row Definition
 row_at parts proposer input = row definition_eq proposer.nodes proposer.node (stored_of parts) (working_of proposer) input
 
--- the record of an input's row fits
+-- the record of an input's transition fits
 pub row_fits : (parts : Parts) (proposer : Proposer) (input : Input Definition) (given : Row Definition) → RecordsFit Definition → IsForNext (stored_of parts) (working_of proposer) →
     given ≡ row_at parts proposer input → Fits (stored_of parts) given.entry
 row_fits parts proposer input given fit for_next is =
@@ -40,7 +40,7 @@ row_fits parts proposer input given fit for_next is =
     (fit definition_eq proposer.nodes proposer.node (stored_of parts) (working_of proposer) input for_next).fits
 
 module _ {T : Type 0} (honest : Type 0) (content : T → List ℕ) (images : T → List ℕ → Type 0) (failures : T → ℕ) where
-  -- an input that the table doesn't refuse
+  -- an input that the table doesn't reject
   pub act_done : {A : Type 0} (input : Input Definition) (given : Row Definition) (journal journal_after : Journal T) (parts parts_after : Parts) (proposer proposer_after : Proposer)
       (result : Result (Vec Message A) NodeFault) → refusal (stored_of parts) (working_of proposer) input ≡ None → given ≡ row_at parts proposer input →
       IsChange honest content images failures (hears_input proposer.nodes (working_of proposer) input) given journal parts proposer result journal_after parts_after proposer_after →
@@ -50,7 +50,7 @@ module _ {T : Type 0} (honest : Type 0) (content : T → List ℕ) (images : T �
       subst (λ why. IsRefusedOr honest content images failures why hears (row_at parts proposer input) journal parts proposer result journal_after parts_after proposer_after) (sym none)
       (change_as honest content images failures hears given (row_at parts proposer input) journal journal_after parts parts_after proposer proposer_after result is change)
 
-  -- an input that is only answered
+  -- an input that only sends messages
   pub act_says : {A : Type 0} (input : Input Definition) (messages : List (model.Message Definition)) (journal : Journal T) (parts : Parts) (proposer : Proposer)
       (result : Result (Vec Message A) NodeFault) → refusal (stored_of parts) (working_of proposer) input ≡ None → journal.halted ≡ false →
       row_at parts proposer input ≡ says (working_of proposer) messages → IsReply messages result →
@@ -69,7 +69,7 @@ module _ {T : Type 0} (honest : Type 0) (content : T → List ℕ) (images : T �
       subst (λ x. IsRefusedOr honest content images failures x hears (row_at parts proposer input) journal parts proposer result journal parts proposer) (sym some)
       (answered, refl, record { parts = refl; proposer = refl })
 
-  -- an input for which memory was wanted
+  -- an input for which allocation failed
   pub act_short : {A : Type 0} (input : Input Definition) (journal : Journal T) (parts parts_after : Parts) (proposer : Proposer)
       (result : Result (Vec Message A) NodeFault) → refusal (stored_of parts) (working_of proposer) input ≡ None → journal.halted ≡ false → result ≡ Err Memory → parts_after ≡ parts →
       TakesMemory (row_at parts proposer input) (hears_input proposer.nodes (working_of proposer) input) →
@@ -79,7 +79,7 @@ module _ {T : Type 0} (honest : Type 0) (content : T → List ℕ) (images : T �
       subst (λ why. IsRefusedOr honest content images failures why hears (row_at parts proposer input) journal parts proposer result journal parts_after proposer) (sym none)
       (memory_changes honest content images failures hears (row_at parts proposer input) journal parts parts_after proposer result short running same takes)
 
--- a message is never rejected, and its row is the message's
+-- a delivered message is never rejected, and its transition is the message's
 pub delivered : (stored : Stored Definition) (working : Working Definition) (message : model.Message Definition) → refusal stored working (Deliver message) ≡ None
 unfolding refusal
 delivered stored working message = refl
@@ -89,7 +89,7 @@ pub row_delivered : (parts : Parts) (proposer : Proposer) (message : model.Messa
 unfolding row
 row_delivered parts proposer message = refl
 
--- ---- the acceptor's rows
+-- ---- the acceptor's transitions
 
 pub prepare_row : (id : ℕ) (parts : Parts) (proposer : Proposer) (s : ℕ) (b : Ballot) → id ≡ proposer.node →
     on_prepare id (stored_of parts) (working_of proposer) s b ≡ row_at parts proposer (Deliver (model.Prepare s b))
@@ -101,7 +101,7 @@ pub accept_row : (id : ℕ) (parts : Parts) (proposer : Proposer) (s : ℕ) (b :
 unfolding row on_message
 accept_row id parts proposer s b d same = ap (λ me. on_accept me (stored_of parts) (working_of proposer) s b d) same
 
--- the record of what the acceptor answers fits
+-- the record of the acceptor's answer fits
 pub answer_fits : (input : Input Definition) (given : Working Definition → Row Definition) (answer : Answer) (parts made : Parts) (proposer : Proposer) →
     RecordsFit Definition → IsForNext (stored_of parts) (working_of proposer) → keeping.IsRow given answer → given (working_of proposer) ≡ row_at parts proposer input → made ≡ parts →
     Fits (stored_of made) (option_map view answer.entry)
@@ -109,14 +109,14 @@ answer_fits input given answer parts made proposer fit for_next is_row is same =
     subst (λ p. Fits (stored_of p) (option_map view answer.entry)) (sym same)
     (row_fits parts proposer input (answered.row_of answer (working_of proposer)) fit for_next (is_row (working_of proposer) ∙ is))
 
--- a row that stores a record takes memory
+-- a transition that stores a record may allocate
 pub stored_takes : (input : Input Definition) (given : Working Definition → Row Definition) (parts : Parts) (proposer : Proposer) (hears : Bool) →
     keeping.Stores given → given (working_of proposer) ≡ row_at parts proposer input → TakesMemory (row_at parts proposer input) hears
 stored_takes input given parts proposer hears stores is =
     ByEntry (subst (λ r. IsSome r.entry) is (stores (working_of proposer)))
 
 module _ {T : Type 0} (honest : Type 0) (content : T → List ℕ) (images : T → List ℕ → Type 0) (failures : T → ℕ) where
-  -- what the acceptor answered is done
+  -- the acceptor's answer is made
   pub act_given : {A : Type 0} (input : Input Definition) (given : Working Definition → Row Definition) (answer : Answer) (journal journal_after : Journal T) (parts made parts_after : Parts) (proposer proposer_after : Proposer)
       (result : Result (Vec Message A) NodeFault) → refusal (stored_of parts) (working_of proposer) input ≡ None → keeping.IsRow given answer → given (working_of proposer) ≡ row_at parts proposer input → made ≡ parts →
       ((hears : Bool) → IsChange honest content images failures hears (answered.row_of answer (working_of proposer)) journal made proposer result journal_after parts_after proposer_after) →
@@ -137,7 +137,7 @@ module _ {T : Type 0} (honest : Type 0) (content : T → List ℕ) (images : T �
   proposer_refuses A input held_case.Memory journal parts proposer is running takes =
       act_short honest content images failures input journal parts parts proposer _ (sym is) running refl refl (takes refl)
 
-  -- what the proposer rejected is rejected, or memory was wanted
+  -- the proposer's rejection is returned, or allocation failed
   pub act_proposer_refuses : (A : Type 0) (input : Input Definition) (why : held.Refusal) (fault : NodeFault) (journal : Journal T) (parts : Parts) (proposer : Proposer) →
       fault ≡ fault_of why → refusal_of why ≡ refusal (stored_of parts) (working_of proposer) input → journal.halted ≡ false →
       (why ≡ held_case.Memory → TakesMemory (row_at parts proposer input) (hears_input proposer.nodes (working_of proposer) input)) →
@@ -150,7 +150,7 @@ module _ {T : Type 0} (honest : Type 0) (content : T → List ℕ) (images : T �
   error_or e (Ok x) = e
   error_or e (Err given) = given
 
-  -- an answer was heard, and there was no memory for it
+  -- an answer was counted, and allocation failed for it
   pub act_hears : (A B : Type 0) (input : Input Definition) (why : held.Refusal) (fault : NodeFault) (journal : Journal T) (parts : Parts) (proposer : Proposer) →
       fault ≡ fault_of why → refusal (stored_of parts) (working_of proposer) input ≡ None → journal.halted ≡ false →
       (hears_input proposer.nodes (working_of proposer) input ≡ true) × ◌≡◌ {A = Result B held.Refusal} (Err why) (Err held_case.Memory) →
@@ -159,7 +159,7 @@ module _ {T : Type 0} (honest : Type 0) (content : T → List ℕ) (images : T �
       act_short honest content images failures input journal parts parts proposer (Err fault) none running
       (ap Err (same ∙ ap fault_of (ap (error_or held_case.Memory) heard.1))) refl (ByHearing heard.0)
 
--- ---- rows and rejections of the other inputs
+-- ---- transitions and rejections of the other inputs
 
 pub catch_up_unrefused : (stored : Stored Definition) (working : Working Definition) → refusal stored working CatchUp ≡ None
 unfolding refusal

@@ -1,4 +1,4 @@
--- Records are folded one after the other, and where one doesn't fit there is no fold.
+-- Records are folded one after the other, and if one doesn't fit there is no fold.
 use Rattle.std.proofs.Common.{◌≡◌, ℕ, ◌+◌, ◌<◌, ◌^◌, true, false, List, [], ◌∷◌, ◌++◌, map, length, Some, None, if◌then◌else◌, refl, sym, ap, ◌∙◌, append_assoc, arith}
 use Rattle.std.proofs.lemmas.List.{append-nil, map-append}
 use Rattle.std.proofs.lemmas.Option.{none-some, same_Some}
@@ -13,7 +13,7 @@ use Rattle.wf_tape.specs.declared.opening.OpenFault.TheVariants.{TapeFailed, Bad
 use Rattle.wf_node.specs.Opening.{IsUnfitAt, IsTaken, IsWhyRefused, IsWhyUnfolded}
 use Rattle.wf_node.proofs.Folding.{fold_more}
 
--- What is stored of the records that are taken, where the next one stands, and those that are left.
+-- The fold of the records applied so far, the byte offset of the next one, and those that remain.
 pub record HasTaken (stored : Stored Definition) (place : ℕ) (taken left all : List code.Record) : Type 0 where
   pub folds : fold (map view taken) ≡ Some stored
   pub stands : length_of (map view taken) ≡ place
@@ -36,7 +36,7 @@ length_of-first : (r : Record Definition) (rest : List (Record Definition)) → 
 unfolding length_of
 length_of-first r rest = refl
 
--- One record more is taken.
+-- One more record is applied.
 pub taken_more : (old new : Stored Definition) (place next : ℕ) (taken left rest all : List code.Record) (entry : code.Record) → HasTaken old place taken left all → left ≡ entry ∷ rest →
     IsTaken old (view entry) place new next → HasTaken new next (taken ++ entry ∷ []) rest all
 taken_more old new place next taken left rest all entry has is one =
@@ -47,19 +47,19 @@ taken_more old new place next taken left rest all entry has is one =
       parts = append_assoc taken (entry ∷ []) rest ∙ ap (λ (t : List code.Record). taken ++ t) (sym is) ∙ has.parts;
     }
 
--- All are taken.
+-- All are applied.
 pub all_taken : (stored : Stored Definition) (place : ℕ) (taken left all : List code.Record) → HasTaken stored place taken left all → left ≡ [] → fold (map view all) ≡ Some stored
 all_taken stored place taken left all has none =
     let whole : taken ≡ all = sym (append-nil taken) ∙ ap (λ (t : List code.Record). taken ++ t) (sym none) ∙ has.parts in
     ap (λ (t : List code.Record). fold (map view t)) (sym whole) ∙ has.folds
 
--- the records, parted before the next one
+-- the records, split before the next one
 parted : (stored : Stored Definition) (place : ℕ) (taken left rest all : List code.Record) (entry : code.Record) → HasTaken stored place taken left all → left ≡ entry ∷ rest →
     map view all ≡ map view taken ++ view entry ∷ map view rest
 parted stored place taken left rest all entry has is =
     ap (map view) (sym has.parts ∙ ap (λ (t : List code.Record). taken ++ t) is) ∙ map-append view taken (entry ∷ rest)
 
--- The place behind the next record is a number of the machine, where the length of all is.
+-- The byte offset after the next record is below 2 ^ 64 if the length of all is.
 pub room_there : (stored : Stored Definition) (place : ℕ) (taken left rest all : List code.Record) (entry : code.Record) → HasTaken stored place taken left all → left ≡ entry ∷ rest →
     length_of (map view all) < 2 ^ 64 → place + length (spelling (view entry)) < 2 ^ 64
 room_there stored place taken left rest all entry has is short =
@@ -71,7 +71,7 @@ room_there stored place taken left rest all entry has is short =
       length_of-first (view entry) (map view rest),
     )
 
--- Where one isn't taken, the records aren't folded.
+-- If one isn't applied, the records aren't folded.
 pub why_unfolded : (stored : Stored Definition) (place : ℕ) (taken left rest all : List code.Record) (entry : code.Record) (fault : OpenFault) → HasTaken stored place taken left all →
     left ≡ entry ∷ rest → IsWhyRefused stored (view entry) place fault → IsWhyUnfolded (map view all) fault
 why_unfolded stored place taken left rest all entry TapeFailed has is why = why
@@ -102,7 +102,7 @@ stops_from start stored (x ∷ before) after r folds no_fit =
       | false ↦ λ e. absurd (none-some stored e)
     ] folds
 
--- Where a record doesn't fit, there is no fold.
+-- If a record doesn't fit, there is no fold.
 pub none_where_unfit : (records : List (Record Definition)) (place : ℕ) → IsUnfitAt records place → fold records ≡ None
 unfolding fold
 none_where_unfit records place unfit = ap (fold_from nothing_stored) unfit.parts ∙ stops_from nothing_stored unfit.stored unfit.before unfit.after unfit.unfit unfit.folds unfit.no_fit

@@ -1,4 +1,4 @@
--- One record more at the end of a list is folded last.
+-- A record appended to a list is folded last.
 use Rattle.std.proofs.Common.{◌≡◌, ◌⊎◌, ℕ, Bool, true, false, List, [], ◌∷◌, ◌++◌, Some, None, if◌then◌else◌, refl, sym, subst, inl, inr}
 use Rattle.std.proofs.lemmas.Option.{none-some, same_Some}
 use Rattle.wf_def.specs.Definition.{Definition}
@@ -59,7 +59,7 @@ torn_at r old new follows stored fit stands image is =
     let earlier = follows image is in
     stands_either stored r earlier.0 image earlier.2 fit (stands earlier.0 earlier.1)
 
--- where nothing is written, nothing changes
+-- if nothing is written, nothing changes
 pub stored_none : (images : List ℕ → Type 0) → IsStoredBy None images images
 unfolding store
 stored_none images stored fit stands = stands

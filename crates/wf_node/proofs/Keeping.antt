@@ -1,4 +1,4 @@
--- What is kept of a node's records is what the fold makes of them.
+-- The stored part in memory is the fold of the node's records.
 use Rattle.std.proofs.Common.{◌≡◌, ℕ, ◌+◌, nat_eq, nat_le, nat_lt, Bool, true, false, List, length, Option, Some, None, Result, Ok, Err, IfOk, IsOk, OnOk, OnErr, IfSome, option_map, if◌then◌else◌, [], ◌∷◌, refl, sym, ap, ◌∙◌, subst, arith, eqb-true}
 use Rattle.std.proofs.lemmas.Bool.{false≢true}
 use Rattle.std.specs.Prelude.{⊤}
@@ -21,16 +21,16 @@ use Rattle.wf_acceptor.specs.declared.answer.Answer.{Answer}
 use Rattle.wf_node.specs.Parts.{Parts, stored_of}
 use Rattle.wf_node.specs.Kept.{IsRow, Stores, IsRoomFor, tried_after, definitions_after}
 
--- what is kept, of a tried round, an acceptor's part and a history
+-- the stored part, of a tried round, an acceptor's part and a history
 abbrev pub parts_of : ℕ → Part → List Definition → Parts
 parts_of tried part definitions = record { tried = tried; promises = part.promises; votes = part.votes; history = definitions }
 
--- The acceptor acts for what is kept.
+-- The acceptor's part agrees with the stored part.
 pub acts_for_kept : (tried : ℕ) (part : Part) (definitions : List Definition) → part.published ≡ length definitions → ActsFor part (stored_of (parts_of tried part definitions))
 unfolding published
 acts_for_kept tried part definitions as_many = record { promises = refl; votes = refl; published = sym as_many }
 
--- What the acceptor acts for is what is kept, where tried round and history are the same.
+-- A stored state with which the acceptor's part agrees, and with the same tried round and history, is the stored part.
 pub kept_is : (tried : ℕ) (part : Part) (definitions : List Definition) (stored : Stored Definition) → tried ≡ stored.tried → ActsFor part stored → definitions ≡ stored.history →
     stored_of (parts_of tried part definitions) ≡ stored
 kept_is tried part definitions stored same_tried acts same_history =
@@ -38,7 +38,7 @@ kept_is tried part definitions stored same_tried acts same_history =
 
 -- ---- applying a record
 
--- Only a tried round is a new round.
+-- Only a tried round's record changes the round.
 tried_is : (stored : Stored Definition) (r : Record) → tried_after stored.tried r ≡ (with_record stored (view r)).tried
 unfolding with_record
 tried_is stored (Tried round) = refl
@@ -50,7 +50,7 @@ tried_is stored (Accepted s b d) =
     stored.tried ≡ (if v then record stored { promises = put stored.promises s (Some b); votes = put stored.votes s (Some vote) } else stored).tried) [ true ↦ refl | false ↦ refl ]
 tried_is stored (Published s d) = refl
 
--- Only a published definition is one more.
+-- Only a published definition's record adds to the history.
 history_is : (stored : Stored Definition) (r : Record) → fits stored (view r) ≡ true → definitions_after stored.history r ≡ (with_record stored (view r)).history
 unfolding with_record fits next_sequence published
 history_is stored (Tried round) fit = refl
@@ -62,12 +62,12 @@ history_is stored (Accepted s b d) fit =
     stored.history ≡ (if v then record stored { promises = put stored.promises s (Some b); votes = put stored.votes s (Some vote) } else stored).history) [ true ↦ refl | false ↦ refl ]
 history_is stored (Published s d) fit = rw fit refl
 
--- whether a published definition comes in its turn
+-- whether a published definition is the next one
 pub fits_in_turn : (stored : Stored Definition) (r : Record) (s n number : ℕ) (d : Definition) → r ≡ Published s d → number ≡ s → n ≡ length stored.history → nat_eq number (n + 1) ≡ fits stored (view r)
 unfolding fits next_sequence published
 fits_in_turn stored r s n number d is same_number as_many = rw (is, same_number, as_many) refl
 
--- A record that fits is one that the acceptor may be told.
+-- A record that fits is one that the acceptor may apply.
 pub next_where_fits : (tried : ℕ) (part : Part) (definitions : List Definition) (r : Record) → part.published ≡ length definitions →
     fits (stored_of (parts_of tried part definitions)) (view r) ≡ true → IsNext part r
 unfolding fits next_sequence published
@@ -76,12 +76,12 @@ next_where_fits tried part definitions (Promised s b) as_many fit = tt
 next_where_fits tried part definitions (Accepted s b d) as_many fit = tt
 next_where_fits tried part definitions (Published s d) as_many fit = omega (arith, eqb-true s (length definitions + 1) fit)
 
--- The acceptor after the record acts for what is stored then.
+-- The acceptor after the record agrees with the state after it.
 acts_after : (tried : ℕ) (old new : Part) (definitions : List Definition) (r : Record) → old.published ≡ length definitions → Applies old new (view r) →
     ActsFor new (with_record (stored_of (parts_of tried old definitions)) (view r))
 acts_after tried old new definitions r as_many applies = applies (stored_of (parts_of tried old definitions)) (acts_for_kept tried old definitions as_many)
 
--- so what is kept after it is what the fold makes of it
+-- so the stored part after it is the fold's
 pub applied : (tried new_tried : ℕ) (old new : Part) (definitions new_definitions : List Definition) (r : Record) → old.published ≡ length definitions →
     fits (stored_of (parts_of tried old definitions)) (view r) ≡ true → Applies old new (view r) → new_tried ≡ tried_after tried r → new_definitions ≡ definitions_after definitions r →
     stored_of (parts_of new_tried new new_definitions) ≡ with_record (stored_of (parts_of tried old definitions)) (view r)
@@ -90,7 +90,7 @@ applied tried new_tried old new definitions new_definitions r as_many fit applie
     kept_is new_tried new new_definitions (with_record stored (view r)) (is_tried ∙ tried_is stored r) (acts_after tried old new definitions r as_many applies)
     (are_definitions ∙ history_is stored r fit)
 
--- and the acceptor knows how many definitions are published then
+-- and the acceptor has the number of definitions published then
 pub as_many_after : (tried : ℕ) (old new : Part) (definitions new_definitions : List Definition) (r : Record) → old.published ≡ length definitions →
     fits (stored_of (parts_of tried old definitions)) (view r) ≡ true → Applies old new (view r) → new_definitions ≡ definitions_after definitions r →
     new.published ≡ length new_definitions
@@ -99,14 +99,14 @@ as_many_after tried old new definitions new_definitions r as_many fit applies ar
     let stored : Stored Definition = stored_of (parts_of tried old definitions) in
     sym ((acts_after tried old new definitions r as_many applies).published) ∙ ap (λ (ds : List Definition). length ds) (sym (are_definitions ∙ history_is stored r fit))
 
--- Where there is room for the record, there is in the acceptor.
+-- If there is room for the record, there is room in the acceptor.
 pub room_in_acceptor : (a : acceptor.Acceptor) (has_room : Bool) (r : Record) → IsRoomFor a.prepared has_room r → acceptor.HasRoomFor a r
 room_in_acceptor a has_room (Tried round) room = tt
 room_in_acceptor a has_room (Promised s b) room = room
 room_in_acceptor a has_room (Accepted s b d) room = room
 room_in_acceptor a has_room (Published s d) room = tt
 
--- A record for which there is room is applied, and the node's stored part is that with the record.
+-- A record for which there is room is applied, and the node's stored part includes it.
 pub applied_entry : {A E : Type 0} (result : Result A E) (stored new : Stored Definition) (entry : Option Record) (r : Record) → entry ≡ Some r → IsOk result →
     OnOk result (new ≡ with_record stored (view r)) → new ≡ store stored (option_map view entry)
 unfolding store
@@ -180,7 +180,7 @@ accept_publishes_nothing me stored s b d working =
       | false ↦ accept_open_publishes_nothing me stored working s b d (promise_at stored s)
     ]
 
--- So where the acceptor has room for an answer's record, there is room for it.
+-- So if the acceptor has room for an answer's record, there is room for it.
 entry_has_room : (a : acceptor.Acceptor) (has_room : Bool) (entry : Option Record) → PublishesNothing (option_map view entry) → IfSome entry (acceptor.HasRoomFor a) →
     IfSome entry (IsRoomFor a.prepared has_room)
 entry_has_room a has_room None nothing room = tt

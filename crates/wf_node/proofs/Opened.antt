@@ -1,4 +1,4 @@
--- What a tape that was read stands for, and why a node doesn't open with it.
+-- The stored part of a tape that was read, and why a node doesn't open with it.
 use Rattle.std.proofs.Common.{◌≡◌, ℕ, ◌≤◌, List, Some, drop, subst, ◌∙◌, inl, inr, arith}
 use Rattle.std.proofs.lemmas.Bool.{cases_lt}
 use Rattle.wf_def.specs.Definition.{Definition}
@@ -12,13 +12,13 @@ use Rattle.wf_node.specs.Images.{AllStandFor}
 use Rattle.wf_node.specs.Opening.{IsFoldOf, HasNoFold, IsWhyBad, IsWhyUnfolded}
 use Rattle.wf_node.proofs.Folded.{none_where_unfit}
 
--- What was read is the tape's content: its records fold to what is kept of them.
+-- The tape's content was read: its records fold to the stored part.
 pub fold_of : (bytes content : List ℕ) (records : List (Record Definition)) (n : ℕ) (stored : Stored Definition) → HasRead bytes records n → bytes ≡ content → fold records ≡ Some stored →
     IsFoldOf stored content
 fold_of bytes content records n stored read same folds =
     subst (λ (t : List ℕ). IsFoldOf stored t) same (record { records = records; rest = drop n bytes; tape = read.is_tape; folds = folds })
 
--- What reads as records stands for what these fold to.
+-- Images that read as records stand for the fold of these.
 pub stands_all : (images : List ℕ → Type 0) (records : List (Record Definition)) (stored : Stored Definition) → AllReadAs images records → fold records ≡ Some stored → AllStandFor stored images
 stands_all images records stored reads folds image left = record { records = records; reads = reads image left; folds = folds }
 
@@ -42,7 +42,7 @@ bad_settle TapeFailed content good = tt
 bad_settle (BadRecord place) content good = absurd good
 bad_settle Memory content good = tt
 
--- ---- the tape was read first: what is so after it is so of the tape from before
+-- ---- the tape was read first: what holds after it holds of the tape from before
 
 pub same_before : (old new : List ℕ → Type 0) → LeavesNoOther old new → Follows ReadsSame old new
 same_before old new no_other image left = (image, no_other image left, λ records reads. reads)

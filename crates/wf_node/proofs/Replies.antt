@@ -1,4 +1,4 @@
--- An input that is only answered, and a row that stores its record.
+-- An input that only sends messages, and a transition that stores its record.
 use Rattle.std.proofs.Common.{◌≡◌, ℕ, Bool, true, false, List, map, Option, Some, None, option_map, Result, Ok, Err, IsSome, Vec, refl, sym, subst, ap, ◌∙◌}
 use Rattle.std.proofs.lemmas.Option.{none-some}
 use Rattle.wf_codec.specs.Message as message
@@ -35,7 +35,7 @@ module _ {T : Type 0} (honest : Type 0) (content : T → List ℕ) (images : T �
   pub spared : (journal : Journal T) → journal.halted ≡ false → IsSpared honest content images failures journal journal
   spared journal running = record { running = running; same = λ h. unchanged (content journal.tape) (images journal.tape) }
 
-  -- The row stores nothing and leaves the working part: its messages are all there is to it.
+  -- The transition stores nothing and leaves the working part unchanged: it only sends messages.
   pub reply_changes : {A : Type 0} (hears : Bool) (the_row : Row Definition) (journal : Journal T) (parts : Parts) (proposer : Proposer) (result : Result (Vec Message A) NodeFault) →
       journal.halted ≡ false → the_row.entry ≡ None → the_row.working ≡ working_of proposer → IsReply the_row.messages result →
       IsChange honest content images failures hears the_row journal parts proposer result journal parts proposer
@@ -59,7 +59,7 @@ module _ {T : Type 0} (honest : Type 0) (content : T → List ℕ) (images : T �
   reply_changes hears the_row journal parts proposer (Err Nothing) running entry working reply = absurd reply
   reply_changes hears the_row journal parts proposer (Err Halted) running entry working reply = absurd reply
 
-  -- a row that says these messages
+  -- a transition that sends these messages
   pub says_changes : {A : Type 0} (hears : Bool) (the_row : Row Definition) (messages : List (model.Message Definition)) (journal : Journal T) (parts : Parts) (proposer : Proposer) (result : Result (Vec Message A) NodeFault) →
       journal.halted ≡ false → the_row ≡ says (working_of proposer) messages → IsReply messages result →
       IsChange honest content images failures hears the_row journal parts proposer result journal parts proposer
@@ -68,7 +68,7 @@ module _ {T : Type 0} (honest : Type 0) (content : T → List ℕ) (images : T �
       subst (λ r. IsChange honest content images failures hears r journal parts proposer result journal parts proposer) (sym is)
       (reply_changes hears (says (working_of proposer) messages) journal parts proposer result running refl refl reply)
 
-  -- Allocation failure leaves the parts as they were.
+  -- Allocation failure leaves the parts unchanged.
   pub memory_changes : {A : Type 0} (hears : Bool) (the_row : Row Definition) (journal : Journal T) (parts parts_after : Parts) (proposer : Proposer) (result : Result (Vec Message A) NodeFault) →
       result ≡ Err Memory → journal.halted ≡ false → parts_after ≡ parts → TakesMemory the_row hears →
       IsChange honest content images failures hears the_row journal parts proposer result journal parts_after proposer
@@ -76,7 +76,7 @@ module _ {T : Type 0} (honest : Type 0) (content : T → List ℕ) (images : T �
       subst (λ r. IsChange honest content images failures hears the_row journal parts proposer r journal parts_after proposer) (sym short)
       (spared journal running, record { parts = same; proposer = refl }, takes)
 
-  -- What the row is, is what was done.
+  -- A change by one transition is a change by an equal one.
   pub change_as : {A : Type 0} (hears : Bool) (given wanted : Row Definition) (journal journal_after : Journal T) (parts parts_after : Parts) (proposer proposer_after : Proposer)
       (result : Result (Vec Message A) NodeFault) → given ≡ wanted →
       IsChange honest content images failures hears given journal parts proposer result journal_after parts_after proposer_after →
@@ -96,7 +96,7 @@ module _ {T : Type 0} (honest : Type 0) (content : T → List ℕ) (images : T �
   entry_taken None some = absurd (some refl)
   entry_taken (Some r) some = refl
 
-  -- Where writing the record fails, the parts stay as they were.
+  -- If writing the record fails, the parts are unchanged.
   pub write_fails : (A B : Type 0) (hears : Bool) (the_row : Row Definition) (journal journal_after : Journal T) (parts parts_after : Parts) (proposer : Proposer)
       (fault : NodeFault) → parts_after ≡ parts → IsWrite honest content images failures {A = B} the_row.entry journal (Err fault) journal_after →
       IsChange honest content images failures {A = A} hears the_row journal parts proposer (Err fault) journal_after parts_after proposer
@@ -109,7 +109,7 @@ module _ {T : Type 0} (honest : Type 0) (content : T → List ℕ) (images : T �
   write_fails A B hears the_row journal journal_after parts parts_after proposer Nothing same write = absurd write
   write_fails A B hears the_row journal journal_after parts parts_after proposer Halted same write = absurd write
 
-  -- One record more is on the tape, or is there or not.
+  -- One more record is on the tape, or it is there or not.
   pub written : (r : Record Definition) (journal journal_after : Journal T) → journal_after.halted ≡ false →
       (honest → Follows (ReadsOneMore r) (images journal.tape) (images journal_after.tape)) → IsWritten honest content images failures (Some r) journal journal_after
   written r journal journal_after running more = record {
@@ -131,7 +131,7 @@ module _ {T : Type 0} (honest : Type 0) (content : T → List ℕ) (images : T �
       IsSpared honest content images failures journal journal_after × (Some r ≡ None → ⊥)
   spared_some r journal journal_after running same = (record { running = running; same = same }, λ e. none-some r (sym e))
 
-  -- the proposer's answer is committed, and its record applied
+  -- the proposer's result is committed, and its record applied
   pub performed : {A : Type 0} (hears : Bool) (next : Next) (journal journal_after : Journal T) (parts made parts_after : Parts) (proposer proposer_after : Proposer) (entry : Option tape.Record) (messages : Vec Message A) →
       IsWritten honest content images failures (option_map view next.entry) journal journal_after → made ≡ parts → entry ≡ next.entry →
       stored_of parts_after ≡ store (stored_of made) (option_map view entry) →

@@ -1,4 +1,4 @@
--- Which record a row can have, and which rows send something.
+-- Which record a transition can have, and which transitions send something.
 use Rattle.std.proofs.Common.{◌≡◌, ℕ, max, zero, suc, ◌+◌, ◌≤◌, ◌<◌, true, false, nat_le, nat_lt, ◌==◌, List, [], ◌∷◌, ◌++◌, length, slice_get, Option, Some, None, IsSome, if◌then◌else◌, refl, sym, subst, ap, ◌∙◌, arith, inl, inr}
 use Rattle.std.proofs.lemmas.Bool.{cases_lt, false≢true, true≢false, eq-eqb, ne_eqb, lt-ltb, le-ltb}
 use Rattle.std.proofs.lemmas.Option.{none-some}
@@ -88,7 +88,7 @@ retry_own me stored (Running proposal) = tt
 retry_own me stored (Won s) = tt
 retry_own me stored (Overtaken s) = tt
 
--- ---- published definitions are told
+-- ---- published definitions are sent
 
 definition_there : (history : List Definition) (k : ℕ) → k < length history → slice_get history k ≡ None → ⊥
 definition_there [] k low none = omega (arith, low)
@@ -113,7 +113,7 @@ pub ask_told : (history : List Definition) (s : ℕ) → 1 ≤ s → s ≤ lengt
 unfolding told_from
 ask_told history s from to nothing = told_something history s from to (front_nothing (told history s) (told_from history (suc s) 7) nothing)
 
--- ---- rows that only tell
+-- ---- transitions that only send messages
 
 pub prepare_told : (me : ℕ) (stored : Stored Definition) (working : Working Definition) (s : ℕ) (b : Ballot) → nat_le s (length stored.history) ≡ true →
     on_prepare me stored working s b ≡ says working (told stored.history s)
@@ -137,7 +137,7 @@ ends_at_next stored (Running proposal) s d for_next is =
 ends_at_next stored (Won t) s d for_next is = refl
 ends_at_next stored (Overtaken t) s d for_next is = refl
 
--- ---- what is asked for
+-- ---- the question for the next definition
 
 pub catch_up_asks : (stored : Stored Definition) (working : Working Definition) (s : ℕ) → length stored.history < last_sequence → s ≡ length stored.history + 1 →
     on_catch_up stored working ≡ says working (Ask s ∷ [])
@@ -149,7 +149,7 @@ pub catch_up_rests : (stored : Stored Definition) (working : Working Definition)
 unfolding on_catch_up published says quiet
 catch_up_rests stored working full = rw (le-ltb (length stored.history) last_sequence (omega (arith, full))) refl
 
--- ---- a second try
+-- ---- a retry
 
 pub retry_stores : (me : ℕ) (stored : Stored Definition) (working : Working Definition) → refuse_retry stored working ≡ None → IsSome (on_retry me stored working).entry
 unfolding refuse_retry on_retry begin_at stores
@@ -160,7 +160,7 @@ retry_stores me stored (Overtaken s) allowed = absurd (none-some _ (sym allowed)
 
 -- ---- a definition that is chosen
 
--- what the row is where its sequence is the next
+-- the transition if its sequence is the next
 abbrev pub publishing : Working Definition → ℕ → Definition → Row Definition
 publishing working s d = record { entry = Some (stored_part.Published s d); messages = []; working = ends definition_eq working d }
 
@@ -185,14 +185,14 @@ chosen_known stored working s d known =
     let below : nat_lt (length stored.history + 1) s ≡ false = le-ltb (length stored.history + 1) s (omega (arith, known)) in
     rw (differs, below) refl
 
--- at most, and not the same
+-- at most, and not equal
 pub below_else : (a b : ℕ) → (a ≡ b → ⊥) → a ≤ b → a < b
 below_else a b differs most = elim (cases_lt a b) as (λ x. a < b) [
   | inl less ↦ less
   | inr more ↦ absurd (differs (omega (arith, most, more)))
 ]
 
--- where all sequences are published, each one is
+-- if all sequences are published, each one is
 pub within_all : (s n : ℕ) → s ≤ last_sequence → (n < last_sequence → ⊥) → s < n + 1
 within_all s n to all = omega (arith, to, all)
 
@@ -217,7 +217,7 @@ full stored (Running proposal) is last = absurd (true≢false is)
 full stored (Won s) is last = rw last refl
 full stored (Overtaken s) is last = rw last refl
 
--- what a proposer is told of the stored part
+-- the stored state has the round and the sequence that a proposer is given
 pub has_stored : (stored : Stored Definition) (tried sequence : ℕ) → tried ≡ stored.tried → sequence ≡ length stored.history → HasStored stored tried sequence
 unfolding published
 has_stored stored tried sequence same up_to = record { tried = sym same; up_to = sym up_to }

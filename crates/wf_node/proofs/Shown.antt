@@ -1,4 +1,4 @@
--- What a node shows of its proposer is the same working part of the farm's model.
+-- The model of a node's proposer maps to the same working part of wf_model.
 use Rattle.std.proofs.Common.{◌≡◌, ℕ, List, refl, ap}
 use Rattle.std.proofs.Math.Path.{fun_ext}
 use Rattle.std.specs.Ordering.{nat_cmp}

@@ -1,4 +1,4 @@
--- What the parts of a node do is the node's step.
+-- The step of a node's parts is the node's step.
 use Rattle.std.proofs.Common.{◌≡◌, ℕ, Bool, false, List, Some, None, Result, Ok, Err, IfOk, IfErr, OnOk, IsSome, Vec, refl, sym, subst, ap, ◌∙◌, arith}
 use Rattle.std.proofs.lemmas.Bool.{false≢true}
 use Rattle.std.proofs.lemmas.Option.{none-some}
@@ -21,7 +21,7 @@ use Rattle.wf_node.specs.Parts.{Parts, stored_of}
 use Rattle.wf_node.specs.Step.{IsSameNode, IsStep, row_of, refusal_at, TakesMemory}
 use Rattle.wf_node.proofs.Shown.{working_shown}
 
--- The working part that a node shows is its proposer's, so the table's row and rejection are the same for both.
+-- The working part of a node's model is its proposer's, so the table's transition and rejection are the same for both.
 abbrev proposer_row : Proposer → Parts → Input Definition → Row Definition
 proposer_row proposer parts input = row definition_eq proposer.nodes proposer.node (stored_of parts) (working_of proposer) input
 
@@ -65,7 +65,7 @@ module _ {T : Type 0} (honest : Type 0) (content : T → List ℕ) (images : T �
   if_err (Ok x) P all = tt
   if_err (Err fault) P all = all fault
 
-  -- a rejection is none of the row
+  -- a rejection isn't a transition
   refused_if_ok : {A : Type 0} (result : Result A NodeFault) (why : Refusal) (P : A → Type 0) → refused_by result ≡ Some why → IfOk result P
   refused_if_ok (Ok x) why P is = absurd (none-some why is)
   refused_if_ok (Err fault) why P is = tt
@@ -163,7 +163,7 @@ module _ {T : Type 0} (honest : Type 0) (content : T → List ℕ) (images : T �
     torn = λ h e. absurd (refused_is result why TapeFailed answered refl e);
   }
 
-  -- What was done or rejected is the node's step.
+  -- What the parts did or rejected is the node's step.
   pub act_steps : {A : Type 0} (journal journal_after : Journal T) (kept kept_after : Kept) (proposer proposer_after : Proposer) (input : Input Definition) (result : Result (Vec Message A) NodeFault) →
       IsNode honest images journal kept proposer → journal.halted ≡ false → RecordsFit Definition →
       IsAct honest content images failures input journal kept.parts proposer result journal_after kept_after.parts proposer_after →
@@ -215,7 +215,7 @@ module _ {T : Type 0} (honest : Type 0) (content : T → List ℕ) (images : T �
         (subst (λ parts. honest → journal.halted ≡ false → AllStandFor (stored_of parts) (images journal.tape)) (sym same.parts) is.stands);
   }
 
-  -- What is true of each node is true of it after the step.
+  -- The invariant of nodes holds after the step.
   pub act_keeps : {A : Type 0} (journal journal_after : Journal T) (kept kept_after : Kept) (proposer proposer_after : Proposer) (input : Input Definition) (result : Result (Vec Message A) NodeFault) →
       IsNode honest images journal kept proposer → journal.halted ≡ false → RecordsFit Definition → kept_after.id ≡ kept.id →
       IsAct honest content images failures input journal kept.parts proposer result journal_after kept_after.parts proposer_after →

@@ -1,4 +1,4 @@
--- What acting on an input does to the parts of a node.
+-- The effect of an input on the parts of a node.
 use Rattle.std.specs.Prelude.{◌≡◌, ℕ, Bool, true, false, ⊤, List, [], map, Option, Some, None, Result, Ok, Err, Vec, if◌then◌else◌}
 use Rattle.wf_codec.specs.Message as message
 use Rattle.wf_codec.specs.declared.message.Message.{Message}
@@ -23,15 +23,15 @@ use Rattle.wf_node.specs.Parts.{Parts, stored_of}
 use Rattle.wf_node.specs.Memory.{TakesMemory, hears_input}
 use Rattle.wf_node.specs.Storing.{IsWritten, IsSpared, IsBroken}
 
--- The parts of a node that may act: its journal runs, what it keeps and its proposer are one node's, a running proposal is for the next
--- sequence, and, as the model's law says, each row's record fits then.
+-- The parts of a node that may act: its journal runs, its stored part and its proposer are of the same node, a running proposal
+-- is for the next sequence, and, as wf_model's theorem says, each transition's record fits then.
 pub record IsReady {T : Type 0} (journal : Journal T) (kept : Kept) (proposer : Proposer) : Type 0 where
   pub running : journal.halted ≡ false
   pub same_node : kept.id ≡ proposer.node
   pub for_next : IsForNext (keeping.stored_of kept) (working_of proposer)
   pub fits : RecordsFit Definition
 
--- The messages, or allocation failure for them: where there are some.
+-- The messages, or allocation failure, which is possible only if there are some.
 abbrev pub IsReply : {A : Type 0} → List (model.Message Definition) → Result (Vec Message A) NodeFault → Type 0
 IsReply messages (Ok given) = map message.view given.items ≡ messages
 IsReply messages (Err Memory) = messages ≡ [] → ⊥
@@ -49,7 +49,7 @@ runs (model_working.Running proposal) = true
 runs (model_working.Won s) = false
 runs (model_working.Overtaken s) = false
 
--- an entry that a proposer may answer with, or none
+-- a record that a proposer may store, or none
 abbrev pub IsOwn : Option (Record Definition) → Type 0
 IsOwn None = ⊤
 IsOwn (Some (model_stored.Tried round)) = ⊤
@@ -57,20 +57,20 @@ IsOwn (Some (model_stored.Promised s b)) = ⊥
 IsOwn (Some (model_stored.Accepted s b d)) = ⊥
 IsOwn (Some (model_stored.Published s d)) = ⊤
 
--- A definition is published at the slot: a proposal that runs for the slot ends.
+-- A definition is published at the slot: a running proposal for the slot ends.
 pub record IsEndedAt (s : ℕ) (d : Definition) (before after : Proposer) : Type 0 where
   pub node : after.node ≡ before.node
   pub nodes : after.nodes ≡ before.nodes
   pub working : working_of after ≡ (if runs_for s (working_of before) then ends definition_eq (working_of before) d else working_of before)
 
--- what the record of a published definition does to a proposer
+-- the effect of a published definition's record on a proposer
 abbrev pub IsEnded : tape.Record → Proposer → Proposer → Type 0
 IsEnded (tape_case.Tried round) before after = after ≡ before
 IsEnded (tape_case.Promised s b) before after = after ≡ before
 IsEnded (tape_case.Accepted s b d) before after = after ≡ before
 IsEnded (tape_case.Published s d) before after = IsEndedAt s d before after
 
--- the row is done by the stored part, the proposer and the messages
+-- the stored part, the proposer and the messages are those of the transition
 pub record IsRowOf (the_row : Row Definition) (old new : Parts) (before after : Proposer) (sent : List Message) : Type 0 where
   pub stored : stored_of new ≡ store (stored_of old) the_row.entry
   pub node : after.node ≡ before.node
@@ -78,13 +78,13 @@ pub record IsRowOf (the_row : Row Definition) (old new : Parts) (before after : 
   pub working : working_of after ≡ the_row.working
   pub messages : map message.view sent ≡ the_row.messages
 
--- the stored part and the proposer are as they were
+-- the stored part and the proposer are unchanged
 pub record IsSame (old new : Parts) (before after : Proposer) : Type 0 where
   pub parts : new ≡ old
   pub proposer : after ≡ before
 
 module _ {T : Type 0} (honest : Type 0) (content : T → List ℕ) (images : T → List ℕ → Type 0) (failures : T → ℕ) where
-  -- The row is done, or a fault leaves the parts as they were. `hears` says whether an answer is heard.
+  -- The transition is made, or an error leaves the parts unchanged. `hears` says whether an answer is counted.
   abbrev pub IsChange : {A : Type 0} → Bool → Row Definition → Journal T → Parts → Proposer → Result (Vec Message A) NodeFault → Journal T → Parts → Proposer → Type 0
   IsChange hears the_row journal parts proposer (Ok messages) journal_after parts_after proposer_after =
       IsWritten honest content images failures the_row.entry journal journal_after × IsRowOf the_row parts parts_after proposer proposer_after messages.items
@@ -98,14 +98,14 @@ module _ {T : Type 0} (honest : Type 0) (content : T → List ℕ) (images : T �
   IsChange hears the_row journal parts proposer (Err Nothing) journal_after parts_after proposer_after = ⊥
   IsChange hears the_row journal parts proposer (Err Halted) journal_after parts_after proposer_after = ⊥
 
-  -- Where the table rejects, that rejection is answered, and the parts are as they were; else the row is done or fails.
+  -- If the table rejects the input, that rejection is returned and the parts are unchanged; else the transition is made or fails.
   abbrev pub IsRefusedOr : {A : Type 0} → Option Refusal → Bool → Row Definition → Journal T → Parts → Proposer → Result (Vec Message A) NodeFault → Journal T → Parts → Proposer → Type 0
   IsRefusedOr None hears the_row journal parts proposer result journal_after parts_after proposer_after =
       IsChange hears the_row journal parts proposer result journal_after parts_after proposer_after
   IsRefusedOr (Some why) hears the_row journal parts proposer result journal_after parts_after proposer_after =
       (refused_by result ≡ Some why) × (journal_after ≡ journal) × IsSame parts parts_after proposer proposer_after
 
-  -- what the input asks for is done
+  -- the input's step at these parts
   abbrev pub IsAct : {A : Type 0} → Input Definition → Journal T → Parts → Proposer → Result (Vec Message A) NodeFault → Journal T → Parts → Proposer → Type 0
   IsAct input journal parts proposer result journal_after parts_after proposer_after =
       IsRefusedOr (refusal (stored_of parts) (working_of proposer) input) (hears_input proposer.nodes (working_of proposer) input)

@@ -10,7 +10,7 @@ use Rattle.wf_node.specs.Node.{Node, stored_of}
 use Rattle.wf_node.specs.Step.{IsRow, IsSameNode, IsStep}
 use Rattle.wf_node.specs.declared.fault.NodeFault.{NodeFault}
 
--- the list is there still, and there may be more behind it
+-- the new list is the old one, followed by more or nothing
 pub record IsGrown (old new : List Definition) : Type 0 where
   pub more : List Definition
   pub is : old ++ more ≡ new
@@ -55,7 +55,7 @@ module _ {T : Type 0} (before after : Node T) where
   pub row_grown : (row : Row Definition) (sent : List Message) → IsRow before row sent after → IsGrown before.parts.history after.parts.history
   row_grown row sent is = subst (λ (s : Stored Definition). IsGrown before.parts.history s.history) (sym is.stored) (store_grown (stored_of before) row.entry)
 
-  -- a node that is as it was but for its tape
+  -- a node that is unchanged except for its tape
   pub same_grown : IsSameNode before after → IsGrown before.parts.history after.parts.history
   same_grown same = subst (IsGrown before.parts.history) (sym (ap (λ (n : Node T). n.parts.history) same)) (grown_itself before.parts.history)
 

@@ -1,4 +1,4 @@
--- What the images of a tape stand for.
+-- Images of a tape and the stored parts that they stand for.
 use Rattle.std.specs.Prelude.{◌≡◌, ◌⊎◌, ℕ, List, Some}
 use Rattle.wf_def.specs.Definition.{Definition}
 use Rattle.wf_model.specs.Stored.{Stored, Record, fold}
@@ -10,10 +10,10 @@ pub record StandsFor (stored : Stored Definition) (bytes : List ℕ) : Type 0 wh
   pub reads : ReadsAs bytes records
   pub folds : fold records ≡ Some stored
 
--- whatever a crash leaves stands for this
+-- each image stands for this
 abbrev pub AllStandFor : Stored Definition → (List ℕ → Type 0) → Type 0
 AllStandFor stored images = (image : List ℕ) → images image → StandsFor stored image
 
--- whatever a crash leaves stands for the one or for the other
+-- each image stands for one or the other
 abbrev pub EachStandsFor : Stored Definition → Stored Definition → (List ℕ → Type 0) → Type 0
 EachStandsFor before after images = (image : List ℕ) → images image → StandsFor before image ⊎ StandsFor after image

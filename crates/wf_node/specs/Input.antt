@@ -1,4 +1,4 @@
--- An input as the farm's model has it.
+-- An input as in wf_model.
 use Rattle.wf_def.specs.Definition.{Definition}
 use Rattle.wf_model.specs.Table as model
 use Rattle.wf_codec.specs.Message as message

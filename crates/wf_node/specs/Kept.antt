@@ -1,4 +1,4 @@
--- What a node keeps in memory of its records, and the room that there is for one more.
+-- A node's stored part in memory, and the room for one more record.
 use Rattle.std.specs.Prelude.{◌≡◌, ℕ, ⊤, Bool, true, List, Option, Some, None, IsSome}
 use Rattle.wf_def.specs.Definition.{Definition}
 use Rattle.wf_model.specs.Stored.{Stored}
@@ -12,20 +12,20 @@ use Rattle.wf_learner.specs.History.{with_chosen}
 use Rattle.wf_node.specs.Parts as parts
 use Rattle.wf_node.specs.Parts.{Parts}
 
--- The node's number and its stored part; and, for which `HasRoomFor` alone asks, the record that is set aside and
--- whether there is room for one more published definition.
+-- The node's number and its stored part; and, only for `HasRoomFor`, the prepared record and whether there is room for one more
+-- published definition.
 pub record Kept : Type 0 where
   pub id : ℕ
   pub parts : Parts
   pub prepared : Option Record
   pub has_room : Bool
 
--- the stored part as the farm's model has it
+-- the stored part as in wf_model
 abbrev pub stored_of : Kept → Stored Definition
 stored_of kept = parts.stored_of kept.parts
 
--- There is room for the record: to apply it allocates nothing. That is so of a tried round, of a promise and a vote that
--- is set aside, and of a published definition where there is room for one more.
+-- There is room for the record: applying it doesn't allocate. That holds of a tried round, of a promise and a vote that is
+-- prepared, and of a published definition if there is room for one more.
 abbrev pub IsRoomFor : Option Record → Bool → Record → Type 0
 IsRoomFor prepared has_room (Tried round) = ⊤
 IsRoomFor prepared has_room (Promised s b) = prepared ≡ Some (Promised s b)
@@ -35,7 +35,7 @@ IsRoomFor prepared has_room (Published s d) = has_room ≡ true
 abbrev pub HasRoomFor : Kept → Record → Type 0
 HasRoomFor kept r = IsRoomFor kept.prepared kept.has_room r
 
--- There is room for the record where it is no promise and no vote.
+-- There is room for the record, unless it is a promise or a vote.
 abbrev pub HasRoomIfOwn : Kept → Option Record → Type 0
 HasRoomIfOwn kept None = ⊤
 HasRoomIfOwn kept (Some (Tried round)) = ⊤
@@ -43,17 +43,17 @@ HasRoomIfOwn kept (Some (Promised s b)) = ⊤
 HasRoomIfOwn kept (Some (Accepted s b d)) = ⊤
 HasRoomIfOwn kept (Some (Published s d)) = kept.has_room ≡ true
 
--- The answer is this row, at a node that holds any working part.
+-- The answer is this transition, at a node with any working part.
 abbrev pub IsRow : (Working Definition → Row Definition) → Answer → Type 0
 IsRow row answer = (working : Working Definition) → row_of answer working ≡ row working
 
--- The row stores a record, whatever its node holds.
+-- The transition stores a record, whatever the working part is.
 abbrev pub Stores : (Working Definition → Row Definition) → Type 0
 Stores row = (working : Working Definition) → IsSome (row working).entry
 
--- ---- for the crate's own contracts: what a record does to the parts of which an acceptor knows nothing
+-- ---- used only in this crate's contracts: the effect of a record on the parts other than the acceptor
 
--- there is room in the history, if the record publishes
+-- there is room in the history, if the record publishes a definition
 abbrev pub IsRoomy : Bool → Record → Type 0
 IsRoomy has_room (Published s d) = has_room ≡ true
 IsRoomy has_room r = ⊤

@@ -1,4 +1,4 @@
--- What a node shows: its tape, who it is, and the two parts of the farm's model.
+-- The model of a node: its tape, its number, and its stored and working part.
 use Rattle.std.specs.Prelude.{◌≡◌, ℕ, Bool, false, List}
 use Rattle.wf_def.specs.Definition.{Definition}
 use Rattle.wf_model.specs.Fits.{IsForNext}
@@ -15,7 +15,7 @@ use Rattle.wf_node.specs.Parts.{Parts}
 use Rattle.wf_node.specs.Working as shown
 use Rattle.wf_node.specs.Working.{Working}
 
--- A node of n that is halted steps no more: its tape failed.
+-- A node of n. If it is halted, its tape failed, and it makes no more steps.
 pub record Node (T : Type 0) : Type 0 where
   pub tape : T
   pub halted : Bool
@@ -24,7 +24,7 @@ pub record Node (T : Type 0) : Type 0 where
   pub parts : Parts
   pub working : Working
 
--- its stored and its working part, as the farm's model has them
+-- its stored and its working part, as in wf_model
 abbrev pub stored_of : {T : Type 0} → Node T → Stored Definition
 stored_of node = parts.stored_of node.parts
 
@@ -43,8 +43,8 @@ view_of journal kept_parts proposes =
       working = shown.shown proposes.working;
     }
 
--- What is true of each node: what it keeps and its proposer are one node's, a running proposal is for the next sequence, and where the
--- journal runs, whatever a crash leaves of an honest tape stands for what is kept.
+-- The invariant of nodes: its stored part and its proposer are of the same node, a running proposal is for the next sequence, and
+-- if the journal runs, every image of an honest tape stands for the stored part.
 pub record IsNode {T : Type 0} (honest : Type 0) (images : T → List ℕ → Type 0) (journal : Journal T) (kept : Kept) (proposes : Proposer) : Type 0 where
   pub same_node : kept.id ≡ proposes.node
   pub for_next : IsForNext (keeping.stored_of kept) (proposer.working_of proposes)

@@ -1,4 +1,4 @@
--- The stored part of a node as data: a model's value can't hold a function, so promises and votes are maps.
+-- The stored part of a node as data: a model can't contain a function, so promises and votes are maps.
 use Rattle.std.specs.Prelude.{ℕ, List}
 use Rattle.std.specs.Ordering.{nat_cmp}
 use Rattle.std.specs.FinMap as map
@@ -15,7 +15,7 @@ pub record Parts : Type 0 where
   pub votes : FinMap nat_cmp (Ballot × Definition)
   pub history : List Definition
 
--- the same as the farm's model has it
+-- the same as in wf_model
 abbrev pub stored_of : Parts → Stored Definition
 stored_of parts =
     record {

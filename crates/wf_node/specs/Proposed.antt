@@ -1,4 +1,4 @@
--- A proposer's rejection as a node's fault.
+-- A proposer's rejection as a node's error.
 use Rattle.wf_proposer.specs.declared.refusal.Refusal.{Refusal}
 use Rattle.wf_proposer.specs.declared.refusal.Refusal.TheVariants as proposer
 use Rattle.wf_node.specs.declared.fault.NodeFault.{NodeFault}

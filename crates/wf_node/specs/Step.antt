@@ -1,4 +1,4 @@
--- What a step leaves of a node.
+-- The effect of a step on a node.
 use Rattle.std.specs.Prelude.{◌≡◌, ◌≢◌, ℕ, true, false, List, map, Option, Result, Err, IfOk, IfErr, OnOk, IsSome, Vec}
 use Rattle.wf_codec.specs.Message as message
 use Rattle.wf_codec.specs.declared.message.Message.{Message}
@@ -13,15 +13,15 @@ use Rattle.wf_node.specs.Images.{AllStandFor, EachStandsFor}
 use Rattle.wf_node.specs.Memory as memory
 use Rattle.wf_node.specs.Node.{Node, stored_of, working_of}
 
--- the table's row of the input at this node, and the table's rejection
+-- the table's transition of the input at this node, and the table's rejection
 abbrev pub row_of : {T : Type 0} → Node T → Input Definition → Row Definition
 row_of node input = row definition_eq node.n node.id (stored_of node) (working_of node) input
 
 abbrev pub refusal_at : {T : Type 0} → Node T → Input Definition → Option Refusal
 refusal_at node input = refusal (stored_of node) (working_of node) input
 
--- The node after a row: the stored part is that with the row's entry, the working part is the row's, and exactly the
--- row's messages are handed out.
+-- The node after a transition: the stored part includes the transition's record, the working part is the transition's, and
+-- exactly its messages are returned.
 pub record IsRow {T : Type 0} (before : Node T) (the_row : Row Definition) (sent : List Message) (after : Node T) : Type 0 where
   pub id : after.id ≡ before.id
   pub n : after.n ≡ before.n
@@ -30,16 +30,16 @@ pub record IsRow {T : Type 0} (before : Node T) (the_row : Row Definition) (sent
   pub working : working_of after ≡ the_row.working
   pub messages : map message.view sent ≡ the_row.messages
 
--- the node is as it was, but for its tape
+-- the node is unchanged except for its tape
 abbrev pub IsSameNode : {T : Type 0} → Node T → Node T → Type 0
 IsSameNode before after = after ≡ record before { tape = after.tape; halted = after.halted }
 
--- the input takes memory at this node: its row stores or sends something, or an answer is heard
+-- the input may allocate at this node: its transition stores or sends something, or an answer is counted
 abbrev pub TakesMemory : {T : Type 0} → Node T → Input Definition → Type 0
 TakesMemory node input = memory.TakesMemory (row_of node input) (memory.hears_input node.n (working_of node) input)
 
 module _ {T : Type 0} (honest : Type 0) (content : T → List ℕ) (images : T → List ℕ → Type 0) (failures : T → ℕ) where
-  -- What a step of a node that isn't halted says, clause by clause.
+  -- The contract of a step of a node that isn't halted, clause by clause.
   pub record IsStep {A : Type 0} (before : Node T) (input : Input Definition) (result : Result (Vec Message A) NodeFault) (after : Node T) : Type 0 where
     pub running : result ≢ Err Halted
     pub refused : refused_by result ≡ refusal_at before input

@@ -1,4 +1,4 @@
--- What writing a record leaves on the tape.
+-- The effect of writing a record on the tape.
 use Rattle.std.specs.Prelude.{◌≡◌, ℕ, true, false, List, Option, None, Result, Ok, Err, IsSome}
 use Rattle.wf_def.specs.Definition.{Definition}
 use Rattle.wf_model.specs.Fits.{Fits}
@@ -10,33 +10,33 @@ use Rattle.wf_node.specs.declared.fault.NodeFault.{NodeFault}
 use Rattle.wf_node.specs.declared.fault.NodeFault.TheVariants.{Memory, Busy, SequenceFull, RoundsFull, Halted, TapeFailed, Nothing}
 use Rattle.wf_node.specs.Images.{AllStandFor, EachStandsFor}
 
--- Where the old images stand for a stored part that the entry fits, the new ones stand for that with the entry.
+-- If the old images stand for a stored part that the record fits, the new ones stand for that part with the record.
 abbrev pub IsStoredBy : Option (Record Definition) → (List ℕ → Type 0) → (List ℕ → Type 0) → Type 0
 IsStoredBy entry old new = (stored : Stored Definition) → Fits stored entry → AllStandFor stored old → AllStandFor (store stored entry) new
 
--- They stand for the stored part with the entry or without.
+-- Each stands for the stored part with the record or without it.
 abbrev pub IsTornAt : Option (Record Definition) → (List ℕ → Type 0) → (List ℕ → Type 0) → Type 0
 IsTornAt entry old new = (stored : Stored Definition) → Fits stored entry → AllStandFor stored old → EachStandsFor stored (store stored entry) new
 
 module _ {T : Type 0} (honest : Type 0) (content : T → List ℕ) (images : T → List ℕ → Type 0) (failures : T → ℕ) where
-  -- the entry, if there is one, is on the tape
+  -- the record, if there is one, is on the tape
   pub record IsWritten (entry : Option (Record Definition)) (old new : Journal T) : Type 0 where
     pub running : new.halted ≡ false
     pub stored : honest → IsStoredBy entry (images old.tape) (images new.tape)
 
-  -- a growth was rejected: the tape is as it was
+  -- allocation failed: the tape is unchanged
   pub record IsSpared (old new : Journal T) : Type 0 where
     pub running : new.halted ≡ false
     pub same : honest → IsUnchanged (content old.tape) (content new.tape) (images old.tape) (images new.tape)
 
-  -- the tape failed, as there was an entry to write
+  -- the tape failed, and there was a record to write
   pub record IsBroken (entry : Option (Record Definition)) (old new : Journal T) : Type 0 where
     pub entry_is : IsSome entry
     pub halted : new.halted ≡ true
     pub risen : HasRisen (failures old.tape) (failures new.tape)
     pub torn : honest → IsTornAt entry (images old.tape) (images new.tape)
 
-  -- No memory is wanted where there is no entry.
+  -- If there is no record, allocation doesn't fail.
   abbrev pub IsWrite : {A : Type 0} → Option (Record Definition) → Journal T → Result A NodeFault → Journal T → Type 0
   IsWrite entry old (Ok x) new = IsWritten entry old new
   IsWrite entry old (Err Memory) new = IsSpared old new × (entry ≡ None → ⊥)

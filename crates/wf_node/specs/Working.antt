@@ -1,4 +1,4 @@
--- The working part of a node as data: the nodes that a proposal heard are a finite set.
+-- The working part of a node as data: the nodes whose answers a proposal has counted are a finite set.
 use Rattle.std.specs.Prelude.{ℕ, Option}
 use Rattle.std.specs.Ordering.{nat_cmp}
 use Rattle.std.specs.FinSet as set
@@ -30,7 +30,7 @@ pub data Working : Type 0 where
   Won : (sequence : ℕ) → Working
   Overtaken : (sequence : ℕ) → Working
 
--- both as the farm's model has them
+-- both as in wf_model
 abbrev pub proposal_of : Proposal → model.Proposal Definition
 proposal_of p =
     record {
@@ -49,7 +49,7 @@ working_of (Running p) = model.Running (proposal_of p)
 working_of (Won s) = model.Won s
 working_of (Overtaken s) = model.Overtaken s
 
--- what a proposer holds, as a node shows it
+-- a proposer's working part, as the node's model has it
 abbrev pub shown_proposal : proposer.Proposal → Proposal
 shown_proposal p =
     record {

@@ -1,4 +1,4 @@
-//! What the acceptor does of an input.
+//! Inputs for the acceptor.
 
 ghost use Rattle.std.specs.Prelude.{◌≡◌, Bool, false, IfSome, option_map};
 ghost use Rattle.wf_acceptor.specs.Answer as answered;
@@ -22,7 +22,7 @@ use wf_codec::Message;
 use wf_tape::Tape;
 
 impl<T: Tape> Machine<T> {
-    /// Answers a Prepare: tells the definition where it is published.
+    /// Answers a Prepare; if the slot is published, with its definition.
     pub(crate) fn on_prepare(
         &mut self,
         alloc: Global,
@@ -42,7 +42,7 @@ impl<T: Tape> Machine<T> {
         }
     }
 
-    /// Answers an Accept: tells the definition where it is published.
+    /// Answers an Accept; if the slot is published, with its definition.
     pub(crate) fn on_accept(
         &mut self,
         alloc: Global,
@@ -64,7 +64,7 @@ impl<T: Tape> Machine<T> {
         }
     }
 
-    /// Stores the record of what the acceptor answered, applies it, and hands the reply out.
+    /// Stores the record of the acceptor's answer, applies it, and returns the reply.
     fn give(&mut self, alloc: Global, answer: Answer) -> Result<Vec<Message>, NodeFault>
         requires running { self.old.journal.halted ≡ false }
         requires fits { Fits (stored_of self.old.kept) (option_map view_record answer.entry) }

@@ -8,28 +8,28 @@ use std::alloc::{AllocError, AllocFailed};
 use thiserror::Error;
 use wf_proposer::Refusal;
 
-/// Why a step isn't done.
+/// Why a step failed.
 #[derive(Clone, Copy, Debug, PartialEq, Eq, Error)]
 pub enum NodeFault {
-    /// N1: a growth was rejected. Nothing has changed, the tape neither.
+    /// N1: allocation failed. Nothing has changed, nor has the tape.
     #[error("N1: out of memory")]
     Memory,
-    /// N2: a proposal was asked for while one runs.
+    /// N2: a proposal was requested while one is running.
     #[error("N2: a proposal runs")]
     Busy,
-    /// N3: a proposal was asked for, and the last sequence, 4,096, is published.
+    /// N3: a proposal was requested, and the last sequence, 4,096, is published.
     #[error("N3: the last sequence is published")]
     SequenceFull,
-    /// N4: a proposal would begin, and there is no round above those tried and told.
+    /// N4: a proposal would begin, and there is no round above those tried and reported.
     #[error("N4: no higher round")]
     RoundsFull,
     /// N5: the node is halted, since its tape failed.
     #[error("N5: the node is halted")]
     Halted,
-    /// N6: the tape failed. The node is halted, and its step is on the tape or not.
+    /// N6: the tape failed. The node is halted; the step's record is on the tape or not.
     #[error("N6: the tape failed")]
     TapeFailed,
-    /// N7: a second try was asked for while no proposal runs.
+    /// N7: a retry was requested while no proposal is running.
     #[error("N7: no proposal runs")]
     Nothing,
 }
@@ -56,7 +56,7 @@ impl<T: Drop> From<AllocFailed<T>> for NodeFault {
     }
 }
 
-/// The node's fault for what its proposer rejects.
+/// The node's error for its proposer's rejection.
 pub(crate) fn fault_of(refusal: Refusal) -> NodeFault
     ensures { result ≡ fault_of refusal }
 {
@@ -68,7 +68,7 @@ pub(crate) fn fault_of(refusal: Refusal) -> NodeFault
     }
 }
 
-/// The node's fault for what its proposer would refuse, if it would.
+/// The node's error for its proposer's rejection, if there is one.
 pub(crate) fn fault_for(refusal: Option<Refusal>) -> Option<NodeFault>
     ensures { (why : Option table.Refusal) → proposer.IsWhyNot why refusal → IsWhyNot why result }
 {

@@ -1,14 +1,14 @@
 use wf_canon::Canon;
 use wf_codec::Message;
 
-/// What a node is asked to do.
+/// An input of a node's step.
 #[derive(Drop)]
 pub enum Input {
     /// Begin a proposal of the definition.
     Propose(Canon),
-    /// Begin the running proposal anew, in a higher round.
+    /// Begin the running proposal again, in a higher round.
     Retry,
-    /// Take in a message.
+    /// Handle a message.
     Deliver(Message),
     /// Ask for the next definition.
     CatchUp,

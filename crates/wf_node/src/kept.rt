@@ -1,4 +1,4 @@
-//! What a node keeps in memory of the records on its tape.
+//! The stored part of a node, in memory.
 
 ghost use Rattle.std.specs.Prelude.{◌≡◌, OnOk, OnErr, IsOk};
 ghost use Rattle.wf_acceptor.specs.Acceptor.{Applies, IsNext};
@@ -13,7 +13,7 @@ use wf_canon::Canon;
 use wf_learner::History;
 use wf_tape::Record;
 
-/// The stored part of a node: what the fold makes of its records.
+/// The stored part of a node: the fold of its records.
 #[derive(Drop)]
 pub struct Kept {
     // The last round that the node tried, 0 before the first.
@@ -56,7 +56,7 @@ impl Kept {
     ghost use Rattle.wf_tape.specs.Record.{view};
     ghost use Rattle.wf_node.specs.Kept.{stored_of, HasRoomFor, HasRoomIfOwn, IsRow, Stores};
 
-    /// What a node keeps that has stored nothing yet.
+    /// The stored part of a node that has stored nothing yet.
     pub(crate) fn new(alloc: Global, id: NodeId) -> Result<Kept, AllocError>
         ensures stored { IfOk result (λ kept. stored_of kept ≡ nothing_stored) }
         ensures id { IfOk result (λ kept. kept.id ≡ id) }
@@ -82,14 +82,14 @@ impl Kept {
         &self.history
     }
 
-    /// Is the slot's definition published?
+    /// Whether the slot's definition is published.
     pub(crate) fn is_published(&self, slot: Slot) -> bool
         ensures { result ≡ nat_le slot (length self.now.parts.history) }
     {
         self.acceptor.is_published(slot)
     }
 
-    /// Answers `Prepare(slot, ballot)` at a slot that isn't published. Memory is wanted for a promise alone.
+    /// Answers `Prepare(slot, ballot)` at a slot that isn't published. Allocation can fail only for a promise.
     pub(crate) fn on_prepare(&mut self, slot: Slot, ballot: Ballot) -> Result<Answer, AllocError>
         requires { length self.old.parts.history < slot }
         ensures row { IfOk result (IsRow (λ working. prepare_row self.old.id (stored_of self.old) working slot ballot)) }
@@ -101,7 +101,7 @@ impl Kept {
         self.acceptor.on_prepare(slot, ballot)
     }
 
-    /// Answers `Accept(slot, ballot, canon)` at a slot that isn't published. Memory is wanted for a vote alone.
+    /// Answers `Accept(slot, ballot, canon)` at a slot that isn't published. Allocation can fail only for a vote.
     pub(crate) fn on_accept(
         &mut self,
         slot: Slot,
@@ -118,7 +118,7 @@ impl Kept {
         self.acceptor.on_accept(slot, ballot, canon)
     }
 
-    /// Makes room for the record, if it is one of a published definition. What is set aside stays.
+    /// Makes room for the record, if it is one of a published definition. The prepared record remains.
     pub(crate) fn make_room_for(&mut self, entry: Option<&Record>) -> Result<(), AllocError>
         ensures parts { self.new.parts ≡ self.old.parts }
         ensures id { self.new.id ≡ self.old.id }
@@ -131,7 +131,7 @@ impl Kept {
         }
     }
 
-    /// Does the record fit, so that the fold goes on with it? A published definition does in its turn.
+    /// Whether the record fits the fold; a published definition fits if its slot is the next.
     #[tactic(auto, using(crate::proofs::Keeping::fits_in_turn), unfolding(wf_model::specs::Stored::fits))]
     pub(crate) fn fits(&self, entry: &Record) -> bool
         ensures { result ≡ fits (stored_of self.now) (view entry.now) }
@@ -142,8 +142,7 @@ impl Kept {
         }
     }
 
-    /// Applies a record that fits, as the fold does. It allocates nothing where there is room for the record; an
-    /// error changes nothing.
+    /// Applies a record that fits, as the fold does. Doesn't allocate if there is room for the record; an error changes nothing.
     pub(crate) fn apply(&mut self, entry: Record) -> Result<(), AllocError>
         requires { fits (stored_of self.old) (view entry) ≡ true }
         ensures ok { OnOk result (stored_of self.new ≡ with_record (stored_of self.old) (view entry)) }
@@ -163,7 +162,7 @@ impl Kept {
         }
     }
 
-    /// Applies the record, if there is one. It fits, and there is room for it.
+    /// Applies the record, if there is one. It must fit, and there must be room for it.
     pub(crate) fn apply_entry(&mut self, entry: Option<Record>)
         requires fits { Fits (stored_of self.old) (option_map view entry) }
         requires room { IfSome entry (HasRoomFor self.old) }
@@ -180,7 +179,7 @@ impl Kept {
     }
 }
 
-// The acceptor applies the record, and there is room for it in the history then.
+// The acceptor applies the record; afterwards there is room for it in the history.
 fn tell(history: &mut History, acceptor: &mut Acceptor, entry: &Record) -> Result<(), AllocError>
     requires { IsNext acceptor.old.part entry.now }
     ensures applied { OnOk result (Applies acceptor.old.part acceptor.new.part (view entry.now)) }
@@ -200,7 +199,8 @@ fn tell(history: &mut History, acceptor: &mut Acceptor, entry: &Record) -> Resul
     }
 }
 
-// The round that the record tried is the last one, the definition that it published is the newest. There is room for it.
+// Sets the last round to that of a tried round's record, or learns the definition of a published one's. There must be room for
+// it.
 fn take_in(tried: &mut u32, history: &mut History, entry: Record)
     requires { IsRoomy history.old.has_room entry }
     ensures tried { tried.new ≡ tried_after tried.old entry }
@@ -215,7 +215,7 @@ fn take_in(tried: &mut u32, history: &mut History, entry: Record)
     }
 }
 
-// The slot and the definition of a record of a published one.
+// The slot and the definition of a published definition's record.
 fn publication(entry: Record) -> Option<(Slot, Canon)>
     ensures { result ≡ publication_of entry }
 {
@@ -225,5 +225,5 @@ fn publication(entry: Record) -> Option<(Slot, Canon)>
     }
 }
 
-// A record that isn't applied.
+// Drops a record that isn't applied.
 fn discard(_entry: Record) {}

@@ -1,4 +1,4 @@
-//! What becomes of published and chosen definitions.
+//! Inputs for the learner.
 
 ghost use Rattle.std.specs.Prelude.{◌≡◌, ◌+◌, length, Bool, false};
 ghost use Rattle.wf_def.specs.Equality.{definition_eq};
@@ -33,7 +33,7 @@ impl<T: Tape> Machine<T> {
         }
     }
 
-    /// A definition is chosen: it is published where its slot is the next, and further on the next one is asked for.
+    /// A definition is chosen: it is published if its slot is the next; if its slot is later, the next one is asked for.
     pub(crate) fn on_chosen(
         &mut self,
         alloc: Global,
@@ -66,7 +66,7 @@ impl<T: Tape> Machine<T> {
         ensures act { IsAct T.honest T.content T.images T.failed (table.Deliver (model.Ask slot)) self.old.journal self.old.kept.parts self.old.proposer result self.new.journal self.new.kept.parts self.new.proposer }
         ensures id { self.new.kept.id ≡ self.old.kept.id }
     {
-        // A slot is counted from 1, as its number tells.
+        // A slot is counted from 1, as the contract of its number says.
         let _ = slot.number();
         match self.kept.history().answer_ask(alloc, slot) {
             Ok(messages) => Ok(messages),
@@ -74,11 +74,11 @@ impl<T: Tape> Machine<T> {
         }
     }
 
-    /// Tells the definition that is published at the slot, if there is one.
+    /// Returns the definition that is published at the slot, if there is one.
     pub(crate) fn tell(&self, alloc: Global, slot: Slot) -> Result<Vec<Message>, NodeFault>
         ensures { IsReply (told self.now.kept.parts.history slot) result }
     {
-        // A slot is counted from 1, as its number tells.
+        // A slot is counted from 1, as the contract of its number says.
         let _ = slot.number();
         match self.kept.history().chosen(slot) {
             Ok(message) => reply(alloc, message),
@@ -117,7 +117,7 @@ impl<T: Tape> Machine<T> {
     }
 }
 
-/// A proposal for the slot of the record of a published definition ends.
+/// A running proposal for the slot of a published definition's record ends.
 fn end_proposal(proposer: &mut Proposer, entry: &Record)
     ensures { IsEnded entry.now proposer.old proposer.new }
 {

@@ -1,18 +1,16 @@
-//! One node of the farm, with its tape.
+//! One node of the farm: acceptor, proposer and learner over its tape.
 //!
-//! Its model: a `Node` is seen as its tape, whether it is halted, its number and the number of nodes, and the two
-//! parts of the farm's model as data (`specs/Node.antt`); `stored_of` and `working_of` read these as the model's
-//! stored and working part. An image of a tape stands for a stored part where its records fold to it
-//! (`specs/Images.antt`).
+//! Model: a `Node` is its tape, whether it is halted, its number, the number of nodes, and its stored and working part as data
+//! (`specs/Node.antt`); `stored_of` and `working_of` map these to wf_model's. An image of a tape stands for a stored part if its
+//! records fold to it (`specs/Images.antt`).
 //!
-//! It promises, of an honest tape: a node opens as the fold of its records, with no proposal; a step is the row of
-//! the farm's table at this node, with exactly its messages; the row's record is on the tape, and every image stands
-//! for the new stored part, before a message is handed out; and where the tape fails, no message is, and each
-//! image stands for the stored part from before or the row's. Of every tape: a step is rejected exactly where the
-//! table rejects it, and changes nothing then; allocation failure changes nothing; a node whose tape failed is halted,
-//! and steps no more.
+//! Promises, of an honest tape: a node opens as the fold of its records, with no proposal. A step is the transition of wf_model's
+//! step table at this node, and returns exactly its messages. Before it returns them, the transition's record is on the tape, and
+//! every image stands for the new stored part. If the tape fails, no message is returned, and each image stands for the old
+//! stored part or the new one. Of every tape: a step is rejected iff the table rejects it, and then changes nothing. Allocation
+//! failure changes nothing. A node whose tape failed is halted, and makes no more steps.
 //!
-//! It doesn't know whether a message was sent, nor what other nodes do. A file's honesty is a premise.
+//! Not here: sending messages, and other nodes. That a file is honest is an assumption.
 #![tactic(auto)]
 
 mod accepting;

@@ -1,5 +1,5 @@
-//! The parts of a node, and how they act on an input: all copies and growths first, then the record on the tape, then
-//! what follows of it.
+//! The parts of a node, and how they act on an input: first all copies and allocations, then the record on the tape, then its
+//! effects.
 
 ghost use Rattle.std.specs.Prelude.{◌≡◌};
 ghost use Rattle.wf_codec.specs.Message.{view as view_message};
@@ -15,7 +15,7 @@ use wf_codec::Message;
 use wf_proposer::Proposer;
 use wf_tape::{Journal, Tape};
 
-/// The journal of a node, what it keeps of its records, and its proposer.
+/// The journal of a node, its stored part in memory, and its proposer.
 #[derive(Drop)]
 pub struct Machine<T: Tape> {
     pub journal: Journal<T>,
@@ -38,7 +38,7 @@ impl<T: Tape> Machine<T> {
         }
     }
 
-    /// Takes in a message.
+    /// Handles a message.
     fn deliver(&mut self, alloc: Global, message: Message) -> Result<Vec<Message>, NodeFault>
         requires { IsReady self.old.journal self.old.kept self.old.proposer }
         ensures act { IsAct T.honest T.content T.images T.failed (table.Deliver (view_message message)) self.old.journal self.old.kept.parts self.old.proposer result self.new.journal self.new.kept.parts self.new.proposer }

@@ -7,8 +7,8 @@ use wf_learner::History;
 use wf_proposer::Standing;
 use wf_tape::Tape;
 
-/// One node of the farm: what it stored, which stands on its tape, and its proposal. Contracts see the parts of the
-/// farm's model. Where the node isn't halted, whatever a crash leaves of an honest tape stands for what it stored.
+/// One node of the farm: its stored part, which is on its tape, and its proposal. Model: the parts of wf_model. Unless the node
+/// is halted, every image of an honest tape stands for the stored part.
 #[derive(Drop)]
 pub struct Node<T: Tape> {
     pub(crate) machine: Machine<T>,
@@ -47,7 +47,7 @@ impl<T: Tape> Node<T> {
         self.machine.proposer.id()
     }
 
-    /// The last published sequence, 0 where there is none. A halted node tells what it had published before.
+    /// The last published sequence, 0 if there is none. On a halted node: that of before the failed step.
     pub fn published(&self) -> Seq
         ensures value { result ≡ length self.now.parts.history }
         ensures in_range { IsSequence result }
@@ -62,7 +62,7 @@ impl<T: Tape> Node<T> {
         self.machine.kept.history()
     }
 
-    /// The map of a sequence, the empty one for 0; None above what is published.
+    /// The map of a sequence, the empty one for 0; None above the published ones.
     pub fn definition(&self, seq: Seq) -> Option<&MapDef>
         ensures value { option_copied result ≡ map_at self.now.parts.history seq }
         ensures within { IfSome result (λ map. IsWithinLimits map.now) }
@@ -70,8 +70,8 @@ impl<T: Tape> Node<T> {
         self.machine.kept.history().get(seq)
     }
 
-    /// Why the node wouldn't propose anything now: N5 where it is halted, else what a step would be rejected by. None
-    /// where a proposal would begin. It allocates nothing and changes nothing.
+    /// Why a proposal would be rejected now: N5 if the node is halted, else the error of the step. None if it would begin.
+    /// Doesn't allocate, changes nothing.
     pub fn proposal_refusal(&self) -> Option<NodeFault>
         ensures halted { self.now.halted ≡ true → result ≡ Some NodeFault.Halted }
         ensures refusal { self.now.halted ≡ false → IsWhyNot (refuse_proposal (stored_of self.now) (working_of self.now)) result }
@@ -82,8 +82,8 @@ impl<T: Tape> Node<T> {
         self.machine.proposal_refusal()
     }
 
-    /// Why the node wouldn't begin its proposal anew now: N5 where it is halted, else what a step would be rejected by.
-    /// None where it would. It allocates nothing and changes nothing.
+    /// Why a retry would be rejected now: N5 if the node is halted, else the error of the step. None if it would begin. Doesn't
+    /// allocate, changes nothing.
     pub fn retry_refusal(&self) -> Option<NodeFault>
         ensures halted { self.now.halted ≡ true → result ≡ Some NodeFault.Halted }
         ensures refusal { self.now.halted ≡ false → IsWhyNot (refuse_retry (stored_of self.now) (working_of self.now)) result }
@@ -94,7 +94,7 @@ impl<T: Tape> Node<T> {
         self.machine.retry_refusal()
     }
 
-    /// How the node's proposal stands: None on a halted node.
+    /// The state of the node's proposal: None on a halted node.
     pub fn proposal(&self) -> Standing
         ensures { result ≡ (if self.now.halted then Standing.None else standing_of (working_of self.now)) }
     {

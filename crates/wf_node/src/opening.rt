@@ -1,4 +1,4 @@
-//! A node opens with its tape, and hands it back.
+//! A node opens with its tape, and returns it when it closes.
 
 ghost use Rattle.std.specs.Prelude.{◌≡◌, ◌≢◌, ◌+◌, ◌<◌, ◌≤◌, ◌^◌, false, map, length, Some, IfOk, IfErr, OnOk};
 ghost use Rattle.wf_model.specs.Stored.{fold, nothing_stored};
@@ -22,11 +22,10 @@ use wf_proposer::Proposer;
 use wf_tape::{Found, Journal, OpenFault, Record, Tape};
 
 impl<T: Tape> Node<T> {
-    /// Node `id` of `n` nodes, with what its tape stands for and no proposal. A torn record behind the whole ones is
-    /// removed, and what is kept is synced. A rejection hands the tape back, as it was but for a failure of the tape
-    /// itself: P1 where the tape failed, P2 at the place where behind the whole records stands what is no record, or
-    /// where a published definition stands that isn't the next one, P3 where a growth was rejected. Each record is
-    /// moved once, so opening takes as long as the tape is.
+    /// Node `id` of `n` nodes, with the stored part of its tape and no proposal. A torn record after the whole ones is removed,
+    /// and what is kept is synced. An error returns the tape, unchanged unless the tape itself failed: P1 if the tape failed; P2
+    /// with the byte offset if what follows the whole records isn't a record, or if a published definition isn't the next one; P3
+    /// if allocation failed. Each record is moved once, so opening takes time in proportion to the tape.
     #[tactic(auto, using(crate::proofs::Opened::fold_of, crate::proofs::Opened::stands_all, crate::proofs::Opened::bad_read, crate::proofs::Opened::bad_fold, crate::proofs::Opened::bad_settle, crate::proofs::Opened::same_before, crate::proofs::Opened::follows_before, crate::proofs::Opened::unchanged_before, crate::proofs::Opened::why_failed_before))]
     pub fn open(alloc: Global, tape: T, id: NodeId, n: u8) -> Result<Node<T>, (T, OpenFault)>
         requires nodes { n ≤ 64 }
@@ -58,8 +57,8 @@ impl<T: Tape> Node<T> {
         }
     }
 
-    /// The node's tape, handed back as it is. Where the node isn't halted, whatever a crash leaves of it stands for
-    /// what the node stored.
+    /// Returns the node's tape unchanged. Unless the node is halted, every image of an honest tape stands for the node's stored
+    /// part.
     pub fn close(self) -> T
         ensures tape { result ≡ self.tape }
         ensures stands { T.honest → self.halted ≡ false → AllStandFor (stored_of self) (T.images result) }
@@ -70,7 +69,7 @@ impl<T: Tape> Node<T> {
     }
 }
 
-/// The node with this journal that keeps this, and has no proposal yet.
+/// The node of this journal and this stored part, with no proposal yet.
 #[tactic(auto, using(crate::proofs::Shown::working_shown))]
 fn assemble<T: Tape>(journal: Journal<T>, kept: Kept, id: NodeId, n: u8) -> Node<T>
     requires id { kept.id ≡ id }
@@ -91,7 +90,7 @@ fn assemble<T: Tape>(journal: Journal<T>, kept: Kept, id: NodeId, n: u8) -> Node
     Node { machine }
 }
 
-/// What a node keeps of the records that were found, the oldest first.
+/// The fold of the records that were found, the oldest first.
 fn fold(alloc: Global, id: NodeId, records: Vec<Record>) -> Result<Kept, OpenFault>
     requires { length_of (map view records.items) < 2 ^ 64 }
     ensures ok { IfOk result (λ kept. fold (map view records.items) ≡ Some (kept_.stored_of kept)) }
@@ -110,7 +109,7 @@ fn fold(alloc: Global, id: NodeId, records: Vec<Record>) -> Result<Kept, OpenFau
     }
 }
 
-/// Takes in the records, where nothing was kept before.
+/// Applies the records to an empty stored part.
 #[tactic(auto, using(crate::proofs::Folded::all_taken, crate::proofs::Folded::why_unfolded))]
 fn take_all(kept: &mut Kept, records: Vec<Record>) -> Result<(), OpenFault>
     requires nothing { kept_.stored_of kept.old ≡ nothing_stored }
@@ -129,7 +128,7 @@ fn take_all(kept: &mut Kept, records: Vec<Record>) -> Result<(), OpenFault>
     Ok(())
 }
 
-/// Takes in the record that stands at the place, and answers where the next one stands.
+/// Applies the record at this byte offset, and returns the offset of the next one.
 fn take_at(kept: &mut Kept, place: usize, entry: Record) -> Result<usize, OpenFault>
     requires { place + length (spelling (view entry)) < 2 ^ 64 }
     ensures ok { IfOk result (λ next. IsTaken (kept_.stored_of kept.old) (view entry) place (kept_.stored_of kept.new) next) }
@@ -147,5 +146,5 @@ fn take_at(kept: &mut Kept, place: usize, entry: Record) -> Result<usize, OpenFa
     }
 }
 
-/// What no node keeps.
+/// Drops a stored part that no node has.
 fn discard(_kept: Kept) {}

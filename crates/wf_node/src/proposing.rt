@@ -1,4 +1,4 @@
-//! What the running proposal does of an input.
+//! Inputs for the proposer.
 
 ghost use Rattle.std.specs.Prelude.{◌≡◌, Bool, false, length, nat_le};
 ghost use Rattle.wf_ballot.specs.Sequence.{last_sequence};
@@ -22,7 +22,7 @@ use wf_proposer::{Next, Standing};
 use wf_tape::Tape;
 
 impl<T: Tape> Machine<T> {
-    /// A proposal of `own` begins, unless one runs or the last sequence is published.
+    /// Begins a proposal of `own`, unless one is running or the last sequence is published.
     pub(crate) fn propose(&mut self, alloc: Global, own: Canon) -> Result<Vec<Message>, NodeFault>
         requires { IsReady self.old.journal self.old.kept self.old.proposer }
         ensures act { IsAct T.honest T.content T.images T.failed (table.Propose own) self.old.journal self.old.kept.parts self.old.proposer result self.new.journal self.new.kept.parts self.new.proposer }
@@ -44,7 +44,7 @@ impl<T: Tape> Machine<T> {
         }
     }
 
-    /// The running proposal begins anew.
+    /// Begins the running proposal again.
     pub(crate) fn retry(&mut self, alloc: Global) -> Result<Vec<Message>, NodeFault>
         requires { IsReady self.old.journal self.old.kept self.old.proposer }
         ensures act { IsAct T.honest T.content T.images T.failed table.Retry self.old.journal self.old.kept.parts self.old.proposer result self.new.journal self.new.kept.parts self.new.proposer }
@@ -56,7 +56,7 @@ impl<T: Tape> Machine<T> {
         }
     }
 
-    /// Why a proposal wouldn't begin now; None where it would.
+    /// Why a proposal would be rejected now; None if it would begin.
     pub(crate) fn proposal_refusal(&self) -> Option<NodeFault>
         ensures { IsWhyNot (table.refuse_proposal (stored_of self.now.kept) (working_of self.now.proposer)) result }
     {
@@ -70,14 +70,14 @@ impl<T: Tape> Machine<T> {
         fault_for(self.proposer.start_refusal(self.kept.tried(), published))
     }
 
-    /// Why the running proposal wouldn't begin anew now; None where it would.
+    /// Why a retry would be rejected now; None if it would begin.
     pub(crate) fn retry_refusal(&self) -> Option<NodeFault>
         ensures { IsWhyNot (table.refuse_retry (stored_of self.now.kept) (working_of self.now.proposer)) result }
     {
         fault_for(self.proposer.retry_refusal(self.kept.tried()))
     }
 
-    /// A node promised.
+    /// A Promise arrived.
     pub(crate) fn on_promise(
         &mut self,
         alloc: Global,
@@ -96,7 +96,7 @@ impl<T: Tape> Machine<T> {
         }
     }
 
-    /// A node voted.
+    /// An Accepted arrived.
     pub(crate) fn on_accepted(
         &mut self,
         alloc: Global,
@@ -114,7 +114,7 @@ impl<T: Tape> Machine<T> {
         }
     }
 
-    /// A node rejected, and named what it promised.
+    /// A Nack arrived.
     pub(crate) fn on_nack(
         &mut self,
         alloc: Global,
@@ -131,7 +131,7 @@ impl<T: Tape> Machine<T> {
         self.perform(alloc, next)
     }
 
-    /// Stores the record of what the proposer answered, commits that, and hands the messages out.
+    /// Stores the record of the proposer's result, commits the result, and returns the messages.
     fn perform(&mut self, alloc: Global, next: Next) -> Result<Vec<Message>, NodeFault>
         requires running { self.old.journal.halted ≡ false }
         requires fits { Fits (stored_of self.old.kept) (row_of self.old.proposer next).entry }
@@ -156,14 +156,14 @@ impl<T: Tape> Machine<T> {
         }
     }
 
-    /// Does a proposal run?
+    /// Whether a proposal is running.
     fn runs(&self) -> bool
         ensures { result ≡ runs (working_of self.now.proposer) }
     {
         matches!(self.proposer.proposal(), Standing::Running)
     }
 
-    /// Is the last sequence published?
+    /// Whether the last sequence is published.
     fn is_full(&self) -> bool
         ensures { result ≡ nat_le last_sequence (length self.now.kept.parts.history) }
     {

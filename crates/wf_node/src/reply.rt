@@ -9,7 +9,7 @@ use crate::fault::NodeFault;
 use std::alloc::Global;
 use wf_codec::Message;
 
-/// The message, if there is one, as a list. No message allocates nothing.
+/// The message, if there is one, as a list. For no message it doesn't allocate.
 pub(crate) fn reply(alloc: Global, message: Option<Message>) -> Result<Vec<Message>, NodeFault>
     ensures { IsReply (option_to_list (option_map view message)) result }
 {

@@ -19,11 +19,11 @@ impl<T: Tape> Node<T> {
     ghost use Rattle.wf_model.specs.Table.{store as store_entry};
     ghost use Rattle.wf_tape.specs.Tape.{HasRisen, IsUnchanged};
 
-    /// One step: the row of the farm's table for the input, whose messages are handed out once its record is on the
-    /// tape. A halted node answers N5. A step that the table rejects changes nothing: N2 where a proposal is asked for
-    /// while one runs, N7 where a second try is while none does, then N3 where the last sequence is published, then N4
-    /// where there is no higher round. Then N1 where a growth was rejected, which changes nothing either, and N6 where
-    /// the tape failed, which halts the node: its record is on the tape or not, and no message is handed out.
+    /// One step: the step table's transition for the input, whose messages are returned once its record is on the tape. A halted
+    /// node returns N5. A step that the table rejects changes nothing: N2 if a proposal is requested while one is running, N7 if
+    /// a retry is while none is, then N3 if the last sequence is published, then N4 if there is no higher round. Then N1 if
+    /// allocation failed, which changes nothing either, and N6 if the tape failed, which halts the node: its record is on the
+    /// tape or not, and no message is returned.
     pub fn step(&mut self, alloc: Global, input: Input) -> Result<Vec<Message>, NodeFault>
         ensures halted { self.old.halted ≡ true → result ≡ Err NodeFault.Halted }
         ensures running { result ≡ Err NodeFault.Halted → self.old.halted ≡ true }
@@ -47,7 +47,7 @@ impl<T: Tape> Node<T> {
         self.advance(alloc, input)
     }
 
-    /// Did the tape fail?
+    /// Whether the tape failed.
     fn is_halted(&self) -> bool
         ensures { result ≡ self.now.halted }
     {
@@ -59,7 +59,7 @@ impl<T: Tape> Node<T> {
         requires { self.old.halted ≡ false }
         ensures { IsStep T.honest T.content T.images T.failed self.old (view input) result self.new }
     {
-        // The law of the model: each row's record fits what is stored.
+        // The model's theorem: each transition's record fits the stored state.
         records_fit::<Canon>();
         self.machine.act(alloc, input)
     }

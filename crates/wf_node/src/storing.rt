@@ -1,4 +1,4 @@
-//! A record is on the tape before it counts.
+//! Writes a record to the tape before it takes effect.
 
 ghost use Rattle.std.specs.Prelude.{◌≡◌, false, option_map};
 ghost use Rattle.std.specs.Option.{option_copied};

@@ -92,7 +92,7 @@ band_upward width row most a b span levels = record {
   passed = λ u within. band_level width (turned (centre (pos u) (pos row))) a b ∙ ap (is_in_margin (margin width a b)) (deviation_upward u (pos row) a b) ∙ levels.passed u within;
 }
 
--- with the axes exchanged the band is as many columns wide as the line is pixels
+-- with the axes exchanged, the band is as many columns wide as the line's width in pixels
 pub width_upward : (along : ℤ) (width : ℕ) → pos 1 ≤ℤ product (pos 16) along →
     product (product (pos 16) along) (pos width) ≡ plus (product (pos (8 * width)) along) (product (pos (8 * width)) along)
 unfolding product plus
@@ -101,7 +101,7 @@ width_upward (negsuc n) width some = absurd (omega (arith, ints))
 
 -- ---- a row
 
--- away from the ends the line covers nothing
+-- outside its ends the line covers nothing
 pub across_left : (width : ℕ) (c a b : PlaceValue) → is_along c a b ≡ false → is_across width c a b ≡ false
 unfolding is_across
 across_left width c a b left = and_left (is_along c a b) (is_in_band width c a b) left

@@ -1,4 +1,4 @@
--- Beyond which rows the band of a line covers nothing.
+-- The rows outside which the band of a line covers nothing.
 use Rattle.std.proofs.Common.{◌≡◌, true, false, ℕ, zero, suc, ◌+◌, ◌*◌, ◌<◌, ◌≤◌, ◌⊎◌, inl, inr, not, ℤ, pos, negsuc, ◌+ℤ◌, ◌-ℤ◌, ◌*ℤ◌, ◌≤ℤ◌, ◌<ℤ◌, neg_ℤ, nat_abs, refl, ap, ◌∙◌, arith}
 use Rattle.std.proofs.lemmas.Bool.{and_left, and_right, and_parts, not-true, cases_Bool}
 use Rattle.std.proofs.lemmas.Int.{ints}
@@ -18,7 +18,7 @@ pub less_raised : (z high half y : ℤ) → is_less z (plus high half) ≡ false
 unfolding is_less plus
 less_raised z high half y over most = grind (arith, ints)
 
--- ---- the deviation between the ends: from both ends, weighed by how far away the other is
+-- ---- the deviation between the ends: those of both ends, weighted by the distance to the other
 
 split_sums : (p a b c q w : ℤ) → p ≡ a +ℤ b → a ≡ c +ℤ q → w ≡ c → p -ℤ w ≡ b +ℤ q
 split_sums p a b c q w whole first second = omega (arith, ints)
@@ -150,13 +150,13 @@ high_rise : (width : ℕ) (c a : PlaceValue) → is_less c.y (plus a.y (pos (8 *
 unfolding is_less rise difference plus
 high_rise width c a above = omega (arith, ints)
 
--- a place half the width below both ends, or farther, isn't covered
+-- a position half the width or more below both ends isn't covered
 pub beyond_below : (width : ℕ) (c a b : PlaceValue) → is_less c.y (difference a.y (pos (8 * width))) ≡ true → is_less c.y (difference b.y (pos (8 * width))) ≡ true →
     is_across width c a b ≡ false
 beyond_below width c a b first second = between_ends width c a b (λ along. band_weighed width c a b along
     ∙ out_below (8 * width) (nat_abs (run a c)) (nat_abs (run c b)) (rise a c) (rise b c) (low_rise width c a first) (low_rise width c b second))
 
--- nor is one half the width above both
+-- nor is one half the width or more above both
 pub beyond_above : (width : ℕ) (c a b : PlaceValue) → is_less c.y (plus a.y (pos (8 * width))) ≡ false → is_less c.y (plus b.y (pos (8 * width))) ≡ false →
     is_across width c a b ≡ false
 beyond_above width c a b first second = between_ends width c a b (λ along. band_weighed width c a b along

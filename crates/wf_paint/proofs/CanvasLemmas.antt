@@ -1,4 +1,4 @@
--- A canvas as a picture: which index a column of a row has, and what is left of a canvas by its pixels.
+-- A canvas as a picture: the index of a column of a row, and the effect on a canvas in terms of its pixels.
 use Rattle.std.proofs.Common.{◌≡◌, ◌≢◌, ℕ, ◌+◌, ◌-◌, ◌*◌, ◌/◌, ◌%◌, ◌<◌, ◌≤◌, inl, inr, Bool, true, false, List, length, replicate, Option, Some, None, is_some, refl, sym, ap, ◌∙◌, arith}
 use Rattle.std.specs.Option.{option_or}
 use Rattle.std.proofs.Math.Nat.{div-lt_iff_lt-mul, div-add-mod, mul_comm}
@@ -15,7 +15,7 @@ use Rattle.wf_paint.proofs.CellsLemmas.{is_free-none, painted_in-free, painted_i
 
 -- ---- the index of a pixel
 
--- a pixel of this row, counted from the bottom, lies so far behind the row's first
+-- the index of a pixel of this row, counted from the bottom: that of the row's first pixel plus its column
 pub index_in_row : (width height row index : ℕ) → 0 < width → row < height → index < width * height → row_of width height index ≡ row →
     index ≡ (height - 1 - row) * width + column_of width index
 unfolding row_of column_of
@@ -26,7 +26,7 @@ index_in_row width height row index some within inside same =
     let turned : width * (index / width) ≡ (height - 1 - row) * width = mul_comm width (index / width) ∙ ap (λ (q : ℕ). q * width) from_top in
     omega arith
 
--- the row and the column of an index that lies so far behind a row's first
+-- the row and the column of the index `column` after a row's first
 pub row_of_index : (width height row column : ℕ) → row < height → column < width → row_of width height ((height - 1 - row) * width + column) ≡ row
 unfolding row_of
 row_of_index width height row column within inside =
@@ -116,7 +116,7 @@ module _ (c : CanvasValue) (row from to : ℕ) (color : Color) (skip bytes : Lis
             ];
       }
 
-  -- no column lies between two that are the wrong way round
+  -- no column lies between two in the wrong order
   pub run_empty : to ≤ from → IsColored (is_in_run row from to) color c c
   run_empty none = record {
     width = refl;
@@ -144,7 +144,7 @@ blank_pixels width height bytes =
     }
 
 module _ (c : CanvasValue) (skip : List ℕ) (alike : AreAlike c.skip skip) where
-  -- other jumps show nothing else
+  -- other jumps change no pixel
   pub canvas_alike : IsAlike c (with_cells c skip c.bytes)
   unfolding painted_at
   canvas_alike = record {

@@ -36,7 +36,7 @@ pub painted_in-same : (old_skip old_bytes skip bytes : List ℕ) (i : ℕ) → i
 unfolding painted_in
 painted_in-same old_skip old_bytes skip bytes i free pixel = rw (free, pixel) refl
 
--- what has a colour isn't free
+-- a pixel with a colour isn't free
 pub is_free-by_color : (skip bytes : List ℕ) (i : ℕ) (color : Color) → painted_in skip bytes i ≡ Some color → is_free skip i ≡ false
 unfolding painted_in
 is_free-by_color skip bytes i color painted =
@@ -76,7 +76,7 @@ module _ (skip bytes : List ℕ) (here end : ℕ) (color : Color) (new_bytes : L
       }
 
 module _ (skip bytes : List ℕ) (here next end : ℕ) (color : Color) (new : List ℕ) where
-  -- a jump over painted pixels, which stays or goes to the end from now on
+  -- a jump over painted pixels, which stays the old one or now goes to the end
   pub step_jump : IsJump skip here → here < next → next ≤ end → next ≤ here + slice_index skip here → length new ≡ length skip →
       (slice_index new here ≡ slice_index skip here) ⊎ (here + slice_index new here ≡ end) → ((i : ℕ) → i ≢ here → slice_index new i ≡ slice_index skip i) →
       IsStep here next end color skip bytes new bytes
@@ -189,7 +189,7 @@ some_or None color = (color, refl)
 some_or (Some c) color = (c, refl)
 
 module _ (start end : ℕ) (color : Color) (old_skip old_bytes skip bytes : List ℕ) (range : IsRangePainted start end color old_skip old_bytes skip bytes) where
-  -- the pixels of the range are painted now
+  -- the pixels of the range are now painted
   pub range_painted : (i : ℕ) → start ≤ i → i < end → is_free skip i ≡ false
   range_painted i from before =
       let some : (c : Color) × (option_or (painted_in old_skip old_bytes i) (Some color) ≡ Some c) = some_or (painted_in old_skip old_bytes i) color in

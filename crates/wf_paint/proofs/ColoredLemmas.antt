@@ -1,4 +1,4 @@
--- What it leaves of a canvas that pixels are shown in a colour: by one test after another, by equal tests, by a shape.
+-- The effect on a canvas of showing pixels in a colour: by one test after another, by equal tests, by a shape.
 use Rattle.std.proofs.Common.{◌≡◌, ℕ, zero, suc, ◌*◌, ◌<◌, ◌||◌, Bool, true, false, Option, Some, None, ℤ, pos, refl, sym, ap, ◌∙◌, arith}
 use Rattle.std.specs.Option.{option_or}
 use Rattle.wf_def.specs.declared.color.Color.{Color}
@@ -21,7 +21,7 @@ either_way None true second color = refl
 either_way None false second color = refl
 either_way (Some c) first second color = refl
 
--- ---- places in a canvas
+-- ---- indices in a canvas
 
 pub column_within : (width height i : ℕ) → i < width * height → column_of width i < width
 unfolding column_of
@@ -35,7 +35,7 @@ row_within width (suc height) i within = omega arith
 
 -- ---- a canvas
 
--- where no pixel is shown the canvas stays as it is
+-- where no pixel is shown the canvas is unchanged
 pub IsColored-none : (shown : ℕ → ℕ → Bool) (color : Color) (c : CanvasValue) →
     ((column row : ℕ) → column < c.width → row < c.height → shown column row ≡ false) → IsColored shown color c c
 IsColored-none shown color c none = record {
@@ -92,7 +92,7 @@ shape_seen shape color column row = by_test (shape_covers shape column row) refl
 abbrev pub covered_by : ShapeValue → ℕ → ℕ → Bool
 covered_by shape column row = shape_covers shape (pos column) (pos row)
 
--- where they are in the colour the shape is shown
+-- where they are shown in the colour, the shape is shown
 pub IsShown-from_colored : (shape : ShapeValue) (color : Color) (a b : CanvasValue) → IsColored (covered_by shape) color a b → IsShown (in_color shape (Some color)) a b
 IsShown-from_colored shape color a b colored = record {
   width = colored.width;

@@ -1,4 +1,4 @@
--- The operations of a view that begins some pixels elsewhere paint each pixel as those here paint the pixel that it is here.
+-- The operations of a view that is moved by some pixels give each pixel the colour of the moved pixel in the first view.
 use Rattle.std.proofs.Common.{◌≡◌, ℕ, ◌^◌, Bool, true, false, cond, List, [], ◌∷◌, ◌++◌, map, slice_get, Option, Some, None, ℤ, refl, sym, ap, ◌∙◌, arith}
 use Rattle.std.proofs.lemmas.Int.{ints}
 use Rattle.std.proofs.lemmas.List.{map-append}
@@ -153,7 +153,7 @@ module _ (V W : ViewValue) (m n : ℤ) (shown : (p : Point) → place_of V p ≡
 
 -- ---- tiles
 
--- a tile's view begins so many pixels further on than the whole grid
+-- a tile's view starts `first_pixel k` pixels after the whole grid
 tile_position : (origin : ℤ) (width cells : ℕ) (k x : ℤ) →
     position (tile_axis origin width cells k) x ≡ difference (position (grid_axis origin width cells) x) (sixteenths (first_pixel k))
 unfolding position difference sixteenths tile_shift product

@@ -26,7 +26,7 @@ line_near_enough least width cells k x level on =
     let wide = level_wide width cells level in
     omega arith
 
--- a coordinate lies at most so many cells from the extent's side
+-- a coordinate lies at most 2^38 cells from the extent's side
 pub stretched_most : (d width cells : ℕ) → d ≤ 2 * most_millionths → has_level width cells ≡ true → d * cells ≤ 2 ^ 38 * width
 stretched_most d width cells most level =
     let product : d * cells ≤ 2 * most_millionths * cells = mul-le-mul most (omega arith) in
@@ -62,7 +62,7 @@ pub box_found : (e box : ExtentValue) (cells : ℕ) (col row : ℤ) → has_leve
 unfolding is_box
 box_found e box cells col row level x y = rw (level, x, y) refl
 
--- only the nearest line is one that the coordinate can lie on, so only that cell can fit
+-- the coordinate can lie only on the nearest line, so only that cell can fit
 pub cell_none : (least : ℤ) (width cells : ℕ) (low high near : ℤ) → ((j : ℤ) → is_on_line least width cells j low ≡ true → j ≡ near) →
     is_cell least width cells near low high ≡ false → (k : ℤ) → is_cell least width cells k low high ≡ false
 unfolding is_cell
@@ -123,7 +123,7 @@ levels_apart (pos d) width few many some twice wide first second =
     let grown : d * (2 * few) ≤ d * many = mul-le-mul_left d twice in omega (arith, ints)
 levels_apart (negsuc d) width few many some twice wide first second = omega (arith, ints)
 
--- what a cell that fits tells
+-- what follows from a cell that fits
 pub record IsFit (e box : ExtentValue) (cell : GridCell) : Type 0 where
   pub level : has_level (width_of e) (2 ^ cell.z) ≡ true
   pub col : is_cell e.minx (width_of e) (2 ^ cell.z) cell.col box.minx box.maxx ≡ true
@@ -164,7 +164,7 @@ same_level e box c d first second same =
     let row = cell_same e.miny (width_of e) (2 ^ c.z) c.row d.row box.miny box.maxy (pow_pos c.z) first.level first.row (subst up (sym same) second.row) in
     λ i. record { z = same i; col = col i; row = row i }
 
--- two cells that fit one request are one cell
+-- two cells that fit one request are equal
 pub one_cell : (e box : ExtentValue) (width height : ℕ) (c d : GridCell) → fits e box width height c ≡ true → fits e box width height d ≡ true → c ≡ d
 one_cell e box width height c d first second =
     let a = fit_of e box width height c first in

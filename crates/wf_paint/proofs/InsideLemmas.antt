@@ -1,4 +1,4 @@
--- Where edges cross a row: how far to the right, in which rows at all, and what the sorted crossings say of each column.
+-- Where edges cross a row: how far to the right, in which rows, and what the sorted crossings imply for each column.
 use Rattle.std.proofs.Common.{◌≡◌, ℕ, zero, suc, ◌+◌, ◌-◌, ◌*◌, ◌%◌, ◌<◌, ◌≤◌, ◌==◌, ◌&&◌, ◌||◌, Bool, true, false, not, cond, nat_lt, int_lt, List, [], ◌∷◌, ◌++◌, take, length, get_or, ℤ, pos, negsuc, ◌+ℤ◌, ◌-ℤ◌, ◌*ℤ◌, ◌≤ℤ◌, refl, sym, ap, ◌∙◌, subst, arith}
 use Rattle.std.specs.List.{All, count_by}
 use Rattle.std.proofs.lemmas.Bool.{lt-ltb, le-ltb}
@@ -26,7 +26,7 @@ pub beside_rises : (c low high : PlaceValue) → is_beside c low high ≡ true �
 unfolding is_beside is_less difference
 beside_rises c low high beside = grind (arith, ints)
 
--- whether it does depends on the height alone
+-- whether it does depends only on y
 pub beside_alike : (x z y : ℤ) (low high : PlaceValue) → is_beside (record { x = x; y = y }) low high ≡ is_beside (record { x = z; y = y }) low high
 unfolding is_beside
 beside_alike x z y low high = refl
@@ -125,7 +125,7 @@ crosses_above c edge level above from to =
     let second : int_lt c.y edge.to.y ≡ false = grind (arith, ints) in
     rw (first, second, and_false (not false), and_false (not false)) refl
 
--- no element passes
+-- no element passes the test
 count_none : {X : Type 0} (test : X → Bool) (xs : List X) → All (λ x. test x ≡ false) xs → count_by test xs ≡ 0
 count_none test [] none = refl
 count_none {X} test (x ∷ xs) none =
@@ -163,7 +163,7 @@ count_above (x ∷ xs) (suc k) u below above =
 
 -- ---- the reaches of a row
 
--- each column is left of so many of the reaches as of edges that cross the row
+-- each column is left of as many reaches as of edges that cross the row
 pub record IsReaches (row width : ℕ) (edges : List Segment) (reaches : List ℕ) : Type 0 where
   pub within : All (λ reach. reach ≤ width) reaches
   pub count : (u : ℕ) → u < width → count_by (nat_lt u) reaches ≡ count_by (crosses (centre (pos u) (pos row))) edges

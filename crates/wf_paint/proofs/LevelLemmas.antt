@@ -1,4 +1,4 @@
--- Where a number that changes by one step from pixel to pixel lies below a bound.
+-- Where a number that changes by a constant step from pixel to pixel lies below a bound.
 use Rattle.std.proofs.Common.{◌≡◌, ℕ, zero, suc, ◌+◌, ◌-◌, ◌*◌, ◌<◌, ◌≤◌, min, not, nat_lt, ℤ, pos, negsuc, ◌+ℤ◌, ◌*ℤ◌, neg_ℤ, refl, sym, ap, ◌∙◌, arith}
 use Rattle.std.proofs.lemmas.Int.{ints}
 use Rattle.std.proofs.Math.IntN.{zero-*ℤ, negsuc-*ℤ-pos, pos-*ℤ-pos, neg_ℤ-neg_ℤ}
@@ -49,7 +49,7 @@ not_above high z = grind (arith, ints)
 
 -- ---- a row of pixels
 
--- where levels rise, the pixels within a margin begin behind the steps to its lower border and end behind those to its upper one
+-- where levels rise, the pixels within a margin start after the steps to its lower border and end after those to its upper one
 pub rising_span : (start step margin : ℤ) (most : ℕ) (span : Span) → span.to ≤ most →
     ((u : ℕ) → u < most → is_less (product step (pos u)) (difference (opposite margin) start) ≡ nat_lt u span.from) →
     ((u : ℕ) → u < most → is_less (product step (pos u)) (difference margin start) ≡ nat_lt u span.to) →
@@ -71,14 +71,14 @@ less_moved : (p q twice margin start : ℤ) → q ≡ p +ℤ twice → twice ≡
 unfolding is_less difference opposite plus
 less_moved p q twice margin start moved double = grind (arith, ints)
 
--- so many pixels further on, a level is twice the margin higher
+-- `across` pixels further on, a level is twice the margin higher
 steps_moved : (start step margin : ℤ) (u across : ℕ) → product step (pos across) ≡ plus margin margin →
     is_less (product step (pos u)) (difference (opposite margin) start) ≡ is_less (product step (pos (u + across))) (difference margin start)
 unfolding product
 steps_moved start step margin u across double =
     less_moved (step *ℤ pos u) (step *ℤ pos (u + across)) (step *ℤ pos across) margin start (step_sum step u across) double
 
--- so the pixels within the margin begin as many before their end
+-- so the pixels within the margin start `across` before their end
 pub whole_span : (start step margin : ℤ) (most across end : ℕ) → product step (pos across) ≡ plus margin margin →
     ((u : ℕ) → u < most + across → is_less (product step (pos u)) (difference margin start) ≡ nat_lt u end) →
     IsSpanOf (λ u. is_in_margin margin (level start step (pos u))) most (record { from = end - across; to = min end most })

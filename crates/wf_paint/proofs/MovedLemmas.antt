@@ -1,4 +1,4 @@
--- A view that begins elsewhere shows each shape as far away: what covers a pixel there covers the pixel that it is here.
+-- A view that is moved moves each shape by the same offset: it covers a pixel there iff it covers the moved pixel here.
 use Rattle.std.proofs.Common.{◌≡◌, ℕ, ◌+◌, ◌*◌, ◌==◌, ◌%◌, ◌/◌, ◌||◌, Bool, cond, List, [], ◌∷◌, ◌++◌, map, ℤ, pos, negsuc, ◌+ℤ◌, ◌-ℤ◌, ◌*ℤ◌, ◌≤ℤ◌, ◌<ℤ◌, refl, sym, ap, ◌∙◌, arith}
 use Rattle.std.specs.Int.{int_div_euclid}
 use Rattle.std.specs.List.{count_by, list_any, flat_map, fold}
@@ -22,7 +22,7 @@ less_moved : (a b s : ℤ) → is_less (difference a s) (difference b s) ≡ is_
 unfolding difference is_less
 less_moved a b s = grind (arith, ints)
 
--- so many sixteenths to the left and down
+-- moved s sixteenths left and t sixteenths down
 abbrev pub moved : ℤ → ℤ → PlaceValue → PlaceValue
 moved s t p = record { x = difference p.x s; y = difference p.y t }
 
@@ -128,7 +128,7 @@ on_moved s t width c a b =
 
 -- ---- lists of segments
 
--- two lists joined from pieces test alike where the pieces do
+-- two lists joined from pieces test equal where the pieces do
 pub flat_map_alike : {X A B C : Type 0} (f : X → List A) (g : X → List B) (h : A → C) (k : B → C) →
     ((x : X) → map h (f x) ≡ map k (g x)) → (xs : List X) → map h (flat_map f xs) ≡ map k (flat_map g xs)
 flat_map_alike f g h k alike [] = refl
@@ -166,7 +166,7 @@ any_of_tests : (test : Segment → Bool) (xs : List Segment) → list_any test x
 any_of_tests test [] = refl
 any_of_tests test (x ∷ xs) = ap (λ b. test x || b) (any_of_tests test xs)
 
--- whether a place is inside depends on which edges its ray meets alone
+-- whether a position is inside depends only on which edges its ray meets
 pub inside_alike : (c d : PlaceValue) (xs ys : List Segment) → map (crosses c) xs ≡ map (crosses d) ys → is_inside c xs ≡ is_inside d ys
 unfolding is_inside
 inside_alike c d xs ys same = ap (λ (n : ℕ). n % 2 == 1) (count_of_tests (crosses c) xs ∙ ap (count_by (λ b. b)) same ∙ sym (count_of_tests (crosses d) ys))

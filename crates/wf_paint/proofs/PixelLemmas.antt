@@ -1,4 +1,4 @@
--- What a write to the three bytes of a pixel leaves of a picture.
+-- The effect on a picture of a write to the three bytes of a pixel.
 use Rattle.std.proofs.Common.{◌≡◌, ◌≢◌, ℕ, ◌+◌, ◌*◌, ◌<◌, List, length, get_or, set, refl, ◌∙◌, arith}
 use Rattle.std.proofs.lemmas.List.{get_or-set_same, get_or-set_other, length-set}
 use Rattle.wf_def.specs.declared.color.Color.{Color}
@@ -8,7 +8,7 @@ use Rattle.wf_paint.specs.Cells.{IsWritten}
 color-same : (a b : Color) → a.r ≡ b.r → a.g ≡ b.g → a.b ≡ b.b → a ≡ b
 color-same a b red green blue i = record { r = red i; g = green i; b = blue i }
 
--- the bytes with the three from this one on written anew
+-- the bytes with the three from this index on replaced
 abbrev pub with_pixel : List ℕ → ℕ → Color → List ℕ
 with_pixel bytes start color = set (set (set bytes start color.r) (start + 1) color.g) (start + 2) color.b
 
@@ -39,7 +39,7 @@ pub pixel_at-written : (bytes : List ℕ) (index : ℕ) (color : Color) → 3 * 
 unfolding pixel_at
 pixel_at-written bytes index color within = color-same _ color (red bytes (3 * index) color within) (green bytes (3 * index) color within) (blue bytes (3 * index) color within)
 
--- every other has its old one
+-- every other pixel has its old one
 pub pixel_at-other : (bytes : List ℕ) (index : ℕ) (color : Color) (i : ℕ) → i ≢ index → pixel_at (with_pixel bytes (3 * index) color) i ≡ pixel_at bytes i
 unfolding pixel_at
 pixel_at-other bytes index color i apart = color-same _ _
@@ -47,7 +47,7 @@ pixel_at-other bytes index color i apart = color-same _ _
     (other bytes (3 * index) color (3 * i + 1) (omega arith) (omega arith) (omega arith))
     (other bytes (3 * index) color (3 * i + 2) (omega arith) (omega arith) (omega arith))
 
--- the bytes of this pixel alone change
+-- only the bytes of this pixel change
 pub pixel_written : (bytes : List ℕ) (index : ℕ) (color : Color) → 3 * index + 2 < length bytes → IsWritten index color bytes (with_pixel bytes (3 * index) color)
 pixel_written bytes index color within = record {
   size = simp length-set;

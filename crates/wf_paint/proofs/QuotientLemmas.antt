@@ -1,4 +1,4 @@
--- How large a quotient is that is rounded down.
+-- Bounds of a quotient that is rounded down.
 use Rattle.std.proofs.Common.{◌≡◌, ℕ, ◌+◌, ◌*◌, ◌/◌, ◌<◌, ◌≤◌, ℤ, pos, negsuc, ◌+ℤ◌, ◌-ℤ◌, ◌*ℤ◌, ◌≤ℤ◌, ◌<ℤ◌, nat_abs, ap, arith}
 use Rattle.std.proofs.lemmas.Int.{ints}
 use Rattle.std.proofs.Math.Nat.{div-le_of_le-mul, div-lt_iff_lt-mul, le-div_iff_mul-le, mul-le-mul, mul_comm}
@@ -15,7 +15,7 @@ quotient_bound (negsuc a) n m least h =
     let quotient : a / n < m = (div-lt_iff_lt-mul least).1 below in
     omega arith
 
--- a distance of at most two limits is at most so many spans where the scale is that of a view
+-- a distance of at most two limits, scaled as in a view, is at most `2 * most_scale * most_millionths` spans
 pub stretched : (d s n : ℕ) → d ≤ 2 * most_millionths → s ≤ most_scale * n → d * s ≤ n * (2 * most_scale * most_millionths)
 stretched d s n most finest =
     let product : d * s ≤ 2 * most_millionths * (most_scale * n) = mul-le-mul most finest in
@@ -38,7 +38,7 @@ quotient_only (negsuc a) (negsuc k) n least from below = ap negsuc (quotient_of 
 pub nearest_only : (a k : ℤ) (n : ℕ) → 0 < n → 4 * nat_abs (a -ℤ k *ℤ pos n) ≤ n → int_div_euclid (pos 2 *ℤ a +ℤ pos n) (pos (2 * n)) ≡ k
 nearest_only a k n least near = quotient_only (pos 2 *ℤ a +ℤ pos n) k (2 * n) (omega arith) (omega (arith, ints)) (omega (arith, ints))
 
--- the same of the line of a grid that is so wide
+-- the same for the line of a grid of this width
 pub nearest_line : (number k : ℤ) (width : ℕ) → 0 < width → 4 * nat_abs (difference number (product k (pos width))) ≤ width →
     quotient (plus (product (pos 2) number) (pos width)) (pos (2 * width)) ≡ k
 unfolding difference product plus quotient

@@ -1,4 +1,4 @@
--- The way through places, without further ones.
+-- The path through positions, without further ones.
 use Rattle.std.proofs.Common.{◌≡◌, List, [], ◌++◌, sym, ap, ◌∙◌}
 use Rattle.std.proofs.lemmas.List.{append-nil}
 use Rattle.wf_paint.specs.Place.{PlaceValue}

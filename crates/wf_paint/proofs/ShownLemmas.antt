@@ -1,4 +1,4 @@
--- What operations leave of a canvas that is painted from the last operation to the first.
+-- The effect of operations on a canvas that is painted from the last operation to the first.
 use Rattle.std.proofs.Common.{◌≡◌, true, ℕ, zero, suc, ◌+◌, ◌-◌, ◌<◌, ◌≤◌, List, [], ◌∷◌, ◌++◌, take, drop, length, get_or, reverse, Option, Some, None, ℤ, pos, refl, sym, ap, subst, ◌∙◌, arith}
 use Rattle.std.specs.Option.{option_map, option_or, unwrap_or, is_some}
 use Rattle.std.specs.List.{find, flat_map, Contains}
@@ -27,7 +27,7 @@ or-some : (a b : Option Color) → is_some a ≡ true → option_or a b ≡ a
 or-some None b some = absurd (false≢true some)
 or-some (Some color) b some = refl
 
--- what the first covers may be left out behind others
+-- what the first covers may be left out after others
 or-covered : (a b c : Option Color) → option_or a c ≡ a → option_or (option_or a b) c ≡ option_or a b
 or-covered None b c hidden = ap (option_or b) hidden ∙ or_none b
 or-covered (Some color) b c hidden = refl
@@ -53,7 +53,7 @@ seen-none column row = refl
 
 -- ---- canvases
 
--- without operations a canvas stays as it is
+-- without operations a canvas is unchanged
 pub IsShown-none : (c : CanvasValue) → IsShown [] c c
 unfolding seen
 IsShown-none c = record { width = refl; height = refl; pixels = λ i within. sym (or_none (painted_at c i)) }
@@ -73,7 +73,7 @@ IsShown-append xs ys a b c later earlier = record {
       ∙ ap (option_or (painted_at a i)) (sym (seen-append xs ys (pos (column_of a.width i)) (pos (row_of a.width a.height i))));
 }
 
--- a full canvas stays as it is, whatever is painted
+-- a full canvas is unchanged, whatever is painted
 pub IsShown-full : (ops : List OperationValue) (c : CanvasValue) → IsFull c → IsShown ops c c
 IsShown-full ops c full = record {
   width = refl;
@@ -81,7 +81,7 @@ IsShown-full ops c full = record {
   pixels = λ i within. sym (or-some (painted_at c i) (seen ops (pos (column_of c.width i)) (pos (row_of c.width c.height i))) (full.pixels i within));
 }
 
--- what shows the same is as good
+-- operations are shown on any canvas with the same pixels
 pub IsShown-alike : (ops : List OperationValue) (a b c : CanvasValue) → IsShown ops a b → IsAlike b c → IsShown ops a c
 IsShown-alike ops a b c shown alike = record {
   width = alike.width ∙ shown.width;
@@ -133,7 +133,7 @@ IsHidden-same ops others = record {
 
 -- ---- loops from the last element to the first
 
--- what is left of a list one element earlier
+-- the elements that remain, from one element earlier on
 pub drop_before : {X : Type 0} (xs : List X) (next : ℕ) (x d : X) → 0 < next → next ≤ length xs → x ≡ get_or xs (next - 1) d → drop (next - 1) xs ≡ x ∷ drop next xs
 drop_before {X} xs next x d some within here =
     let follows : next - 1 + 1 ≡ next = omega arith in

@@ -19,7 +19,7 @@ before_from from to u before = grind (arith, nat_tests)
 after_to : (from to u : ℕ) → to ≤ u → (not (nat_lt u from) && nat_lt u to) ≡ false
 after_to from to u after = grind (arith, nat_tests)
 
--- no number below the span passes, and none above it
+-- no number below or above the span passes the test
 pub span_before : (test : ℕ → Bool) (most : ℕ) (span : Span) (u : ℕ) → IsSpanOf test most span → u < most → u < span.from → test u ≡ false
 unfolding is_within
 span_before test most span u is within before = is.passed u within ∙ before_from span.from span.to u before
@@ -31,7 +31,7 @@ span_after test most span u is within after = is.passed u within ∙ after_to sp
 inside_both : (from to u : ℕ) → from ≤ u → u < to → (not (nat_lt u from) && nat_lt u to) ≡ true
 inside_both from to u after before = grind (arith, nat_tests)
 
--- and each number in it does
+-- each number in it passes
 pub span_inside : (test : ℕ → Bool) (most : ℕ) (span : Span) (u : ℕ) → IsSpanOf test most span → u < most → span.from ≤ u → u < span.to → test u ≡ true
 unfolding is_within
 span_inside test most span u is within from to = is.passed u within ∙ inside_both span.from span.to u from to
@@ -39,18 +39,18 @@ span_inside test most span u is within from to = is.passed u within ∙ inside_b
 none_between : (from to u : ℕ) → to ≤ from → (not (nat_lt u from) && nat_lt u to) ≡ false
 none_between from to u empty = grind (arith, nat_tests)
 
--- where it ends before it begins none passes
+-- where it ends before it starts, none passes
 pub span_empty : (test : ℕ → Bool) (most : ℕ) (span : Span) (u : ℕ) → IsSpanOf test most span → span.to ≤ span.from → u < most → test u ≡ false
 unfolding is_within
 span_empty test most span u is empty within = is.passed u within ∙ none_between span.from span.to u empty
 
--- nor where none passes outside of such a span
+-- nor where none passes outside such a span
 pub nowhere : (test : ℕ → Bool) (most : ℕ) (span : Span) (u : ℕ) →
     ((u : ℕ) → u < most → u < span.from → test u ≡ false) → ((u : ℕ) → u < most → span.to ≤ u → test u ≡ false) →
     span.to ≤ span.from → u < most → test u ≡ false
 nowhere test most span u below above empty within = ⊎_elim (λ before. below u within before) (λ after. above u within (omega arith)) (cases_lt u span.from)
 
--- the tests that tell the ends of a span
+-- the tests that give the ends of a span
 pub IsSpanOf-ends : (low high test : ℕ → Bool) (most : ℕ) (span : Span) → span.to ≤ most →
     ((u : ℕ) → u < most → low u ≡ nat_lt u span.from) → ((u : ℕ) → u < most → high u ≡ nat_lt u span.to) →
     ((u : ℕ) → test u ≡ (not (low u) && high u)) → IsSpanOf test most span
@@ -64,7 +64,7 @@ flipped : (a b : Bool) → (not (not b) && not a) ≡ (not a && b)
 flipped true b = grind arith
 flipped false b = grind arith
 
--- the same of tests that hold from the ends on
+-- the same for tests that hold from the ends on
 pub IsSpanOf-ends_from : (low high test : ℕ → Bool) (most : ℕ) (span : Span) → span.to ≤ most →
     ((u : ℕ) → u < most → low u ≡ not (nat_lt u span.to)) → ((u : ℕ) → u < most → high u ≡ not (nat_lt u span.from)) →
     ((u : ℕ) → test u ≡ (not (low u) && high u)) → IsSpanOf test most span
@@ -133,7 +133,7 @@ square_same size p width height columns rows across up column row wide high =
 
 -- ---- row by row
 
--- what of the test lies in the rows below this one
+-- the part of the test in the rows below this one
 unfoldable pub below_row : ℕ → (ℕ → ℕ → Bool) → ℕ → ℕ → Bool
 below_row row f column r = nat_lt r row && f column r
 

@@ -17,15 +17,15 @@ multiples_counted step bound u some positive =
     (λ below. let up : u ≤ (bound - 1) / step = (le-div_iff_mul-le least).1 (omega (arith, mul_comm step u)) in omega arith)
     (λ counted. let up : u * step ≤ bound - 1 = (le-div_iff_mul-le least).0 (omega arith) in omega (arith, mul_comm step u))
 
--- of the first numbers as many are below a bound as of more of them
+-- a bound has as many of the first numbers below it as of more of them
 pub fewer_counted : (u end most : ℕ) → u < most → nat_lt u end ≡ nat_lt u (min end most)
 fewer_counted u end most within = less_alike u end u (min end most) (λ below. omega arith) (λ below. omega arith)
 
--- so much further on are those up to so much before the end
+-- after a shift, the numbers below the end are those below the end less the shift
 pub counted_from : (u end across : ℕ) → nat_lt (u + across) end ≡ nat_lt u (end - across)
 counted_from u end across = less_alike (u + across) end u (end - across) (λ below. omega arith) (λ below. omega arith)
 
--- of a positive step and bound the sizes are compared
+-- for a positive step and bound, the sizes are compared
 pub positive_multiples : (step bound : ℤ) (u : ℕ) → pos 1 ≤ℤ step → pos 0 <ℤ bound →
     is_less (product step (pos u)) bound ≡ nat_lt (unsigned_abs step * u) (unsigned_abs bound)
 unfolding product is_less
@@ -42,7 +42,7 @@ no_multiples (pos s) (pos b) u some none =
 no_multiples (pos s) (negsuc b) u some none = less_alike 0 0 u 0 (λ below. absurd (omega arith)) (λ below. absurd (omega arith))
 no_multiples (negsuc s) bound u some none = absurd (omega (arith, ints))
 
--- a centre is below a place where its pixel, in sixteenths, is half a pixel below it
+-- a centre is below a position iff its pixel, in sixteenths, is half a pixel below it
 pub centre_less : (u place : ℤ) → is_less (middle u) place ≡ is_less (product (pos 16) u) (place -ℤ pos 8)
 unfolding plus is_less
 centre_less u place = grind (arith, ints)

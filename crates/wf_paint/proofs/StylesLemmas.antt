@@ -141,7 +141,7 @@ module _ (segments : List Segment) where
   fill_spared ops true color hides = inr (refl, hides.each refl color)
   fill_spared ops false color hides = inl refl
 
-  -- their inside, unless it is filled already
+  -- the inside, unless it is filled already
   pub IsDrawn-fill : (ops : List OperationValue) (filled : Bool) (widest : ℕ) (color : Option Color) (a b c : CanvasValue) →
       IsDrawn ops filled widest a b → IsShown (in_color (FillOf segments) (cond filled None color)) b c →
       IsDrawn (in_color (FillOf segments) color ++ ops) (filled || is_some color) widest a c

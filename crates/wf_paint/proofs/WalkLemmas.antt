@@ -1,4 +1,5 @@
--- What is covered of a row by a walk through its sorted reaches, and of a canvas by its rows one after another.
+-- The columns that a walk through a row's sorted reaches covers, and the pixels that the rows of a canvas cover, one after
+-- another.
 use Rattle.std.proofs.Common.{◌≡◌, ℕ, ◌+◌, ◌-◌, ◌%◌, ◌<◌, ◌≤◌, ◌==◌, ◌&&◌, ◌||◌, Bool, true, false, not, cond, nat_lt, List, length, get_or, pos, refl, sym, ap, ◌∙◌, subst, ⊎_elim, arith}
 use Rattle.std.specs.List.{count_by}
 use Rattle.std.specs.List.Sorted.{IsNonDecreasing, IsPermutation}
@@ -20,7 +21,7 @@ and_false false = refl
 
 -- ---- tests of one column
 
--- an odd number of the reaches lies behind the column
+-- an odd number of the reaches lies after the column
 abbrev pub is_odd_behind : List ℕ → ℕ → Bool
 is_odd_behind reaches column = count_by (nat_lt column) reaches % 2 == 1
 
@@ -56,7 +57,8 @@ parity_turns n k within = grind (arith, nat_tests)
 
 -- ---- the walk
 
--- the first k reaches are passed, up to `from`, and the columns before it are covered where they are to be
+-- the first k reaches are passed, up to `from`, and of the columns before it those with an odd number of reaches after them are
+-- covered
 pub record IsWalked (row : ℕ) (reaches : List ℕ) (k from : ℕ) (is_covered : Bool) (color : Color) (old new : CanvasValue) : Type 0 where
   pub colored : IsColored (λ column r. (r == row) && (nat_lt column from && is_odd_behind reaches column)) color old new
   pub parity : is_covered ≡ ((length reaches - k) % 2 == 1)
@@ -102,7 +104,7 @@ module _ (row : ℕ) (reaches : List ℕ) (k from : ℕ) (is_covered : Bool) (co
 last_even : (n k : ℕ) → n ≤ k → ((n - k) % 2 == 1) ≡ false
 last_even n k all = let none : n - k ≡ 0 = omega arith in ap (λ (m : ℕ). m % 2 == 1) none
 
--- no reach is left behind the last one
+-- no reach is left after the last one
 pub walked_all : (row : ℕ) (reaches : List ℕ) (k from : ℕ) (is_covered : Bool) (color : Color) (a b : CanvasValue) → length reaches ≤ k → IsWalked row reaches k from is_covered color a b →
     IsColored (λ column r. (r == row) && is_odd_behind reaches column) color a b
 walked_all row reaches k from is_covered color a b all walked =

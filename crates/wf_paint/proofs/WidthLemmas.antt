@@ -33,7 +33,7 @@ apart : (z : ℤ) (m : ℕ) → is_less z (opposite (neg_ℤ (pos m))) ≡ false
 unfolding is_less opposite
 apart z m above below = omega (arith, ints)
 
--- within a negative margin lies nothing
+-- nothing lies within a negative margin
 no_margin : (z : ℤ) (m : ℕ) → is_in_margin (neg_ℤ (pos m)) z ≡ true → ⊥
 unfolding is_in_margin
 no_margin z m inside =

@@ -1,4 +1,4 @@
--- A picture while it is painted from the last operation to the first: a painted pixel keeps its colour, a free one waits for its own.
+-- A picture while it is painted, from the last operation to the first. A painted pixel keeps its colour; a free one has none yet.
 use Rattle.std.specs.Prelude.{◌≡◌, ℕ, ◌*◌, ◌<◌, ◌≤◌, true, List, length, Option, None, is_some}
 use Rattle.std.specs.Option.{unwrap_or}
 use Rattle.wf_def.specs.declared.color.Color.{Color}
@@ -6,7 +6,7 @@ use Rattle.wf_paint.specs.View.{most_pixels}
 use Rattle.wf_paint.specs.Pixmap.{PixmapValue, pixel_at}
 use Rattle.wf_paint.specs.Cells.{IsCells, painted_in}
 
--- a size in pixels, three bytes a pixel, and for each pixel how far the next one that may be free is: 0 pixels where it is free itself
+-- a size in pixels, three bytes a pixel, and for each pixel the distance to the next one that may be free: 0 if it is free itself
 pub record CanvasValue : Type 0 where
   pub width : ℕ
   pub height : ℕ
@@ -25,13 +25,13 @@ pub record IsCanvas (c : CanvasValue) : Type 0 where
   pub size : length c.skip ≡ c.width * c.height
   pub cells : IsCells c.skip c.bytes
 
--- a canvas of this size with each pixel free
+-- a canvas of this size with all pixels free
 pub record IsBlank (width height : ℕ) (c : CanvasValue) : Type 0 where
   pub wide : c.width ≡ width
   pub high : c.height ≡ height
   pub pixels : (i : ℕ) → i < width * height → painted_at c i ≡ None
 
--- each pixel is painted
+-- all pixels are painted
 pub record IsFull (c : CanvasValue) : Type 0 where
   pub pixels : (i : ℕ) → i < c.width * c.height → is_some (painted_at c i) ≡ true
 
@@ -41,13 +41,13 @@ pub record HasFree (c : CanvasValue) : Type 0 where
   pub within : free < c.width * c.height
   pub unpainted : painted_at c free ≡ None
 
--- both show the same
+-- both have the same size and painted pixels
 pub record IsAlike (old new : CanvasValue) : Type 0 where
   pub width : new.width ≡ old.width
   pub height : new.height ≡ old.height
   pub pixels : (i : ℕ) → i < old.width * old.height → painted_at new i ≡ painted_at old i
 
--- the picture of a canvas: a free pixel has the background
+-- the picture of a canvas: free pixels have the background
 pub record IsFinished (background : Color) (c : CanvasValue) (p : PixmapValue) : Type 0 where
   pub width : p.width ≡ c.width
   pub height : p.height ≡ c.height

@@ -1,4 +1,4 @@
--- One drawing over the whole grid of a level, which every tile is a part of.
+-- One drawing over the whole grid of a level. Every tile is a part of it.
 use Rattle.std.specs.Prelude.{◌≡◌, ℕ, ◌*◌, ◌^◌, List, None, ℤ, pos}
 use Rattle.wf_def.specs.Definition.{Definition}
 use Rattle.wf_def.specs.Extent.{ExtentValue}
@@ -10,7 +10,7 @@ use Rattle.wf_paint.specs.Tile.{tile_view}
 use Rattle.wf_paint.specs.View.{AxisValue, ViewValue, most_pixels}
 use Rattle.wf_paint.specs.declared.cell.GridCell.{GridCell}
 
--- the axis of the whole grid: its pixels are counted from the extent's corner, below it negative
+-- the axis of the whole grid: pixels count from the extent's corner; those below it are negative
 abbrev pub grid_axis : ℤ → ℕ → ℕ → AxisValue
 grid_axis origin width cells = record { origin = origin; scale = 4_096 * cells; span = width; shift = pos 0 }
 
@@ -27,11 +27,11 @@ grid_view e z = record {
 abbrev pub drawing : Definition → List ℕ → ℕ → Color → ℤ → ℤ → Color
 drawing map layers z background column row = color_at (operations map layers (grid_view map.extent z)) background column row
 
--- where the first pixel of the view that a cell is in lies in the drawing
+-- the position in the drawing of the first pixel of a cell's view
 abbrev pub first_pixel : ℤ → ℤ
 first_pixel k = product (quotient k (pos 4)) (pos most_pixels)
 
--- whichever cell's view is painted, each pixel has the colour that it has in the one drawing
+-- in every cell's view, each pixel has the colour that it has in the one drawing
 abbrev pub IsPartOfTheDrawing : Type 0
 IsPartOfTheDrawing = (map : Definition) (layers : List ℕ) (cell : GridCell) (background : Color) (column row : ℤ) →
     color_at (operations map layers (tile_view map.extent cell)) background column row

@@ -1,4 +1,4 @@
--- Sums, products and comparisons of whole numbers: the words that the view and the coverage are made of.
+-- Sums, products and comparisons of integers: the operations that views and coverage are defined by.
 use Rattle.std.specs.Prelude.{ℤ, ◌+ℤ◌, ◌-ℤ◌, ◌*ℤ◌, neg_ℤ, Bool, int_lt}
 use Rattle.std.specs.Int.{int_div_euclid}
 
@@ -14,7 +14,7 @@ product a b = a *ℤ b
 unfoldable pub opposite : ℤ → ℤ
 opposite z = neg_ℤ z
 
--- the quotient rounded down, of negative numbers too, where the divisor is positive
+-- the quotient, rounded down also for negative numbers, where the divisor is positive
 unfoldable pub quotient : ℤ → ℤ → ℤ
 quotient a b = int_div_euclid a b
 

@@ -1,4 +1,5 @@
--- The grid of tiles: at level z the extent's width has 2^z cells, counted from the extent's lower left corner, below it negative.
+-- The tile grid: at level z the extent's width has 2^z cells. Cells count from the extent's lower left corner; those below it are
+-- negative.
 use Rattle.std.specs.Prelude.{ℕ, ◌*◌, ◌^◌, ◌≤◌, ◌&&◌, ◌==◌, Bool, nat_le, ℤ, pos, nat_abs}
 use Rattle.wf_def.specs.Extent.{ExtentValue}
 use Rattle.wf_paint.specs.Exact.{plus, difference, product}
@@ -12,15 +13,15 @@ most_level = 20
 abbrev pub tile_pixels : ℕ
 tile_pixels = 256
 
--- the narrowest cell, in millionths
+-- the least width of a cell, in millionths
 abbrev pub least_cell : ℕ
 least_cell = 1_000
 
--- the extent's width in millionths, which measures the grid on both axes
+-- the extent's width in millionths, which scales the grid on both axes
 unfoldable pub width_of : ExtentValue → ℕ
 width_of e = nat_abs (difference e.maxx e.minx)
 
--- With so many cells along the width, line k of the grid is at `least + k * width / cells`. The coordinate lies within 2 millionths of
+-- With `cells` cells along the width, grid line k is at `least + k * width / cells`. The coordinate x lies within 2 millionths of
 -- it; both sides are multiplied by the number of cells.
 unfoldable pub is_on_line : ℤ → ℕ → ℕ → ℤ → ℤ → Bool
 is_on_line least width cells k x =
@@ -34,17 +35,17 @@ is_cell least width cells k low high = is_on_line least width cells k low && is_
 unfoldable pub has_level : ℕ → ℕ → Bool
 has_level width cells = nat_le (least_cell * cells) width
 
--- the box is the cell in the column and row, with so many cells along the width
+-- the box is the cell in the column and row, with `cells` cells along the width
 unfoldable pub is_box : ExtentValue → ExtentValue → ℕ → ℤ → ℤ → Bool
 is_box e box cells col row = has_level (width_of e) cells
     && (is_cell e.minx (width_of e) cells col box.minx box.maxx && is_cell e.miny (width_of e) cells row box.miny box.maxy)
 
--- a picture of the box in this size is the tile of the cell
+-- a picture of the box at this size is the tile of the cell
 unfoldable pub fits : ExtentValue → ExtentValue → ℕ → ℕ → GridCell → Bool
 fits e box width height cell = width == tile_pixels && height == tile_pixels && nat_le cell.z most_level
     && is_box e box (2 ^ cell.z) cell.col cell.row
 
--- a level of the grid, and a column and a row that a box of the map's coordinates can have
+-- the level is one of the grid, and column and row lie in the range that boxes of map coordinates can reach
 pub record IsGridCell (cell : GridCell) : Type 0 where
   pub level : cell.z ≤ most_level
   pub column_near : nat_abs cell.col ≤ 2 ^ 39

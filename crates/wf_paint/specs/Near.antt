@@ -1,11 +1,11 @@
--- How far from 0 the whole numbers of a view lie, so that no sum or product of them overflows.
+-- Bounds of the integers of a view, so that no sum or product of them overflows.
 use Rattle.std.specs.Prelude.{ℤ, ◌^◌, ◌≤◌, nat_abs}
 
--- a place on an axis, in sixteenths of a pixel
+-- a position on an axis, in sixteenths of a pixel
 abbrev pub IsNear : ℤ → Type 0
 IsNear z = nat_abs z ≤ 2 ^ 53
 
--- how far one place lies from another
+-- the distance of two positions
 abbrev pub IsReach : ℤ → Type 0
 IsReach z = nat_abs z ≤ 2 ^ 54
 

@@ -1,4 +1,4 @@
--- What is painted for a map, in painter's order, and the colour of a pixel.
+-- The operations that paint a map, in painter's order, and the colour of a pixel.
 use Rattle.std.specs.Prelude.{ℕ, Bool, List, [], ◌∷◌, ◌++◌, reverse, Option, Some, None, ℤ, slice_get}
 use Rattle.std.specs.List.{find, flat_map}
 use Rattle.wf_def.specs.Definition.{Definition, LayerDefinition, ClassDefinition, StyleDefinition, FeatureDefinition}
@@ -17,18 +17,18 @@ use Rattle.wf_paint.specs.declared.operation.Shape.{Shape}
 use Rattle.wf_paint.specs.declared.operation.Shape.TheVariants.{Fill, Line, Square}
 use Rattle.wf_paint.specs.declared.operation.Operation.{Operation}
 
--- the inside of edges, lines of a width along segments, a square of a size about a place; width and size in pixels
+-- the inside of edges, lines of a width along segments, a square of a size about a position; width and size in pixels
 pub data ShapeValue : Type 0 where
   FillOf : List Segment → ShapeValue
   LineOf : ℕ → List Segment → ShapeValue
   SquareOf : ℕ → PlaceValue → ShapeValue
 
--- a shape painted in a colour
+-- a shape in a colour
 pub record OperationValue : Type 0 where
   pub shape : ShapeValue
   pub color : Color
 
--- what the code's values say
+-- the model values of the code's values
 abbrev pub shape_value : Shape → ShapeValue
 shape_value (Fill edges) = FillOf edges.now
 shape_value (Line width segments) = LineOf width segments.now
@@ -39,7 +39,7 @@ operation_value op = record { shape = shape_value op.shape; color = op.color }
 
 -- ---- coverage
 
--- the shape covers the pixel in the column and row, rows counted upward
+-- the shape covers the pixel in the column and row; rows count from the bottom
 abbrev pub shape_covers : ShapeValue → ℤ → ℤ → Bool
 shape_covers (FillOf edges) column row = is_inside (centre column row) edges
 shape_covers (LineOf width segments) column row = is_on_any width (centre column row) segments
@@ -60,7 +60,7 @@ color_at ops background column row = color_or background (find (λ op. covers op
 
 -- ---- operations, in painter's order
 
--- the shape in a colour: nothing without one
+-- the shape in a colour; nothing without one
 abbrev pub in_color : ShapeValue → Option Color → List OperationValue
 in_color shape None = []
 in_color shape (Some color) = record { shape = shape; color = color } ∷ []
@@ -90,7 +90,7 @@ abbrev pub class_operations : ViewValue → LayerKind → List (List Point) → 
 class_operations view kind parts None = []
 class_operations view kind parts (Some class) = flat_map (style_operations view kind parts) class.styles
 
--- the class that a feature has; without one it isn't drawn
+-- the class of a feature; a feature without one isn't drawn
 abbrev pub class_at : LayerDefinition → Option ℕ → Option ClassDefinition
 class_at layer None = None
 class_at layer (Some i) = slice_get layer.classes i
@@ -106,6 +106,6 @@ abbrev pub entry_operations : ViewValue → Option (List ℕ × LayerDefinition)
 entry_operations view None = []
 entry_operations view (Some entry) = layer_operations view entry.1
 
--- the requested layers from left to right: each is named by its place in the map
+-- the requested layers from left to right, each given by its index in the map
 unfoldable pub operations : Definition → List ℕ → ViewValue → List OperationValue
 operations map layers view = flat_map (λ i. entry_operations view (slice_get map.layers i)) layers

@@ -19,11 +19,11 @@ pub record IsPixmap (p : PixmapValue) : Type 0 where
   pub height_most : p.height ≤ most_pixels
   pub size : length p.bytes ≡ 3 * (p.width * p.height)
 
--- the colour of the pixel in this place, the places counted row by row from the upper left
+-- the colour of the pixel at this index; indices count row by row from the upper left
 unfoldable pub pixel_at : List ℕ → ℕ → Color
 pixel_at bytes index = record { r = slice_index bytes (3 * index); g = slice_index bytes (3 * index + 1); b = slice_index bytes (3 * index + 2) }
 
--- its column, and its row counted upward from the bottom
+-- its column, and its row counted from the bottom
 unfoldable pub column_of : ℕ → ℕ → ℕ
 column_of width index = index % width
 
@@ -36,7 +36,7 @@ pub record IsPicture (width height : ℕ) (picture : ℤ → ℤ → Color) (p :
   pub high : p.height ≡ height
   pub pixels : (i : ℕ) → i < width * height → pixel_at p.bytes i ≡ picture (pos (column_of width i)) (pos (row_of width height i))
 
--- the pixel in one place has the colour, and every other its old one
+-- the pixel at one index has the colour, every other its old one
 pub record IsSet (place : ℕ) (color : Color) (old new : PixmapValue) : Type 0 where
   pub width : new.width ≡ old.width
   pub height : new.height ≡ old.height

@@ -1,4 +1,4 @@
--- Places in a view, and the pixels' centres.
+-- Positions in a view, and the pixels' centres.
 use Rattle.std.specs.Prelude.{ℤ, pos}
 use Rattle.wf_paint.specs.Near.{IsNear}
 use Rattle.wf_paint.specs.Exact.{plus, product}
@@ -16,10 +16,10 @@ pub record IsPlace (p : PlaceValue) : Type 0 where
 abbrev pub middle : ℤ → ℤ
 middle pixel = plus (product (pos 16) pixel) (pos 8)
 
--- the centre of the pixel in a column and a row, rows counted upward from the bottom
+-- the centre of the pixel in a column and a row; rows count from the bottom
 abbrev pub centre : ℤ → ℤ → PlaceValue
 centre column row = record { x = middle column; y = middle row }
 
--- the place with its two axes exchanged
+-- the position with its axes exchanged
 abbrev pub turned : PlaceValue → PlaceValue
 turned p = record { x = p.y; y = p.x }

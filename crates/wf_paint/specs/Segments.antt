@@ -1,4 +1,4 @@
--- The segments of a shape's parts, as a view shows them.
+-- The segments of a feature's parts, in a view.
 use Rattle.std.specs.Prelude.{List, [], ◌∷◌, ◌++◌, map}
 use Rattle.std.specs.List.{flat_map}
 use Rattle.wf_def.specs.declared.point.Point.{Point}
@@ -10,12 +10,12 @@ abbrev pub path_from : PlaceValue → List PlaceValue → List Segment
 path_from a [] = []
 path_from a (b ∷ rest) = record { from = a; to = b } ∷ path_from b rest
 
--- from each place to the next
+-- from each position to the next
 abbrev pub path : List PlaceValue → List Segment
 path [] = []
 path (a ∷ rest) = path_from a rest
 
--- the same, and from the last place back to the first
+-- the same, and from the last position back to the first
 abbrev pub ring : List PlaceValue → List Segment
 ring [] = []
 ring (a ∷ rest) = path_from a (rest ++ a ∷ [])

@@ -1,4 +1,4 @@
--- Rows of neighbouring pixels.
+-- Spans of neighbouring pixels.
 use Rattle.std.specs.Prelude.{◌≡◌, ℕ, ◌<◌, ◌≤◌, ◌&&◌, Bool, not, nat_lt, max, min}
 use Rattle.wf_paint.specs.declared.span.Span.{Span}
 
@@ -6,11 +6,11 @@ use Rattle.wf_paint.specs.declared.span.Span.{Span}
 unfoldable pub is_within : Span → ℕ → Bool
 is_within span u = not (nat_lt u span.from) && nat_lt u span.to
 
--- the span has exactly those of the first so many numbers that pass the test
+-- the span has exactly those of the first `most` numbers that pass the test
 pub record IsSpanOf (test : ℕ → Bool) (most : ℕ) (span : Span) : Type 0 where
   pub within : span.to ≤ most
   pub passed : (u : ℕ) → u < most → test u ≡ is_within span u
 
--- what two spans have in common
+-- the intersection of two spans
 abbrev pub shared : Span → Span → Span
 shared a b = record { from = max a.from b.from; to = min a.to b.to }

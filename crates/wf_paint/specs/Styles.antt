@@ -1,4 +1,4 @@
--- What the styles of a class paint, once the segments of a feature are known.
+-- The operations of a class's styles, given the segments of a feature.
 use Rattle.std.specs.Prelude.{List, ◌++◌}
 use Rattle.wf_def.specs.Definition.{StyleDefinition}
 use Rattle.wf_paint.specs.Operation.{OperationValue, FillOf, LineOf, in_color}

@@ -1,4 +1,4 @@
--- Which view a request has: that of a tile of the grid, or of the box itself.
+-- The view of a request: that of a tile of the grid, or of the box itself.
 use Rattle.std.specs.Prelude.{◌≡◌, ℕ, ◌*◌, ◌^◌, Some, None, true, false, ℤ, pos, nat_abs}
 use Rattle.std.specs.Int.{int_rem_euclid}
 use Rattle.wf_def.specs.Extent.{ExtentValue}
@@ -7,7 +7,7 @@ use Rattle.wf_paint.specs.Grid.{width_of, fits, tile_pixels}
 use Rattle.wf_paint.specs.View.{AxisValue, ViewValue, most_pixels}
 use Rattle.wf_paint.specs.declared.cell.GridCell.{GridCell}
 
--- the box's side over so many pixels of 16 sixteenths
+-- the box's side over `pixels` pixels, 16 sixteenths each
 abbrev pub box_axis : ℤ → ℤ → ℕ → AxisValue
 box_axis low high pixels = record { origin = low; scale = 16 * pixels; span = nat_abs (difference high low); shift = pos 0 }
 
@@ -20,12 +20,12 @@ box_view box width height = record {
   corner = None;
 }
 
--- Tiles are drawn four by four. A cell of the extent's width / cells takes 256 pixels, and the view begins at the first cell of the
--- four that this one is in.
+-- Tiles are drawn four by four. A cell is width / cells of the extent wide and takes 256 pixels; the view starts at the first of
+-- the four cells that this one is among.
 unfoldable pub tile_shift : ℤ → ℤ
 tile_shift k = product (quotient k (pos 4)) (pos 16_384)
 
--- which of the four the cell is, from 0 on, in pixels
+-- the cell's offset among its four, in pixels
 unfoldable pub tile_start : ℤ → ℕ
 tile_start k = nat_abs (int_rem_euclid k (pos 4)) * tile_pixels
 
@@ -41,7 +41,7 @@ tile_view e cell = record {
   corner = Some (record { column = tile_start cell.col; row = tile_start cell.row });
 }
 
--- the view of the tile's cell where the request is a tile, else that of the box
+-- the view of the tile's cell if the request is a tile, else that of the box
 pub record IsViewOf (e box : ExtentValue) (width height : ℕ) (view : ViewValue) : Type 0 where
   pub tile : (cell : GridCell) → fits e box width height cell ≡ true → view ≡ tile_view e cell
   pub plain : ((cell : GridCell) → fits e box width height cell ≡ false) → view ≡ box_view box width height

@@ -1,4 +1,4 @@
--- How a view shows the map's coordinates: a linear rule on each axis, rounded down.
+-- How a view maps the map's coordinates to pixels: linearly on each axis, rounded down.
 use Rattle.std.specs.Prelude.{ℕ, ◌*◌, ◌^◌, ◌≤◌, ℤ, pos, nat_abs, Option}
 use Rattle.wf_def.specs.Limit.{most_millionths}
 use Rattle.wf_def.specs.Micro.{IsMicro}
@@ -7,22 +7,22 @@ use Rattle.wf_paint.specs.Exact.{difference, product, quotient}
 use Rattle.wf_paint.specs.Place.{PlaceValue}
 use Rattle.wf_paint.specs.declared.corner.Corner.{Corner}
 
--- `span` millionths are `scale` sixteenths of a pixel; the millionth `origin` is shown `shift` sixteenths before the view's side
+-- `span` millionths are `scale` sixteenths of a pixel; the coordinate `origin` lies `shift` sixteenths before the view's side
 pub record AxisValue : Type 0 where
   pub origin : ℤ
   pub scale : ℕ
   pub span : ℕ
   pub shift : ℤ
 
--- how far a coordinate lies from the origin, in sixteenths of a pixel, rounded down
+-- a distance in millionths as sixteenths of a pixel, rounded down
 unfoldable pub scaled : ℤ → ℕ → ℕ → ℤ
 scaled distance scale span = quotient (product distance (pos scale)) (pos span)
 
--- where a coordinate is shown, in sixteenths of a pixel from the view's side
+-- the position of a coordinate, in sixteenths of a pixel from the view's side
 unfoldable pub position : AxisValue → ℤ → ℤ
 position axis x = difference (scaled (difference x axis.origin) axis.scale axis.span) axis.shift
 
--- a size in pixels, the two axes, and for a tile its lower left pixel: the picture is then that part of the view
+-- a size in pixels, the two axes, and for a tile its lower left pixel: the picture is then the part of the view that starts there
 pub record ViewValue : Type 0 where
   pub width : ℕ
   pub height : ℕ
@@ -30,11 +30,11 @@ pub record ViewValue : Type 0 where
   pub y : AxisValue
   pub corner : Option Corner
 
--- where a point is shown
+-- the position of a point
 abbrev pub place_of : ViewValue → Point → PlaceValue
 place_of view p = record { x = position view.x p.x; y = position view.y p.y }
 
--- the widest and the highest view, in pixels
+-- the greatest width and height of a view, in pixels
 abbrev pub most_pixels : ℕ
 most_pixels = 1_024
 
@@ -42,11 +42,11 @@ most_pixels = 1_024
 abbrev pub most_scale : ℕ
 most_scale = 17
 
--- the furthest that the origin is shown before the view's side, in sixteenths of a pixel
+-- the greatest distance of the origin from the view's side, in sixteenths of a pixel
 abbrev pub most_shift : ℕ
 most_shift = 2 ^ 51
 
--- the axis shows every coordinate at a place
+-- the axis gives every coordinate a position
 pub record IsAxis (a : AxisValue) : Type 0 where
   pub origin : IsMicro a.origin
   pub least : 1 ≤ a.span

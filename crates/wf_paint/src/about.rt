@@ -1,4 +1,4 @@
-//! Squares of pixels about a place, drawn row by row.
+//! Squares of pixels about a position, drawn row by row.
 ghost use Rattle.std.specs.Prelude.{◌≡◌, ℕ, ◌≤◌, ◌<◌, ◌^◌, ◌&&◌, nat_lt, pos, nat_abs};
 ghost use Rattle.wf_paint.specs.Near.{IsNear};
 ghost use Rattle.wf_paint.specs.Exact.{is_less};
@@ -13,7 +13,7 @@ use crate::span::Span;
 use crate::square::{square_end, square_start};
 use wf_def::color::Color;
 
-/// Shows a square of this size in pixels about a place in the colour, and nothing without one.
+/// Paints a square of `size` pixels about a position; nothing if `color` is None.
 pub(crate) fn draw_about(canvas: &mut Canvas, size: u8, place: Place, color: Option<Color>)
     ensures { IsShown (in_color (SquareOf size place) color) canvas.old canvas.new }
 {
@@ -23,7 +23,7 @@ pub(crate) fn draw_about(canvas: &mut Canvas, size: u8, place: Place, color: Opt
     }
 }
 
-/// Shows the square in the colour.
+/// Paints the square in the colour.
 fn draw_square(canvas: &mut Canvas, size: u8, place: Place, color: Color)
     ensures { IsColored (λ column row. is_in_square size place (pos column) (pos row)) color canvas.old canvas.new }
 {
@@ -32,7 +32,7 @@ fn draw_square(canvas: &mut Canvas, size: u8, place: Place, color: Color)
     draw_box(canvas, columns, rows, color);
 }
 
-/// Shows the pixels of these columns and rows in the colour.
+/// Paints the pixels of these columns and rows in the colour.
 fn draw_box(canvas: &mut Canvas, columns: Span, rows: Span, color: Color)
     requires columns { columns.to ≤ canvas.old.width }
     requires rows { rows.to ≤ canvas.old.height }
@@ -43,7 +43,7 @@ fn draw_box(canvas: &mut Canvas, columns: Span, rows: Span, color: Color)
     }
 }
 
-/// Which of the first `most` columns of pixels are those of a square about a place on one axis.
+/// The columns, of the first `most`, of a square about a position on one axis.
 fn span_about(size: u8, place: i64, most: u32) -> Span
     requires { IsNear place }
     ensures { IsSpanOf (λ u. is_in_span size place (pos u)) most result }
@@ -55,7 +55,7 @@ fn span_about(size: u8, place: i64, most: u32) -> Span
     }
 }
 
-/// How many of the first `most` whole numbers lie below the bound.
+/// The number of integers in 0..most below the bound.
 #[tactic(auto, unfolding(crate::specs::Exact::is_less))]
 fn cut(bound: i64, most: u32) -> u32
     ensures within { result ≤ most }

@@ -1,4 +1,4 @@
-//! Lines of a width along segments, drawn row by row.
+//! Lines of a given width along segments, drawn row by row.
 ghost use Rattle.std.specs.Prelude.{◌≡◌, ℕ, ◌*◌, ◌≤◌, ◌<◌, ◌^◌, false, pos, nat_abs};
 ghost use Rattle.wf_paint.specs.Near.{IsNear};
 ghost use Rattle.wf_paint.specs.Exact.{plus, difference, is_less};
@@ -19,7 +19,7 @@ use crate::span::Span;
 use crate::steps::centres_below;
 use wf_def::color::Color;
 
-/// Shows a line of this width in pixels along each segment in the colour, and nothing without one.
+/// Paints a line of `width` pixels along each segment; nothing if `color` is None.
 pub(crate) fn draw_along(canvas: &mut Canvas, width: u8, segments: &[Segment], color: Option<Color>)
     ensures { IsShown (in_color (LineOf width segments.now) color) canvas.old canvas.new }
 {
@@ -29,7 +29,7 @@ pub(crate) fn draw_along(canvas: &mut Canvas, width: u8, segments: &[Segment], c
     }
 }
 
-/// Shows the lines along the segments in the colour.
+/// Paints a line along each segment.
 fn draw_segments(canvas: &mut Canvas, width: u8, segments: &[Segment], color: Color)
     ensures { IsColored (λ column row. is_on_any width (centre (pos column) (pos row)) segments.now) color canvas.old canvas.new }
 {
@@ -38,7 +38,7 @@ fn draw_segments(canvas: &mut Canvas, width: u8, segments: &[Segment], color: Co
     }
 }
 
-/// Shows the line along the segment in the colour.
+/// Paints the line along the segment.
 fn draw_segment(canvas: &mut Canvas, width: u8, segment: &Segment, color: Color)
     ensures { IsColored (λ column row. is_on width (centre (pos column) (pos row)) segment.now) color canvas.old canvas.new }
 {
@@ -50,7 +50,7 @@ fn draw_segment(canvas: &mut Canvas, width: u8, segment: &Segment, color: Color)
     }
 }
 
-/// Shows the line between two places, whichever of them is left, where it isn't longer along y than along x.
+/// Paints the line between two positions, in either order. It isn't longer along y than along x.
 fn draw_flat(canvas: &mut Canvas, width: u8, from: Place, to: Place, color: Color)
     ensures { IsColored (λ column row. is_on_flat width (centre (pos column) (pos row)) from to) color canvas.old canvas.new }
 {
@@ -61,7 +61,7 @@ fn draw_flat(canvas: &mut Canvas, width: u8, from: Place, to: Place, color: Colo
     }
 }
 
-/// Shows the line from `left` to `right`.
+/// Paints the line from `left` to `right`.
 fn draw_rightward(canvas: &mut Canvas, width: u8, left: Place, right: Place, color: Color)
     ensures { IsColored (λ column row. is_across width (centre (pos column) (pos row)) left right) color canvas.old canvas.new }
 {
@@ -71,7 +71,7 @@ fn draw_rightward(canvas: &mut Canvas, width: u8, left: Place, right: Place, col
     }
 }
 
-/// The same, where the columns are those between its ends.
+/// The same; `columns` are those between its ends.
 fn draw_rows(canvas: &mut Canvas, width: u8, left: Place, right: Place, columns: Span, color: Color)
     requires { (v : ℕ) → IsSpanOf (λ u. is_along (centre (pos u) (pos v)) left right) canvas.old.width columns }
     ensures { IsColored (λ column row. is_across width (centre (pos column) (pos row)) left right) color canvas.old canvas.new }
@@ -84,7 +84,7 @@ fn draw_rows(canvas: &mut Canvas, width: u8, left: Place, right: Place, columns:
     }
 }
 
-/// The columns of the first `most` that lie between the ends of the line from `left` to `right`, the same in each row; with the axes
+/// The columns, of the first `most`, between the ends of the line from `left` to `right`: the same in each row. With the axes
 /// exchanged, the rows.
 fn span_along(left: Place, right: Place, most: u32) -> Span
     ensures { (v : ℕ) → IsSpanOf (λ u. is_along (centre (pos u) (pos v)) left right) most result }
@@ -92,7 +92,7 @@ fn span_along(left: Place, right: Place, most: u32) -> Span
     centres_between(left.x(), right.x(), most)
 }
 
-/// Rows of the first `most` outside of which the line from `left` to `right` covers nothing; with the axes exchanged, columns.
+/// Rows, of the first `most`, outside which the line from `left` to `right` covers nothing. With the axes exchanged, columns.
 fn rows_near(width: u8, left: Place, right: Place, most: u32) -> Span
     ensures within { result.to ≤ most }
     ensures below { (u v : ℕ) → v < most → v < result.from → is_across width (centre (pos u) (pos v)) left right ≡ false }
@@ -106,7 +106,7 @@ fn rows_near(width: u8, left: Place, right: Place, most: u32) -> Span
     }
 }
 
-/// The lesser of two places on an axis.
+/// The lesser of two positions on an axis.
 #[tactic(auto, unfolding(crate::specs::Exact::is_less))]
 fn lesser(a: i64, b: i64) -> i64
     requires a { IsNear a }
@@ -118,7 +118,7 @@ fn lesser(a: i64, b: i64) -> i64
     if a < b { a } else { b }
 }
 
-/// The greater of two places on an axis.
+/// The greater of two positions on an axis.
 #[tactic(auto, unfolding(crate::specs::Exact::is_less))]
 fn greater(a: i64, b: i64) -> i64
     requires a { IsNear a }
@@ -130,7 +130,7 @@ fn greater(a: i64, b: i64) -> i64
     if a < b { b } else { a }
 }
 
-/// Half the width of a line below a place.
+/// The position half the width of a line below this one.
 #[tactic(auto, unfolding(crate::specs::Exact::difference))]
 fn lower_border(width: u8, place: i64) -> i64
     requires { IsNear place }
@@ -139,7 +139,7 @@ fn lower_border(width: u8, place: i64) -> i64
     place - 8 * i64::from(width)
 }
 
-/// Half the width of a line above a place.
+/// The position half the width of a line above this one.
 #[tactic(auto, unfolding(crate::specs::Exact::plus))]
 fn upper_border(width: u8, place: i64) -> i64
     requires { IsNear place }
@@ -148,7 +148,7 @@ fn upper_border(width: u8, place: i64) -> i64
     place + 8 * i64::from(width)
 }
 
-/// The columns of the first `most` that the line from `left` to `right` covers in a row, of those between its ends.
+/// The columns, of the first `most`, that the line from `left` to `right` covers in a row. `columns` are those between its ends.
 fn columns_across(width: u8, left: Place, right: Place, row: u32, columns: Span, most: u32) -> Span
     requires { IsSpanOf (λ u. is_along (centre (pos u) (pos row)) left right) most columns }
     ensures { IsSpanOf (λ u. is_across width (centre (pos u) (pos row)) left right) most result }
@@ -156,7 +156,7 @@ fn columns_across(width: u8, left: Place, right: Place, row: u32, columns: Span,
     both(columns, band_across(width, left, right, row, most))
 }
 
-/// The columns of the first `most` in which the pixels of a row lie within half the width of the line.
+/// The columns, of the first `most`, whose pixels in this row lie within half the width of the line.
 fn band_across(width: u8, left: Place, right: Place, row: u32, most: u32) -> Span
     ensures { IsSpanOf (λ u. is_in_band width (centre (pos u) (pos row)) left right) most result }
 {
@@ -165,8 +165,8 @@ fn band_across(width: u8, left: Place, right: Place, row: u32, most: u32) -> Spa
     pixels_within(start, step, margin(width, left, right), most)
 }
 
-/// Shows the line between two places, whichever of them is lower, where it is longer along y than along x; the places have their
-/// axes exchanged.
+/// Paints the line between two positions, in either order. It is longer along y than along x; the positions have their axes
+/// exchanged.
 fn draw_steep(canvas: &mut Canvas, width: u8, from: Place, to: Place, color: Color)
     ensures { IsColored (λ column row. is_on_flat width (turned (centre (pos column) (pos row))) from to) color canvas.old canvas.new }
 {
@@ -177,7 +177,7 @@ fn draw_steep(canvas: &mut Canvas, width: u8, from: Place, to: Place, color: Col
     }
 }
 
-/// Shows the line from `low` up to `high`; the places have their axes exchanged.
+/// Paints the line from `low` up to `high`; the positions have their axes exchanged.
 fn draw_upward(canvas: &mut Canvas, width: u8, low: Place, high: Place, color: Color)
     ensures { IsColored (λ column row. is_across width (turned (centre (pos column) (pos row))) low high) color canvas.old canvas.new }
 {
@@ -187,7 +187,7 @@ fn draw_upward(canvas: &mut Canvas, width: u8, low: Place, high: Place, color: C
     }
 }
 
-/// The same, where some column may be near the line.
+/// The same, where the line may be near some column.
 fn draw_rows_upward(canvas: &mut Canvas, width: u8, low: Place, high: Place, color: Color)
     ensures { IsColored (λ column row. is_across width (turned (centre (pos column) (pos row))) low high) color canvas.old canvas.new }
 {
@@ -199,8 +199,8 @@ fn draw_rows_upward(canvas: &mut Canvas, width: u8, low: Place, high: Place, col
     }
 }
 
-/// The columns of the first `most` in which the pixels of a row lie within half the width of the line; the places have their axes
-/// exchanged.
+/// The columns, of the first `most`, whose pixels in this row lie within half the width of the line; the positions have their
+/// axes exchanged.
 fn band_upward(width: u8, low: Place, high: Place, row: u32, most: u32) -> Span
     requires { most ≤ most_pixels }
     ensures { IsSpanOf (λ u. is_in_band width (turned (centre (pos u) (pos row))) low high) most result }
@@ -211,7 +211,7 @@ fn band_upward(width: u8, low: Place, high: Place, row: u32, most: u32) -> Span
     pixels_within_steps(start, step, margin, most, u32::from(width))
 }
 
-/// What two spans have in common.
+/// The intersection of two spans.
 fn both(a: Span, b: Span) -> Span
     ensures { result ≡ shared a b }
 {

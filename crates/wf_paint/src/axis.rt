@@ -9,8 +9,8 @@ ghost use Rattle.wf_paint.specs.View.{scaled, position, most_scale, most_shift, 
 use std::marker::Model;
 use wf_def::micro::Micro;
 
-/// How a view shows one axis of the map: `span` millionths are `scale` sixteenths of a pixel, and the millionth `origin` is shown
-/// `shift` sixteenths before the view's side.
+/// How a view maps one axis of the map to pixels: `span` millionths are `scale` sixteenths of a pixel, and the coordinate
+/// `origin` lies `shift` sixteenths before the view's side.
 #[derive(Clone, Copy)]
 pub struct Axis {
     origin: Micro,
@@ -32,7 +32,7 @@ impl Model for Axis {
 }
 
 impl Axis {
-    /// The axis of these numbers.
+    /// The axis with these numbers.
     pub(crate) fn new(origin: Micro, scale: u64, span: u64, shift: i64) -> Self
         requires { IsAxis (record { origin = origin; scale = scale; span = span; shift = shift }) }
         ensures value { result ≡ record { origin = origin; scale = scale; span = span; shift = shift } }
@@ -46,7 +46,7 @@ impl Axis {
         }
     }
 
-    /// Where a coordinate is shown, in sixteenths of a pixel from the view's side, rounded down.
+    /// The position of a coordinate, in sixteenths of a pixel from the view's side, rounded down.
     #[tactic(auto, unfolding(crate::specs::View::position))]
     pub(crate) fn position(self, coordinate: Micro) -> i64
         ensures value { result ≡ position self coordinate }
@@ -57,7 +57,7 @@ impl Axis {
     }
 }
 
-/// How far the second coordinate lies from the first, in millionths.
+/// `to` less `from`, in millionths.
 #[tactic(auto, unfolding(crate::specs::Exact::difference))]
 pub(crate) fn distance(from: i64, to: i64) -> i64
     requires from { IsMicro from }
@@ -68,7 +68,7 @@ pub(crate) fn distance(from: i64, to: i64) -> i64
     to - from
 }
 
-/// So many millionths in sixteenths of a pixel, rounded down.
+/// A distance in millionths as sixteenths of a pixel, rounded down.
 #[tactic(auto, using(crate::proofs::QuotientLemmas::stretched), unfolding(crate::specs::View::scaled))]
 fn scaled(distance: i64, scale: u64, span: u64) -> i64
     requires distance { nat_abs distance ≤ 2 * most_millionths }
@@ -101,7 +101,7 @@ fn divided(stretched: i128, span: u64) -> i64
     stretched.div_euclid(i128::from(span)) as i64
 }
 
-/// The place less the shift.
+/// The position less the shift.
 #[tactic(auto, unfolding(crate::specs::Exact::difference))]
 fn moved(place: i64, shift: i64) -> i64
     requires place { nat_abs place ≤ 2 * most_scale * most_millionths }

@@ -1,4 +1,4 @@
-//! A picture while it is painted from the last operation to the first.
+//! A picture while it is painted, from the last operation to the first.
 ghost use Rattle.std.specs.Prelude.{◌≡◌, ◌≤◌, ◌<◌, ◌*◌, ◌+◌, ◌^◌, ◌↔◌, ℕ, true, false, length, slice_index, IfOk};
 ghost use Rattle.wf_paint.specs.View.{most_pixels};
 ghost use Rattle.wf_paint.specs.Cells.{IsCells, IsJump, AreJumps, AreAlike, IsStep, IsRangePainted, IsWritten, IsFilled, is_free};
@@ -10,13 +10,13 @@ use std::alloc::{AllocError, Global};
 use std::marker::Model;
 use wf_def::color::Color;
 
-/// A picture that remembers which pixels are painted. A painted pixel keeps its colour; a free one waits for its own.
+/// A picture that records which pixels are painted. A painted pixel keeps its colour; a free one has none yet.
 #[derive(Drop)]
 pub(crate) struct Canvas {
     width: u32,
     height: u32,
     bytes: Vec<u8>,
-    /// For each pixel how far a jump from it goes, over painted pixels alone; 0 where it is free.
+    /// For each pixel, the length of a jump from it over painted pixels only; 0 where the pixel is free.
     skip: Vec<u32>,
 }
 
@@ -31,7 +31,7 @@ impl Model for Canvas {
 }
 
 impl Canvas {
-    /// The canvas of this size, at most 1,024 pixels wide and high, with each pixel free.
+    /// A canvas of this size, 1 to 1,024 pixels on each side, with all pixels free. Returns Ok unless allocation fails.
     pub(crate) fn blank(alloc: Global, width: u32, height: u32) -> Result<Self, AllocError>
         requires width_least { 1 ≤ width }
         requires width_most { width ≤ most_pixels }
@@ -48,7 +48,7 @@ impl Canvas {
         })
     }
 
-    /// How wide the picture is, in pixels.
+    /// The picture's width in pixels.
     pub(crate) fn width(&self) -> u32
         ensures value { result ≡ self.now.width }
         ensures within { IsCanvas self.now }
@@ -56,7 +56,7 @@ impl Canvas {
         self.width
     }
 
-    /// How high the picture is, in pixels.
+    /// The picture's height in pixels.
     pub(crate) fn height(&self) -> u32
         ensures value { result ≡ self.now.height }
         ensures within { IsCanvas self.now }
@@ -64,7 +64,7 @@ impl Canvas {
         self.height
     }
 
-    /// Gives the free pixels of a row, counted from the bottom, that lie from one column on and before another the colour.
+    /// Writes the colour to the free pixels in columns from..to of a row; rows count from the bottom.
     pub(crate) fn cover(&mut self, row: u32, from: u32, to: u32, color: Color)
         requires row_within { row < self.old.height }
         requires to_within { to ≤ self.old.width }
@@ -82,7 +82,7 @@ impl Canvas {
         }
     }
 
-    /// Whether each pixel is painted. What the canvas shows stays as it is.
+    /// Whether all pixels are painted. No pixel changes.
     pub(crate) fn is_full(&mut self) -> bool
         ensures alike { IsAlike self.old self.new }
         ensures full { result ≡ true → IsFull self.new }
@@ -91,7 +91,7 @@ impl Canvas {
         find_free(&mut self.skip) == self.width * self.height
     }
 
-    /// The picture, with the background in the free pixels.
+    /// The picture; free pixels get the background.
     pub(crate) fn finish(self, background: Color) -> Pixmap
         ensures { IsFinished background self result }
     {
@@ -118,7 +118,7 @@ fn write(bytes: &mut Vec<u8>, index: u32, color: Color)
     bytes[start + 2] = color.b;
 }
 
-/// Gives the free pixels from `start` on and before `end` the colour.
+/// Writes the colour to the free pixels in start..end.
 fn paint_range(bytes: &mut Vec<u8>, skip: &mut Vec<u32>, start: u32, end: u32, color: Color)
     requires cells { IsCells skip.old.items bytes.old.items }
     requires order { start ≤ end }
@@ -132,8 +132,8 @@ fn paint_range(bytes: &mut Vec<u8>, skip: &mut Vec<u32>, start: u32, end: u32, c
     }
 }
 
-/// Paints this pixel where it is free, or else jumps over the painted ones that begin with it, to `end` at most. A later jump from
-/// here goes to `end` at least. The next index.
+/// Paints this pixel if it is free, else jumps over the painted pixels that start here, at most to `end`. A later jump from here
+/// goes at least to `end`. Returns the next index.
 fn paint_next(bytes: &mut Vec<u8>, skip: &mut Vec<u32>, here: u32, end: u32, color: Color) -> u32
     requires order { here < end }
     requires within { end ≤ length skip.old.items }
@@ -156,7 +156,7 @@ fn paint_next(bytes: &mut Vec<u8>, skip: &mut Vec<u32>, here: u32, end: u32, col
     end
 }
 
-/// The index of the first free pixel, or behind the last one where there is none. From now on the jump from the first pixel goes there.
+/// The index of the first free pixel, or the number of pixels if none is free. The jump from the first pixel now goes there.
 fn find_free(skip: &mut Vec<u32>) -> u32
     requires most { length skip.old.items ≤ 2 ^ 20 }
     requires jumps { AreJumps skip.old.items }
@@ -173,7 +173,7 @@ fn find_free(skip: &mut Vec<u32>) -> u32
     first
 }
 
-/// The index of the first free pixel, or behind the last one where there is none.
+/// The index of the first free pixel, or the number of pixels if none is free.
 fn first_free(skip: &Vec<u32>) -> u32
     requires most { length skip.now.items ≤ 2 ^ 20 }
     requires jumps { AreJumps skip.now.items }
@@ -193,7 +193,7 @@ fn first_free(skip: &Vec<u32>) -> u32
     here
 }
 
-/// Gives the free pixels the background.
+/// Writes the background to the free pixels.
 fn fill_free(bytes: &mut Vec<u8>, skip: &Vec<u32>, background: Color)
     requires cells { IsCells skip.now.items bytes.old.items }
     ensures { IsFilled (length skip.now.items) background skip.now.items bytes.old.items bytes.new.items }

@@ -1,6 +1,7 @@
-//! Cells of the grid of tiles.
+//! Cells of the tile grid.
 
-/// A cell of the grid of tiles: its level, and its column and row, counted from the extent's lower left corner, below it negative.
+/// A cell of the tile grid: its level, column and row. Columns and rows count from the extent's lower left corner; those below it
+/// are negative.
 #[derive(Clone, Copy, PartialEq, Eq)]
 pub struct GridCell {
     pub z: u32,

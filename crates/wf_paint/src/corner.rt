@@ -1,6 +1,6 @@
 //! Corners of pictures.
 
-/// The lower left pixel of a picture that is cut out of a view: columns from the left, rows from the bottom.
+/// The lower left pixel of a picture cut out of a view: columns from the left, rows from the bottom.
 #[derive(Clone, Copy, PartialEq, Eq)]
 pub struct Corner {
     pub column: u32,

@@ -11,7 +11,7 @@ use crate::place::Place;
 use crate::segment::Segment;
 use crate::square::is_in_square;
 
-/// Whether the operation paints the pixel.
+/// Whether the operation's shape covers the pixel.
 #[tactic(auto, unfolding(crate::specs::Operation::covers))]
 pub fn covers(operation: &Operation, pixel: Pixel) -> bool
     ensures { result ≡ covers (operation_value operation.now) (pos pixel.column) (pos pixel.row) }
@@ -25,7 +25,7 @@ pub fn covers(operation: &Operation, pixel: Pixel) -> bool
     }
 }
 
-/// How far the second place lies to the right of the first.
+/// The x offset of the second position from the first.
 #[tactic(auto, unfolding(crate::specs::Coverage::run))]
 pub(crate) fn run(from: Place, to: Place) -> i64
     ensures value { result ≡ run from to }
@@ -34,7 +34,7 @@ pub(crate) fn run(from: Place, to: Place) -> i64
     difference(to.x(), from.x())
 }
 
-/// How far the second place lies above the first.
+/// The y offset of the second position from the first.
 #[tactic(auto, unfolding(crate::specs::Coverage::rise))]
 pub(crate) fn rise(from: Place, to: Place) -> i64
     ensures value { result ≡ rise from to }
@@ -43,7 +43,7 @@ pub(crate) fn rise(from: Place, to: Place) -> i64
     difference(to.y(), from.y())
 }
 
-/// Whether the place is left of an edge that goes up from `low` to `high`.
+/// Whether the position is left of an edge that goes up from `low` to `high`.
 #[tactic(auto, unfolding(crate::specs::Coverage::is_left_of))]
 fn is_left_of(place: Place, low: Place, high: Place) -> bool
     ensures { result ≡ is_left_of place low high }
@@ -53,7 +53,7 @@ fn is_left_of(place: Place, low: Place, high: Place) -> bool
     is_less_area(across, along)
 }
 
-/// Whether the height of the place is between those of the ends: the lower end counts, the upper doesn't.
+/// Whether the position's y is between those of the ends: the lower end counts, the upper doesn't.
 #[tactic(auto, unfolding(crate::specs::Coverage::is_beside))]
 fn is_beside(place: Place, low: Place, high: Place) -> bool
     ensures { result ≡ is_beside place low high }
@@ -61,7 +61,7 @@ fn is_beside(place: Place, low: Place, high: Place) -> bool
     !is_less(place.y(), low.y()) && is_less(place.y(), high.y())
 }
 
-/// Whether the ray from the place to the right meets the edge from `low` up to `high`.
+/// Whether the ray from the position to the right meets the edge from `low` up to `high`.
 #[tactic(auto, unfolding(crate::specs::Coverage::meets))]
 fn meets(place: Place, low: Place, high: Place) -> bool
     ensures { result ≡ meets place low high }
@@ -69,7 +69,7 @@ fn meets(place: Place, low: Place, high: Place) -> bool
     is_beside(place, low, high) && is_left_of(place, low, high)
 }
 
-/// Whether the ray from the place to the right meets the segment.
+/// Whether the ray from the position to the right meets the segment.
 #[tactic(auto, unfolding(crate::specs::Coverage::crosses))]
 fn crosses(place: Place, edge: &Segment) -> bool
     ensures { result ≡ crosses place edge.now }
@@ -77,7 +77,7 @@ fn crosses(place: Place, edge: &Segment) -> bool
     meets(place, edge.from, edge.to) || meets(place, edge.to, edge.from)
 }
 
-/// Whether the ray from the place to the right meets an odd number of the edges.
+/// Whether the ray from the position to the right meets an odd number of the edges.
 #[tactic(auto, unfolding(crate::specs::Coverage::is_inside))]
 fn is_inside(place: Place, edges: &[Segment]) -> bool
     ensures { result ≡ is_inside place edges.now }
@@ -85,7 +85,7 @@ fn is_inside(place: Place, edges: &[Segment]) -> bool
     edges.iter().filter(|edge| crosses(place, edge)).count() % 2 == 1
 }
 
-/// How far the place lies above the line from `left` to `right`, times the length of the line along x.
+/// How far the position lies above the line from `left` to `right`, times the line's x length.
 #[tactic(auto, unfolding(crate::specs::Coverage::deviation))]
 pub(crate) fn deviation(place: Place, left: Place, right: Place) -> i128
     ensures value { result ≡ deviation place left right }
@@ -96,7 +96,7 @@ pub(crate) fn deviation(place: Place, left: Place, right: Place) -> i128
     area_difference(risen, expected)
 }
 
-/// Half the width of the line in sixteenths of a pixel, times its length along x.
+/// Half the line's width in sixteenths of a pixel, times its x length.
 #[tactic(auto, unfolding(crate::specs::Coverage::margin))]
 pub(crate) fn margin(width: u8, left: Place, right: Place) -> i128
     ensures value { result ≡ margin width left right }
@@ -105,7 +105,7 @@ pub(crate) fn margin(width: u8, left: Place, right: Place) -> i128
     product(8 * i64::from(width), run(left, right))
 }
 
-/// Whether the column of the place is between the ends, both of which count.
+/// Whether the position's x is between those of the ends, both included.
 #[tactic(auto, unfolding(crate::specs::Coverage::is_along))]
 fn is_along(place: Place, left: Place, right: Place) -> bool
     ensures { result ≡ is_along place left right }
@@ -113,7 +113,7 @@ fn is_along(place: Place, left: Place, right: Place) -> bool
     !is_less(place.x(), left.x()) && !is_less(right.x(), place.x())
 }
 
-/// Whether the place lies within half the width above or below the line; of the two borders the lower counts.
+/// Whether the position lies within half the width above or below the line; the lower border counts, the upper doesn't.
 #[tactic(auto, unfolding(crate::specs::Coverage::is_in_band))]
 fn is_in_band(width: u8, place: Place, left: Place, right: Place) -> bool
     ensures { result ≡ is_in_band width place left right }
@@ -123,7 +123,7 @@ fn is_in_band(width: u8, place: Place, left: Place, right: Place) -> bool
     !is_less_area(deviation, opposite(margin)) && is_less_area(deviation, margin)
 }
 
-/// Whether the line from `left` to `right` covers the place.
+/// Whether the line from `left` to `right` covers the position.
 #[tactic(auto, unfolding(crate::specs::Coverage::is_across))]
 fn is_across(width: u8, place: Place, left: Place, right: Place) -> bool
     ensures { result ≡ is_across width place left right }
@@ -131,7 +131,7 @@ fn is_across(width: u8, place: Place, left: Place, right: Place) -> bool
     is_along(place, left, right) && is_in_band(width, place, left, right)
 }
 
-/// Whether the line between two places covers the place, whichever of them is left.
+/// Whether the line between two positions, in either order, covers the position.
 #[tactic(auto, unfolding(crate::specs::Coverage::is_on_flat))]
 fn is_on_flat(width: u8, place: Place, from: Place, to: Place) -> bool
     ensures { result ≡ is_on_flat width place from to }
@@ -143,7 +143,7 @@ fn is_on_flat(width: u8, place: Place, from: Place, to: Place) -> bool
     }
 }
 
-/// Whether the line between two places is longer along y than along x.
+/// Whether the line between two positions is longer along y than along x.
 #[tactic(auto, unfolding(crate::specs::Coverage::is_steep))]
 pub(crate) fn is_steep(from: Place, to: Place) -> bool
     ensures { result ≡ is_steep from to }
@@ -151,7 +151,7 @@ pub(crate) fn is_steep(from: Place, to: Place) -> bool
     run(from, to).unsigned_abs() < rise(from, to).unsigned_abs()
 }
 
-/// Whether the line of this width in pixels along the segment covers the place.
+/// Whether the line of `width` pixels along the segment covers the position.
 #[tactic(auto, unfolding(crate::specs::Coverage::is_on))]
 fn is_on(width: u8, place: Place, segment: &Segment) -> bool
     ensures { result ≡ is_on width place segment.now }
@@ -164,7 +164,7 @@ fn is_on(width: u8, place: Place, segment: &Segment) -> bool
     }
 }
 
-/// Whether a line of this width in pixels along one of the segments covers the place.
+/// Whether a line of `width` pixels along one of the segments covers the position.
 #[tactic(auto, unfolding(crate::specs::Coverage::is_on_any))]
 fn is_on_any(width: u8, place: Place, segments: &[Segment]) -> bool
     ensures { result ≡ is_on_any width place segments.now }

@@ -1,9 +1,9 @@
-//! Exact whole numbers: each operation of the view and the coverage, one function each.
+//! Exact integer arithmetic for views and coverage: one function for each operation.
 ghost use Rattle.std.specs.Prelude.{◌≡◌, ◌≤◌, ◌^◌, pos, ◌<ℤ◌, nat_abs};
 ghost use Rattle.wf_paint.specs.Near.{IsNear, IsReach, IsArea};
 ghost use Rattle.wf_paint.specs.Exact.{difference, product, opposite, is_less};
 
-/// How far `a` lies above `b`.
+/// `a` less `b`.
 #[tactic(auto, unfolding(crate::specs::Exact::difference))]
 pub(crate) fn difference(a: i64, b: i64) -> i64
     requires first { IsNear a }
@@ -25,7 +25,7 @@ pub(crate) fn product(a: i64, b: i64) -> i128
     i128::from(a) * i128::from(b)
 }
 
-/// How far the product `a` lies above `b`.
+/// The product `a` less the product `b`.
 #[tactic(auto, unfolding(crate::specs::Exact::difference))]
 pub(crate) fn area_difference(a: i128, b: i128) -> i128
     requires first { IsArea a }
@@ -46,7 +46,7 @@ pub(crate) fn opposite(a: i128) -> i128
     -a
 }
 
-/// Whether one place lies below another.
+/// Whether one position is less than another.
 #[tactic(auto, unfolding(crate::specs::Exact::is_less))]
 pub(crate) fn is_less(a: i64, b: i64) -> bool
     ensures { result ≡ is_less a b }

@@ -1,4 +1,4 @@
-//! The grid of tiles.
+//! The tile grid.
 ghost use Rattle.std.specs.Prelude.{◌≡◌, ◌≤◌, ◌+◌, ◌*◌, ◌^◌, ◌==◌, ◌&&◌, ℕ, ℤ, pos, true, false, nat_abs, IfSome, IfNone};
 ghost use Rattle.wf_def.specs.Extent.{IsExtent};
 ghost use Rattle.wf_def.specs.Limit.{most_millionths};
@@ -17,12 +17,12 @@ const MOST_LEVEL: u32 = 20;
 /// The width and height of a tile, in pixels.
 const TILE_PIXELS: u32 = 256;
 
-/// The narrowest cell, in millionths.
+/// The least width of a cell, in millionths.
 const LEAST_CELL: u64 = 1_000;
 
 impl GridCell {
-    /// The cell of the extent's grid whose tile is the picture of this box in this size. A tile has 256 by 256 pixels; each side of
-    /// its box lies within 2 millionths of the cell's. None where no cell fits; no two do.
+    /// The cell of the extent's grid whose tile is the picture of this box at this size. A tile has 256 by 256 pixels; each side
+    /// of its box lies within 2 millionths of the cell's side. Returns None iff no cell fits; at most one does.
     pub fn of(extent: Extent, bbox: Extent, width: u32, height: u32) -> Option<Self>
         ensures found { IfSome result (λ cell. fits extent bbox width height cell ≡ true) }
         ensures near { IfSome result (λ cell. IsGridCell cell) }
@@ -42,7 +42,7 @@ fn is_tile(width: u32, height: u32) -> bool
     width == TILE_PIXELS && height == TILE_PIXELS
 }
 
-/// The cell that the box is, among all levels.
+/// The cell that the box is, on any level.
 fn cell_among(extent: Extent, bbox: Extent) -> Option<GridCell>
     ensures found { IfSome result (λ cell. is_box extent bbox (2 ^ cell.z) cell.col cell.row ≡ true) }
     ensures near { IfSome result (λ cell. IsGridCell cell) }
@@ -56,7 +56,7 @@ fn cell_among(extent: Extent, bbox: Extent) -> Option<GridCell>
     None
 }
 
-/// How many cells a level has along the extent's width.
+/// The number of cells of a level along the extent's width.
 pub(crate) fn cells_at(z: u32) -> u64
     requires { z ≤ most_level }
     ensures value { result ≡ 2 ^ z }
@@ -66,7 +66,7 @@ pub(crate) fn cells_at(z: u32) -> u64
     2_u64.pow(z)
 }
 
-/// The column and the row of the cell that the box is, with so many cells along the extent's width.
+/// The column and row of the cell that the box is, with `cells` cells along the extent's width.
 fn box_at(extent: Extent, bbox: Extent, cells: u64) -> Option<(i64, i64)>
     requires least { 1 ≤ cells }
     requires most { cells ≤ 2 ^ 20 }
@@ -124,7 +124,7 @@ fn row_of(extent: Extent, bbox: Extent, cells: u64) -> Option<i64>
     )
 }
 
-/// The extent's width in millionths, which measures the grid on both axes.
+/// The extent's width in millionths. It scales the grid on both axes.
 #[tactic(auto, unfolding(crate::specs::Grid::width_of))]
 pub(crate) fn width_of(extent: Extent) -> u64
     ensures value { result ≡ width_of extent }
@@ -142,7 +142,7 @@ fn has_level(width: u64, cells: u64) -> bool
     LEAST_CELL * cells <= width
 }
 
-/// The cell, on one axis, whose sides the coordinates are.
+/// The cell on one axis whose sides are the two coordinates.
 fn cell_of(least: i64, width: u64, cells: u64, low: i64, high: i64) -> Option<i64>
     requires least { IsMicro least }
     requires low { IsMicro low }
@@ -202,7 +202,7 @@ fn is_on_line(least: i64, width: u64, cells: u64, k: i64, x: i64) -> bool
     apart(stretched, line) <= 2 * u128::from(cells)
 }
 
-/// So many times the number.
+/// `times` times the number.
 #[tactic(auto, unfolding(crate::specs::Exact::product))]
 fn multiple(number: i64, times: u64) -> i128
     requires number { nat_abs number ≤ 2 ^ 48 }
@@ -213,7 +213,7 @@ fn multiple(number: i64, times: u64) -> i128
     i128::from(number) * i128::from(times)
 }
 
-/// How far the two numbers lie from one another.
+/// The absolute difference.
 #[tactic(auto, unfolding(crate::specs::Exact::difference))]
 fn apart(a: i128, b: i128) -> u128
     requires first { nat_abs a ≤ 2 ^ 100 }
@@ -223,7 +223,7 @@ fn apart(a: i128, b: i128) -> u128
     (a - b).unsigned_abs()
 }
 
-/// The only line of the grid that the coordinate can lie on: the one nearest to it.
+/// The only grid line that the coordinate can lie on: the nearest.
 #[tactic(auto, using(crate::proofs::GridLemmas::line_near_enough))]
 fn line_near(least: i64, width: u64, cells: u64, x: i64) -> i64
     requires least { IsMicro least }
@@ -239,7 +239,7 @@ fn line_near(least: i64, width: u64, cells: u64, x: i64) -> i64
     nearest(stretched, width)
 }
 
-/// The multiple of the width that is nearest to a number, by how many times the width it is.
+/// The factor k for which `k * width` is nearest to the number.
 fn nearest(number: i128, width: u64) -> i64
     requires most { nat_abs number ≤ 2 ^ 38 * width }
     requires some { 1 ≤ width }
@@ -250,7 +250,7 @@ fn nearest(number: i128, width: u64) -> i64
     whole(doubled(number, width), 2 * width)
 }
 
-/// Twice the number and half a width more.
+/// Twice the number plus the width.
 #[tactic(auto, unfolding(crate::specs::Exact::plus, crate::specs::Exact::product))]
 fn doubled(number: i128, width: u64) -> i128
     requires most { nat_abs number ≤ 2 ^ 38 * width }
@@ -261,7 +261,7 @@ fn doubled(number: i128, width: u64) -> i128
     2 * number + i128::from(width)
 }
 
-/// How many times a width goes into a number, rounded down.
+/// The number divided by the width, rounded down.
 #[tactic(auto, using(crate::proofs::QuotientLemmas::quotient_bound), unfolding(crate::specs::Exact::quotient))]
 fn whole(number: i128, width: u64) -> i64
     requires least { 1 ≤ width }

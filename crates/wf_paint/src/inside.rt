@@ -1,4 +1,4 @@
-//! The inside of edges, row by row: between the sorted places at which the edges cross the row.
+//! The inside of edges, row by row: between the sorted positions where the edges cross the row.
 ghost use Rattle.std.specs.Prelude.{◌≡◌, ℕ, ◌%◌, ◌<◌, ◌≤◌, ◌==◌, ◌&&◌, nat_lt, true, false, ℤ, pos, ◌≤ℤ◌, OnOk};
 ghost use Rattle.std.specs.List.{All, count_by};
 ghost use Rattle.std.specs.List.Sorted.{IsNonDecreasing};
@@ -17,7 +17,7 @@ use crate::steps::{centres_below, steps_below};
 use std::alloc::{AllocError, Global};
 use wf_def::color::Color;
 
-/// Shows the inside of the edges in the colour, and nothing without one. Allocation failure is the only error.
+/// Paints the inside of the edges; nothing if `color` is None. Returns Ok unless allocation fails.
 pub(crate) fn draw_inside(
     alloc: Global,
     canvas: &mut Canvas,
@@ -32,7 +32,7 @@ pub(crate) fn draw_inside(
     }
 }
 
-/// Fills the rows that lie between the lowest and the highest end of the edges.
+/// Fills the rows between the lowest and the highest end of the edges.
 fn fill(
     alloc: Global,
     canvas: &mut Canvas,
@@ -51,7 +51,7 @@ fn fill(
     Ok(())
 }
 
-/// How low the lowest end of the edges is, in sixteenths of a pixel.
+/// The y of the lowest end, in sixteenths of a pixel.
 fn lowest(edges: &[Segment]) -> i64
     ensures { All (λ edge. (result ≤ℤ edge.from.y) × (result ≤ℤ edge.to.y)) edges.now }
 {
@@ -62,7 +62,7 @@ fn lowest(edges: &[Segment]) -> i64
     lowest
 }
 
-/// How high the highest end of the edges is, in sixteenths of a pixel.
+/// The y of the highest end, in sixteenths of a pixel.
 fn highest(edges: &[Segment]) -> i64
     ensures { All (λ edge. (edge.from.y ≤ℤ result) × (edge.to.y ≤ℤ result)) edges.now }
 {
@@ -73,7 +73,7 @@ fn highest(edges: &[Segment]) -> i64
     highest
 }
 
-/// Fills one row; what the list of reaches holds before is dropped.
+/// Fills one row. The list of reaches is cleared first.
 fn fill_row(
     canvas: &mut Canvas,
     edges: &[Segment],
@@ -90,7 +90,7 @@ fn fill_row(
     Ok(())
 }
 
-/// How many of the row's columns lie left of each edge that crosses the row, where that is one at least.
+/// Fills the list, cleared first, with the number of columns left of each edge that crosses the row, if at least one.
 fn find_reaches(
     edges: &[Segment],
     row: u32,
@@ -111,7 +111,7 @@ fn find_reaches(
     Ok(())
 }
 
-/// How many of the first columns of the row at this level are such that a ray from there to the right meets the edge.
+/// The number of leading columns of the row at this level from which a ray to the right meets the edge.
 fn reach(level: i64, width: u32, edge: &Segment) -> u32
     requires { IsNear level }
     ensures within { result ≤ width }
@@ -135,7 +135,7 @@ fn is_between(level: i64, low: Place, high: Place) -> bool
     !is_less(level, low.y()) && is_less(level, high.y())
 }
 
-/// How many of the first columns of the row at this level lie left of an edge that goes up from `low` to `high`.
+/// The number of leading columns of the row at this level that lie left of an edge from `low` up to `high`.
 fn reach_of_rising(level: i64, width: u32, low: Place, high: Place) -> u32
     requires near { IsNear level }
     requires rising { is_beside (record { x = pos 0; y = level }) low high ≡ true }
@@ -145,14 +145,14 @@ fn reach_of_rising(level: i64, width: u32, low: Place, high: Place) -> u32
     steps_below(step(low, high), bound(level, low, high), width)
 }
 
-/// What one column further to the right adds to the distance from the edge, in the products that are compared.
+/// The change of the compared products from one column to the next.
 fn step(low: Place, high: Place) -> i128
     ensures { result ≡ product (pos 16) (difference high.y low.y) }
 {
     product(16, difference(high.y(), low.y()))
 }
 
-/// How far the first column at this level lies left of the edge, in the products that are compared.
+/// How far the first column at this level lies left of the edge, as a difference of the compared products.
 fn bound(level: i64, low: Place, high: Place) -> i128
     requires { IsNear level }
     ensures { result ≡ difference (product (difference level low.y) (difference high.x low.x)) (product (difference (pos 8) low.x) (difference high.y low.y)) }
@@ -162,7 +162,7 @@ fn bound(level: i64, low: Place, high: Place) -> i128
     area_difference(risen, start)
 }
 
-/// Gives a row's free pixels the colour where an odd number of the reaches lies behind them.
+/// Writes the colour to a row's free pixels after which an odd number of the reaches lie.
 fn cover_between(canvas: &mut Canvas, row: u32, reaches: &[u32], color: Color)
     requires row { row < canvas.old.height }
     requires within { All (λ reach. reach ≤ canvas.old.width) reaches.now }

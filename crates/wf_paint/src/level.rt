@@ -1,4 +1,4 @@
-//! Levels: numbers that change by one step from each pixel of a row to the next.
+//! Levels: numbers that change by a constant step from each pixel of a row to the next.
 ghost use Rattle.std.specs.Prelude.{◌≡◌, ℕ, ◌≤◌, ◌<◌, ◌^◌, ◌&&◌, not, nat_lt, pos, negsuc, ◌≤ℤ◌, nat_abs};
 ghost use Rattle.wf_paint.specs.Near.{IsNear, IsArea};
 ghost use Rattle.wf_paint.specs.Exact.{plus, difference, product, is_less};
@@ -11,7 +11,7 @@ use crate::exact::{is_less_area, opposite};
 use crate::span::Span;
 use crate::steps::{centres_below, steps_below};
 
-/// The pixels, of the first `most`, at which the level lies within the margin about 0.
+/// The pixels, of the first `most`, whose level lies within the margin about 0.
 #[inline(always)]
 pub(crate) fn pixels_within(start: i128, step: i128, margin: i128, most: u32) -> Span
     requires start { nat_abs start ≤ 2 ^ 109 }
@@ -35,8 +35,8 @@ pub(crate) fn pixels_within(start: i128, step: i128, margin: i128, most: u32) ->
     }
 }
 
-/// The same, where twice the margin is exactly `across` steps of a level that rises. One division tells where the pixels end, and
-/// they begin as many before.
+/// The same, where the level rises and twice the margin is exactly `across` steps. One division gives the end of the pixels; they
+/// start `across` pixels before it.
 pub(crate) fn pixels_within_steps(
     start: i128,
     step: i128,
@@ -62,7 +62,7 @@ pub(crate) fn pixels_within_steps(
     }
 }
 
-/// The same of a level that is the same at each pixel: all of them or none.
+/// The same for a constant level: all pixels or none.
 fn level_within(start: i128, margin: i128, most: u32) -> Span
     requires { IsArea margin }
     ensures { IsSpanOf (λ u. is_in_margin margin start) most result }
@@ -74,7 +74,7 @@ fn level_within(start: i128, margin: i128, most: u32) -> Span
     }
 }
 
-/// Whether the level lies within the margin about 0; of the two borders the lower counts.
+/// Whether the level lies within the margin about 0; the lower border counts, the upper doesn't.
 #[tactic(auto, unfolding(crate::specs::Level::is_in_margin))]
 fn is_in_margin(margin: i128, level: i128) -> bool
     requires { IsArea margin }
@@ -83,7 +83,7 @@ fn is_in_margin(margin: i128, level: i128) -> bool
     !is_less_area(level, opposite(margin)) && is_less_area(level, margin)
 }
 
-/// The pixels, of the first `most`, whose centre lies between two places on an axis, both of which count.
+/// The pixels, of the first `most`, whose centre lies between two positions on an axis, both included.
 pub(crate) fn centres_between(low: i64, high: i64, most: u32) -> Span
     requires low { IsNear low }
     requires high { IsNear high }
@@ -95,7 +95,7 @@ pub(crate) fn centres_between(low: i64, high: i64, most: u32) -> Span
     }
 }
 
-/// The first place above.
+/// The next position.
 #[tactic(auto, unfolding(crate::specs::Exact::plus))]
 fn above(place: i64) -> i64
     requires { IsNear place }
@@ -104,7 +104,7 @@ fn above(place: i64) -> i64
     place + 1
 }
 
-/// How many of the first `most` pixels have a level below the bound, where levels rise.
+/// The number of the first `most` pixels with a level below the bound; levels rise.
 fn rising_below(start: i128, step: i128, bound: i128, most: u32) -> u32
     requires start { nat_abs start ≤ 2 ^ 109 }
     requires step { pos 1 ≤ℤ step }
@@ -115,7 +115,7 @@ fn rising_below(start: i128, step: i128, bound: i128, most: u32) -> u32
     steps_below(step, room_above(start, bound), most)
 }
 
-/// How many of the first `most` pixels have a level of at least the bound, where levels fall.
+/// The number of the first `most` pixels with a level of at least the bound; levels fall.
 fn falling_from(start: i128, step: i128, bound: i128, most: u32) -> u32
     requires start { nat_abs start ≤ 2 ^ 109 }
     requires step { step ≤ℤ negsuc 0 }
@@ -127,7 +127,7 @@ fn falling_from(start: i128, step: i128, bound: i128, most: u32) -> u32
     steps_below(opposite(step), room_below(start, bound), most)
 }
 
-/// How far the bound lies above the start of a level.
+/// The bound less the level's start.
 #[tactic(auto, unfolding(crate::specs::Exact::difference))]
 fn room_above(start: i128, bound: i128) -> i128
     requires start { nat_abs start ≤ 2 ^ 109 }
@@ -137,7 +137,7 @@ fn room_above(start: i128, bound: i128) -> i128
     bound - start
 }
 
-/// One more than how far the bound lies below the start of a level.
+/// The level's start less the bound, plus one.
 #[tactic(auto, unfolding(crate::specs::Exact::difference, crate::specs::Exact::plus))]
 fn room_below(start: i128, bound: i128) -> i128
     requires start { nat_abs start ≤ 2 ^ 109 }

@@ -1,16 +1,24 @@
-//! The painter: what a map looks like, pixel by pixel, in exact whole numbers.
+//! Paints a map: gives each pixel its colour, in exact integer arithmetic.
 //!
-//! A view shows a part of the map in so many pixels; a coordinate is shown at a place in sixteenths of a pixel, rounded down also
-//! below zero. A map's layers, features and styles make a list of operations, each a shape in a colour: the inside of edges, lines
-//! of a width along segments, squares about points. They are painted from the last to the first, row by row, each over the pixels
-//! that are still free: what lies under others costs little. Operations that others hide aren't painted at all: a layer that is named
-//! again, and of one feature's fills and lines each that a later style covers, which is one as wide at least along the same segments.
-//! Contracts see places, views and pictures as the records of `specs/`, and operations as the list of `specs/Operation.antt`.
+//! A [`view::View`] is the part of the map that a picture shows, with the picture's size: 1 to 1,024 pixels on each side. It maps
+//! a coordinate to a position in sixteenths of a pixel, rounded down, also below zero. A map's layers, features and styles give a
+//! list of operations in painter's order (`specs/Operation.antt`). An operation is a shape in a colour: the inside of edges, a
+//! line of a width along segments, or a square about a point. A fill or a line covers a pixel iff it covers its centre
+//! (`specs/Coverage.antt`); a square consists of whole pixels (`specs/Square.antt`). Contracts model positions, views and
+//! pictures as records of `specs/`.
 //!
-//! It promises that each pixel of a painted picture has the colour of the last operation in painter's order that covers its centre,
-//! else the background's, and that the only error is allocation failure. A request that is a tile of the map's grid has a view that
-//! sixteen tiles share, and all tiles of a level are parts of one drawing; any other has the view of its box. It paints no labels,
-//! knows no projections other than the map's own, and writes no image format: a picture is three bytes a pixel, the top row first.
+//! [`painter::paint`] goes from the last operation to the first, row by row, and writes only pixels that are still free: so
+//! hidden operations cost little. It skips operations that later ones hide: those of a layer that is listed again later; a fill
+//! of a feature that a later style fills; a line of a feature, if a later style has one at least as wide along the same segments.
+//!
+//! It promises:
+//! - each pixel of a painted picture has the colour of the last operation in painter's order that covers it, else the background;
+//!   the only error is allocation failure
+//! - a request that is a tile of the map's grid has a view that sixteen tiles share, any other that of its box
+//! - all tiles of a level are parts of one drawing ([`law::tiles_are_parts_of_one_drawing`])
+//!
+//! It draws no labels, knows no projection but the map's own, and writes no image format: a picture is three bytes a pixel, the
+//! top row first.
 #![tactic(auto)]
 
 mod about;

@@ -1,21 +1,21 @@
-//! Paint operations: shapes in a colour.
+//! Paint operations: a shape in a colour.
 
 use crate::place::Place;
 use crate::segment::Segment;
 use wf_def::color::Color;
 
-/// What an operation paints.
+/// The shape that an operation paints.
 #[derive(Clone, Copy)]
 pub enum Shape<'a> {
-    /// The inside of these edges: the places from which a ray meets an odd number of them.
+    /// The inside of these edges: the positions from which a ray to the right meets an odd number of them.
     Fill { edges: &'a [Segment] },
-    /// A line of this width in pixels along each segment.
+    /// A line of `width` pixels along each segment.
     Line { width: u8, segments: &'a [Segment] },
-    /// A square of this size in pixels about a place.
+    /// A square of `size` pixels about a position.
     Square { size: u8, place: Place },
 }
 
-/// A shape painted in a colour.
+/// A shape in a colour.
 #[derive(Clone, Copy)]
 pub struct Operation<'a> {
     pub shape: Shape<'a>,

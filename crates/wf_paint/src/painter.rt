@@ -1,7 +1,7 @@
-//! The painter: a map's layers over a background.
+//! The painter: paints a map's layers over a background.
 //!
-//! It paints from the last operation to the first: a pixel has the colour of the first operation that covers it then, and whatever
-//! lies under painted pixels costs nothing.
+//! It paints from the last operation to the first. The first operation met that covers a pixel sets its colour; what lies under
+//! painted pixels costs nothing.
 ghost use Rattle.std.specs.Prelude.{◌≡◌, ◌<◌, ◌≤◌, ◌+◌, None, is_some, cond, max, length, drop, slice_index, OnOk, IfOk};
 ghost use Rattle.std.specs.Bool.{Decides};
 ghost use Rattle.std.specs.List.{All, Contains, flat_map};
@@ -28,8 +28,8 @@ use wf_def::map::MapDef;
 use wf_def::point::Point;
 use wf_def::style::Style;
 
-/// Paints the layers in these places of the map, each over those before it, over a background: each pixel has the colour of the
-/// last operation that covers it, else the background. Allocation failure is the only error.
+/// Paints the layers at these indices of the map, each over those before it, over a background. Each pixel has the colour of the
+/// last operation that covers it, else the background. Returns Ok unless allocation fails.
 pub fn paint(
     alloc: Global,
     map: &MapDef,
@@ -45,8 +45,8 @@ pub fn paint(
     Ok(canvas.finish(background))
 }
 
-/// Paints the layers from the last to the first. One that is named again later is painted there alone: it would cover the same
-/// pixels.
+/// Paints the layers from the last to the first. A layer that is listed again later is painted only there: it would cover the
+/// same pixels.
 #[tactic(auto, unfolding(crate::specs::Operation::operations))]
 fn draw_layers(
     alloc: Global,
@@ -68,7 +68,7 @@ fn draw_layers(
     Ok(())
 }
 
-/// Whether the layer in this place of the list stands in it again later.
+/// Whether the layer at this index of the list is listed again later.
 fn is_named_again(layers: &[usize], place: usize) -> bool
     requires { place < length layers.now }
     ensures { Decides result (Contains (drop (place + 1) layers.now) (slice_index layers.now place)) }
@@ -96,7 +96,7 @@ fn draw_layer(
     Ok(())
 }
 
-/// Paints a feature by the class that it has.
+/// Paints a feature by its class; nothing if it has none.
 #[tactic(auto, unfolding(crate::specs::Operation::feature_operations))]
 fn draw_feature(
     alloc: Global,
@@ -149,8 +149,8 @@ fn draw_class(
     }
 }
 
-/// Paints polygons by the styles from the last to the first, until the canvas is full: the inside once, since all fill the same, and
-/// the border of each that is wider than the later ones.
+/// Paints polygons by the styles from the last to the first, until the canvas is full. The inside is filled once, since all
+/// styles fill the same pixels; a border is painted if it is wider than the later ones.
 fn draw_polygons(
     alloc: Global,
     canvas: &mut Canvas,
@@ -176,15 +176,15 @@ fn draw_polygons(
     Ok(())
 }
 
-/// The colour of a style's inside, and none where a later style has filled it.
+/// The colour of a style's inside; None if a later style has filled it.
 fn inner_color(style: &Style, filled: bool) -> Option<Color>
     ensures { result ≡ cond filled None style.now.color }
 {
     if filled { None } else { style.color }
 }
 
-/// The colour of a line of this width, and none where it isn't wider than the widest later line along the same segments, which
-/// covers all that it does.
+/// The colour of a line of this width; None if the widest later line along the same segments is at least as wide, since that
+/// covers all its pixels.
 fn line_color(color: Option<Color>, width: u8, widest: u8) -> Option<Color>
     ensures hidden { width ≤ widest → result ≡ None }
     ensures visible { widest < width → result ≡ color }
@@ -192,7 +192,7 @@ fn line_color(color: Option<Color>, width: u8, widest: u8) -> Option<Color>
     if width <= widest { None } else { color }
 }
 
-/// How wide the widest line along the segments is, 0 without one, once a line of this width has been painted where it has a colour.
+/// The width of the widest line so far, this one included if it has a colour; 0 if there is none.
 fn widest_line(color: Option<Color>, width: u8, widest: u8) -> u8
     ensures { result ≡ cond (is_some color) (max widest width) widest }
 {
@@ -203,8 +203,8 @@ fn widest_line(color: Option<Color>, width: u8, widest: u8) -> u8
     }
 }
 
-/// Paints lines along the segments by the styles from the last to the first, until the canvas is full: each that is wider than the
-/// later ones.
+/// Paints lines along the segments by the styles from the last to the first, until the canvas is full. A line is painted if it is
+/// wider than the later ones.
 fn draw_lines(canvas: &mut Canvas, segments: &[Segment], styles: &[Style])
     ensures { IsShown (flat_map (line_along segments.now) styles.now) canvas.old canvas.new }
 {

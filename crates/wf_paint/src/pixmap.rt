@@ -37,7 +37,7 @@ impl Pixmap {
         }
     }
 
-    /// How wide the picture is, in pixels.
+    /// The picture's width in pixels.
     pub fn width(&self) -> u32
         ensures value { result ≡ self.now.width }
         ensures within { IsPixmap self.now }
@@ -45,7 +45,7 @@ impl Pixmap {
         self.width
     }
 
-    /// How high the picture is, in pixels.
+    /// The picture's height in pixels.
     pub fn height(&self) -> u32
         ensures value { result ≡ self.now.height }
         ensures within { IsPixmap self.now }
@@ -61,7 +61,7 @@ impl Pixmap {
         &self.bytes
     }
 
-    /// How many pixels there are.
+    /// The number of pixels.
     pub fn area(&self) -> u32
         ensures value { result ≡ self.now.width * self.now.height }
         ensures within { IsPixmap self.now }
@@ -69,7 +69,7 @@ impl Pixmap {
         self.width * self.height
     }
 
-    /// The pixel in a place, the places counted row by row from the upper left.
+    /// The pixel at an index; indices count row by row from the upper left.
     #[tactic(auto, unfolding(crate::specs::Pixmap::column_of, crate::specs::Pixmap::row_of))]
     pub fn pixel(&self, index: u32) -> Pixel
         requires { index < self.now.width * self.now.height }
@@ -81,7 +81,7 @@ impl Pixmap {
         }
     }
 
-    /// Gives the pixel in a place the colour; the places are counted row by row from the upper left.
+    /// Sets the pixel at an index to the colour; indices count row by row from the upper left.
     pub fn set(&mut self, index: u32, color: Color)
         requires { index < self.old.width * self.old.height }
         ensures { IsSet index color self.old self.new }

@@ -1,11 +1,11 @@
-//! Places in a view.
+//! Positions in a view.
 ghost use Rattle.std.specs.Prelude.{◌≡◌, ◌<◌, ◌^◌, pos};
 ghost use Rattle.wf_paint.specs.Near.{IsNear};
 ghost use Rattle.wf_paint.specs.Place.{IsPlace, middle, centre, turned};
 
 use std::marker::Model;
 
-/// A place in a view, in sixteenths of a pixel from its left side and from its bottom. Places beside the view are places too.
+/// A position in a view, in sixteenths of a pixel from its left side and its bottom. It may lie outside the view.
 #[derive(Clone, Copy)]
 pub struct Place {
     x: i64,
@@ -25,7 +25,7 @@ impl Model for Place {
 }
 
 impl Place {
-    /// The place in these sixteenths of a pixel.
+    /// The position at these sixteenths of a pixel.
     pub(crate) fn new(x: i64, y: i64) -> Self
         requires x { IsNear x }
         requires y { IsNear y }
@@ -50,7 +50,7 @@ impl Place {
         self.y
     }
 
-    /// The place with its two axes exchanged.
+    /// The position with its axes exchanged.
     pub(crate) fn turned(self) -> Self
         ensures { result ≡ turned self }
     {
@@ -60,7 +60,7 @@ impl Place {
         }
     }
 
-    /// The centre of the pixel in a column and a row, rows counted upward from the bottom.
+    /// The centre of the pixel in a column and a row; rows count from the bottom.
     pub(crate) fn centre(column: u32, row: u32) -> Self
         ensures { result ≡ centre (pos column) (pos row) }
     {

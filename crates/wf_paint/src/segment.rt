@@ -2,7 +2,7 @@
 
 use crate::place::Place;
 
-/// The straight line between two places.
+/// The straight line between two positions.
 #[derive(Clone, Copy)]
 pub struct Segment {
     pub from: Place,

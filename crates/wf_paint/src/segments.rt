@@ -1,4 +1,4 @@
-//! The segments of a shape's parts, as a view shows them.
+//! The segments of a feature's parts, in a view.
 ghost use Rattle.std.specs.Prelude.{◌≡◌, List, ◌++◌, OnOk, IfOk};
 ghost use Rattle.wf_paint.specs.Place.{PlaceValue};
 ghost use Rattle.wf_paint.specs.Segments.{path_from, path, ring, places, paths, rings};
@@ -22,7 +22,7 @@ pub(crate) fn paths(alloc: Global, view: &View, parts: &[Part]) -> Result<Vec<Se
     Ok(segments)
 }
 
-/// The same, with the segment from each part's last point back to its first.
+/// The same, and the segment from each part's last point back to its first.
 #[tactic(auto, unfolding(crate::specs::Segments::rings))]
 pub(crate) fn rings(alloc: Global, view: &View, parts: &[Part]) -> Result<Vec<Segment>, AllocError>
     ensures { IfOk result (λ s. s.items ≡ rings view.now parts.now) }
@@ -34,7 +34,7 @@ pub(crate) fn rings(alloc: Global, view: &View, parts: &[Part]) -> Result<Vec<Se
     Ok(segments)
 }
 
-/// Adds the segments from each point to the next.
+/// Appends the segments from each point to the next.
 fn push_path(segments: &mut Vec<Segment>, view: &View, points: &[Point]) -> Result<(), AllocError>
     ensures { OnOk result (segments.new.items ≡ segments.old.items ++ path (places view.now points.now)) }
 {
@@ -44,7 +44,7 @@ fn push_path(segments: &mut Vec<Segment>, view: &View, points: &[Point]) -> Resu
     Ok(())
 }
 
-/// Adds the segments from a place to the first point, and from each point to the next.
+/// Appends the segments from a position to the first point, and from each point to the next.
 fn push_way(
     segments: &mut Vec<Segment>,
     view: &View,
@@ -57,7 +57,7 @@ fn push_way(
     Ok(())
 }
 
-/// Adds the segments from each point to the next, and from the last back to the first.
+/// Appends the segments from each point to the next, and from the last back to the first.
 fn push_ring(segments: &mut Vec<Segment>, view: &View, points: &[Point]) -> Result<(), AllocError>
     ensures { OnOk result (segments.new.items ≡ segments.old.items ++ ring (places view.now points.now)) }
 {
@@ -72,7 +72,8 @@ fn push_ring(segments: &mut Vec<Segment>, view: &View, points: &[Point]) -> Resu
     Ok(())
 }
 
-/// The same, and answers the last place: with the segments from there through any further places they are those of the whole way.
+/// The same; returns the last position. Followed by the segments from there through any further positions, they are those of the
+/// whole path.
 fn push_from(
     segments: &mut Vec<Segment>,
     view: &View,

@@ -1,6 +1,6 @@
 //! Spans of columns or rows.
 
-/// The numbers from one up to another, which isn't one of them; none where that lies below the first.
+/// The numbers in from..to; none if `to` is below `from`.
 #[derive(Clone, Copy)]
 pub(crate) struct Span {
     pub from: u32,

@@ -1,4 +1,4 @@
-//! Squares of pixels about a place.
+//! Squares of pixels about a position.
 ghost use Rattle.std.specs.Prelude.{◌≡◌, ◌≤◌, ◌^◌, pos, nat_abs};
 ghost use Rattle.wf_paint.specs.Near.{IsNear};
 ghost use Rattle.wf_paint.specs.Exact.{plus};
@@ -8,7 +8,7 @@ use crate::exact::is_less;
 use crate::operation::Pixel;
 use crate::place::Place;
 
-/// The first of the so many columns of pixels about a place on one axis.
+/// The first of the `size` columns of pixels about a position on one axis.
 #[tactic(auto, unfolding(crate::specs::Square::square_start, crate::specs::Exact::difference, crate::specs::Exact::quotient))]
 pub(crate) fn square_start(size: u8, place: i64) -> i64
     requires { IsNear place }
@@ -18,7 +18,7 @@ pub(crate) fn square_start(size: u8, place: i64) -> i64
     place.div_euclid(16) - i64::from(size / 2)
 }
 
-/// The column behind the last.
+/// The column after the last.
 #[tactic(auto, unfolding(crate::specs::Exact::plus))]
 pub(crate) fn square_end(start: i64, size: u8) -> i64
     requires { nat_abs start ≤ 2 ^ 54 }
@@ -27,7 +27,7 @@ pub(crate) fn square_end(start: i64, size: u8) -> i64
     start + i64::from(size)
 }
 
-/// Whether the column of pixels is one of those of the square.
+/// Whether the column belongs to the square.
 #[tactic(auto, unfolding(crate::specs::Square::is_in_span))]
 fn is_in_span(size: u8, place: i64, column: u32) -> bool
     requires { IsNear place }
@@ -38,7 +38,7 @@ fn is_in_span(size: u8, place: i64, column: u32) -> bool
     !is_less(column, start) && is_less(column, square_end(start, size))
 }
 
-/// Whether the pixel is one of those of the square of this size about the place.
+/// Whether the pixel belongs to the square of this size about the position.
 #[tactic(auto, unfolding(crate::specs::Square::is_in_square))]
 pub(crate) fn is_in_square(size: u8, place: Place, pixel: Pixel) -> bool
     ensures { result ≡ is_in_square size place (pos pixel.column) (pos pixel.row) }

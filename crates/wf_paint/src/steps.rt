@@ -1,9 +1,9 @@
-//! How many multiples of a step lie below a bound: what every boundary of a shape in a row comes down to.
+//! The number of multiples of a step below a bound. Every boundary of a shape in a row is computed by it.
 ghost use Rattle.std.specs.Prelude.{◌≡◌, ℕ, ◌*◌, ◌/◌, ◌<◌, ◌≤◌, nat_lt, pos, ◌≤ℤ◌};
 ghost use Rattle.wf_paint.specs.Exact.{product, is_less};
 ghost use Rattle.wf_paint.specs.Place.{middle};
 
-/// How many of the first `most` pixels of an axis have their centre below the place, in sixteenths of a pixel.
+/// The number of the first `most` pixels of an axis whose centre lies below the position, in sixteenths of a pixel.
 pub(crate) fn centres_below(place: i64, most: u32) -> u32
     ensures within { result ≤ most }
     ensures below { (u : ℕ) → u < most → is_less (middle (pos u)) place ≡ nat_lt u result }
@@ -11,7 +11,7 @@ pub(crate) fn centres_below(place: i64, most: u32) -> u32
     steps_below(16, i128::from(place) - 8, most)
 }
 
-/// How many of the first `most` whole numbers u have step * u < bound.
+/// The number of u in 0..most with step * u < bound.
 pub(crate) fn steps_below(step: i128, bound: i128, most: u32) -> u32
     requires { pos 1 ≤ℤ step }
     ensures within { result ≤ most }
@@ -24,7 +24,7 @@ pub(crate) fn steps_below(step: i128, bound: i128, most: u32) -> u32
     }
 }
 
-/// The same, where the bound is positive too.
+/// The same for a positive bound.
 fn multiples_below(step: u128, bound: u128, most: u32) -> u32
     requires step { 1 ≤ step }
     requires bound { 1 ≤ bound }
@@ -39,7 +39,7 @@ fn multiples_below(step: u128, bound: u128, most: u32) -> u32
     }
 }
 
-/// The quotient, by the processor's own division where both numbers have 64 bits.
+/// The quotient, by the processor's division where both numbers fit 64 bits.
 fn divided(number: u128, divisor: u128) -> u128
     requires { 1 ≤ divisor }
     ensures { result ≡ number / divisor }

@@ -1,4 +1,4 @@
-//! Which view a request has: that of a tile of the grid, or of the box itself.
+//! The view of a request: that of a tile of the grid, or of the box itself.
 ghost use Rattle.std.specs.Prelude.{◌≡◌, ◌≤◌, ◌*◌, ◌^◌, ◌+ℤ◌, ◌≤ℤ◌, Some, None, pos, true, nat_abs};
 ghost use Rattle.wf_def.specs.Limit.{most_millionths};
 ghost use Rattle.wf_paint.specs.View.{most_pixels, most_shift, IsAxis};
@@ -18,9 +18,9 @@ use wf_def::micro::Micro;
 const MOST_PIXELS: u32 = 1_024;
 
 impl View {
-    /// The view of a picture of this box in this size. Where box and size are those of a tile of the map's grid it is the view that
-    /// sixteen tiles share, and `corner` says where the tile is cut out of it, so that neighbours fit together; otherwise it is
-    /// that of the box. The box has sides of at least a thousandth of a unit.
+    /// The view of a picture of this box at this size. If box and size are those of a tile of the map's grid, it is the view that
+    /// sixteen tiles share, and `corner` is where the tile is cut out of it: so neighbouring tiles match. Otherwise it is the
+    /// view of the box. The sides of the box are at least a thousandth of a unit.
     pub fn of(map: &MapDef, bbox: &Extent, width: u32, height: u32) -> Self
         requires width_least { 1 ≤ width }
         requires width_most { width ≤ most_pixels }
@@ -52,7 +52,7 @@ fn box_view(bbox: Extent, width: u32, height: u32) -> View
     View::new(width, height, x, y, None)
 }
 
-/// An axis of a box that is shown in so many pixels.
+/// An axis of a box shown in `pixels` pixels.
 #[tactic(auto, unfolding(crate::specs::Exact::difference))]
 fn box_axis(low: Micro, high: Micro, pixels: u32) -> Axis
     requires most { pixels ≤ most_pixels }
@@ -94,7 +94,7 @@ fn tile_axis(origin: Micro, width: u64, cells: u64, k: i64) -> Axis
     Axis::new(origin, 4_096 * cells, width, tile_shift(k))
 }
 
-/// How far the four cells that this one is in lie from the grid's first, in sixteenths of a pixel.
+/// The distance from the grid's first cell to the group of four that this cell is in, in sixteenths of a pixel.
 #[tactic(auto, unfolding(crate::specs::Tile::tile_shift, crate::specs::Exact::product, crate::specs::Exact::quotient))]
 fn tile_shift(k: i64) -> i64
     requires { nat_abs k ≤ 2 ^ 39 }
@@ -104,7 +104,7 @@ fn tile_shift(k: i64) -> i64
     k.div_euclid(4) * 16_384
 }
 
-/// Where the cell begins among its four, in pixels.
+/// The cell's offset in its group of four, in pixels.
 #[tactic(auto, unfolding(crate::specs::Tile::tile_start))]
 fn tile_start(k: i64) -> u32
     ensures { result ≡ tile_start k }

@@ -1,4 +1,4 @@
-//! Views: which part of the map a picture shows, and how large.
+//! Views: the part of the map that a picture shows, and the picture's size.
 ghost use Rattle.std.specs.Prelude.{◌≡◌, ◌≤◌};
 ghost use Rattle.wf_paint.specs.View.{place_of, most_pixels, IsAxis, IsView};
 
@@ -8,7 +8,7 @@ use crate::place::Place;
 use std::marker::Model;
 use wf_def::point::Point;
 
-/// Which part of the map a picture shows, and how large.
+/// The part of the map that a picture shows, and the picture's size.
 #[derive(Clone, Copy)]
 pub struct View {
     width: u32,
@@ -31,7 +31,7 @@ impl Model for View {
 }
 
 impl View {
-    /// The view of these parts.
+    /// The view with these fields.
     pub(crate) fn new(width: u32, height: u32, x: Axis, y: Axis, corner: Option<Corner>) -> Self
         requires width_least { 1 ≤ width }
         requires width_most { width ≤ most_pixels }
@@ -50,7 +50,7 @@ impl View {
         }
     }
 
-    /// How wide the view is, in pixels.
+    /// The view's width in pixels.
     pub fn width(&self) -> u32
         ensures value { result ≡ self.now.width }
         ensures within { IsView self.now }
@@ -58,7 +58,7 @@ impl View {
         self.width
     }
 
-    /// How high the view is, in pixels.
+    /// The view's height in pixels.
     pub fn height(&self) -> u32
         ensures value { result ≡ self.now.height }
         ensures within { IsView self.now }
@@ -66,8 +66,8 @@ impl View {
         self.height
     }
 
-    /// For a tile its lower left pixel: the picture is the part of 256 by 256 pixels of the view that begins there. None where the
-    /// whole view is the picture.
+    /// For a tile, its lower left pixel: the picture is the part of the view of 256 by 256 pixels that starts there. None if the
+    /// picture is the whole view.
     pub fn corner(&self) -> Option<Corner>
         ensures value { result ≡ self.now.corner }
         ensures within { IsView self.now }
@@ -75,7 +75,7 @@ impl View {
         self.corner
     }
 
-    /// Where a point of the map is shown.
+    /// The position of a point of the map in the view.
     pub fn place(&self, point: &Point) -> Place
         ensures { result ≡ place_of self.now point.now }
     {

@@ -1,4 +1,4 @@
--- A proposal that begins is the table's, for a proposal and for a second try.
+-- The beginning of a proposal is the table's, for a first attempt and for a retry.
 use Rattle.std.proofs.Common.{◌≡◌, ℕ, ◌+◌, max, Result, Ok, Err, IfOk, ap, sym, subst, ◌∙◌}
 use Rattle.wf_def.specs.Definition.{Definition}
 use Rattle.wf_model.specs.Fits.{IsForNext}
@@ -19,7 +19,7 @@ begun-row : (w : Working) (me slot round : ℕ) (own : Definition) (stored : Sto
 unfolding begin_at stores nobody
 begun-row w me slot round own stored for_next = ap (λ s. row_at w (begun s own (record { round = round; node = me }))) for_next
 
--- the first try is for the sequence after the published ones, in the round after the one tried
+-- the first attempt is for the sequence after the published ones, in the round after the one tried
 first-row : (next : Next) (w : Working) (me slot tried sequence : ℕ) (own : Definition) (stored : Stored Definition) →
     HasStored stored tried sequence → slot ≡ sequence + 1 → next ≡ begun slot own (record { round = tried + 1; node = me }) →
     row_at w next ≡ on_propose me stored own
@@ -34,7 +34,7 @@ pub first-answer : (r : Result Next Refusal) (w : Working) (me slot tried sequen
 first-answer (Ok next) w me slot tried sequence own stored has after is = first-row next w me slot tried sequence own stored has after is
 first-answer (Err e) w me slot tried sequence own stored has after is = is
 
--- a second try is for the same sequence, in the round after the highest one known
+-- a retry is for the same sequence, in the round after the highest one known
 again-row : (next : Next) (p : Proposal) (me tried : ℕ) (stored : Stored Definition) → stored.tried ≡ tried → p.slot ≡ next_sequence stored →
     next ≡ begun p.slot p.own (record { round = max tried p.seen + 1; node = me }) →
     row_at (Running p) next ≡ on_retry me stored (model.Running (proposal_of p))

@@ -1,4 +1,4 @@
--- One more node heard, as a set.
+-- One more counted node, as a set.
 use Rattle.std.proofs.Common.{◌≡◌, ℕ, Bool, true, false, ◌||◌, ◌==◌, List, [], ◌∷◌, ◌++◌, refl, ◌∙◌, ap, arith}
 use Rattle.std.proofs.lemmas.Bool.Decides.{nat_tests}
 use Rattle.std.proofs.Math.Path.{fun_ext}
@@ -11,7 +11,7 @@ equal-sym i j = grind (arith, nat_tests)
 or-false : (a b : Bool) → a ≡ b → (a || false) ≡ (b || false)
 or-false a b e = ap (λ x. x || false) e
 
--- two tests that are asked in turn may be asked in the other order
+-- two of three tests joined by `or` may be swapped
 or-swap : (a b c : Bool) → (a || (b || c)) ≡ (b || (a || c))
 or-swap true true c = refl
 or-swap true false c = refl

@@ -1,4 +1,4 @@
--- The nodes heard, as a set.
+-- The nodes whose answers are counted, as a set.
 use Rattle.std.specs.Prelude.{ℕ, Bool, List, ◌==◌}
 use Rattle.std.specs.List.{list_any}
 

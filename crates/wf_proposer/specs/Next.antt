@@ -1,4 +1,4 @@
--- What a proposer answers, as a row of the farm's table.
+-- A proposer's result, as a transition of the step table.
 use Rattle.std.specs.Prelude.{ℕ, List, [], ◌∷◌, map, Option, Some, None, option_map}
 use Rattle.wf_ballot.specs.Ballot.{Ballot}
 use Rattle.wf_def.specs.Definition.{Definition}
@@ -17,14 +17,13 @@ use Rattle.wf_proposer.specs.declared.working.Working.TheVariants.{Running}
 use Rattle.wf_proposer.specs.declared.change.Change.{Change}
 use Rattle.wf_proposer.specs.declared.change.Change.TheVariants.{Becomes}
 
--- the entry is the record to store, None where there is none; then the messages to hand out after that, and what a commit does
--- to the working part
+-- the record to store, None if there is none; the messages to send after that; and the effect of a commit on the working part
 pub record Next : Type 0 where
   pub entry : Option Record
   pub messages : List Message
   pub change : Change
 
--- the row that this answers, to a proposer with that working part
+-- the transition of this result, at a proposer with that working part
 abbrev pub row_at : Working → Next → Row Definition
 row_at working next =
     record {
@@ -33,7 +32,7 @@ row_at working next =
       working = working_of (changed next.change working);
     }
 
--- what is answered where a proposal of `own` begins at the ballot
+-- the result if a proposal of `own` begins at the ballot
 abbrev pub begun : ℕ → Definition → Ballot → Next
 begun slot own ballot =
     record {

@@ -1,4 +1,4 @@
--- A running proposal, as the farm's model has it.
+-- A running proposal, as in wf_model.
 use Rattle.std.specs.Prelude.{Bool, true, Option, Some, None}
 use Rattle.wf_ballot.specs.Ballot.{Ballot, below}
 use Rattle.wf_def.specs.Definition.{Definition}
@@ -13,7 +13,7 @@ abbrev pub phase_of : Phase → model.Phase
 phase_of Preparing = model.Preparing
 phase_of Accepting = model.Accepting
 
--- the running proposal, its list of heard nodes as the set of its members
+-- the running proposal, its list of counted nodes as a set
 abbrev pub proposal_of : Proposal → model.Proposal Definition
 proposal_of p =
     record {

@@ -1,4 +1,4 @@
--- A node's proposer: what it shows, and that as the farm's model has it.
+-- The model of a node's proposer, and its working part as in wf_model.
 use Rattle.std.specs.Prelude.{◌==◌, ℕ, Bool, false}
 use Rattle.wf_ballot.specs.Ballot.{Ballot}
 use Rattle.wf_def.specs.Definition.{Definition}
@@ -8,17 +8,17 @@ use Rattle.wf_proposer.specs.Working as shown
 use Rattle.wf_proposer.specs.Next.{Next, row_at}
 use Rattle.wf_proposer.specs.declared.working.Working.{Working}
 
--- its node, how many nodes the farm has, and what it holds: at most one proposal, or how the last one ended
+-- its node, the farm's number of nodes, and its working part: at most one proposal, or how the last one ended
 pub record Proposer : Type 0 where
   pub node : ℕ
   pub nodes : ℕ
   pub working : Working
 
--- what it holds, as the working part of the farm's model
+-- its working part, as in wf_model
 abbrev pub working_of : Proposer → model.Working Definition
 working_of proposer = shown.working_of proposer.working
 
--- what it answers, as a row of the farm's table: the entry, the messages, and the working part once it is committed
+-- its result, as a transition of the step table: the record, the messages, and the working part after the commit
 abbrev pub row_of : Proposer → Next → Row Definition
 row_of proposer next = row_at proposer.working next
 
@@ -29,7 +29,7 @@ runs_for s (model.Running p) = p.sequence == s
 runs_for s (model.Won t) = false
 runs_for s (model.Overtaken t) = false
 
--- whether a running proposal hears the answer: it is in the phase, at the sequence and ballot, and hasn't heard the sender
+-- whether a running proposal counts the answer: it is of its phase, sequence and ballot, from a sender not counted yet
 abbrev pub is_heard : ℕ → model.Working Definition → model.Phase → ℕ → ℕ → Ballot → Bool
 is_heard n model.Idle phase sender s b = false
 is_heard n (model.Running p) phase sender s b = hears n p phase sender s b

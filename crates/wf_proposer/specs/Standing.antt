@@ -1,4 +1,4 @@
--- How a node's proposal stands.
+-- The state of a node's proposal.
 use Rattle.wf_def.specs.Definition.{Definition}
 use Rattle.wf_model.specs.Working as model
 use Rattle.wf_proposer.specs.declared.standing.Standing.{Standing}

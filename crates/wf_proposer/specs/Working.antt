@@ -1,4 +1,4 @@
--- The working part of a node, as the farm's model has it.
+-- The working part of a node, as in wf_model.
 use Rattle.wf_def.specs.Definition.{Definition}
 use Rattle.wf_model.specs.Working as model
 use Rattle.wf_proposer.specs.Proposal.{proposal_of}

@@ -45,7 +45,7 @@ impl Proposer {
         self.node
     }
 
-    /// How the node's proposal stands.
+    /// The state of the node's proposal.
     pub fn proposal(&self) -> Standing
         ensures { result ≡ standing_of (working_of self.now) }
     {
@@ -57,8 +57,8 @@ impl Proposer {
         }
     }
 
-    /// A proposal of `own` begins, where round `tried` is stored and the definitions up to `published` are
-    /// published. It is rejected as Busy while one runs, then as RoundsFull after the last round.
+    /// Begins a proposal of `own`; `tried` is the stored round, and `published` the last published sequence. Rejected as Busy if
+    /// a proposal runs, then as RoundsFull after the last round.
     #[tactic(auto, unfolding(wf_model::specs::Table::refuse_proposal, wf_model::specs::Table::on_propose, wf_model::specs::Table::begin_at, wf_model::specs::Table::stores, wf_model::specs::Working::nobody, wf_model::specs::Stored::next_sequence))]
     pub fn start(
         &self,
@@ -86,8 +86,8 @@ impl Proposer {
         }
     }
 
-    /// The running proposal begins anew in a higher round, where round `tried` is stored. It is rejected as
-    /// Nothing while none runs, and as RoundsFull where the last round was tried or told.
+    /// Begins the running proposal again in a higher round; `tried` is the stored round. Rejected as Nothing if no proposal runs,
+    /// and as RoundsFull if the last round was tried or reported.
     #[tactic(auto, unfolding(wf_model::specs::Table::refuse_retry, wf_model::specs::Table::on_retry, wf_model::specs::Table::round_known, wf_model::specs::Table::begin_at, wf_model::specs::Table::stores, wf_model::specs::Working::nobody))]
     pub fn retry(&self, alloc: Global, tried: u32) -> Result<Next, Refusal>
         ensures refused { (stored : Stored Definition) → stored.tried ≡ tried → refused_by result ≡ table.refuse_retry stored (working_of self.now) }
@@ -101,7 +101,8 @@ impl Proposer {
         }
     }
 
-    /// Why a proposal wouldn't begin now, where round `tried` is stored and a sequence is left; None where it would.
+    /// Why a proposal would be rejected now, given that `tried` is the stored round and a sequence is left; None if it would
+    /// begin.
     #[tactic(auto, unfolding(wf_model::specs::Table::refuse_proposal, wf_model::specs::Table::rounds_full))]
     pub fn start_refusal(&self, tried: u32, published: Seq) -> Option<Refusal>
         requires { published < last_sequence }
@@ -115,7 +116,7 @@ impl Proposer {
         }
     }
 
-    /// Why the running proposal wouldn't begin anew now, where round `tried` is stored; None where it would.
+    /// Why a retry would be rejected now, given that `tried` is the stored round; None if it would begin.
     #[tactic(auto, unfolding(wf_model::specs::Table::refuse_retry, wf_model::specs::Table::round_known))]
     pub fn retry_refusal(&self, tried: u32) -> Option<Refusal>
         ensures { (stored : Stored Definition) → stored.tried ≡ tried → IsWhyNot (table.refuse_retry stored (working_of self.now)) result }
@@ -128,7 +129,7 @@ impl Proposer {
         }
     }
 
-    /// A Promise of `from` came. Memory is the only rejection, and it comes only where the answer is heard.
+    /// A Promise of `from` arrived. The only error is allocation failure, and only if the answer is counted.
     #[tactic(auto, unfolding(wf_model::specs::Table::on_promise, wf_model::specs::Table::quiet))]
     pub fn on_promise(
         &self,
@@ -152,7 +153,7 @@ impl Proposer {
         }
     }
 
-    /// An Accepted of `from` came. Memory is the only rejection, and it comes only where the answer is heard.
+    /// An Accepted of `from` arrived. The only error is allocation failure, and only if the answer is counted.
     #[tactic(auto, unfolding(wf_model::specs::Table::on_accepted, wf_model::specs::Table::quiet))]
     pub fn on_accepted(
         &self,
@@ -174,7 +175,7 @@ impl Proposer {
         }
     }
 
-    /// A Nack came that names `promised`. It is never rejected, and allocates nothing.
+    /// A Nack with the promise `promised` arrived. Never rejected; doesn't allocate.
     #[tactic(auto, unfolding(wf_model::specs::Table::on_nack, wf_model::specs::Table::quiet))]
     pub fn on_nack(&self, alloc: Global, slot: Slot, ballot: Ballot, promised: Ballot) -> Next
         ensures { row_of self.now result ≡ table.on_nack (working_of self.now) slot ballot promised }
@@ -187,8 +188,8 @@ impl Proposer {
         }
     }
 
-    /// Makes the working part of an answer the node's, and gives back the record, which is stored by now,
-    /// and the messages to hand out. It allocates nothing.
+    /// Makes the working part of `next` the node's, and returns the record, which is stored by now, and the messages to send.
+    /// Doesn't allocate.
     pub fn commit(&mut self, next: Next) -> (Option<Record>, Vec<Message>)
         ensures working { working_of self.new ≡ (row_of self.old next).working }
         ensures node { self.new.node ≡ self.old.node }
@@ -201,7 +202,7 @@ impl Proposer {
         (entry, messages)
     }
 
-    /// The definition is published at the slot: a proposal that runs for the slot ends. It allocates nothing.
+    /// The definition is published at the slot: a running proposal for the slot ends. Doesn't allocate.
     #[tactic(auto, unfolding(wf_model::specs::Table::ends))]
     pub fn on_published(&mut self, slot: Slot, canon: &Canon)
         ensures working { working_of self.new ≡ (if runs_for slot (working_of self.old) then table.ends definition_eq (working_of self.old) canon.now else working_of self.old) }
@@ -222,7 +223,7 @@ impl Proposer {
     }
 }
 
-/// The slot that comes next.
+/// The next slot.
 fn slot_after(published: Seq) -> Slot
     requires { published < last_sequence }
     ensures { result ≡ published + 1 }
@@ -230,7 +231,7 @@ fn slot_after(published: Seq) -> Slot
     Slot::new(published.number() + 1).unwrap()
 }
 
-/// RoundsFull where this round is the last one.
+/// RoundsFull if this round is the last one.
 #[tactic(auto, unfolding(wf_model::specs::Table::rounds_full))]
 fn rounds_refusal(round: u32) -> Option<Refusal>
     ensures { IsWhyNot (table.rounds_full round) result }

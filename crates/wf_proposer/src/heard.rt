@@ -6,7 +6,7 @@ use std::alloc::{AllocError, Global};
 use std::marker::Model;
 use wf_ballot::{NodeId, is_majority};
 
-/// The nodes whose answer was heard, in the order of hearing.
+/// The nodes whose answers are counted, in order of arrival.
 #[derive(Drop)]
 pub struct Heard {
     nodes: Vec<NodeId>,
@@ -21,7 +21,7 @@ impl Model for Heard {
 }
 
 impl Heard {
-    /// Nobody.
+    /// No nodes.
     pub fn nobody(alloc: Global) -> Heard
         ensures { result ≡ [] }
     {
@@ -30,7 +30,7 @@ impl Heard {
         }
     }
 
-    /// Was the node of this number heard?
+    /// Whether the answer of the node of this number is counted.
     pub fn contains(&self, number: u8) -> bool
         ensures { result ≡ among self.now number }
     {
@@ -46,7 +46,7 @@ impl Heard {
         Ok(Heard { nodes })
     }
 
-    /// How many of the nodes 0 to n - 1 were heard.
+    /// The number of nodes 0 to n - 1 whose answers are counted.
     #[tactic(auto, unfolding(wf_ballot::specs::Majority::count_nodes))]
     pub fn count(&self, n: u8) -> usize
         ensures { result ≡ count_nodes n (among self.now) }
@@ -60,7 +60,7 @@ impl Heard {
         count
     }
 
-    /// Are those heard a majority of the nodes 0 to n - 1?
+    /// Whether these are a majority of the nodes 0 to n - 1.
     pub fn is_majority(&self, n: u8) -> bool
         ensures { result ≡ is_majority_of (count_nodes n (among self.now)) n }
     {

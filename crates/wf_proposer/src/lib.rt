@@ -1,18 +1,15 @@
-//! The proposer of a node: at most one proposal, from its first Prepare to the publishing of a definition.
+//! The proposer of a node: at most one proposal, from its first Prepare until a definition is published.
 //!
-//! Its model: a `Proposer` is seen as its node, the farm's number of nodes and what it holds; `working_of`
-//! (`specs/Proposer.antt`) reads that as the working part of the farm's model, with the list of heard nodes
-//! as the set of its members. A `Next` is seen as its entry (the record to store, if there is one), its
-//! messages and its change; `row_of` reads it as a row of the model's table: the entry, the messages and the
-//! working part once it is committed.
+//! Model: a `Proposer` is its node, the farm's number of nodes and its working part; `working_of` (`specs/Proposer.antt`) maps
+//! that to wf_model's, with the list of nodes whose answers are counted as a set. A `Next` is the record to store, if there is
+//! one, the messages to send and the change of the working part; `row_of` maps it to a transition of wf_model's step table.
 //!
-//! It promises that each call answers the row of the model's table, as a function of the working part and
-//! the input, and rejects exactly where the table does, allocation failure aside; that a call which answers
-//! changes nothing, until `commit` makes the answered working part the node's, which allocates nothing; and
-//! that an answer which isn't waited for, and each Nack, is answered without memory.
+//! Promises: each call returns the step table's transition, as a function of the working part and the input, and rejects exactly
+//! if the table does, or if allocation fails. A call that returns a `Next` changes nothing until `commit` makes its working part
+//! the node's; `commit` doesn't allocate. Nor does an answer that the proposal doesn't wait for, or a Nack.
 //!
-//! It doesn't know what is stored: the caller names the round that was tried and the sequence that was
-//! published, stores the record of an answer before it commits, and hands the messages out after that.
+//! Not here: the stored state. The caller passes the tried round and the published sequence, stores a `Next`'s record before it
+//! commits, and sends the messages after that.
 #![tactic(auto)]
 
 mod call;

@@ -7,15 +7,14 @@ use std::marker::Model;
 use wf_codec::Message;
 use wf_tape::Record;
 
-/// What a proposer answers: a record to store, messages to hand out once it is stored, and the working
-/// part to come.
+/// A proposer's result: a record to store, messages to send once it is stored, and the change of the working part.
 pub struct Next {
     entry: Option<Record>,
     messages: Vec<Message>,
     change: Change,
 }
 
-// By hand: a crate above proves one call where it drops an answer, and not each part of one anew.
+// Written by hand: callers then prove one call where they drop a result, not one for each part.
 impl Drop for Next {
     fn drop(self) {
         let Next {
@@ -58,7 +57,7 @@ impl Next {
     ) -> Result<Next, AllocError>
         ensures { IfOk result (λ next. next ≡ record { entry = entry; messages = message ∷ []; change = change }) }
     {
-        // No `?`: the proof of an exit that lets these go takes each kind of record and change apart.
+        // Without `?`: the proof of an exit that drops these treats each kind of record and change separately.
         match only(alloc, message) {
             Ok(messages) => Ok(Next {
                 entry,
@@ -80,7 +79,7 @@ impl Next {
         self.entry.as_ref()
     }
 
-    /// The messages to hand out once the record is stored.
+    /// The messages to send once the record is stored.
     pub fn messages(&self) -> &[Message]
         ensures { result.now ≡ self.now.messages }
     {

@@ -5,38 +5,38 @@ use wf_canon::Canon;
 /// A proposal first asks for promises, then for votes.
 #[derive(Clone, Copy)]
 pub enum Phase {
-    /// It asked for promises.
+    /// Promises are asked for.
     Preparing,
-    /// It asked for votes.
+    /// Votes are asked for.
     Accepting,
 }
 
 /// A running proposal.
 #[derive(Drop)]
 pub struct Proposal {
-    /// The slot that it is for.
+    /// Its slot.
     pub slot: Slot,
     /// Its ballot.
     pub ballot: Ballot,
-    /// The definition that its node would publish.
+    /// Its node's own definition.
     pub own: Canon,
-    /// What it asked for.
+    /// Its phase.
     pub phase: Phase,
-    /// The nodes heard in this phase.
+    /// The nodes whose answers are counted in this phase.
     pub heard: Heard,
-    /// The vote at the highest ballot that a Promise told; of votes at equal ballots the first heard.
+    /// The reported vote at the highest ballot; of votes at equal ballots the first reported.
     pub best: Option<(Ballot, Canon)>,
-    /// The highest round that a Nack told, 0 before the first.
+    /// The highest round that a Nack reported, 0 before the first.
     pub seen: u32,
 }
 
-/// How far a running proposal has come.
+/// The progress of a running proposal.
 #[derive(Drop)]
 pub struct Progress {
-    /// What it asked for.
+    /// Its phase.
     pub phase: Phase,
-    /// The nodes heard in this phase.
+    /// The nodes whose answers are counted in this phase.
     pub heard: Heard,
-    /// A vote that was told and is better than the best so far, if there is one.
+    /// A reported vote that is better than the best so far, if there is one.
     pub better: Option<(Ballot, Canon)>,
 }

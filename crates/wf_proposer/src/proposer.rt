@@ -9,7 +9,7 @@ pub struct Proposer {
     pub(crate) working: Working,
 }
 
-// By hand: a crate above proves one call where it drops a proposer, and not each part of one anew.
+// Written by hand: callers then prove one call where they drop a proposer, not one for each part.
 impl Drop for Proposer {
     fn drop(self) {
         let Proposer {

@@ -5,13 +5,13 @@ use std::fmt;
 /// Why a proposer rejects. A rejection changes nothing.
 #[derive(Clone, Copy, Debug, PartialEq, Eq)]
 pub enum Refusal {
-    /// A proposal runs.
+    /// A proposal is running.
     Busy,
-    /// No proposal runs that could be tried again.
+    /// No proposal is running that could be retried.
     Nothing,
-    /// The last round, 4,294,967,295, was tried or told: there is no higher one.
+    /// The last round, 4,294,967,295, was tried or reported: there is no higher one.
     RoundsFull,
-    /// A growth was rejected.
+    /// Allocation failed.
     Memory,
 }
 

@@ -29,7 +29,7 @@ use wf_codec::Message;
 use wf_tape::Record;
 
 impl Proposal {
-    /// A proposal of `own` begins at the ballot: its round is stored before anyone is asked for a promise.
+    /// A proposal of `own` begins at the ballot: its round is stored before any Prepare is sent.
     pub fn begin(alloc: Global, slot: Slot, own: Canon, ballot: Ballot) -> Result<Next, AllocError>
         ensures { IfOk result (λ next. next ≡ begun slot own ballot) }
     {
@@ -48,7 +48,7 @@ impl Proposal {
         Next::says(alloc, Some(tried), message, change)
     }
 
-    /// The proposal begins anew, in a round above the one tried and each one told. Its rounds may be used up.
+    /// The proposal begins again, in a round above the one tried and each one reported. There may be none left.
     #[tactic(auto, unfolding(wf_model::specs::Table::rounds_full))]
     pub fn again(&self, alloc: Global, node: NodeId, tried: u32) -> Result<Next, Refusal>
         ensures refused { refused_by result ≡ table.rounds_full (max tried self.now.seen) }
@@ -64,7 +64,7 @@ impl Proposal {
         }
     }
 
-    /// The first try of a proposal of `own`, in the round after the one tried. The rounds may be used up.
+    /// The first attempt of a proposal of `own`, in the round after the one tried. There may be none left.
     #[tactic(auto, unfolding(wf_model::specs::Table::rounds_full))]
     pub fn first(
         alloc: Global,
@@ -88,7 +88,7 @@ impl Proposal {
         }
     }
 
-    /// It has come so far.
+    /// Advances the proposal.
     pub fn advance(&mut self, progress: Progress)
         ensures { self.new ≡ advanced progress self.old }
     {
@@ -105,7 +105,7 @@ impl Proposal {
         }
     }
 
-    /// Is this the phase?
+    /// Whether this is the phase.
     #[tactic(auto, unfolding(wf_model::specs::Working::same_phase))]
     pub fn is_in(&self, phase: Phase) -> bool
         ensures { result ≡ model.same_phase (phase_of self.now.phase) (phase_of phase) }
@@ -116,7 +116,7 @@ impl Proposal {
         }
     }
 
-    /// Is this the proposal at the slot and the ballot?
+    /// Whether this is the proposal at the slot and the ballot.
     #[tactic(auto, unfolding(wf_model::specs::Working::is_at, wf_model::specs::Working::same_ballot))]
     pub fn is_at(&self, slot: Slot, ballot: Ballot) -> bool
         ensures { result ≡ model.is_at (proposal_of self.now) slot ballot }
@@ -124,8 +124,8 @@ impl Proposal {
         self.slot == slot && self.ballot == ballot
     }
 
-    /// Is the answer one that the proposal waits for: to its phase, slot and ballot, from a node of the farm
-    /// that it hasn't heard?
+    /// Whether the proposal waits for the answer: it is of its phase, slot and ballot, from a node of the farm whose answer isn't
+    /// counted yet.
     #[tactic(auto, unfolding(wf_model::specs::Table::hears))]
     pub fn hears(&self, phase: Phase, n: u8, from: NodeId, slot: Slot, ballot: Ballot) -> bool
         ensures { result ≡ table.hears n (proposal_of self.now) (phase_of phase) from slot ballot }
@@ -136,7 +136,7 @@ impl Proposal {
             && !self.heard.contains(from.number())
     }
 
-    /// Is a vote at the ballot better than the best so far?
+    /// Whether a vote at the ballot is better than the best so far.
     pub fn is_improved_by(&self, ballot: Ballot) -> bool
         ensures { result ≡ is_improved_by ballot self.now.best }
     {
@@ -146,7 +146,7 @@ impl Proposal {
         }
     }
 
-    /// The vote, if it is better than the best so far: at a higher ballot.
+    /// The vote, if it is better than the best so far, that is, at a higher ballot.
     #[tactic(auto, unfolding(wf_model::specs::Working::better))]
     pub fn improvement(&self, vote: Option<(Ballot, Canon)>) -> Option<(Ballot, Canon)>
         ensures { view_vote (best_now result self.now.best) ≡ model.better (view_vote self.now.best) (view_vote vote) }
@@ -164,8 +164,7 @@ impl Proposal {
         }
     }
 
-    /// What votes are asked for: the definition of the best vote, which is `better` where that is one, or
-    /// else the node's own.
+    /// The definition that votes are asked for: that of the best vote (`better`, if there is one), or else the node's own.
     #[tactic(auto, unfolding(wf_model::specs::Working::carried))]
     pub fn carried<'a>(&'a self, better: &'a Option<(Ballot, Canon)>) -> &'a Canon
         ensures { result.now ≡ model.carried (view_vote (best_now better.now self.now.best)) self.now.own }
@@ -179,7 +178,7 @@ impl Proposal {
         }
     }
 
-    /// How the proposal ends where the definition is published at its slot.
+    /// How the proposal ends if the definition is published at its slot.
     #[tactic(auto, unfolding(wf_model::specs::Table::ended))]
     pub fn ended(&self, canon: &Canon) -> Working
         ensures { working_of result ≡ table.ended definition_eq (proposal_of self.now) canon.now }
@@ -191,9 +190,8 @@ impl Proposal {
         }
     }
 
-    /// A node promised: it is heard, and its vote is the best if it is a better one than the best so far. Once
-    /// a majority promised, votes are asked for. An answer that the proposal doesn't wait for has no effect and
-    /// allocates nothing.
+    /// A Promise arrived: it is counted, and its vote replaces the best if it is better. Once a majority has promised, votes are
+    /// asked for. An answer that the proposal doesn't wait for has no effect and doesn't allocate.
     #[tactic(auto, using(crate::proofs::HeardSets::heard_rules), unfolding(wf_model::specs::Table::on_promise, wf_model::specs::Table::with_promise, wf_model::specs::Table::quiet))]
     pub fn on_promise(
         &self,
@@ -214,7 +212,7 @@ impl Proposal {
         Ok(self.with_promise(alloc, n, from, vote)?)
     }
 
-    /// What follows a promise that the proposal waits for.
+    /// The transition of a promise that the proposal waits for.
     #[tactic(auto, using(crate::proofs::HeardSets::heard_rules), unfolding(wf_model::specs::Table::with_promise))]
     fn with_promise(
         &self,
@@ -234,7 +232,7 @@ impl Proposal {
         }
     }
 
-    /// What follows once these nodes promised and this vote, if any, is the best.
+    /// The transition after these nodes promised, with this vote, if any, as the best.
     #[tactic(auto, unfolding(wf_model::specs::Table::promised, wf_model::specs::Table::asking_votes, wf_model::specs::Table::says, wf_model::specs::Table::quiet, wf_model::specs::Working::nobody))]
     fn promised(
         &self,
@@ -253,7 +251,7 @@ impl Proposal {
         Ok(next)
     }
 
-    /// These nodes are heard, and this vote, if any, is the best.
+    /// These nodes are counted, and this vote, if any, is the best.
     fn hearing(&self, heard: Heard, better: Option<(Ballot, Canon)>) -> Change
         ensures { result ≡ Change.Advances (record { phase = self.now.phase; heard = heard; better = better }) }
     {
@@ -264,7 +262,7 @@ impl Proposal {
         })
     }
 
-    /// Votes are asked for, where this vote, if any, is the best. Nobody is heard of that yet.
+    /// Votes are asked for, with this vote, if any, as the best. No answer to that is counted yet.
     fn asks_votes(&self, alloc: Global, better: Option<(Ballot, Canon)>) -> Result<Next, AllocError>
         ensures { IfOk result (λ next. next ≡ record {
           entry = None;
@@ -289,8 +287,8 @@ impl Proposal {
         }
     }
 
-    /// A node voted: it is heard. Once a majority voted, the definition is published and the proposal ends. An
-    /// answer that the proposal doesn't wait for has no effect and allocates nothing.
+    /// An Accepted arrived: it is counted. Once a majority has voted, the definition is published and the proposal ends. An
+    /// answer that the proposal doesn't wait for has no effect and doesn't allocate.
     #[tactic(auto, using(crate::proofs::HeardSets::heard_rules), unfolding(wf_model::specs::Table::on_accepted, wf_model::specs::Table::with_vote, wf_model::specs::Table::quiet))]
     pub fn on_accepted(
         &self,
@@ -310,7 +308,7 @@ impl Proposal {
         Ok(self.voted(alloc, n, heard)?)
     }
 
-    /// What follows once these nodes voted.
+    /// The transition after these nodes voted.
     #[tactic(auto, unfolding(wf_model::specs::Table::voted, wf_model::specs::Table::ended, wf_model::specs::Table::stores, wf_model::specs::Table::quiet))]
     fn voted(&self, alloc: Global, n: u8, heard: Heard) -> Result<Next, AllocError>
         ensures { IfOk result (λ next. row_at (Running self.now) next ≡ table.voted definition_eq n (proposal_of (record self.now { heard = heard }))) }
@@ -341,7 +339,7 @@ impl Proposal {
         }
     }
 
-    /// A node promised a higher ballot: the highest round told is kept for the next try. It allocates nothing.
+    /// A Nack arrived: the highest reported round is kept for the next attempt. Doesn't allocate.
     #[tactic(auto, unfolding(wf_model::specs::Table::on_nack, wf_model::specs::Table::quiet))]
     pub fn on_nack(&self, alloc: Global, slot: Slot, ballot: Ballot, promised: Ballot) -> Next
         ensures { row_at (Running self.now) result ≡ table.on_nack (model.Running (proposal_of self.now)) slot ballot promised }
@@ -366,7 +364,7 @@ impl Working {
         }
     }
 
-    /// This is the working part now. What it was is let go by one call: dropped in place, its parts make each
+    /// Replaces the working part. The old one is dropped by one call: if it were dropped in place, its parts would make each
     /// proof long.
     pub fn becomes(&mut self, next: Working)
         ensures { self.new ≡ next }

@@ -1,11 +1,11 @@
 use wf_ballot::Slot;
 
-/// How a node's proposal stands.
+/// The state of a node's proposal.
 #[derive(Clone, Copy, Debug, PartialEq, Eq)]
 pub enum Standing {
-    /// No proposal since the node runs.
+    /// No proposal since the node started.
     None,
-    /// A proposal runs.
+    /// A proposal is running.
     Running,
     /// The last proposal ended: its own definition is the one published at the slot.
     Published(Slot),

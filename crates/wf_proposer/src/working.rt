@@ -1,12 +1,12 @@
 use crate::proposal::Proposal;
 use wf_ballot::Slot;
 
-/// What a proposer holds: at most one proposal, or how the last one ended.
+/// A proposer's working part: at most one proposal, or how the last one ended.
 #[derive(Drop)]
 pub enum Working {
     /// No proposal yet.
     Idle,
-    /// This one runs.
+    /// This one is running.
     Running(Proposal),
     /// The last one ended: its own definition is the one published at the slot.
     Published(Slot),

@@ -1,4 +1,4 @@
--- A node that is asked for a step: what it answers.
+-- The result of a node that is asked for a step.
 use Rattle.std.proofs.Common.{◌≡◌, ◌≢◌, ◌∙◌, ℕ, true, false, List, Vec, IsSome, sym, subst}
 use Rattle.std.specs.Prelude.{Result, Err, IfOk, IfErr, OnOk}
 use Rattle.std.specs.declared.alloc.Global.{Global}
@@ -25,7 +25,7 @@ module _ {T : Type 0} (honest : Type 0) (content : T → List ℕ) (images : T �
       subst (λ r. IfErr r (λ why. why ≢ fault.Memory → why ≢ fault.TapeFailed → after ≡ before)) is unchanged in
       here (λ e. cc) (λ e. cc)
 
-  -- what a node promises of its step is an answer
+  -- what a node promises of its step is its result
   pub answered : (answer : Result (Vec Message Global) NodeFault)
       → (before.halted ≡ true → answer ≡ Err fault.Halted)
       → (answer ≡ Err fault.Halted → before.halted ≡ true)

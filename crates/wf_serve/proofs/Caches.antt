@@ -1,4 +1,4 @@
--- The caches of the nodes stay theirs.
+-- Each cache stays its node's.
 use Rattle.std.proofs.Common.{◌≡◌, ◌∙◌, ◌<◌, ◌⊎◌, ℕ, zero, suc, List, [], ◌∷◌, ◌++◌, length, slice_get, slice_set, Some, length-set, refl, sym, subst, inl, inr, arith}
 use Rattle.std.proofs.lemmas.Bool.{cases_eq}
 use Rattle.std.proofs.lemmas.Option.{none-some, same_Some, slice_get_within}
@@ -10,13 +10,13 @@ use Rattle.wf_node.specs.Node.{Node}
 use Rattle.wf_wms.specs.Kept.{AllKept, CacheValue, GrowthKeepsAll}
 use Rattle.wf_serve.specs.Caching.{AreEmpty, AreKept}
 
--- what stands at a place of a list
+-- the element at an index of a list
 there_is : {A : Type 0} (xs : List A) (i : ℕ) → i < length xs → (x : A) × (slice_get xs i ≡ Some x)
 there_is [] i within = absurd (omega arith)
 there_is (x ∷ xs) zero within = (x, refl)
 there_is (x ∷ xs) (suc i) within = there_is xs i (omega arith)
 
--- where the nodes' lists have grown
+-- if the nodes' lists have grown
 pub kept_grown : {T : Type 0} → GrowthKeepsAll → (nodes after : List (Node T)) (caches : List CacheValue) → length after ≡ length nodes → EachGrows nodes after →
     AreKept nodes caches → AreKept after caches
 unfolding EachGrows
@@ -30,7 +30,7 @@ kept_grown law nodes after caches long grows are = record {
       subst (λ n. AllKept n.parts.history cache) it (kept_on law old.0.parts.history new.0.parts.history cache new.2 (are.kept i old.0 cache old.1 there));
 }
 
--- where one node and its cache have changed
+-- if one node and its cache have changed
 pub kept_set : {T : Type 0} (nodes : List (Node T)) (caches : List CacheValue) (place : ℕ) (node after : Node T) (cache next : CacheValue) → slice_get nodes place ≡ Some node →
     slice_get caches place ≡ Some cache → AllKept after.parts.history next → AreKept nodes caches → AreKept (slice_set nodes place after) (slice_set caches place next)
 kept_set nodes caches place node after cache next at there kept are = record {
@@ -44,13 +44,13 @@ kept_set nodes caches place node after cache next at there kept are = record {
   ];
 }
 
--- ---- caches with no picture yet
+-- ---- empty caches
 
 pub none_yet : AreEmpty []
 unfolding AreEmpty
 none_yet = λ i cache at. absurd (none-some cache at)
 
--- what stands at a place of a list with one more at its end
+-- the element at an index of a list with one more at its end
 last_at : {A : Type 0} (xs : List A) (y : A) (i : ℕ) (x : A) → slice_get (xs ++ y ∷ []) i ≡ Some x → (slice_get xs i ≡ Some x) ⊎ (y ≡ x)
 last_at [] y zero x e = inr (same_Some y x e)
 last_at [] y (suc i) x e = absurd (none-some x e)

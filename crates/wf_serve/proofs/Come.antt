@@ -1,4 +1,4 @@
--- One node more that has caught up, and one connection more.
+-- One more node that has caught up, and one more connection.
 use Rattle.std.proofs.Common.{◌≡◌, ◌+◌, ◌%◌, ℕ, zero, suc, List, refl, subst, arith}
 use Rattle.wf_model.specs.Table.{CatchUp}
 use Rattle.wf_node.specs.Node.{Node}

@@ -1,4 +1,4 @@
--- What a node does of its own leads the nodes on.
+-- A node's own step leads the nodes on.
 use Rattle.std.proofs.Common.{◌≡◌, ℕ, List, Vec, slice_get, slice_set, Some, Result, Ok, Err, sym, ap, subst}
 use Rattle.std.specs.declared.alloc.Global.{Global}
 use Rattle.wf_codec.specs.declared.message.Message.{Message}
@@ -25,7 +25,7 @@ module _ {T : Type 0} (honest : Type 0) (content : T → List ℕ) (images : T �
       subst (λ ms. AreLedSaying honest images nodes ms (slice_set nodes i after)) (hands_said asked.answer said asked.hands)
       (law nodes i before after input asked.answer at turns own asked.answers.refused asked.answers.steps)
 
-  -- it served a request: it is as it was, or has proposed
+  -- it served a request: it is unchanged, or has proposed
   pub moved_leads : NothingIsSaid honest images → MovesOnce honest content images failures before said after → AreLedSaying honest images nodes said.items (slice_set nodes i after)
   moved_leads quiet (Stays unmoved) =
       subst (λ n. AreLedSaying honest images nodes said.items (slice_set nodes i n)) (sym unmoved.same)

@@ -1,14 +1,14 @@
--- Pictures that are kept for nodes: a cache for each.
+-- Pictures cached for nodes: one cache for each.
 use Rattle.std.specs.Prelude.{◌≡◌, ℕ, List, length, slice_get, Some}
 use Rattle.wf_def.specs.Definition.{Definition}
 use Rattle.wf_node.specs.Node.{Node}
 use Rattle.wf_wms.specs.Kept.{AllKept, CacheValue}
 
--- At place i stands the cache of node i: each picture in it is one of a map that the node has published.
+-- At index i is the cache of node i: each picture in it is of a map that the node has published.
 pub record AreKept {T : Type 0} (nodes : List (Node T)) (caches : List CacheValue) : Type 0 where
   pub as_many : length caches ≡ length nodes
   pub kept : (i : ℕ) (node : Node T) (cache : CacheValue) → slice_get nodes i ≡ Some node → slice_get caches i ≡ Some cache → AllKept node.parts.history cache
 
--- for the crate's own contracts: these caches are good for every history
+-- for the crate's own contracts: these caches are valid for every history
 unfoldable pub AreEmpty : List CacheValue → Type 0
 AreEmpty caches = (i : ℕ) (cache : CacheValue) → slice_get caches i ≡ Some cache → (history : List Definition) → AllKept history cache

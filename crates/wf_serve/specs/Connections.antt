@@ -1,4 +1,4 @@
--- Connections that came in one after the other: connection c, counted from 0, is node c mod n's.
+-- Connections served one after the other: connection c, counted from 0, by node c mod n.
 use Rattle.std.specs.Prelude.{◌≡◌, ◌⊎◌, ◌%◌, ℕ, zero, suc, List, length, Option, Result, Ok, Err}
 use Rattle.wf_edge.specs.declared.outcome.Outcome.{Outcome}
 use Rattle.wf_node.specs.Node.{Node}
@@ -6,9 +6,9 @@ use Rattle.wf_serve.specs.Serving.{HaveCaughtUp, IsConnection}
 use Rattle.wf_serve.specs.declared.fault.ServeFault.{ServeFault}
 
 module _ {T : Type 0} (honest : Type 0) (content : T → List ℕ) (images : T → List ℕ → Type 0) (failures : T → ℕ) where
-  -- One connection was served by the node at the place, whatever came in by it and went out.
+  -- One connection was served by the node at index `place`, whatever was received and sent on it.
   pub record IsAnswered (place : ℕ) (nodes nodes_after : List (Node T)) : Type 0 where
-    -- what came in, and what was written before and after, where that is known
+    -- what was received, and what was written before and after, if known
     pub input : Option (List ℕ)
     pub written : Option (List ℕ)
     pub written_after : Option (List ℕ)
@@ -19,20 +19,20 @@ module _ {T : Type 0} (honest : Type 0) (content : T → List ℕ) (images : T �
   abbrev pub MayBeAnswered : ℕ → List (Node T) → List (Node T) → Type 0
   MayBeAnswered place nodes nodes_after = IsAnswered place nodes nodes_after ⊎ (nodes_after ≡ nodes)
 
-  -- So many connections came to so many nodes, each to the one whose turn it was.
+  -- This many connections were served by `count` nodes, each by the one whose turn it was.
   unfoldable pub HaveCome : ℕ → ℕ → List (Node T) → List (Node T) → Type 0
   HaveCome count zero nodes nodes_after = nodes_after ≡ nodes
   HaveCome count (suc connection) nodes nodes_after =
       (middle : List (Node T)) × HaveCome count connection nodes middle × MayBeAnswered (connection % count) middle nodes_after
 
-  -- for the crate's own contracts: the port was told, and so many connections came; or it wasn't, and none did
+  -- for the crate's own contracts: the port was printed, and this many connections were served; or it wasn't, and none was
   abbrev pub IfTold : ℕ → List (Node T) → Result (Unit {0}) ServeFault → List (Node T) → Type 0
   IfTold requests nodes (Ok done) nodes_after = HaveCome (length nodes) requests nodes nodes_after
   IfTold requests nodes (Err why) nodes_after = nodes_after ≡ nodes
 
-  -- The nodes caught up; then the port was told, and so many connections came, or it wasn't, and none did.
+  -- The nodes caught up; then the port was printed, and this many connections were served, or it wasn't, and none was.
   pub record IsServing (requests : ℕ) (nodes : List (Node T)) (told : Result (Unit {0}) ServeFault) (nodes_after : List (Node T)) : Type 0 where
-    -- the nodes once they have caught up
+    -- the nodes after they caught up
     pub caught : List (Node T)
     pub catch_up : HaveCaughtUp honest content images failures (length nodes) nodes caught
     pub come : IfTold requests caught told nodes_after

@@ -1,10 +1,10 @@
--- Why nodes aren't served.
+-- Why the nodes aren't served.
 use Rattle.std.specs.Prelude.{◌≡◌, ℕ, Result, Ok, Err}
 use Rattle.wf_stream.specs.Reading.{Rises}
 use Rattle.wf_serve.specs.declared.fault.ServeFault.{ServeFault}
 use Rattle.wf_serve.specs.declared.fault.ServeFault.TheVariants as faults
 
--- A write fault comes exactly where a write has failed.
+-- The error is `Write` iff a write has failed.
 abbrev pub CountsWrites : {T : Type 0} → Result T ServeFault → ℕ → ℕ → Type 0
 CountsWrites (Err faults.Write) old new = Rises old new
 CountsWrites (Err faults.Start) old new = new ≡ old

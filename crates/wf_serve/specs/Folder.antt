@@ -1,4 +1,4 @@
--- Where a node's tape is.
+-- The path of a node's tape.
 use Rattle.std.specs.Prelude.{◌++◌, ℕ, List, codes, decimal}
 
 -- the path of the tape of a node in a folder, `FOLDER/node-I.tape`

@@ -1,4 +1,4 @@
--- What is told of the port that is listened at.
+-- The line with the listener's port.
 use Rattle.std.specs.Prelude.{◌≡◌, ◌≢◌, ◌≤◌, ◌++◌, ℕ, List, [], ◌∷◌, codes, decimal, take, Option, Result, Ok, Err}
 use Rattle.std.specs.Io.KnownBytes.{Appends, Keeps}
 use Rattle.std.specs.Net.Addr.{ipv4_octets}
@@ -9,29 +9,29 @@ use Rattle.wf_serve.specs.Service.{last_port}
 use Rattle.wf_serve.specs.declared.fault.ServeFault.{ServeFault}
 use Rattle.wf_serve.specs.declared.fault.ServeFault.TheVariants as faults
 
--- The address is a port of 127.0.0.1, which this machine alone reaches (RFC 1122, 3.2.1.3).
+-- The address is a port of 127.0.0.1, which only this machine can reach (RFC 1122, 3.2.1.3).
 abbrev pub IsHere : ℕ → SocketAddr → Type 0
 IsHere port (V4 address) = (ipv4_octets (v4_ip address) ≡ 127 ∷ 0 ∷ 0 ∷ 1 ∷ []) × (v4_port address ≡ port)
 IsHere port (V6 address) = ⊥
 
--- the line that names a port
+-- the line with a port
 abbrev pub port_line : ℕ → List ℕ
 port_line port = codes "listening " ++ decimal port ++ codes "\n"
 
--- The port that is listened at: the one that was asked for, any where that is 0.
+-- The listener's port: the requested one, any if that is 0.
 pub record IsPortFor (asked port : ℕ) : Type 0 where
   pub is : asked ≢ 0 → port ≡ asked
   pub least : 1 ≤ port
   pub most : port ≤ last_port
 
--- the bytes were written, or a beginning of them where the writer failed
+-- the bytes were written, or a prefix of them if the writer failed
 abbrev pub IsWriting : List ℕ → Option (List ℕ) → Option (List ℕ) → Result (Unit {0}) ServeFault → Type 0
 IsWriting bytes old new (Ok done) = Appends old new bytes
 IsWriting bytes old new (Err faults.Write) = (count : ℕ) × Appends old new (take count bytes)
 IsWriting bytes old new (Err faults.Start) = ⊥
 
--- What is written by the time that the nodes are served no more: the line of such a port, or a beginning of it where the writer failed; nothing
--- where they didn't begin.
+-- What is written by the time that the nodes are served no more: the line with such a port, or a prefix of it if the writer
+-- failed; nothing if they didn't start.
 abbrev pub IsTold : ℕ → Option (List ℕ) → Option (List ℕ) → Result (Unit {0}) ServeFault → Type 0
 IsTold asked old new (Ok done) = (port : ℕ) × IsPortFor asked port × Appends old new (port_line port)
 IsTold asked old new (Err faults.Write) = (port : ℕ) × IsPortFor asked port × ((count : ℕ) × Appends old new (take count (port_line port)))

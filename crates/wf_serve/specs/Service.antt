@@ -1,9 +1,9 @@
--- What is to be served.
+-- The parameters of a service.
 use Rattle.std.specs.Prelude.{◌≤◌, ℕ}
 use Rattle.wf_wms.specs.Kept.{most_kept}
 use Rattle.wf_serve.specs.declared.service.Service.{Service}
 
--- how many nodes are served, at which port and to how many connections, at most
+-- the greatest number of nodes, the greatest port, and the greatest number of connections
 abbrev pub most_nodes : ℕ
 most_nodes = 64
 
@@ -13,7 +13,7 @@ last_port = 65535
 abbrev pub most_requests : ℕ
 most_requests = 1000000
 
--- the numbers of what is served are within their ranges
+-- the numbers are within their ranges
 pub record IsService (service : Service) : Type 0 where
   pub some : 1 ≤ service.nodes
   pub nodes : service.nodes ≤ most_nodes

@@ -8,7 +8,7 @@ use wf_node::Node;
 use wf_tape::Tape;
 use wf_wms::cache::Cache;
 
-/// A cache for each node, which keeps so many pictures and has none yet.
+/// Returns a cache for each node, of `pictures` pictures at most, all empty.
 pub(crate) fn caches_for<T: Tape>(
     alloc: Global,
     nodes: &[Node<T>],
@@ -25,7 +25,7 @@ pub(crate) fn caches_for<T: Tape>(
     Ok(caches)
 }
 
-/// Adds the cache of the node of this number.
+/// Appends the cache of the node of this number.
 fn add(
     alloc: Global,
     caches: &mut Vec<Cache>,

@@ -1,4 +1,4 @@
-//! Connections come in at a listener, each for the node whose turn it is.
+//! Connections accepted at a listener, each served by the node whose turn it is.
 ghost use Rattle.std.specs.Prelude.{◌≡◌, ◌<◌, ◌%◌, length};
 ghost use Rattle.wf_farm.specs.Delivering.{AnyPart, StandInTurn};
 ghost use Rattle.wf_farm.specs.Leading.{AreLedOn, AreReached, HaveOneHistory};
@@ -16,15 +16,15 @@ use wf_stream::Stream;
 use wf_tape::Tape;
 use wf_wms::cache::Cache;
 
-/// How long a client has to send its request, and then to take the answer, in seconds.
+/// The time limit for a client to send its request, and then to receive the response, in seconds.
 const PEER_SECONDS: u64 = 10;
 
-/// Serves so many connections that come in at a listener, one after the other: connection c, counted from 0, is served by node c mod
-/// n, by its cache, as [`serve_connection`] says. A connection that can't be accepted counts as one without a request, and changes
-/// nothing.
+/// Serves `requests` connections accepted at a listener, one after the other: connection c, counted from 0, is served by node c
+/// mod n, with its cache, as by [`serve_connection`]. A connection that can't be accepted counts as one without a request, and
+/// changes nothing.
 ///
-/// A client has ten seconds to send its request and ten to take the answer; then it is given up. What it sends behind its request is
-/// read away, so that it gets to see the answer, for a second at most and a megabyte.
+/// A client has ten seconds to send its request and ten to receive the response; then the connection is closed. What it sends
+/// after its request is read and dropped, so that it can receive the response, for at most a second and a megabyte.
 pub fn serve_connections<R: Clock + AllocGlobal, T: Tape>(
     rt: &R,
     listener: &TcpListener,
@@ -49,7 +49,7 @@ pub fn serve_connections<R: Clock + AllocGlobal, T: Tape>(
     agree_still(nodes);
 }
 
-/// Which of so many nodes a connection goes to.
+/// The index of the node that serves a connection.
 fn turn_of(connection: u32, count: usize) -> usize
     requires { 0 < count }
     ensures turn { result ≡ connection % count }
@@ -58,7 +58,7 @@ fn turn_of(connection: u32, count: usize) -> usize
     connection as usize % count
 }
 
-/// Serves the next connection by the node at a place. Where none can be accepted, nothing happens.
+/// Serves the next connection by the node at an index. If none can be accepted, nothing happens.
 fn serve_next<R: Clock + AllocGlobal, T: Tape>(
     rt: &R,
     listener: &TcpListener,
@@ -80,7 +80,7 @@ fn serve_next<R: Clock + AllocGlobal, T: Tape>(
     serve_stream(rt, stream, nodes, caches, place);
 }
 
-/// Serves a connection that was accepted by the node at a place, and closes it.
+/// Serves an accepted connection by the node at an index, and closes it.
 fn serve_stream<R: Clock + AllocGlobal, T: Tape>(
     rt: &R,
     stream: TcpStream,

@@ -1,4 +1,4 @@
-//! A peer that has so much time.
+//! A peer with a time limit.
 ghost use Rattle.std.specs.Prelude.{◌<◌, IfOk};
 ghost use Rattle.std.specs.Duration.{as_nanos};
 
@@ -7,8 +7,8 @@ use std::io::{ErrorKind, Read, Write};
 use std::net::TcpStream;
 use std::time::{Clock, Duration, Instant};
 
-/// One direction of a connection, for which the peer has so much time by the clock in all, however often it is read from or
-/// written to. The time begins with the first call; a call behind its end fails, and one that still waits then is given up.
+/// One direction of a connection, with one time limit for all its reads or writes together. The time starts with the first call;
+/// a call after its end fails, and a call still waiting at its end is given up.
 #[derive(Drop)]
 pub(crate) struct Limited<'a, R: Clock> {
     clock: &'a R,
@@ -18,7 +18,7 @@ pub(crate) struct Limited<'a, R: Clock> {
 }
 
 impl<'a, R: Clock> Limited<'a, R> {
-    /// A direction that wasn't used yet.
+    /// A direction not used yet.
     pub(crate) fn new(clock: &'a R, stream: &'a TcpStream, time: Duration) -> Self {
         Limited {
             clock,
@@ -28,7 +28,7 @@ impl<'a, R: Clock> Limited<'a, R> {
         }
     }
 
-    /// What is left of the time. `TimedOut` where nothing is.
+    /// The remaining time. `TimedOut` if there is none.
     fn left(&mut self) -> io::Result<Duration>
         ensures { IfOk result (λ left. 0 < as_nanos left) }
     {
@@ -39,7 +39,7 @@ impl<'a, R: Clock> Limited<'a, R> {
         }
     }
 
-    /// When the time ends; it begins now if it hasn't yet. None where the clock doesn't reach so far.
+    /// When the time ends; it starts now if it hasn't yet. None if the clock can't represent the end.
     fn end_from(&mut self, now: Instant) -> Option<Instant> {
         if self.end.is_none() {
             self.end = now.checked_add(self.time);
@@ -48,7 +48,7 @@ impl<'a, R: Clock> Limited<'a, R> {
     }
 }
 
-/// The time from now to an end. `TimedOut` where that is reached.
+/// The time from now to `end`. `TimedOut` if that is reached.
 fn time_between(now: Instant, end: Instant) -> io::Result<Duration>
     ensures { IfOk result (λ left. 0 < as_nanos left) }
 {

@@ -1,4 +1,4 @@
-//! The nodes open, catch up and tell their port, and the connections come.
+//! Opens the nodes, lets them catch up, prints their port, and serves the connections.
 ghost use Rattle.std.specs.Prelude.{◌≡◌, ◌<◌, length, Some, None};
 ghost use Rattle.wf_farm.specs.Delivering.{AnyPart, StandInTurn};
 ghost use Rattle.wf_farm.specs.Leading.{AreLedOn, AreReached, HaveOneHistory};
@@ -26,12 +26,12 @@ use wf_stream::Sink;
 use wf_tape::Tape;
 use wf_wms::cache::Cache;
 
-/// Serves nodes at a port of 127.0.0.1, to as many connections as the service says, one after the other: connection c, counted
-/// from 0, by node c mod N. The port comes first: where it can't be had, no tape is opened. Then it goes on as [`serve_at`] says.
+/// Serves nodes at a port of 127.0.0.1, to the service's number of connections, one after the other: connection c, counted from
+/// 0, by node c mod N. The port is bound first: if that fails, no tape is opened. Then it goes on as [`serve_at`].
 ///
-/// `Start` where the port or the folder can't be had, a tape doesn't open or memory ran out: nothing of the line is written then. `Write`
-/// where the line can't be written: a beginning of it may be. The port is the service's; where that is 0, one that the system
-/// gives.
+/// Err: `Start` if the port can't be bound, the folder can't be locked, a tape doesn't open or an allocation fails; nothing of
+/// the line is written then. `Write` if the line can't be written; a prefix of it may be. The port is the service's, or one
+/// chosen by the system if that is 0.
 pub fn serve<
     R: Files<File = File> + Clock + Net<Listener = TcpListener, Stream = TcpStream> + AllocGlobal,
     K: Sink,
@@ -48,8 +48,8 @@ pub fn serve<
     outcome
 }
 
-/// Serves nodes at a listener: they open, with what their tapes in the service's folder stand for, or anew in memory where there is no
-/// folder; and it goes on as [`serve_nodes`] says. A folder is taken first: where another program has it, no tape is opened. The errors
+/// Serves nodes at a listener: opens them from their tapes in the service's folder, or new ones in memory if there is no folder,
+/// and goes on as [`serve_nodes`]. The folder is locked first: if another program has locked it, no tape is opened. The errors
 /// are those of [`serve`].
 pub fn serve_at<R: Files<File = File> + Clock + AllocGlobal, K: Sink>(
     rt: &R,
@@ -67,7 +67,7 @@ pub fn serve_at<R: Files<File = File> + Clock + AllocGlobal, K: Sink>(
     }
 }
 
-/// Serves nodes on tapes in memory, where no folder was asked for.
+/// Serves nodes on tapes in memory, where the service has no folder.
 fn serve_memory<R: Clock + AllocGlobal, K: Sink>(
     rt: &R,
     listener: &TcpListener,
@@ -85,7 +85,7 @@ fn serve_memory<R: Clock + AllocGlobal, K: Sink>(
     }
 }
 
-/// Serves nodes on tapes in the files of the folder that was asked for, which no other program has meanwhile.
+/// Serves nodes on tapes in the files of the service's folder, which is locked meanwhile.
 fn serve_files<R: Files<File = File> + Clock + AllocGlobal, K: Sink>(
     rt: &R,
     listener: &TcpListener,
@@ -106,7 +106,7 @@ fn serve_files<R: Files<File = File> + Clock + AllocGlobal, K: Sink>(
     outcome
 }
 
-/// The same where the folder is taken.
+/// The same once the folder is locked.
 fn serve_tapes<R: Files + Clock + AllocGlobal, K: Sink>(
     rt: &R,
     listener: &TcpListener,
@@ -125,7 +125,7 @@ fn serve_tapes<R: Files + Clock + AllocGlobal, K: Sink>(
     }
 }
 
-/// Serves nodes that are open, and closes them.
+/// Serves open nodes, and closes them.
 fn serve_opened<R: Clock + AllocGlobal, K: Sink, T: Tape + Drop>(
     rt: &R,
     listener: &TcpListener,
@@ -144,12 +144,12 @@ fn serve_opened<R: Clock + AllocGlobal, K: Sink, T: Tape + Drop>(
     outcome
 }
 
-/// Serves nodes that a caller holds at a listener: each asks for what it missed, and they hear one another; the line `listening P` with
-/// the listener's port is written; and then the connections come, as [`serve_connections`] says. For each node so many pictures are kept
-/// as the service says; its numbers of nodes and its folder aren't looked at.
+/// Serves nodes that a caller holds at a listener: each requests the definitions that it missed, and the messages are delivered;
+/// the line `listening P` with the listener's port is written; and then connections are served as by [`serve_connections`]. The
+/// service gives the number of pictures cached for each node; its number of nodes and its folder are ignored.
 ///
-/// `Start` where the listener's port isn't the service's, which 0 leaves open, or memory ran out: nothing of the line is written then.
-/// `Write` where the line can't be written: a beginning of it may be. In both cases no connection is served.
+/// Err: `Start` if the listener's port isn't the service's, unless that is 0, or an allocation fails; nothing of the line is
+/// written then. `Write` if the line can't be written; a prefix of it may be. In both cases no connection is served.
 pub fn serve_nodes<R: Clock + AllocGlobal, K: Sink, T: Tape>(
     rt: &R,
     listener: &TcpListener,
@@ -179,7 +179,7 @@ pub fn serve_nodes<R: Clock + AllocGlobal, K: Sink, T: Tape>(
     outcome
 }
 
-/// The port is told, and the connections come.
+/// Prints the port, and serves the connections.
 fn serve_kept<R: Clock + AllocGlobal, K: Sink, T: Tape>(
     rt: &R,
     listener: &TcpListener,

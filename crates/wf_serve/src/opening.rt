@@ -1,4 +1,4 @@
-//! The nodes that are served open.
+//! Opening the nodes.
 ghost use Rattle.std.specs.Prelude.{◌≡◌, ◌<◌, ◌≤◌, ◌+◌, length, IfOk, IfSome, OnOk, string_bytes};
 ghost use Rattle.wf_farm.specs.Delivering.{AnyPart, StandAmong};
 ghost use Rattle.wf_farm.specs.Leading.{AreFresh, AreReached, IsFresh};
@@ -11,11 +11,11 @@ use wf_farm::{fresh_nodes_are_reached, open_fresh};
 use wf_node::Node;
 use wf_tape::{FileTape, MemoryTape, Tape};
 
-/// A tape doesn't open, or memory ran out.
+/// A tape doesn't open, or an allocation failed.
 #[derive(Clone, Copy)]
 pub(crate) struct Unopened;
 
-/// n nodes on tapes in memory, with all parts empty: the model's start.
+/// Returns n nodes on tapes in memory, with all parts empty: the model's start.
 pub(crate) fn in_memory(alloc: Global, n: u8) -> Result<Vec<Node<MemoryTape>>, Unopened>
     requires { n ≤ 64 }
     ensures size { IfOk result (λ nodes. length nodes.items ≡ n) }
@@ -36,7 +36,7 @@ pub(crate) fn in_memory(alloc: Global, n: u8) -> Result<Vec<Node<MemoryTape>>, U
     Ok(nodes)
 }
 
-/// Adds the node of this number, of n, on a tape in memory, with all parts empty.
+/// Appends the node of this number, of n, on a tape in memory, with all parts empty.
 fn add_fresh(
     alloc: Global,
     nodes: &mut Vec<Node<MemoryTape>>,
@@ -58,7 +58,7 @@ fn add_fresh(
     }
 }
 
-/// n nodes on the tapes in a folder, each on its own, `node-0.tape` and so on, which is made where it is absent.
+/// Returns n nodes on their tapes in a folder, `node-0.tape` and so on; a missing tape is created.
 pub(crate) fn in_files<'a, R: Files + AllocGlobal>(
     rt: &'a R,
     n: u8,
@@ -81,7 +81,7 @@ pub(crate) fn in_files<'a, R: Files + AllocGlobal>(
     Ok(nodes)
 }
 
-/// Adds the node of this number, of n, with what its own tape in a folder stands for.
+/// Appends the node of this number, of n, opened from its tape in a folder.
 fn add_file<'a, R: Files + AllocGlobal>(
     rt: &'a R,
     nodes: &mut Vec<Node<FileTape<&'a R>>>,
@@ -104,7 +104,7 @@ fn add_file<'a, R: Files + AllocGlobal>(
     added
 }
 
-/// The path of a node's tape in a folder. None where there is no memory for it.
+/// The path of a node's tape in a folder. None if an allocation fails.
 fn path_of(alloc: Global, folder: &str, number: u8) -> Option<String>
     ensures { IfSome result (λ path. string_bytes path ≡ tape_path folder.now number) }
 {
@@ -114,7 +114,7 @@ fn path_of(alloc: Global, folder: &str, number: u8) -> Option<String>
     }
 }
 
-/// Adds the node of this number, of n, with what the tape at its path in a folder stands for.
+/// Appends the node of this number, of n, opened from the tape at its path in a folder.
 fn add_at<'a, R: Files + AllocGlobal>(
     rt: &'a R,
     nodes: &mut Vec<Node<FileTape<&'a R>>>,
@@ -137,7 +137,7 @@ fn add_at<'a, R: Files + AllocGlobal>(
     }
 }
 
-/// Adds the node of this number, of n, with what its tape stands for.
+/// Appends the node of this number, of n, opened from its tape.
 fn add<T: Tape + Drop>(
     alloc: Global,
     nodes: &mut Vec<Node<T>>,
@@ -169,7 +169,7 @@ fn id_of(number: u8) -> NodeId
     NodeId::new(number).unwrap()
 }
 
-/// Puts the next node of n behind the others.
+/// Appends the next node of n.
 #[tactic(auto, using(crate::proofs::Opened::one_more, crate::proofs::Opened::one_more_fresh))]
 fn put<T: Tape + Drop>(nodes: &mut Vec<Node<T>>, node: Node<T>, n: u8) -> Result<(), Unopened>
     requires next { node.id ≡ length nodes.old.items }

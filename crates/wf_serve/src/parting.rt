@@ -1,4 +1,4 @@
-//! The end of a connection that was answered.
+//! Closing a connection after its response.
 
 use crate::limited::Limited;
 use std::net::{Shutdown, TcpStream};
@@ -6,10 +6,10 @@ use std::time::{Clock, Duration};
 use wf_edge::outcome::Outcome;
 use wf_stream::{Source, Stream};
 
-/// How long a client that still sends may go on after its answer, in seconds.
+/// The time for which a client may go on sending after its response, in seconds.
 const PARTING_SECONDS: u64 = 1;
 
-/// How often more of its bytes are read then, and how many at once.
+/// The number of further reads then, and the size of each.
 const MOST_PIECES: u32 = 128;
 
 const PIECE_BYTES: usize = 8_192;
@@ -17,9 +17,9 @@ const PIECE_BYTES: usize = 8_192;
 /// The least status of a rejection.
 const LEAST_REFUSAL: u16 = 400;
 
-/// Ends the answer, and takes what the client still sends, until it has closed or its time is over: were the connection closed over
-/// unread bytes, the system would take the rest of the answer back. A client that has sent nothing behind its request isn't waited for,
-/// but where that was rejected, since then it may be sending it still.
+/// Ends the response, and drops what the client still sends, until it closes or its time is over: if the connection were closed
+/// with unread bytes, the system could discard the rest of the response. A client that has sent nothing after its request isn't
+/// waited for, unless the request was rejected: then it may still be sending it.
 pub(crate) fn part<R: Clock>(clock: &R, stream: &TcpStream, outcome: Outcome) {
     if stream.shutdown(Shutdown::Write).is_err() {
         return;
@@ -30,7 +30,7 @@ pub(crate) fn part<R: Clock>(clock: &R, stream: &TcpStream, outcome: Outcome) {
     }
 }
 
-/// Was a request rejected? It may not be read to its end then.
+/// Whether the request was rejected; then it may not have been read completely.
 fn is_refusal(outcome: Outcome) -> bool {
     match outcome {
         Outcome::Sent(status, _) => LEAST_REFUSAL <= status,
@@ -38,7 +38,7 @@ fn is_refusal(outcome: Outcome) -> bool {
     }
 }
 
-/// Are there bytes that weren't read? It is asked without waiting for any.
+/// Whether there are unread bytes; doesn't wait for any.
 fn has_more(stream: &TcpStream) -> bool {
     if stream.set_nonblocking(true).is_err() {
         return false;
@@ -47,7 +47,7 @@ fn has_more(stream: &TcpStream) -> bool {
     is_found && stream.set_nonblocking(false).is_ok()
 }
 
-/// Reads to the end, or so many pieces, and keeps none.
+/// Reads to the end, or a limited number of pieces, and drops them.
 fn drop_all<S: Source>(source: &mut S) {
     let mut piece = [0u8; PIECE_BYTES];
     for _ in 0..MOST_PIECES {

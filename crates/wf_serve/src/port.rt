@@ -1,4 +1,4 @@
-//! The port: where connections come in, and the line that names it.
+//! The port: its listener, and the line that names it.
 ghost use Rattle.std.specs.Prelude.{◌≡◌, ◌≢◌, ◌≤◌, IfSome, None};
 ghost use Rattle.std.specs.Net.Socket.{socket_port};
 ghost use Rattle.std.specs.String.{string_bytes};
@@ -11,8 +11,8 @@ use std::io;
 use std::net::{Ipv4Addr, Net, SocketAddr, SocketAddrV4, TcpListener, TcpStream};
 use wf_stream::{Sink, write_all};
 
-/// Listens at a port of this machine's own address, 127.0.0.1, which no other machine reaches; 0 asks for any port that is
-/// free. The error is the system's, where the port is taken or may not be had.
+/// Listens at a port of 127.0.0.1, which only this machine can reach; 0 asks for any free port. Err: the system's error, if the
+/// port is taken or not permitted.
 pub fn listen<R: Net<Listener = TcpListener, Stream = TcpStream>>(
     rt: &R,
     port: u16,
@@ -27,8 +27,8 @@ fn address_of(port: u16) -> SocketAddr
     SocketAddr::V4(SocketAddrV4::new(Ipv4Addr::new(127, 0, 0, 1), port))
 }
 
-/// Writes the line that names the port that is listened at. `Start`, and nothing is written, where that isn't the asked one,
-/// isn't told by the system, or memory ran out.
+/// Writes the line with the listener's port. Err: `Start`, with nothing written, if it isn't the requested port, the system
+/// doesn't report it, or an allocation fails.
 pub(crate) fn tell_port<K: Sink>(
     alloc: Global,
     listener: &TcpListener,
@@ -52,7 +52,7 @@ pub(crate) fn tell_port<K: Sink>(
     outcome
 }
 
-/// The port of a listener's address, which isn't 0. None where another one was asked for: 0 asks for any.
+/// The port of a listener's address, which isn't 0. None if another one was requested; 0 requests any.
 fn port_of(address: &SocketAddr, asked: u16) -> Option<u16>
     ensures own { IfSome result (λ port. port ≡ socket_port address.now) }
     ensures asked { IfSome result (IsPortFor asked) }
@@ -66,7 +66,7 @@ fn port_of(address: &SocketAddr, asked: u16) -> Option<u16>
     }
 }
 
-/// The line that names a port. None where there is no memory for it.
+/// The line with a port. None if an allocation fails.
 fn line_of(alloc: Global, port: u16) -> Option<String>
     ensures { IfSome result (λ line. string_bytes line ≡ port_line port) }
 {

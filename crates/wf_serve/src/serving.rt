@@ -1,4 +1,4 @@
-//! What a connection does to the nodes, and how they catch up before the first.
+//! The effect of a connection on the nodes, and their catch-up before the first.
 ghost use Rattle.std.specs.Prelude.{◌≡◌, ◌≢◌, ◌<◌, false, true, length};
 ghost use Rattle.wf_edge.specs.Hearing.{CountsHearing};
 ghost use Rattle.wf_edge.specs.Page.{standing_at};
@@ -25,7 +25,7 @@ use wf_tape::Tape;
 use wf_wms::cache::Cache;
 use wf_wms::law::kept_pictures_outlast_growth;
 
-/// Each node asks for what it missed, one after the other, and the nodes hear its question and what is told it before the next one asks.
+/// Asks each node in turn to catch up, and delivers its request and the messages sent in reply before the next node is asked.
 pub fn catch_up<T: Tape>(alloc: Global, nodes: &mut [Node<T>])
     requires { StandInTurn nodes.old }
     ensures caught { HaveCaughtUp T.honest T.content T.images T.failed (length nodes.old) nodes.old nodes.new }
@@ -37,10 +37,10 @@ pub fn catch_up<T: Tape>(alloc: Global, nodes: &mut [Node<T>])
     }
 }
 
-/// Serves one connection, over any reader and writer, by the node at a place and its cache, as `serve_one_cached` of `wf_edge` says.
-/// Then the nodes hear what that node has said, whatever became of the answer; and where its proposal still runs, it is asked to begin
-/// that anew, once, and the nodes hear what it says then. A step that the node rejects, or for which there is no memory, is
-/// left out.
+/// Serves one connection, over any reader and writer, by the node at index `place` and its cache, as `serve_one_cached` of
+/// `wf_edge` does. Then the node's messages are delivered, whether or not the response was written; and if its proposal still
+/// runs, the node is asked once to restart it, and its messages are delivered again. A step that the node rejects, or for which
+/// an allocation fails, is skipped.
 pub fn serve_connection<S: Source, K: Sink, T: Tape>(
     alloc: Global,
     source: &mut S,
@@ -70,7 +70,7 @@ pub fn serve_connection<S: Source, K: Sink, T: Tape>(
     outcome
 }
 
-/// Nodes that were led on from nodes that the model reaches are reached still, and publish one history.
+/// Nodes led on from reached nodes are reached, and publish one history.
 pub(crate) fn agree_still<T: Tape>(nodes: &[Node<T>])
     ensures { AgreeStill T.honest T.images nodes.now }
 {
@@ -78,7 +78,7 @@ pub(crate) fn agree_still<T: Tape>(nodes: &[Node<T>])
     reached_nodes_agree(nodes);
 }
 
-/// One request is served by the node at a place.
+/// Serves one request by the node at an index.
 fn served_at<S: Source, K: Sink, T: Tape>(
     alloc: Global,
     source: &mut S,
@@ -101,7 +101,7 @@ fn served_at<S: Source, K: Sink, T: Tape>(
     serve_one_cached(alloc, source, sink, &mut nodes[place], &mut caches[place])
 }
 
-/// The nodes hear messages, and what they say to them.
+/// Delivers messages to the nodes, and the messages that they send in reply.
 fn hear<T: Tape>(alloc: Global, nodes: &mut [Node<T>], said: Vec<Message>)
     requires { StandInTurn nodes.old }
     ensures heard { AreHeard T.honest T.images nodes.old said nodes.new }
@@ -110,7 +110,7 @@ fn hear<T: Tape>(alloc: Global, nodes: &mut [Node<T>], said: Vec<Message>)
     let _ = deliver_all(alloc, nodes, said);
 }
 
-/// Where the proposal of the node at a place still runs, it begins that anew, and the nodes hear what it says.
+/// If the proposal of the node at an index still runs, restarts it and delivers the messages.
 fn retry<T: Tape>(alloc: Global, nodes: &mut [Node<T>], place: usize)
     requires within { place < length nodes.old }
     requires in_turn { StandInTurn nodes.old }
@@ -123,7 +123,7 @@ fn retry<T: Tape>(alloc: Global, nodes: &mut [Node<T>], place: usize)
     }
 }
 
-/// Does the node's proposal run?
+/// Whether the node's proposal is running.
 fn runs<T: Tape>(node: &Node<T>) -> bool
     ensures running { result ≡ true → standing_at node.now ≡ Standing.Running }
     ensures resting { result ≡ false → standing_at node.now ≢ Standing.Running }
@@ -134,7 +134,7 @@ fn runs<T: Tape>(node: &Node<T>) -> bool
     }
 }
 
-/// The node at a place is asked for a step of its own, which is no delivery, and the nodes hear what it says.
+/// Asks the node at an index for a step of its own, not a delivery, and delivers its messages.
 fn ask<T: Tape>(alloc: Global, nodes: &mut [Node<T>], place: usize, input: Input)
     requires within { place < length nodes.old }
     requires in_turn { StandInTurn nodes.old }
@@ -147,7 +147,7 @@ fn ask<T: Tape>(alloc: Global, nodes: &mut [Node<T>], place: usize, input: Input
     hear(alloc, nodes, said);
 }
 
-/// What the node at a place says to an input of its own.
+/// The messages of the node at an index for an input of its own.
 fn said_at<T: Tape>(
     alloc: Global,
     nodes: &mut [Node<T>],
@@ -164,7 +164,7 @@ fn said_at<T: Tape>(
     said(alloc, &mut nodes[place], input)
 }
 
-/// What a node says to an input; nothing where it rejects.
+/// The messages of a node for an input; none if it rejects.
 fn said<T: Tape>(alloc: Global, node: &mut Node<T>, input: Input) -> Vec<Message>
     ensures { IsAsked T.honest T.content T.images T.failed (view input) node.old result node.new }
 {
@@ -174,7 +174,7 @@ fn said<T: Tape>(alloc: Global, node: &mut Node<T>, input: Input) -> Vec<Message
     }
 }
 
-/// What a node answers to an input.
+/// The result of a node's step.
 fn answer<T: Tape>(
     alloc: Global,
     node: &mut Node<T>,

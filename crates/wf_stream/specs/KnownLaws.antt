@@ -1,4 +1,4 @@
--- Known bytes that stay, before a read or a write.
+-- The effect of a read or a write on known bytes.
 use Rattle.std.proofs.Common.{◌≡◌, ◌∙◌, ◌+◌, ◌-◌, ◌≤◌, ℕ, List, [], refl, sym, ap, subst, ◌++◌, length, take, drop, arith}
 use Rattle.std.specs.Prelude.{Option, Some, None, IfSome, Result, Ok, Err}
 use Rattle.std.proofs.lemmas.List.{append-nil, append_assoc, take_all, take_at, take-append-drop, length-append}
@@ -48,7 +48,7 @@ consumes_more (Some xs) (Some ys) None front piece first second = absurd second
 consumes_more (Some xs) (Some ys) (Some zs) front piece first second =
     first ∙ ap (λ rest. front ++ rest) second ∙ sym (append_assoc front piece zs)
 
--- at the end all is read
+-- at the end everything is read
 pub first_at_end : (a b : Option (List ℕ)) (bytes : List ℕ) (limit : ℕ) → Consumes a b bytes → IsAtEnd b → length bytes ≤ limit
     → IfSome a (λ known. bytes ≡ take limit known)
 first_at_end None b bytes limit consumed end short = tt
@@ -57,7 +57,7 @@ first_at_end (Some xs) (Some ys) bytes limit consumed end short =
     let whole : xs ≡ bytes = consumed ∙ rw end (append-nil bytes) in
     rw whole (sym (take_all limit bytes short))
 
--- at the limit the beginning is read
+-- at the limit a prefix is read
 pub first_at_limit : (a b : Option (List ℕ)) (bytes : List ℕ) (limit : ℕ) → Consumes a b bytes → length bytes ≡ limit
     → IfSome a (λ known. bytes ≡ take limit known)
 first_at_limit None b bytes limit consumed full = tt
@@ -70,7 +70,7 @@ piece_more a b c count before after first (piece, size, second, is) = rw is (con
 pub piece_length : (b c : Option (List ℕ)) (count : ℕ) (before after : List ℕ) → ReadsPiece count b c before after → length after ≡ length before + count
 piece_length b c count before after (piece, size, second, is) = rw (is, ← size) (length-append before piece)
 
--- what was read, and at most so many more
+-- the bytes read so far, and at most this many more
 pub takes_more : (a b c : Option (List ℕ)) (bytes : List ℕ) (room limit : ℕ) → Consumes a b bytes → TakesUpTo room b c → length bytes + room ≤ limit
     → TakesUpTo limit a c
 takes_more a b c bytes room limit first (piece, size, second) most =
@@ -97,7 +97,7 @@ appends_keeps (Some xs) None c bytes appends keeps = absurd appends
 appends_keeps (Some xs) (Some ys) None bytes appends keeps = absurd keeps
 appends_keeps (Some xs) (Some ys) (Some zs) bytes appends keeps = keeps ∙ appends
 
--- a write of some of the rest
+-- a write of some of the remaining bytes
 pub write_step : (a b c : Option (List ℕ)) (bytes front rest : List ℕ) (count : ℕ) → bytes ≡ front ++ rest → Appends a b front
     → Appends b c (take count rest) → (longer : List ℕ) × (bytes ≡ longer ++ drop count rest) × Appends a c longer
 write_step a b c bytes front rest count split first second = (
@@ -106,7 +106,7 @@ write_step a b c bytes front rest count split first second = (
   appends_more a b c front (take count rest) first second,
 )
 
--- so much was written before a call failed, where what is left is known
+-- this many bytes were written before a call failed, if the bytes left are known
 pub told_before : (a b c : Option (List ℕ)) (bytes rest : List ℕ) → ((front : List ℕ) × (bytes ≡ front ++ rest) × Appends a b front) → Keeps b c
     → (length bytes - length rest ≤ length bytes) × Appends a c (take (length bytes - length rest) bytes)
 told_before a b c bytes rest (front, split, appends) keeps =

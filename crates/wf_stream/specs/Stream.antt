@@ -1,4 +1,4 @@
--- What a stream holds.
+-- The state of a stream.
 use Rattle.std.specs.Prelude.{ℕ}
 use Rattle.wf_stream.specs.declared.stream.Stream.{Stream}
 
@@ -6,6 +6,6 @@ use Rattle.wf_stream.specs.declared.stream.Stream.{Stream}
 abbrev pub inner_of : {S : Type 0} → Stream S → S
 inner_of stream = stream.inner
 
--- how many calls have failed
+-- the number of failed calls
 abbrev pub failures_of : {S : Type 0} → Stream S → ℕ
 failures_of stream = stream.failures

@@ -1,16 +1,20 @@
-//! Readers and writers: of std, with a count of the calls that failed, and over memory.
+//! Readers and writers, over those of std and over memory, that count their failed calls.
 //!
-//! A [`Source`] is what bytes are read from and a [`Sink`] what they are written to. [`Stream`] makes them of the readers and
-//! writers of std, [`Bytes`] and [`Output`] are over memory. [`read_piece`] reads once, [`read_up_to`] to the end or so many
-//! bytes, and [`write_all`] writes all of them.
+//! A [`Source`] is a reader and a [`Sink`] a writer. [`Stream`] wraps the readers and writers of std; [`Bytes`] and [`Output`]
+//! are over memory. [`read_piece`] reads once, [`read_up_to`] reads to the end or a limit, and [`write_all`] writes all of some
+//! bytes.
 //!
-//! Its model: of a source, the bytes that it still gives and how many of them a call gives at most, and of a sink, the bytes that
-//! it was given, each where it is known; of each, how many calls have failed. What a call does to these says `specs/Reading.antt`.
+//! **Model.** Of a source, the bytes still to be read and the most bytes that a call returns; of a sink, the bytes written; each
+//! if known. Of both, the number of failed calls. `specs/Reading.antt` states the effect of a call.
 //!
-//! It promises that what is read is taken from the front of what is left, and no more than was asked for; that what is
-//! written is all of the bytes, or so many of them where a call failed; that the count rises where a call failed and
-//! nowhere else; that a call which a signal interrupts isn't told as failed; and that an error of a reader is never told as
-//! allocation failure. That no other failed call is made again is tested (`wf_cases_edge`). It doesn't promise that a reader ever gives its next byte, nor what becomes of bytes behind a writer of std.
+//! **Promises.**
+//! - What is read is a prefix of what is left, of at most the requested length.
+//! - What is written is all of the bytes, or the reported number of them if a call failed.
+//! - The count of failures increases iff a call fails. A call interrupted by a signal isn't reported as failed, and a reader's
+//!   own error is never reported as allocation failure.
+//!
+//! **Doesn't.** It doesn't promise that a reader ever returns its next byte, nor what a writer of std does with bytes that it has
+//! taken. That no failed call is repeated, unless it was interrupted, is tested (`wf_cases_edge`).
 #![tactic(auto)]
 
 mod memory;

@@ -9,7 +9,7 @@ use std::io;
 use std::io::ErrorKind;
 use std::marker::Model;
 
-/// A reader of bytes in memory, which gives them in pieces. From some call on each may fail.
+/// A reader of bytes in memory, which returns them in pieces. From a given call on, every call may fail.
 #[derive(Drop)]
 pub struct Bytes<'b> {
     rest: &'b [u8],
@@ -30,7 +30,7 @@ impl<'b> Model for Bytes<'b> {
 }
 
 impl<'b> Bytes<'b> {
-    /// A reader that gives at most `piece` bytes a call. With `until_failure` each call after that many fails.
+    /// A reader that returns at most `piece` bytes a call. With `until_failure`, each call after that many fails.
     pub fn new(bytes: &'b [u8], piece: usize, until_failure: Option<u64>) -> Self
         requires { 0 < piece }
         ensures { result ≡ record { left = bytes.now; piece = piece; until_failure = until_failure; failures = 0 } }
@@ -43,7 +43,7 @@ impl<'b> Bytes<'b> {
         }
     }
 
-    // Whether this call fails. It is counted.
+    // Whether this call fails; counts the call.
     fn fails(&mut self) -> bool
         ensures fails { result ≡ is_due self.old.until_failure }
         ensures counts { self.new.until_failure ≡ one_fewer self.old.until_failure }
@@ -61,7 +61,7 @@ impl<'b> Bytes<'b> {
         }
     }
 
-    // Gives the next piece.
+    // Returns the next piece.
     fn give(&mut self, buf: &mut [u8]) -> usize
         ensures count { result ≡ min (min (length self.old.left) (length buf.old)) self.old.piece }
         ensures given { take result buf.new ≡ take result self.old.left }
@@ -93,7 +93,7 @@ impl<'b> Source for Bytes<'b> {
     }
 }
 
-/// A writer into memory, which takes a number of bytes and then fails.
+/// A writer into memory, which accepts a number of bytes and then fails.
 #[derive(Drop)]
 pub struct Output {
     bytes: Vec<u8>,
@@ -110,7 +110,7 @@ impl Model for Output {
 }
 
 impl Output {
-    /// A writer that takes `room` bytes.
+    /// A writer that accepts `room` bytes.
     pub fn new(alloc: Global, room: usize) -> Self
         ensures { result ≡ record { written = []; room = room; failures = 0 } }
     {
@@ -121,7 +121,7 @@ impl Output {
         }
     }
 
-    /// What was written.
+    /// The bytes written.
     pub fn bytes(&self) -> &[u8]
         ensures { result.now ≡ self.now.written }
     {

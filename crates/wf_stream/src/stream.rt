@@ -9,18 +9,18 @@ use std::alloc::Global;
 use std::io;
 use std::io::{ErrorKind, Read, Write};
 
-/// What bytes are read from.
+/// A reader.
 pub trait Source {
-    /// The bytes that reads will give from here on, where they are known.
+    /// The bytes still to be read, if known.
     ghost left: { Self → Option (List ℕ) } = { λ _. None };
 
-    /// How many bytes a call gives at most, where that is known.
+    /// The most bytes that a call returns, if known.
     ghost piece: { Self → Option ℕ } = { λ _. None };
 
-    /// How many calls have failed.
+    /// The number of failed calls.
     ghost failures: { Self → ℕ };
 
-    /// Reads some bytes to the front of a buffer and answers how many: none only at the end, or with no room.
+    /// Reads some bytes to the front of a buffer and returns their number: 0 only at the end, or if the buffer is empty.
     fn read(&mut self, buf: &mut [u8]) -> io::Result<usize>
         ensures bound { ReadsAtMost result buf.new }
         ensures bytes { ReadConsumes (left self.old) (left self.new) result buf.new }
@@ -28,16 +28,15 @@ pub trait Source {
         ensures cause { Counts result (failures self.old) (failures self.new) };
 }
 
-/// What bytes are written to. It has no flush, since no contract could tell one from none: a writer that keeps
-/// bytes back is flushed by who made it.
+/// A writer. It has no flush, since no contract could tell it from a no-op: a buffering writer is flushed by its creator.
 pub trait Sink {
-    /// The bytes that were written, where they are known.
+    /// The bytes written, if known.
     ghost written: { Self → Option (List ℕ) } = { λ _. None };
 
-    /// How many calls have failed.
+    /// The number of failed calls.
     ghost failures: { Self → ℕ };
 
-    /// Writes some bytes from the front of a buffer and answers how many: at least one, where there is one.
+    /// Writes some bytes from the front of a buffer and returns their number: at least one, unless the buffer is empty.
     fn write(&mut self, buf: &[u8]) -> io::Result<usize>
         ensures bound { WritesAtMost result buf.now }
         ensures some { IfOk result (λ count. 0 < length buf.now → 0 < count) }
@@ -45,7 +44,7 @@ pub trait Sink {
         ensures cause { Counts result (failures self.old) (failures self.new) };
 }
 
-/// Any reader or writer of std, with a count of the calls that failed.
+/// Any reader or writer of std, with a count of its failed calls.
 #[derive(Drop)]
 pub struct Stream<S> {
     inner: S,
@@ -55,7 +54,7 @@ pub struct Stream<S> {
 impl<S> Stream<S> {
     ghost use Rattle.wf_stream.specs.Stream.{inner_of, failures_of};
 
-    /// A stream of which no call has failed.
+    /// A stream without failed calls.
     pub fn new(inner: S) -> Self
         ensures inner { inner_of result ≡ inner }
         ensures failures { failures_of result ≡ 0 }
@@ -63,7 +62,7 @@ impl<S> Stream<S> {
         Stream { inner, failures: 0 }
     }
 
-    /// What is read or written.
+    /// The reader or writer.
     pub fn inner(&self) -> &S
         ensures { result.now ≡ inner_of self.now }
     {
@@ -71,7 +70,7 @@ impl<S> Stream<S> {
     }
 }
 
-/// One read, again where a signal interrupted it, and at no other error.
+/// Reads once; repeats the read if a signal interrupted it, and after no other error.
 #[tactic(auto, using(crate::specs::KnownLaws::keeps_same, crate::specs::KnownLaws::keeps_twice, crate::specs::KnownLaws::reads_after))]
 fn read_again<R: Read>(reader: &mut R, buf: &mut [u8]) -> io::Result<usize>
     ensures bound { ReadsAtMost result buf.new }
@@ -103,7 +102,7 @@ impl<R: Read> Source for Stream<R> {
     }
 }
 
-/// One write, again where a signal interrupted it. A writer that takes nothing has failed.
+/// Writes once; repeats the write if a signal interrupted it. A writer that takes no byte has failed.
 #[tactic(auto, using(crate::specs::KnownLaws::keeps_same, crate::specs::KnownLaws::keeps_twice, crate::specs::KnownLaws::writes_after))]
 fn write_again<W: Write>(writer: &mut W, buf: &[u8]) -> io::Result<usize>
     ensures bound { WritesAtMost result buf.now }
@@ -137,10 +136,10 @@ impl<W: Write> Sink for Stream<W> {
     }
 }
 
-/// How many bytes are read at once.
+/// The most bytes read at once.
 const PIECE_BYTES: usize = 8_192;
 
-/// The error of a failed read. What the reader itself calls `OutOfMemory` isn't the want of memory for what was read.
+/// The error of a failed read. A reader's own `OutOfMemory` isn't an allocation failure here, and is replaced.
 fn failed_read(error: io::Error) -> io::Error
     ensures { error_kind result ≢ ErrorKind.OutOfMemory }
 {
@@ -151,8 +150,8 @@ fn failed_read(error: io::Error) -> io::Error
     }
 }
 
-/// One read of at most so many bytes, put behind those that are there. None is read only at the end. An error is a failed read's, or
-/// `OutOfMemory` where there is no memory for what was read.
+/// Reads once, at most `room` bytes, appends them, and returns their number: 0 only at the end. Err: the error of a failed read,
+/// or `OutOfMemory` if the buffer can't be grown.
 pub fn read_piece<S: Source>(source: &mut S, bytes: &mut Vec<u8>, room: usize) -> io::Result<usize>
     requires { 0 < room }
     ensures read { IfOk result (λ count. ReadsPiece count (S.left source.old) (S.left source.new) bytes.old.items bytes.new.items) }
@@ -173,11 +172,11 @@ pub fn read_piece<S: Source>(source: &mut S, bytes: &mut Vec<u8>, room: usize) -
     Ok(count)
 }
 
-/// Reads to the end, or so many bytes. An error is a failed read's, or `OutOfMemory` where there is no memory for what was read.
+/// Reads to the end, or `limit` bytes. Err: the error of a failed read, or `OutOfMemory` if the buffer can't be grown.
 pub fn read_up_to<S: Source>(alloc: Global, source: &mut S, limit: usize) -> io::Result<Vec<u8>>
-    // Where the bytes are known, what is read is their beginning.
+    // If the bytes are known, the result is their prefix.
     ensures first { IfOk result (λ bytes. IfSome (S.left source.old) (λ known. bytes.items ≡ take limit known)) }
-    // It was taken from the front, and all of it where it is less than the limit.
+    // The bytes are taken from the front; fewer than the limit only if these are all.
     ensures taken { IfOk result (λ bytes. Consumes (S.left source.old) (S.left source.new) bytes.items) }
     ensures end { IfOk result (λ bytes. length bytes.items < limit → IsAtEnd (S.left source.new)) }
     ensures most { TakesUpTo limit (S.left source.old) (S.left source.new) }
@@ -197,7 +196,7 @@ pub fn read_up_to<S: Source>(alloc: Global, source: &mut S, limit: usize) -> io:
     Ok(bytes)
 }
 
-/// Writes all the bytes, or fails after so many of them.
+/// Writes all the bytes. Err: the number of bytes written before a call failed.
 pub fn write_all<S: Sink>(sink: &mut S, bytes: &[u8]) -> Result<(), usize>
     ensures whole { OnOk result (Appends (S.written sink.old) (S.written sink.new) bytes.now) }
     ensures part { IfErr result (λ count. (count ≤ length bytes.now) × Appends (S.written sink.old) (S.written sink.new) (take count bytes.now)) }

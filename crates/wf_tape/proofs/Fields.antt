@@ -1,4 +1,4 @@
--- The fields of a body: what is read is the record whose body this is, and a record's body is read as it.
+-- The fields of a body: the record that is read has this body, and a record's body is read as that record.
 use Rattle.std.proofs.Common.{◌≡◌, ℕ, ◌+◌, ◌≤◌, ◌<◌, true, ltb, leb, List, [], ◌++◌, length, Option, Some, refl, sym, ap, subst, ◌∙◌, append_assoc, length-append, arith}
 use Rattle.std.proofs.lemmas.Bool.{leb-true, eqb-true, lt-ltb, le-leb, eq-eqb, and_parts, and_from}
 use Rattle.std.proofs.lemmas.Option.{option_and_then_some}
@@ -75,13 +75,13 @@ fields_again (Accepted s b text) p =
     ∙ rw (reads_slots.read s (ballot_bytes b ++ text) p.0, reads_ballots.read b text p.1) refl
 fields_again (Published s text) p = rw (reads_slots.read s text p.0) refl
 
--- ---- what is read is the record whose body this is
+-- ---- the record that is read has this body
 
--- bytes behind the front are bytes
+-- bytes after the front are bytes
 pub AreBytes-rest : (front rest : List ℕ) → AreBytes (front ++ rest) → AreBytes rest
 AreBytes-rest front rest fits i = subst (λ (n : ℕ). n < 256) (get_or-append-add front rest i 0) (fits (length front + i))
 
--- A field was read at the front of bytes, and reading went on behind it.
+-- A field was read at the front of bytes, and reading continued after it.
 record ReadsOn {A B : Type 0} (bytes_of : A → List ℕ) (bytes : List ℕ) (f : A × List ℕ → Option B) (y : B) : Type 0 where
   value : A
   rest : List ℕ
@@ -102,7 +102,7 @@ reads_on {A} {B} {IsValue} {bytes_of} {front} reads bytes f y fits e =
       goes_on = goes;
     })
 
--- a front that is as long as the whole is the whole
+-- a prefix as long as the whole is the whole
 whole : (bytes front rest : List ℕ) → bytes ≡ front ++ rest → length bytes ≡ length front → bytes ≡ front
 whole bytes front rest parts same_length =
     let none : rest ≡ [] = nil_from_length rest (omega (arith, same_length, ap length parts, length-append front rest)) in
@@ -122,11 +122,11 @@ HasBody kind bytes r = (kind_of r ≡ kind) × (bytes ≡ body r)
 has_body : (r : Record (List ℕ)) (bytes : List ℕ) → bytes ≡ body r → HasBody (kind_of r) bytes r
 has_body r bytes e = (refl, e)
 
--- a field behind others
+-- a field after others
 joined : (bytes front rest field after : List ℕ) → bytes ≡ front ++ rest → rest ≡ field ++ after → bytes ≡ (front ++ field) ++ after
 joined bytes front rest field after first second = first ∙ ap (λ (r : List ℕ). front ++ r) second ∙ sym (append_assoc front field after)
 
--- What is read of a body is the record whose body it is: the length that the kind can have leaves nothing behind the last field.
+-- The record that is read has this body: by the length that the kind can have nothing follows the last field.
 pub fields_stand : (kind : Kind) (bytes : List ℕ) (r : Record (List ℕ)) → AreBytes bytes → can_have kind (length bytes) ≡ true → fields_of kind bytes ≡ Some r → HasBody kind bytes r
 unfolding can_have fields_of body
 fields_stand kinds.Tried bytes r fits has e =

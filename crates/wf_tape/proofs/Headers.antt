@@ -1,4 +1,4 @@
--- The header: a whole frame is split off whatever follows it, what is split off stands there, and what is torn.
+-- The header: a whole frame is split off whatever follows it, what is split off is at the front, and what is torn.
 use Rattle.std.proofs.Common.{◌≡◌, ℕ, ◌<◌, Bool, true, false, cond, eqb, ltb, List, [], ◌∷◌, ◌++◌, length, take, drop, Option, Some, None, Result, Ok, Err, refl, sym, ap, subst, ◌∙◌, length-append, arith, inl, inr}
 use Rattle.std.proofs.Math.Seq.{take-append_seam}
 use Rattle.std.proofs.lemmas.Bool.{ltb-true, ltb-false, eqb-true, lt-ltb, le-ltb}
@@ -33,7 +33,7 @@ found_by : (b : Bool) (passes : Kind → Bool) (first : Kind) (others : List Kin
 found_by true passes first others kind is later e = let same : first ≡ kind = cc in subst (λ k. passes k ≡ true) same is
 found_by false passes first others kind is later e = later e
 
--- what is found passes the test
+-- the kind that is found passes the test
 found : (passes : Kind → Bool) (xs : List Kind) (kind : Kind) → find passes xs ≡ Some kind → passes kind ≡ true
 found passes [] kind e = absurd cc
 found passes (first ∷ others) kind e = found_by (passes first) passes first others kind refl (found passes others kind) e
@@ -57,7 +57,7 @@ frame_again kind bytes rest has =
     let has_again : can_have kind (from_be_bytes w32 (to_be_bytes w32 (length bytes))) ≡ true = ap (can_have kind) again ∙ has in
     rw (kind_again kind) (body_again kind (from_be_bytes w32 (to_be_bytes w32 (length bytes))) bytes rest again has_again)
 
--- ---- what is split off stands there
+-- ---- what is split off is at the front
 
 abbrev ok : {A : Type 0} → A → Result A RecordFault
 ok x = Ok x
@@ -65,7 +65,7 @@ ok x = Ok x
 ok_is : {A : Type 0} (x y : A) → ok x ≡ ok y → x ≡ y
 ok_is x y e = cc
 
--- what is behind the version and the kind: the length, the body and a rest
+-- what follows the version and the kind: the length, the body and a rest
 record IsSized (bytes : List ℕ) (kind : Kind) (body : List ℕ) : Type 0 where
   rest : List ℕ
   parts : bytes ≡ to_be_bytes w32 (length body) ++ (body ++ rest)
@@ -79,12 +79,12 @@ pub record IsFramed (bytes : List ℕ) (kind : Kind) (body : List ℕ) : Type 0 
   pub can_have_length : can_have kind (length body) ≡ true
   pub body_fits : AreBytes body
 
--- a test that let a value through
+-- the test of a value that was returned is true
 passed : {A : Type 0} (b : Bool) (fault : RecordFault) (r : Result A RecordFault) (y : A) → cond b r (Err fault) ≡ Ok y → (b ≡ true) × (r ≡ Ok y)
 passed true fault r y e = (refl, e)
 passed false fault r y e = absurd cc
 
--- the two tests behind the length: can the kind have it, are too few bytes there
+-- the two tests after the length: can the kind have it, are too few bytes there
 abbrev tests : Bool → Bool → Kind × List ℕ → Result (Kind × List ℕ) RecordFault
 tests has few x = cond has (cond few (Err Torn) (Ok x)) (Err Bad)
 

@@ -14,17 +14,17 @@ begins_taken n bytes = (drop n bytes, sym (take-append-drop n bytes))
 pub content_is_image : (kept : Kept) → IsImageOf kept kept.bytes
 content_is_image kept = (begins_itself kept.bytes, begins_taken kept.synced kept.bytes)
 
--- the synced bytes are
+-- the synced bytes are an image
 pub synced_are_image : (kept : Kept) → IsImageOf kept (take kept.synced kept.bytes)
 synced_are_image kept = (begins_taken kept.synced kept.bytes, begins_itself (take kept.synced kept.bytes))
 
--- two bytes that begin each other are one
+-- two byte strings that are prefixes of each other are equal
 same_both : (a b : List ℕ) → IsBeginning a b → IsBeginning b a → a ≡ b
 same_both a b a_begins b_begins =
     let none : a_begins.0 ≡ [] = nil_from_length a_begins.0 (omega (arith, ap length a_begins.1, ap length b_begins.1, length-append a a_begins.0, length-append b b_begins.0)) in
     sym (a_begins.1 ∙ ap (λ (t : List ℕ). a ++ t) none ∙ append-nil a)
 
--- where all bytes are synced they are the only image
+-- if all bytes are synced they are the only image
 pub only_synced : (kept : Kept) → kept.synced ≡ length kept.bytes → IsOnlyImage kept.bytes (IsImageOf kept)
 only_synced kept all =
     let whole : take kept.synced kept.bytes ≡ kept.bytes = take_all kept.synced kept.bytes (omega (arith, all)) in
@@ -33,20 +33,20 @@ only_synced kept all =
       no_other = λ image is. same_both image kept.bytes is.0 (subst (λ (t : List ℕ). IsBeginning t image) whole is.1);
     }
 
--- a sync takes images away
+-- a sync adds no image
 pub sync_leaves : (old new : Kept) → new.bytes ≡ old.bytes → new.synced ≡ length new.bytes → LeavesNoOther (IsImageOf old) (IsImageOf new)
 sync_leaves old new same all image is =
     let is_content : image ≡ old.bytes = (only_synced new all).no_other image is ∙ same in
     subst (λ (t : List ℕ). IsImageOf old t) (sym is_content) (content_is_image old)
 
--- bytes appended are cut short
+-- after an append each image is a prefix of the content and begins with one from before
 pub append_leaves : (old new : Kept) (more : List ℕ) → old.synced ≤ length old.bytes → new.bytes ≡ old.bytes ++ more → new.synced ≡ old.synced → IsCutShort new.bytes (IsImageOf old) (IsImageOf new)
 append_leaves old new more within longer same image is =
     let front : take new.synced new.bytes ≡ take old.synced old.bytes =
     ap (λ (n : ℕ). take n new.bytes) same ∙ ap (λ (t : List ℕ). take old.synced t) longer ∙ take-append-le old.synced old.bytes more within in
     (is.0, (take old.synced old.bytes, synced_are_image old, subst (λ (t : List ℕ). IsBeginning t image) front is.1))
 
--- where nothing was appended
+-- nothing appended is a case of an append
 pub not_extended : (old new more : List ℕ) → new ≡ old → IsExtended old more new
 not_extended old new more same = ([], (more, refl), same ∙ sym (append-nil old))
 

@@ -1,4 +1,4 @@
--- What decode answers, and what follows for the bytes.
+-- What the result of decode says about the bytes.
 use Rattle.std.proofs.Common.{◌≡◌, ℕ, ◌+◌, ◌≤◌, List, [], ◌++◌, length, take, drop, Option, Some, Result, Ok, Err, refl, sym, ap, subst, ◌∙◌, length-append, arith}
 use Rattle.std.proofs.Math.Seq.{take-append_seam, drop-append_seam}
 use Rattle.std.specs.Prelude.{IfOk, IfErr, IsErrOf}
@@ -26,15 +26,15 @@ length-text_spelling : (r : Record (List ℕ)) → length (text_spelling r) ≡ 
 unfolding text_spelling frame
 length-text_spelling r = omega arith
 
--- the header stands before the body
+-- the length of the header and of the body
 pub header_and_body : (r : Record Definition) (n : ℕ) → n ≡ length (body (texts r)) → header_length + n ≡ length (spelling r)
 header_and_body r n is = omega (arith, length-text_spelling (texts r))
 
--- a record's spelling isn't empty
+-- a record's encoding isn't empty
 pub spelling_not_empty : (r : Record Definition) (spelled : List ℕ) → Spells r spelled → 1 ≤ length spelled
 spelling_not_empty r spelled spells = omega (arith, ap length spells.spelled, length-text_spelling (texts r))
 
--- bytes that begin with a record's spelling: the frame that is split off
+-- bytes that begin with a record's encoding: the frame that is split off
 frame_of : (r : Record Definition) (spelled after bytes : List ℕ) → Spells r spelled → bytes ≡ spelled ++ after → frame_front bytes ≡ Ok (kind_of (texts r), body (texts r))
 unfolding text_spelling
 frame_of r spelled after bytes spells e =
@@ -54,7 +54,7 @@ ok x = Ok x
 ok_same : (x y : Kind × List ℕ) → ok x ≡ ok y → x ≡ y
 ok_same x y e = cc
 
--- No spelling begins another: bytes that begin with both are cut into one frame, and so into one record.
+-- No encoding is a prefix of another's: bytes that begin with both are cut into one frame, and so into one record.
 pub none_begins_another : OneTextOneMap → (q r : Record Definition) (a b after_a after_b : List ℕ) → Spells q a → Spells r b →
     a ++ after_a ≡ b ++ after_b → (q ≡ r) × (a ≡ b) × (after_a ≡ after_b)
 none_begins_another one_map q r a b after_a after_b spells_a spells_b e =
@@ -69,7 +69,7 @@ none_begins_another one_map q r a b after_a after_b spells_a spells_b e =
       sym (drop-append_seam a after_a) ∙ ap (drop (length a)) e ∙ ap (λ (t : List ℕ). drop (length t) (b ++ after_b)) same_bytes ∙ drop-append_seam b after_b,
     )
 
--- ---- what decode answered
+-- ---- the result of decode
 
 begins_by : {X : Type 0} (view : X → Record Definition) (x : X × ℕ) (bytes : List ℕ) (r : Result (Kind × List ℕ) RecordFault) → frame_front bytes ≡ r → AreBytes bytes →
     IsJudged view (Ok x) r → BeginsWith bytes (view x.0) x.1
@@ -91,7 +91,7 @@ begins_by view x bytes (Ok found) is fits judged =
       };
     }
 
--- what is read stands at the front
+-- the record that is read is at the front
 pub begins : {X : Type 0} (view : X → Record Definition) (result : Result (X × ℕ) RecordFault) (bytes : List ℕ) → AreBytes bytes → IsJudged view result (frame_front bytes) →
     IfOk result (λ x. BeginsWith bytes (view x.0) x.1)
 begins view (Ok x) bytes fits judged = begins_by view x bytes (frame_front bytes) refl fits judged
@@ -110,14 +110,14 @@ torn_by {X} view result (Err fault) judged torn =
 torn_by {X} view result (Ok found) judged torn =
     absurd (subst (λ (a : Result (X × ℕ) RecordFault). ReadsBody (λ (x : X × ℕ). view x.0) a (fields_of found.0 found.1)) torn judged.0)
 
--- what is answered to be torn is torn
+-- bytes for which Torn is returned are torn
 pub is_torn : {X : Type 0} (view : X → Record Definition) (result : Result (X × ℕ) RecordFault) (bytes : List ℕ) → IsJudged view result (frame_front bytes) → IsErrOf result Torn → (bytes ≡ [] → ⊥) → IsTorn bytes
 is_torn view result bytes judged torn some = judged_torn bytes some (torn_by view result (frame_front bytes) judged torn)
 
 framed_torn : (bytes : List ℕ) → frame_front bytes ≡ Err Torn → BeginsWithNone bytes
 framed_torn bytes torn r spelled after spells e = let whole = frame_of r spelled after bytes spells e in absurd cc
 
--- and begins with no record
+-- and begin with no record
 pub torn_begins_none : {X : Type 0} (view : X → Record Definition) (result : Result (X × ℕ) RecordFault) (bytes : List ℕ) → IsJudged view result (frame_front bytes) → IsErrOf result Torn → BeginsWithNone bytes
 torn_begins_none view result bytes judged torn = framed_torn bytes (torn_by view result (frame_front bytes) judged torn)
 
@@ -149,7 +149,7 @@ bad_by {X} view fault bytes (Ok found) is judged of_bytes some =
       not_torn = λ torn. let e = torn_judged bytes torn in absurd cc;
     }
 
--- what is rejected is bad
+-- rejected bytes are bad
 pub is_bad : {X : Type 0} (view : X → Record Definition) (result : Result (X × ℕ) RecordFault) (bytes : List ℕ) → IsJudged view result (frame_front bytes) →
     IfErr result (λ fault. IsFaultOfBytes fault → (bytes ≡ [] → ⊥) → IsBad bytes)
 is_bad view (Ok x) bytes judged = tt

@@ -1,4 +1,4 @@
--- The records of bytes: there is one longest list of them, a record appended is one more, and a record cut short is none.
+-- The records of bytes: there is exactly one longest list of them, an appended record is one more, and part of a record is none.
 use Rattle.std.proofs.Common.{◌≡◌, ◌⊎◌, ℕ, ◌+◌, ◌^◌, ◌<◌, ◌≤◌, List, [], ◌∷◌, ◌++◌, ◌-◌, length, take, drop, refl, sym, ap, subst, ◌∙◌, append_assoc, length-append, length-drop, arith, inl, inr}
 use Rattle.std.proofs.lemmas.List.{append-nil, take_at, drop_at, take-append-drop}
 use Rattle.wf_def.specs.Definition.{Definition}
@@ -17,13 +17,13 @@ splits_push bytes [] rest r spelled after splits spells e = (spelled, after, spe
 splits_push bytes (q ∷ records) rest r spelled after splits spells e =
     (splits.0, splits.1, splits.2, splits.3, splits_push splits.1 records rest r spelled after splits.4 spells e)
 
--- bytes behind the rest are of the rest
+-- bytes appended are appended to the rest
 pub splits_on : (bytes : List ℕ) (records : List (Record Definition)) (rest more : List ℕ) → Splits bytes records rest → Splits (bytes ++ more) records (rest ++ more)
 splits_on bytes [] rest more splits = ap (λ (t : List ℕ). t ++ more) splits
 splits_on bytes (r ∷ records) rest more splits =
     (splits.0, splits.1 ++ more, splits.2, ap (λ (t : List ℕ). t ++ more) splits.3 ∙ append_assoc splits.0 splits.1 more, splits_on splits.1 records rest more splits.4)
 
--- the front of bytes that stands before the rest
+-- the prefix of bytes before the rest
 pub record IsFront (bytes : List ℕ) (records : List (Record Definition)) (rest : List ℕ) : Type 0 where
   pub front : List ℕ
   pub parts : bytes ≡ front ++ rest
@@ -39,7 +39,7 @@ front_of bytes (r ∷ records) rest splits =
       are_records = (splits.0, later.front, splits.2, refl, later.are_records);
     }
 
--- no bytes begin with no record
+-- the empty bytes begin with no record
 pub none_begins_nothing : BeginsWithNone []
 none_begins_nothing r spelled after spells e = absurd (omega (arith, spelling_not_empty r spelled spells, ap length e, length-append spelled after))
 
@@ -47,7 +47,7 @@ none_begins_nothing r spelled after spells e = absurd (omega (arith, spelling_no
 pub whole_reads : (bytes : List ℕ) (records : List (Record Definition)) → AreRecords bytes records → ReadsAs bytes records
 whole_reads bytes records are = ([], record { splits = are; longest = none_begins_nothing })
 
--- There is one longest list of records: two of them are split off record by record.
+-- There is exactly one longest list of records: two such lists are compared record by record.
 pub one_reading : OneTextOneMap → (bytes : List ℕ) (xs ys : List (Record Definition)) (rest_x rest_y : List ℕ) → Splits bytes xs rest_x → BeginsWithNone rest_x →
     Splits bytes ys rest_y → BeginsWithNone rest_y → xs ≡ ys
 one_reading one_map bytes [] [] rest_x rest_y x none_x y none_y = refl
@@ -62,7 +62,7 @@ one_reading one_map bytes (q ∷ xs) (r ∷ ys) rest_x rest_y x none_x y none_y 
 pub reads_only : OneTextOneMap → (bytes : List ℕ) (records others : List (Record Definition)) → AreRecords bytes records → ReadsAs bytes others → records ≡ others
 reads_only one_map bytes records others are reads = one_reading one_map bytes records others [] reads.0 are none_begins_nothing reads.1.splits reads.1.longest
 
--- A record cut short begins with no record: what followed the cut would follow the whole record too.
+-- A prefix of a record begins with no record: what follows the cut would follow the whole record too.
 pub cut_begins_none : OneTextOneMap → (r : Record Definition) (front : List ℕ) (byte : ℕ) (after : List ℕ) → Spells r (front ++ byte ∷ after) → BeginsWithNone front
 cut_begins_none one_map r front byte after spells q spelled behind spells_q e =
     let longer : spelled ++ (behind ++ byte ∷ after) ≡ (front ++ byte ∷ after) ++ [] =
@@ -70,12 +70,12 @@ cut_begins_none one_map r front byte after spells q spelled behind spells_q e =
     let same = none_begins_another one_map q r spelled (front ++ byte ∷ after) (behind ++ byte ∷ after) [] spells_q spells longer in
     absurd (omega (arith, ap length same.2, length-append behind (byte ∷ after)))
 
--- one record more behind whole records
+-- one more record after whole records
 pub one_more : (content : List ℕ) (records : List (Record Definition)) (r : Record Definition) (spelled : List ℕ) → AreRecords content records → Spells r spelled →
     AreRecords (content ++ spelled) (records ++ r ∷ [])
 one_more content records r spelled are spells = splits_push (content ++ spelled) records spelled r spelled [] (splits_on content records [] spelled are) spells (sym (append-nil spelled))
 
--- Behind whole records, a beginning of one more: the same records are read, or one more where it is whole.
+-- Whole records followed by a prefix of one more read as the same records, or as one more if the prefix is the whole record.
 pub cut_reads : OneTextOneMap → (content : List ℕ) (records : List (Record Definition)) (r : Record Definition) (front after : List ℕ) → AreRecords content records → Spells r (front ++ after) →
     ReadsAs (content ++ front) records ⊎ ReadsAs (content ++ front) (records ++ r ∷ [])
 cut_reads one_map content records r front [] are spells =
@@ -86,14 +86,14 @@ cut_reads one_map content records r front (byte ∷ after) are spells =
 
 -- ---- the bytes of a tape
 
--- The first n bytes of a tape's content are its records, where the rest stands behind them.
+-- The first n bytes of a tape's content are its records, if the rest follows them.
 pub first_are_records : (bytes : List ℕ) (records : List (Record Definition)) (n : ℕ) → n ≤ length bytes → Splits bytes records (drop n bytes) → AreRecords (take n bytes) records
 first_are_records bytes records n within splits =
     let found = front_of bytes records (drop n bytes) splits in
     let long : length found.front ≡ n = omega (arith, ap length found.parts, length-append found.front (drop n bytes), length-drop n bytes, within) in
     subst (λ (t : List ℕ). AreRecords t records) (sym (ap (λ (t : List ℕ). take n t) found.parts ∙ take_at found.front (drop n bytes) n long)) found.are_records
 
--- where the rest stands in the bytes
+-- the rest is at the end of the bytes
 pub rest_stands : (bytes : List ℕ) (records : List (Record Definition)) (rest : List ℕ) → Splits bytes records rest → drop (length bytes - length rest) bytes ≡ rest
 rest_stands bytes records rest splits =
     let found = front_of bytes records rest splits in
@@ -111,11 +111,11 @@ takes_one bytes rest n old new splits takes =
     subst (λ (rs : List (Record Definition)). Splits bytes rs (drop n rest)) (sym takes.one_more)
     (splits_push bytes old rest takes.taken (take n rest) (drop n rest) splits takes.begins.spells (sym (take-append-drop n rest)))
 
--- what is left is shorter
+-- the rest is shorter
 pub takes_less : (rest : List ℕ) (n : ℕ) (old new : List (Record Definition)) → TakesOne rest n old new → length (drop n rest) < length rest
 takes_less rest n old new takes = omega (arith, length-drop n rest, takes.begins.not_empty, takes.begins.within)
 
--- all is read: nothing or a torn record is left
+-- all is read: the rest is empty or a torn record
 pub all_read : (bytes : List ℕ) (records : List (Record Definition)) (rest : List ℕ) → Splits bytes records rest → BeginsWithNone rest → IsCleanOrTorn rest → HasRead bytes records (length bytes - length rest)
 all_read bytes records rest splits longest clean_or_torn =
     let there = rest_stands bytes records rest splits in
@@ -124,13 +124,13 @@ all_read bytes records rest splits longest clean_or_torn =
       is_tape = subst (λ (t : List ℕ). IsTapeOf bytes records t) (sym there) (record { reads = record { splits = splits; longest = longest }; clean_or_torn = clean_or_torn });
     }
 
--- what is left is bad
+-- the rest is bad
 pub bad_there : (bytes : List ℕ) (records : List (Record Definition)) (rest : List ℕ) → Splits bytes records rest → IsBad rest → IsBadAt bytes (length bytes - length rest)
 bad_there bytes records rest splits bad =
     let there = rest_stands bytes records rest splits in
     (records, subst (λ (t : List ℕ). Splits bytes records t) (sym there) splits, subst (λ (t : List ℕ). IsBad t) (sym there) bad)
 
--- ---- how many bytes records have
+-- ---- the length of records in bytes
 
 length_splits : (bytes : List ℕ) (records : List (Record Definition)) (rest : List ℕ) → Splits bytes records rest → length bytes ≡ length_of records + length rest
 unfolding length_of
@@ -138,7 +138,7 @@ length_splits bytes [] rest splits = omega (arith, ap length splits)
 length_splits bytes (r ∷ records) rest splits =
     omega (arith, ap length splits.3, length-append splits.0 splits.1, ap length splits.2.spelled, length_splits splits.1 records rest splits.4)
 
--- Records that were read have as many bytes as a number of the machine can count.
+-- The length of records that were read is below 2 ^ 64.
 pub length_of_read : (bytes : List ℕ) (records : List (Record Definition)) (n : ℕ) → HasRead bytes records n → n < 2 ^ 64 → length_of records < 2 ^ 64
 length_of_read bytes records n read short =
     omega (arith, length_splits bytes records (drop n bytes) read.is_tape.reads.splits, length-drop n bytes, read.within)

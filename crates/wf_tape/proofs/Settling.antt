@@ -16,31 +16,31 @@ use Rattle.wf_tape.proofs.Lists.{one_more, cut_reads, whole_reads, reads_only, o
 
 -- ---- appending
 
--- what begins the content after a part of the bytes begins the content with all of them
+-- an image after a part of the bytes was appended is one after all of them were
 pub cut_shorter : (content bytes new : List ℕ) (old images : List ℕ → Type 0) → IsExtended content bytes new → IsCutShort new old images → IsCutShort (content ++ bytes) old images
 cut_shorter content bytes new old images extended cut image left =
     let begins = (cut image left).0 in
     let front : List ℕ = extended.0 in
     ((begins.0 ++ extended.1.0, ap (λ (t : List ℕ). content ++ t) extended.1.1 ∙ sym (append_assoc content front extended.1.0) ∙ ap (λ (t : List ℕ). t ++ extended.1.0) (sym extended.2 ∙ begins.1) ∙ append_assoc image begins.0 extended.1.0), (cut image left).1)
 
--- a sync behind it leaves no other image
+-- a sync after it adds no image
 pub cut_synced : (content : List ℕ) (old mid new : List ℕ → Type 0) → IsCutShort content old mid → LeavesNoOther mid new → IsCutShort content old new
 cut_synced content old mid new cut no_other image left = cut image (no_other image left)
 
 -- ---- opening
 
--- what is left after nothing changed reads the same
+-- images after nothing changed read the same
 pub same_unchanged : (old new : List ℕ → Type 0) → LeavesNoOther old new → Follows ReadsSame old new
 same_unchanged old new no_other image left = (image, no_other image left, λ records reads. reads)
 
--- The records at the front are read as the whole content is.
+-- The prefix of the records reads as the whole content does.
 front_same : OneTextOneMap → (content : List ℕ) (records : List (Record Definition)) (n : ℕ) → HasRead content records n → ReadsSame content (take n content)
 front_same one_map content records n read others reads =
     let front = first_are_records content records n read.within read.is_tape.reads.splits in
     let same = one_reading one_map content records others (drop n content) reads.0 read.is_tape.reads.splits read.is_tape.reads.longest reads.1.splits reads.1.longest in
     subst (λ (rs : List (Record Definition)). ReadsAs (take n content) rs) same (whole_reads (take n content) records front)
 
--- so what is left once the records alone are kept reads the same
+-- so images after the content is cut to its records read the same
 pub same_settled : OneTextOneMap → (content : List ℕ) (records : List (Record Definition)) (n : ℕ) (old mid new : List ℕ → Type 0) → HasRead content records n → old content → LeavesNoOther old mid →
     LeavesOldOr (take n content) mid new → Follows ReadsSame old new
 same_settled one_map content records n old mid new read is_image no_other or_front image left =
@@ -55,24 +55,24 @@ holds_front content new_content records n images read is only =
 
 -- ---- read first, and settled after that
 
--- The front of the bytes that were read is what the tape holds, once it is kept alone.
+-- The tape holds the records at the front of the bytes that were read, after it is cut to them.
 pub holds_found : (bytes kept new_content : List ℕ) (records : List (Record Definition)) (n m : ℕ) (images : List ℕ → Type 0) → HasRead bytes records n → kept ≡ bytes → m ≡ n →
     new_content ≡ take m kept → IsOnlyImage new_content images → Holds new_content images records
 holds_found bytes kept new_content records n m images read same_bytes same_front is only =
     holds_front bytes new_content records n images read (is ∙ ap (λ (t : List ℕ). take m t) same_bytes ∙ ap (λ (k : ℕ). take k bytes) same_front) only
 
--- So whatever a crash leaves then reads as the records.
+-- So each image then reads as the records.
 pub reads_held : (content : List ℕ) (records : List (Record Definition)) (images : List ℕ → Type 0) → Holds content images records → AllReadAs images records
 reads_held content records images held image left = subst (λ (t : List ℕ). ReadsAs t records) (sym (held.only.no_other image left)) (whole_reads content records held.are_records)
 
--- What is left while that is done reads as the bytes did.
+-- Images during that read as the bytes did.
 pub same_found : OneTextOneMap → (bytes kept content : List ℕ) (records : List (Record Definition)) (n : ℕ) (old new : List ℕ → Type 0) → HasRead bytes records n → IsContent bytes content old → kept ≡ bytes →
     LeavesOldOr (take n kept) old new → Follows ReadsSame old new
 same_found one_map bytes kept content records n old new read is same or_front =
     same_settled one_map bytes records n old old new read (subst (λ (t : List ℕ). old t) (sym is.same) is.is_image) (λ image left. left)
     (subst (λ (t : List ℕ). LeavesOldOr (take n t) old new) same or_front)
 
--- Reading leaves no other image: so what is left once the tape is settled comes of what was there before both.
+-- Reading adds no image: so an image after the tape is settled comes from one before both.
 pub followed_on : (old mid new : List ℕ → Type 0) → LeavesNoOther old mid → Follows ReadsSame mid new → Follows ReadsSame old new
 followed_on old mid new no_other follows image left = let earlier = follows image left in (earlier.0, no_other earlier.0 earlier.1, earlier.2)
 
@@ -90,7 +90,7 @@ risen_on before mid now first second risen =
       | inr last ↦ elim (cases_lt before mid) [ inl rose ↦ inl (omega arith) | inr same ↦ inr (omega arith) ]
     ]
 
--- A failure that rose after the tape was read rose since before.
+-- A count that rose after the tape was read rose since before.
 pub why_failed_on : (fault : OpenFault) (before mid now : ℕ) → before ≤ mid → mid ≤ now → IsWhyFailed fault mid now → IsWhyFailed fault before now
 why_failed_on TapeFailed before mid now first second why = risen_on before mid now first second why
 why_failed_on (BadRecord place) before mid now first second why = tt
@@ -103,7 +103,7 @@ not_bad_anywhere Memory content good = tt
 
 -- ---- adding
 
--- a beginning of the content with the record's bytes that begins with the content: the content and a beginning of them
+-- a prefix of the content with the record's bytes, that begins with the content, is the content followed by a prefix of them
 added_front : (content spelled image : List ℕ) → IsBeginning image (content ++ spelled) → IsBeginning content image → (front : List ℕ) × (after : List ℕ) × (image ≡ content ++ front) × (spelled ≡ front ++ after)
 added_front content spelled image within behind =
     let regrouped : content ++ spelled ≡ content ++ (behind.0 ++ within.0) =
@@ -124,7 +124,7 @@ same_or_more one_map content spelled r old new settled spells cut image left =
 pub same_kept : (r : Record Definition) (old new : List ℕ → Type 0) → LeavesNoOther old new → Follows (ReadsSameOrOneMore r) old new
 same_kept r old new no_other image left = (image, no_other image left, λ records reads. inl reads)
 
--- after Ok there is one more
+-- after Ok it reads as one more
 pub now_more : OneTextOneMap → (content spelled new_content : List ℕ) (r : Record Definition) (old new : List ℕ → Type 0) → IsSettled content old → Spells r spelled → new_content ≡ content ++ spelled → IsOnlyImage new_content new →
     Follows (ReadsOneMore r) old new
 now_more one_map content spelled new_content r old new settled spells is only image left =
@@ -133,13 +133,13 @@ now_more one_map content spelled new_content r old new settled spells is only im
     let reads = subst (λ (t : List ℕ). ReadsAs t (settled.0 ++ r ∷ [])) (sym image_is) (whole_reads (content ++ spelled) (settled.0 ++ r ∷ []) (one_more content settled.0 r spelled held.are_records spells)) in
     (content, held.only.is_image, λ others read. subst (λ (rs : List (Record Definition)). ReadsAs image (rs ++ r ∷ [])) (reads_only one_map content settled.0 others held.are_records read) reads)
 
--- and the tape holds them
+-- and the tape holds exactly them
 pub settled_more : (content spelled new_content : List ℕ) (r : Record Definition) (old new : List ℕ → Type 0) → IsSettled content old → Spells r spelled → new_content ≡ content ++ spelled → IsOnlyImage new_content new →
     IsSettled new_content new
 settled_more content spelled new_content r old new settled spells is only =
     (settled.0 ++ r ∷ [], record { are_records = subst (λ (t : List ℕ). AreRecords t (settled.0 ++ r ∷ [])) (sym is) (one_more content settled.0 r spelled settled.1.are_records spells); only = only })
 
--- nothing changed: the tape holds what it held
+-- nothing changed: the tape holds the same
 pub settled_same : (content new_content : List ℕ) (old new : List ℕ → Type 0) → IsSettled content old → IsUnchanged content new_content old new → IsSettled new_content new
 settled_same content new_content old new settled same =
     let held = settled.1 in (

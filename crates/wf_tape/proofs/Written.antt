@@ -1,4 +1,4 @@
--- What was put together part by part is the record's spelling.
+-- The concatenated parts are the record's encoding.
 use Rattle.std.proofs.Common.{◌≡◌, ℕ, List, [], ◌∷◌, ◌++◌, length, ap, ◌∙◌}
 use Rattle.std.specs.Int.{w32, to_be_bytes}
 use Rattle.wf_ballot.specs.Frame.{frame}

@@ -20,7 +20,7 @@ kind_of_byte byte = find (λ kind. byte == kind_byte kind) all_kinds
 abbrev pub most_text : ℕ
 most_text = 32768
 
--- a text, which isn't empty, behind so many bytes of other fields
+-- a text, which isn't empty, after that many bytes of other fields
 abbrev pub has_text_behind : ℕ → ℕ → Bool
 has_text_behind fields n = nat_lt fields n && nat_le n (fields + most_text)
 

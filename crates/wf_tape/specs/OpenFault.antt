@@ -1,4 +1,4 @@
--- What a fault of the tape means for who opens a journal, and for who adds a record.
+-- The error of opening a journal, and of adding a record, given the tape's.
 use Rattle.wf_tape.specs.declared.fault.TapeFault.{TapeFault}
 use Rattle.wf_tape.specs.declared.fault.TapeFault.TheVariants as tape
 use Rattle.wf_tape.specs.declared.opening.OpenFault.{OpenFault}

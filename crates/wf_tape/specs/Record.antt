@@ -1,4 +1,4 @@
--- A record as the farm's model has it, with definitions or with their canonical texts.
+-- A record as in wf_model, with definitions or with their canonical texts.
 use Rattle.std.specs.Prelude.{ℕ, ◌≤◌, List, length, Option, Some, None, IsSome}
 use Rattle.wf_ballot.specs.Slot.{IsSlot}
 use Rattle.wf_ballot.specs.Round.{IsRound}
@@ -11,28 +11,28 @@ use Rattle.wf_tape.specs.Kind.{most_text}
 use Rattle.wf_tape.specs.declared.record.Record.{Record}
 use Rattle.wf_tape.specs.declared.record.Record.TheVariants as code
 
--- a record of the program as the model's
+-- the model of a record
 abbrev pub view : Record → model.Record Definition
 view (code.Tried round) = model.Tried round
 view (code.Promised s b) = model.Promised s b
 view (code.Accepted s b d) = model.Accepted s b d
 view (code.Published s d) = model.Published s d
 
--- the record with its definition's canonical text in the definition's place
+-- the record with its definition's canonical text in place of the definition
 abbrev pub texts : model.Record Definition → model.Record (List ℕ)
 texts (model.Tried round) = model.Tried round
 texts (model.Promised s b) = model.Promised s b
 texts (model.Accepted s b d) = model.Accepted s b (canon d)
 texts (model.Published s d) = model.Published s (canon d)
 
--- the definition that a record holds, or its text: that of a vote, and a published one
+-- the definition of a record, or its text: that of a vote, or a published one
 abbrev pub definition_of : {V : Type 0} → model.Record V → Option V
 definition_of (model.Tried round) = None
 definition_of (model.Promised s b) = None
 definition_of (model.Accepted s b d) = Some d
 definition_of (model.Published s d) = Some d
 
--- the record holds a definition
+-- the record has a definition
 abbrev pub HasDefinition : {V : Type 0} → model.Record V → Type 0
 HasDefinition r = IsSome (definition_of r)
 
@@ -48,6 +48,6 @@ IsRecordOf P (model.Promised s b) = IsSlot s × IsBallot b
 IsRecordOf P (model.Accepted s b d) = IsSlot s × IsBallot b × P d
 IsRecordOf P (model.Published s d) = IsSlot s × P d
 
--- a record that has a spelling
+-- a record that has an encoding
 abbrev pub IsRecord : model.Record Definition → Type 0
 IsRecord r = IsRecordOf HasText r

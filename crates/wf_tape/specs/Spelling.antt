@@ -16,7 +16,7 @@ kind_of (Promised s b) = kinds.Promised
 kind_of (Accepted s b d) = kinds.Accepted
 kind_of (Published s d) = kinds.Published
 
--- the body of a record that has a text for its definition
+-- the body of a record with a text for its definition
 unfoldable pub body : Record (List ℕ) → List ℕ
 body (Tried round) = round_bytes round
 body (Promised s b) = seq_bytes s ++ ballot_bytes b
@@ -27,19 +27,19 @@ body (Published s text) = seq_bytes s ++ text
 abbrev pub record_version : ℕ
 record_version = 1
 
--- how many bytes stand before the body
+-- the number of bytes before the body
 abbrev pub header_length : ℕ
 header_length = 6
 
--- the spelling of a record that has a text for its definition
+-- the encoding of a record with a text for its definition
 unfoldable pub text_spelling : Record (List ℕ) → List ℕ
 text_spelling r = frame record_version (kind_byte (kind_of r)) (body r)
 
--- the one spelling of a record
+-- the one encoding of a record
 abbrev pub spelling : Record Definition → List ℕ
 spelling r = text_spelling (texts r)
 
--- these bytes are the record's
+-- the bytes encode the record
 pub record Spells (r : Record Definition) (bytes : List ℕ) : Type 0 where
   pub is_record : IsRecord r
   pub spelled : bytes ≡ spelling r

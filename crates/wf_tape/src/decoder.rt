@@ -15,10 +15,10 @@ use wf_canon::{Canon, CanonFault};
 /// The version of the records that this crate reads and writes.
 pub const VERSION: u8 = 1;
 
-/// How many bytes stand before a record's body: its version, its kind and the body's length.
+/// The number of bytes before a record's body: its version, its kind and the body's length.
 pub const HEADER_BYTES: usize = 6;
 
-/// The record at the front of the bytes, and how many bytes it has. What follows isn't looked at.
+/// The record at the front of the bytes, and its length in bytes. What follows isn't looked at.
 pub fn decode(alloc: Global, bytes: &[u8]) -> Result<(Record, usize), RecordFault>
     ensures read { IfOk result (λ x. BeginsWith bytes.now (view x.0) x.1) }
     ensures torn { IsErrOf result RecordFault.Torn → bytes.now ≢ [] → IsTorn bytes.now }

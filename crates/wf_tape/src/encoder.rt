@@ -9,7 +9,7 @@ use crate::record::Record;
 use std::alloc::{AllocError, Global};
 use wf_canon::Canon;
 
-/// The record's one spelling.
+/// The record's encoding.
 #[tactic(auto, using(crate::proofs::Written::written))]
 pub fn encode(alloc: Global, entry: &Record) -> Result<Vec<u8>, AllocError>
     ensures { IfOk result (λ bytes. Spells (view entry.now) bytes.items) }
@@ -27,7 +27,7 @@ impl Record {
     ghost use Rattle.wf_tape.specs.Record.{view};
     ghost use Rattle.wf_tape.specs.Spelling.{spelling};
 
-    /// How many bytes the record has on a tape.
+    /// The number of bytes of the record on a tape.
     #[tactic(auto, using(crate::proofs::Judged::header_and_body))]
     pub fn length(&self) -> usize
         ensures { result ≡ length (spelling (view self.now)) }
@@ -48,7 +48,7 @@ fn kind_of(entry: &Record) -> Kind
     }
 }
 
-/// How many bytes the record's body has.
+/// The number of bytes of the record's body.
 #[tactic(auto, using(crate::proofs::Fields::body_has_length))]
 fn body_length(entry: &Record) -> usize
     ensures value { result ≡ length (body (texts (view entry.now))) }
@@ -75,7 +75,7 @@ fn body_length(entry: &Record) -> usize
     }
 }
 
-/// How many bytes a canonical text has.
+/// The number of bytes of a canonical text.
 fn text_length(text: &Canon) -> usize
     ensures value { result ≡ length (canon text.now) }
     ensures has_text { HasText text.now }

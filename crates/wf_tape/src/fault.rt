@@ -6,9 +6,9 @@ use std::alloc::{AllocError, AllocFailed};
 /// Why a call of a tape failed.
 #[derive(Clone, Copy, Debug, PartialEq, Eq)]
 pub enum TapeFault {
-    /// The device failed, which is counted.
+    /// The device failed; the failure is counted.
     Device,
-    /// A growth was rejected, and nothing has changed.
+    /// Allocation failed; nothing has changed.
     Memory,
 }
 
@@ -31,12 +31,12 @@ impl<T: Drop> From<AllocFailed<T>> for TapeFault {
 /// Why no record is read at the front of bytes.
 #[derive(Clone, Copy, Debug, PartialEq, Eq)]
 pub enum RecordFault {
-    /// A record stands there whose bytes end too early, with nothing wrong so far.
+    /// A record whose bytes end too early, without an error so far.
     Torn,
-    /// Its version, its kind, its length or a field is none that a record has.
+    /// A version, kind, length or field that no record has.
     Bad,
     /// The text of its definition isn't canonical.
     NotCanonical,
-    /// A growth was rejected.
+    /// Allocation failed.
     Memory,
 }

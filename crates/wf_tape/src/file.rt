@@ -11,14 +11,14 @@ use std::io::{Read, Seek, SeekFrom, Write};
 use std::rt::Files;
 use std::{fs, io};
 
-/// After so many reads a file that gave no end counts as a failed read.
+/// The most reads of a file: if it hasn't ended by then, the read counts as failed.
 pub const FILE_READS: u32 = 1_048_576;
 
-/// How many bytes are asked for in one read.
+/// The number of bytes requested in one read.
 const PIECE_BYTES: usize = 8192;
 
-/// A tape in a file. No contract sees what a file holds, so it says of itself that it isn't honest: that
-/// it holds what it is told is a premise in words.
+/// A tape in a file. No contract sees what a file holds, so it declares itself not honest: that it holds what was written is an
+/// assumption, stated in words.
 #[derive(Drop)]
 pub struct FileTape<R: Files + Drop> {
     files: R,
@@ -29,9 +29,8 @@ pub struct FileTape<R: Files + Drop> {
 }
 
 impl<R: Files + Drop> FileTape<R> {
-    /// The tape in the file at the path, which is made where it is absent. `replace` uses a second file
-    /// beside it, whose name has `.new` behind it; one that was left over doesn't hurt. It is `Device`
-    /// where the file can't be opened or made.
+    /// The tape in the file at the path, which is created if it is absent. `replace` uses a second file beside it, whose name has
+    /// `.new` appended; a leftover one doesn't matter. Returns `Device` if the file can't be opened or created.
     pub fn open(alloc: Global, files: R, path: &str) -> Result<FileTape<R>, TapeFault>
         ensures { IfOk result (λ tape. tape.failures ≡ 0) }
     {
@@ -62,7 +61,7 @@ impl<R: Files + Drop> FileTape<R> {
         TapeFault::Device
     }
 
-    /// Writes the second file, and puts it in the file's place.
+    /// Writes the second file, and renames it to the first.
     fn put_second(&mut self, bytes: &[u8]) -> io::Result<()>
         ensures { self.new.failures ≡ self.old.failures }
     {
@@ -74,19 +73,19 @@ impl<R: Files + Drop> FileTape<R> {
     }
 }
 
-/// How a file is opened to read and to write, and made where it is absent.
+/// The options to open a file to read and write, and create it if it is absent.
 fn to_read_and_write() -> OpenOptions {
     let mut options = OpenOptions::new();
     options.read(true).write(true).create(true);
     options
 }
 
-/// Opens the file at the path to read and to write, and makes it where it is absent.
+/// Opens the file at the path to read and write, and creates it if it is absent.
 fn open_file<R: Files>(files: &R, path: &str) -> io::Result<R::File> {
     to_read_and_write().open(files, path)
 }
 
-/// Writes the bytes to a new file, or to one that is left over and cut to nothing first, and syncs it.
+/// Writes the bytes to a new file, or to a leftover one truncated first, and syncs it.
 fn write_new<R: Files>(files: &R, path: &str, bytes: &[u8]) -> io::Result<R::File> {
     let mut file = to_read_and_write().truncate(true).open(files, path)?;
     file.write_all(bytes)?;
@@ -94,13 +93,13 @@ fn write_new<R: Files>(files: &R, path: &str, bytes: &[u8]) -> io::Result<R::Fil
     Ok(file)
 }
 
-/// Writes the bytes behind the end of the file.
+/// Appends the bytes to the file.
 fn write_behind<F: Write + Seek>(file: &mut F, bytes: &[u8]) -> io::Result<()> {
     file.seek(SeekFrom::End(0))?;
     file.write_all(bytes)
 }
 
-/// Syncs the folder that the file at the path is in, and so the file's name in it.
+/// Syncs the directory of the file at the path, and so the file's name in it.
 fn sync_folder<R: Files>(files: &R, path: &str) -> io::Result<()> {
     let folder = match path.rsplit_once('/') {
         None => ".",
@@ -110,7 +109,7 @@ fn sync_folder<R: Files>(files: &R, path: &str) -> io::Result<()> {
     fs::open(files, folder)?.sync_all()
 }
 
-/// What a reader gives to its end.
+/// The result of reading to the end.
 enum Given {
     Bytes(Vec<u8>),
     Memory,

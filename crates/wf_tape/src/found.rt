@@ -1,4 +1,4 @@
-//! A tape that was read, before anything is changed on it.
+//! A tape that was read and not yet changed.
 
 ghost use Rattle.std.specs.Prelude.{◌≡◌, ◌≢◌, ◌≤◌, ◌<◌, ◌^◌, false, map, take, length, IfOk, IfErr, OnOk, IsErrOf};
 ghost use Rattle.wf_tape.specs.declared.fault.TapeFault.TheVariants.{Memory};
@@ -19,9 +19,8 @@ use std::alloc::Global;
 use std::marker::Model;
 use wf_canon::one_text_one_map;
 
-/// A tape that was read and isn't a journal's yet: its records are known, and nothing is changed on it. So
-/// whoever finds fault with the records hands the tape back as it was. Contracts see the tape, the bytes
-/// that were read, and how many of them are the records'.
+/// A tape that was read and isn't a journal's yet: its records are known, and nothing is changed on it. So a caller that rejects
+/// the records gets the tape back as it was. Model: the tape, the bytes that were read, and how many of them are the records'.
 #[derive(Drop)]
 pub struct Found<T: Tape> {
     tape: T,
@@ -41,8 +40,8 @@ impl<T: Tape> Model for Found<T> {
 }
 
 impl<T: Tape> Found<T> {
-    /// Reads the tape: its records are the longest list that its content begins with, the oldest first. The
-    /// tape is as it was, and a rejection hands it back.
+    /// Reads the tape: its records are the longest list that its content begins with, the oldest first. The tape is unchanged; an
+    /// error returns it.
     #[tactic(auto, using(crate::proofs::Lists::length_of_read))]
     pub fn read(alloc: Global, tape: T) -> Result<(Found<T>, Vec<Record>), (T, OpenFault)>
         ensures records { IfOk result (λ x. HasRead x.0.bytes (map view x.1.items) x.0.front) }
@@ -65,8 +64,8 @@ impl<T: Tape> Found<T> {
         }
     }
 
-    /// The journal of the tape. A torn record behind the whole ones is removed, and what is kept is synced.
-    /// A rejection hands the tape back; but for a failure of the tape itself it is as it was.
+    /// The journal of the tape. A torn record after the whole ones is removed, and what is kept is synced. An error returns the
+    /// tape, unchanged unless the tape itself failed.
     pub fn settle(self) -> Result<Journal<T>, (T, OpenFault)>
         ensures running { IfOk result (λ journal. journal.halted ≡ false) }
         ensures synced { T.honest → (records : _) → HasRead self.bytes records self.front → IfOk result (λ journal. Holds (T.content journal.tape) (T.images journal.tape) records) }
@@ -78,7 +77,7 @@ impl<T: Tape> Found<T> {
         ensures later { IfErr result (λ e. T.failed self.tape ≤ T.failed e.0) }
         ensures failed { IfErr result (λ e. IsWhyFailed e.1 (T.failed self.tape) (T.failed e.0)) }
     {
-        // The law: equal texts are those of one map, so no record reads as another.
+        // The theorem: maps with equal texts are equal, so no record reads as another.
         one_text_one_map();
         let Found {
             mut tape,
@@ -91,7 +90,7 @@ impl<T: Tape> Found<T> {
         }
     }
 
-    /// The tape, handed back as it is.
+    /// Returns the tape unchanged.
     pub fn close(self) -> T
         ensures { result ≡ self.tape }
     {
@@ -116,7 +115,7 @@ fn settle<T: Tape>(tape: &mut T, bytes: &[u8], front: usize) -> Result<(), TapeF
     }
 }
 
-/// What the tape's fault is for who opens a journal.
+/// The error of opening a journal, given the tape's.
 fn open_fault(fault: TapeFault) -> OpenFault
     ensures { result ≡ open_fault fault }
 {

@@ -1,4 +1,4 @@
-//! The journal: whole records on a tape, each on it and synced before it is acknowledged.
+//! The journal: whole records on a tape, each written and synced before it is acknowledged.
 
 ghost use Rattle.std.specs.Prelude.{◌≡◌, ◌≢◌, ◌++◌, ◌∷◌, [], false, true, map, IfOk, IfErr, OnOk, IsErrOf};
 ghost use Rattle.wf_tape.specs.declared.fault.TapeFault.TheVariants.{Memory};
@@ -17,8 +17,8 @@ use std::alloc::Global;
 use std::marker::Model;
 use wf_canon::one_text_one_map;
 
-/// The records of a node on its tape. Contracts see the tape, and whether the journal is halted; where it
-/// isn't, an honest tape holds whole records and nothing else, all of them synced.
+/// The records of a node on its tape. Model: the tape, and whether the journal is halted; if it isn't, an honest tape holds only
+/// whole records, all of them synced.
 #[derive(Drop)]
 pub struct Journal<T: Tape> {
     tape: T,
@@ -37,9 +37,8 @@ impl<T: Tape> Model for Journal<T> {
 }
 
 impl<T: Tape> Journal<T> {
-    /// The journal of the tape, and its records, the oldest first. A torn record behind the whole ones is
-    /// removed, and what is kept is synced. A rejection hands the tape back; but for a failure of the tape
-    /// itself it is as it was.
+    /// The journal of the tape, and its records, the oldest first. A torn record after the whole ones is removed, and what is
+    /// kept is synced. An error returns the tape, unchanged unless the tape itself failed.
     #[tactic(auto, using(crate::proofs::Settling::followed_on, crate::proofs::Settling::unchanged_on, crate::proofs::Settling::why_failed_on, crate::proofs::Settling::not_bad_anywhere))]
     pub fn open(alloc: Global, tape: T) -> Result<(Journal<T>, Vec<Record>), (T, OpenFault)>
         ensures running { IfOk result (λ x. x.0.halted ≡ false) }
@@ -63,7 +62,7 @@ impl<T: Tape> Journal<T> {
         }
     }
 
-    /// The journal of a tape that holds whole records and nothing else, all of them synced.
+    /// The journal of a tape that holds only whole records, all of them synced.
     pub(crate) fn over(tape: T) -> Journal<T>
         requires { T.honest → IsSettled (T.content tape) (T.images tape) }
         ensures { result ≡ record { tape = tape; halted = false } }
@@ -74,8 +73,8 @@ impl<T: Tape> Journal<T> {
         }
     }
 
-    /// Adds a record: after Ok it is on the tape and synced. After a failure of the tape the journal is
-    /// halted until it is opened again, since the record may stand on the tape in part.
+    /// Adds a record: after Ok it is on the tape and synced. After a failure of the tape the journal is halted until it is opened
+    /// again, since part of the record may be on the tape.
     #[tactic(auto, using(crate::proofs::Settling::same_or_more, crate::proofs::Settling::same_kept, crate::proofs::Settling::now_more, crate::proofs::Settling::settled_more, crate::proofs::Settling::settled_same))]
     pub fn add(&mut self, alloc: Global, entry: &Record) -> Result<(), AddFault>
         requires { self.old.halted ≡ false }
@@ -88,7 +87,7 @@ impl<T: Tape> Journal<T> {
         ensures memory { T.honest → IsErrOf result AddFault.Memory → IsUnchanged (T.content self.old.tape) (T.content self.new.tape) (T.images self.old.tape) (T.images self.new.tape) }
         ensures still_running { IsErrOf result AddFault.Memory → self.new.halted ≡ false }
     {
-        // The law: equal texts are those of one map, so no record reads as another.
+        // The theorem: maps with equal texts are equal, so no record reads as another.
         one_text_one_map();
         let Ok(bytes) = encode(alloc, entry) else {
             return Err(AddFault::Memory);
@@ -103,7 +102,7 @@ impl<T: Tape> Journal<T> {
         }
     }
 
-    /// Did the tape fail? Then no record can be added until the journal is opened again.
+    /// Whether the tape failed. Then no record can be added until the journal is opened again.
     pub fn is_halted(&self) -> bool
         ensures value { result ≡ self.now.halted }
         ensures settled { T.honest → self.now.halted ≡ false → IsSettled (T.content self.now.tape) (T.images self.now.tape) }
@@ -111,7 +110,7 @@ impl<T: Tape> Journal<T> {
         self.halted
     }
 
-    /// The tape, handed back as it is.
+    /// Returns the tape unchanged.
     pub fn close(self) -> T
         ensures { result ≡ self.tape }
     {
@@ -135,5 +134,5 @@ fn write<T: Tape>(tape: &mut T, bytes: &[u8]) -> Result<(), TapeFault>
     }
 }
 
-/// Records that no one asks for.
+/// Drops records that aren't needed.
 fn discard(_records: Vec<Record>) {}

@@ -25,7 +25,7 @@ impl Kind {
         }
     }
 
-    /// The kind of this byte; None where no kind has it.
+    /// The kind with this byte; None if there is none.
     #[tactic(auto, unfolding(crate::specs::Kind::kind_of_byte))]
     pub fn of_byte(byte: u8) -> Option<Kind>
         ensures { result ≡ kind_of_byte byte }
@@ -39,7 +39,7 @@ impl Kind {
         }
     }
 
-    /// Can a body of this kind have so many bytes?
+    /// Whether a body of this kind can have that many bytes.
     #[tactic(auto, unfolding(crate::specs::Kind::can_have))]
     pub fn can_have(self, length: usize) -> bool
         ensures { result ≡ can_have self length }
@@ -52,7 +52,7 @@ impl Kind {
         }
     }
 
-    /// Does a text stand behind so many bytes of other fields?
+    /// Whether a body of that many bytes can have a text after its other fields.
     fn has_text_behind(fields: usize, length: usize) -> bool
         requires { fields + most_text < 2 ^ 64 }
         ensures { result ≡ has_text_behind fields length }

@@ -1,14 +1,14 @@
-//! What is true of the bytes of records, whoever wrote them.
+//! Theorems about the bytes of records, whoever wrote them.
 
 ghost use Rattle.wf_tape.specs.Records.{AreReadOneWay, IsReadAsNone};
 
 use wf_canon::one_text_one_map;
 
-/// Bytes are read as one list of records at most, and no bytes as none.
+/// Bytes are read as at most one list of records, and empty bytes as the empty list.
 pub fn records_are_read_one_way()
     ensures one { AreReadOneWay }
     ensures none { IsReadAsNone }
 {
-    // Equal texts are those of one map.
+    // Maps with equal texts are equal.
     one_text_one_map();
 }

@@ -1,19 +1,17 @@
-//! What a node keeps: its tape, the records on it, and the journal that adds them.
+//! Durable storage of a node: its tape (a log), the records on it, and the journal that adds them.
 //!
-//! Its model: a tape has a content, images (what a crash now may leave) and a count of failures, and is
-//! honest or not (`specs/Tape.antt`). A `Record` is seen as the farm's model has it
-//! (`specs/Record.antt`), its definition as the value that nodes agree on; its bytes are those of
-//! `specs/Spelling.antt`. The records of bytes are the longest list of whole records that the bytes
-//! begin with (`specs/Records.antt`). A `Journal` is seen as its tape, and whether it is halted.
+//! Model: a tape has a content, images (what a crash now may leave) and a count of failures, and is honest (keeps what was
+//! written) or not (`specs/Tape.antt`). A `Record` is that of wf_model, with definitions (`specs/Record.antt`); its encoding is
+//! that of `specs/Spelling.antt`. The records of bytes are the longest list of whole records that the bytes begin with
+//! (`specs/Records.antt`). A `Journal` is its tape, and whether it is halted.
 //!
-//! It promises, of an honest tape: a journal opens with the records of the content, and then every image
-//! is their bytes and nothing else; after a record is added, every image is the bytes from before and the
-//! record's; whatever is answered, each image reads as the records from before, or with the new one.
-//! Of every tape: a failure is answered only where the tape counted one. A `MemoryTape` is honest by
-//! proof.
+//! Promises, of an honest tape: a journal opens with the records of the content, and then the only image is their bytes. After a
+//! record is added, the only image is the bytes from before followed by the record's. Whatever a call returns, each image reads
+//! as the records from before, or with the new one. Of every tape: a failure is returned only if the tape counted one. A
+//! `MemoryTape` is proved to be honest.
 //!
-//! It doesn't say what a file holds: a `FileTape` says of itself that it isn't honest. It doesn't know
-//! what the records stand for, nor which record may follow which.
+//! Not here: what a file holds (a `FileTape` declares itself not honest), what the records mean, and which record may follow
+//! which.
 #![tactic(auto)]
 
 mod decoder;

@@ -5,11 +5,11 @@ use crate::tape::Tape;
 use std::alloc::Global;
 use std::marker::Model;
 
-/// A tape in memory. It is honest, and no device of it fails.
+/// A tape in memory. It is honest, and its device doesn't fail.
 #[derive(Drop)]
 pub struct MemoryTape {
     bytes: Vec<u8>,
-    // how many of the bytes are synced
+    // the number of synced bytes
     synced: usize,
 }
 
@@ -33,15 +33,14 @@ impl MemoryTape {
         MemoryTape { bytes, synced }
     }
 
-    /// What is on the tape.
+    /// The content of the tape.
     pub fn bytes(&self) -> &[u8]
         ensures { result.now ≡ self.now.bytes }
     {
         &self.bytes
     }
 
-    /// A crash: the synced bytes are kept and at most `keep` bytes of the rest, and all that is kept is
-    /// synced then.
+    /// A crash: the synced bytes are kept and at most `keep` bytes of the rest; all that is kept is then synced.
     pub fn crash(&mut self, keep: usize)
         ensures bytes { self.new.bytes ≡ take (self.old.synced + keep) self.old.bytes }
         ensures synced { self.new.synced ≡ length self.new.bytes }

@@ -6,10 +6,10 @@ pub enum OpenFault {
     /// P1: the tape's device failed.
     #[error("P1: the tape failed")]
     TapeFailed,
-    /// P2: behind the whole records stands what is no record and no beginning of one, at this place.
+    /// P2: what follows the whole records, at this byte offset, is neither a record nor a prefix of one.
     #[error("P2: a bad record at {0}")]
     BadRecord(usize),
-    /// P3: a growth was rejected.
+    /// P3: allocation failed.
     #[error("P3: out of memory")]
     Memory,
 }
@@ -20,7 +20,7 @@ pub enum AddFault {
     /// P1: the tape's device failed, and the journal is halted.
     #[error("P1: the tape failed")]
     TapeFailed,
-    /// P3: a growth was rejected, and nothing has changed.
+    /// P3: allocation failed, and nothing has changed.
     #[error("P3: out of memory")]
     Memory,
 }

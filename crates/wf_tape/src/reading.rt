@@ -11,8 +11,8 @@ use crate::opening::OpenFault;
 use crate::record::Record;
 use std::alloc::Global;
 
-/// The records of the bytes, the oldest first, and how many bytes they have. What stands behind them is
-/// nothing or a torn record; where it is something else, that is a bad record.
+/// The records of the bytes, the oldest first, and their length in bytes. What follows them is nothing or a torn record; anything
+/// else is a bad record.
 #[tactic(auto, using(crate::proofs::Lists::takes_one, crate::proofs::Lists::takes_less, crate::proofs::Lists::all_read, crate::proofs::Lists::bad_there, crate::proofs::Lists::none_begins_nothing, crate::proofs::Lists::rest_within))]
 pub fn read_records(alloc: Global, bytes: &[u8]) -> Result<(Vec<Record>, usize), OpenFault>
     ensures ok { IfOk result (λ x. HasRead bytes.now (map view x.0.items) x.1) }
@@ -34,7 +34,7 @@ pub fn read_records(alloc: Global, bytes: &[u8]) -> Result<(Vec<Record>, usize),
     Ok((records, bytes.len() - rest.len()))
 }
 
-/// The record at the front of the bytes is added to the records: how many bytes it has.
+/// Appends the record at the front of the bytes to the records, and returns its length.
 fn read_next(alloc: Global, records: &mut Vec<Record>, bytes: &[u8]) -> Result<usize, RecordFault>
     ensures ok { IfOk result (λ n. TakesOne bytes.now n (map view records.old.items) (map view records.new.items)) }
     ensures err { IfErr result (λ _. records.new.items ≡ records.old.items) }

@@ -4,14 +4,14 @@ use std::alloc::AllocError;
 use wf_ballot::{Ballot, Round, Slot};
 use wf_canon::Canon;
 
-/// One entry of a node's tape. What a node stored is what its records say, the oldest first.
+/// One record of a node's tape. A node's stored state is the fold of its records, the oldest first.
 #[derive(Drop)]
 pub enum Record {
-    /// The node tries this round: it never begins a proposal in it again.
+    /// The node tries this round, and never begins a proposal in it again.
     Tried(Round),
-    /// The node promised the ballot at the slot: it takes part in none below it there.
+    /// The node promised the ballot at the slot: it rejects lower ballots there.
     Promised(Slot, Ballot),
-    /// The node voted for the definition at the slot and the ballot, which it promised too.
+    /// The node voted for the definition at the slot and the ballot, and so promised the ballot too.
     Accepted(Slot, Ballot, Canon),
     /// The definition is published at the slot.
     Published(Slot, Canon),
@@ -20,7 +20,7 @@ pub enum Record {
 impl Record {
     ghost use Rattle.wf_tape.specs.Record.{view, HasDefinition};
 
-    /// An equal record. The one error is allocation failure, for a record that holds a definition.
+    /// A copy. The only error is allocation failure, for a record with a definition.
     pub fn copy(&self) -> Result<Record, AllocError>
         ensures copy { IfOk result (λ r. r ≡ self.now) }
         ensures memory { OnErr result (HasDefinition (view self.now)) }

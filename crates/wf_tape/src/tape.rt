@@ -5,34 +5,33 @@ ghost use Rattle.wf_tape.specs.Tape.{IsOnlyImage, IsUnchanged, LeavesNoOther, Is
 use crate::fault::TapeFault;
 use std::alloc::Global;
 
-/// A tape: bytes that are appended to, synced and replaced as a whole, and of which a crash may lose
-/// what isn't synced yet.
+/// A tape: bytes that are appended to, synced and replaced as a whole. A crash may lose what isn't synced yet.
 ///
-/// Contracts see its content, its images (what a crash now may leave) and the count of its failures.
-/// What they say of content and images holds of an honest tape. Whether a tape is honest is a matter of
-/// its type, so that no call changes it. Of any tape a call that answers `Device` has a failure counted.
+/// Model: its content, its images (what a crash now may leave) and the count of its failures. The contracts about content and
+/// images hold of an honest tape. Honesty is a property of the type, so no call changes it. Any tape has counted a failure if a
+/// call returns `Device`.
 pub trait Tape {
-    /// The tape holds what its calls say.
+    /// The tape holds what was written.
     ghost honest: { Type 0 };
 
-    /// The bytes that are read.
+    /// The bytes that a read returns.
     ghost content: { Self → List ℕ };
 
     /// What a crash now may leave.
     ghost images: { Self → List ℕ → Type 0 };
 
-    /// How often the device has failed.
+    /// The number of times that the device has failed.
     ghost failed: { Self → ℕ };
 
-    /// The content, which is one of the images. It changes nothing.
+    /// The content, which is one of the images. Changes nothing.
     fn read(&mut self, alloc: Global) -> Result<Vec<u8>, TapeFault>
         ensures ok { honest → IfOk result (λ bytes. bytes.items ≡ content self.old) }
         ensures image { honest → OnOk result (images self.old (content self.old)) }
         ensures same { honest → IsUnchanged (content self.old) (content self.new) (images self.old) (images self.new) }
         ensures cause { HasCause (failed self.old) (failed self.new) result };
 
-    /// Appends the bytes. Until they are synced a crash may leave any beginning of them; after `Device`
-    /// no more than a beginning of them may be there.
+    /// Appends the bytes. Until they are synced a crash may leave any prefix of them; after `Device` a prefix of them may be
+    /// there, and no more.
     fn append(&mut self, bytes: &[u8]) -> Result<(), TapeFault>
         ensures ok { honest → OnOk result (content self.new ≡ content self.old ++ bytes.now) }
         ensures err { honest → OnErr result (IsExtended (content self.old) bytes.now (content self.new)) }
@@ -40,7 +39,7 @@ pub trait Tape {
         ensures memory { honest → IsErrOf result Memory → IsUnchanged (content self.old) (content self.new) (images self.old) (images self.new) }
         ensures cause { HasCause (failed self.old) (failed self.new) result };
 
-    /// After it a crash leaves the content and nothing else. It allocates nothing.
+    /// After it a crash leaves exactly the content. Doesn't allocate.
     fn sync(&mut self) -> Result<(), TapeFault>
         ensures ok { honest → OnOk result (IsOnlyImage (content self.new) (images self.new)) }
         ensures same { honest → content self.new ≡ content self.old }
@@ -48,8 +47,7 @@ pub trait Tape {
         ensures memory { IsNotMemory result }
         ensures cause { HasCause (failed self.old) (failed self.new) result };
 
-    /// Puts the bytes in the content's place, all of them synced. After `Device` they are there, or the
-    /// content from before is.
+    /// Replaces the content by the bytes, all of them synced. After `Device` the content is the bytes, or that of before.
     fn replace(&mut self, bytes: &[u8]) -> Result<(), TapeFault>
         ensures ok { honest → OnOk result (content self.new ≡ bytes.now) }
         ensures synced { honest → OnOk result (IsOnlyImage bytes.now (images self.new)) }
@@ -58,7 +56,7 @@ pub trait Tape {
         ensures memory { honest → IsErrOf result Memory → IsUnchanged (content self.old) (content self.new) (images self.old) (images self.new) }
         ensures cause { HasCause (failed self.old) (failed self.new) result };
 
-    /// How often the device has failed. At its last value the count stays.
+    /// The number of times that the device has failed. It saturates.
     fn failures(&self) -> u64
         ensures { result ≡ failed self.now };
 }

@@ -1,4 +1,4 @@
--- Three nodes that stand in turn.
+-- Three nodes, each at the index of its number.
 use Rattle.std.proofs.Common.{◌≡◌, ℕ, zero, suc, List, [], ◌∷◌, slice_get, Some, subst}
 use Rattle.std.proofs.lemmas.Option.{none-some, same_Some}
 use Rattle.wf_farm.specs.Delivering.{StandAmong, StandInTurn}

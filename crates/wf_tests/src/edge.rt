@@ -1,5 +1,5 @@
-//! Requests that a node serves: over a real connection, on one thread (the client has written before the server accepts), and where
-//! it finds no memory. What found no memory is asked once more: the node is as it was.
+//! Requests that a node serves: over a real connection, on one thread (the client writes before the server accepts), and after
+//! allocation failures. A request for which an allocation failed is repeated once: the node is unchanged.
 use std::alloc::Global;
 use std::io;
 use std::io::{Read, Write};
@@ -33,7 +33,7 @@ fn new_node(rt: &impl Abort, alloc: Global) -> Node<MemoryTape> {
     }
 }
 
-/// What becomes of one request that comes in on a stream.
+/// The outcome of one request received on a stream.
 fn serve(rt: &impl Abort, alloc: Global, stream: &TcpStream) -> Outcome {
     let mut node = new_node(rt, alloc);
     let served = serve_one(
@@ -57,7 +57,7 @@ fn connected(rt: &HostRuntime) -> io::Result<(TcpStream, TcpStream)> {
     Ok((client, server))
 }
 
-/// What the client reads to the end.
+/// The bytes that the client reads to the end.
 fn answer(alloc: Global, mut client: TcpStream) -> io::Result<Vec<u8>> {
     let mut answer = Vec::new(alloc);
     client.read_to_end(&mut answer)?;
@@ -78,7 +78,7 @@ fn a_request_over_a_connection_is_answered(rt: HostRuntime) {
 const PUBLISH: &[u8] =
     b"POST /publish HTTP/1.1\r\nContent-Length: 63\r\n\r\nMAP NAME \"a\" EXTENT 0 0 4 4 PROJECTION \"init=epsg:4326\" END END";
 
-/// What becomes of a request, and how many messages are handed out. The response is taken whole, without memory.
+/// The outcome of a request, and the number of messages sent. The response is written without allocating.
 fn asked(alloc: Global, node: &mut Node<MemoryTape>, request: &[u8]) -> (Outcome, usize) {
     let mut reader = Bytes::new(request, 4_096, None);
     let served = serve_one(alloc, &mut reader, &mut Stream::new(io::sink()), node);
@@ -87,7 +87,7 @@ fn asked(alloc: Global, node: &mut Node<MemoryTape>, request: &[u8]) -> (Outcome
     told
 }
 
-/// The same; where it finds no memory, which sends nothing, it is asked once more.
+/// The same; if an allocation fails, which sends nothing, the request is repeated once.
 fn asked_again(
     rt: &impl Abort,
     alloc: Global,

@@ -11,7 +11,7 @@ use wf_farm::{Pumped, deliver_all};
 use wf_node::{Input, Node};
 use wf_tape::MemoryTape;
 
-/// Each message goes to each node: the Prepare, three Promises, the Accept, three Accepted and the Chosen.
+/// Each message is delivered to each node: the Prepare, three Promises, the Accept, three Accepted and the Chosen.
 const FIRST_PUBLISH: Pumped = Pumped {
     deliveries: 27,
     stopped: false,
@@ -33,7 +33,7 @@ fn node(alloc: Global, number: u8) -> Option<Node<MemoryTape>>
     }
 }
 
-/// What a node says that proposes a map; nothing where there is no memory.
+/// The messages of a node that proposes a map; none if an allocation fails.
 fn propose(alloc: Global, node: &mut Node<MemoryTape>, map: Canon) -> Vec<Message>
     ensures id { node.new.id ≡ node.old.id }
     ensures of { node.new.n ≡ node.old.n }
@@ -44,7 +44,7 @@ fn propose(alloc: Global, node: &mut Node<MemoryTape>, map: Canon) -> Vec<Messag
     }
 }
 
-/// What becomes of the messages, and whether each of the nodes has published one map then.
+/// The result of delivering the messages, and whether each of the nodes has published one map then.
 #[tactic(auto, using(crate::proofs::InTurn::three_in_turn))]
 fn hear(
     alloc: Global,
@@ -67,7 +67,7 @@ fn hear(
     (pumped, published)
 }
 
-/// What becomes of a map that node 0 of three new ones proposes. None where there is no memory.
+/// The result for a map that node 0 of three new ones proposes. None if an allocation fails.
 fn published(rt: &impl Abort, alloc: Global) -> Option<(Pumped, bool)> {
     let mut first = node(alloc, 0)?;
     let Some(second) = node(alloc, 1) else {
@@ -86,6 +86,6 @@ fn published(rt: &impl Abort, alloc: Global) -> Option<(Pumped, bool)> {
 #[test]
 fn three_nodes_publish_a_first_map_by_27_deliveries(rt: HostRuntime) {
     let expected = Some((FIRST_PUBLISH, true));
-    // Where something found no memory, all is done once more.
+    // If an allocation failed, everything is repeated once.
     assert!(rt; published(&rt, rt.alloc()) == expected || published(&rt, rt.alloc()) == expected);
 }

@@ -1,8 +1,8 @@
-//! What no table of cases can say: readers and writers that fail, copies, comparisons that hold for none of
-//! a list, and calls that are made once more after they found no memory.
+//! Tests that no table of cases can express: readers and writers that fail, copies, comparisons that hold for no element of a
+//! list, and calls that are repeated after an allocation failure.
 //!
-//! It has nothing but tests, so that no other crate is proved with its tests too. What goes in and comes out
-//! as text, also a script of calls on one value, is data of the programs that read tables of cases.
+//! It has only tests, so that no other crate is proved together with its tests. Tests whose input and output are text, including
+//! scripts of calls on one value, are data of the programs that read tables of cases.
 #![tactic(auto)]
 
 #[cfg(test)]

@@ -1,4 +1,4 @@
-//! Map definitions that are copied, compared and given layers. What found no memory is done once more.
+//! Map definitions that are copied, compared and given layers. Whatever met an allocation failure is repeated once.
 ghost use Rattle.std.specs.Prelude.{◌≡◌, []};
 
 use std::alloc::Global;
@@ -49,7 +49,7 @@ fn a_copy_has_every_part(rt: HostRuntime) {
     assert!(rt; is_spelled(&rt, rt.alloc(), &copy, ROADS));
 }
 
-/// Whether the map of `ROADS` equals that of the same text with the other words in place of some.
+/// Whether the map of `ROADS` equals that of the same text with `words` replaced by `other`.
 fn equals_with(rt: &impl Abort, alloc: Global, words: &str, other: &str) -> bool {
     let mapfile = match ROADS.replace(alloc, words, other) {
         Ok(mapfile) => mapfile,
@@ -134,7 +134,7 @@ fn layer(rt: &impl Abort, alloc: Global, title: &[u8]) -> Layer
     .expect(rt, "a layer")
 }
 
-/// Adds a layer of the name and title, without features, where the name may be a layer's and there is room.
+/// Adds a layer of the name and title, without features, if the name is valid and there is room.
 fn add(
     rt: &impl Abort,
     alloc: Global,
@@ -149,7 +149,7 @@ fn add(
     map.add_layer(name, layer(rt, alloc, title))
 }
 
-/// The same, once more where it found no memory: the map is as it was.
+/// The same, repeated once if an allocation failed: the map is unchanged.
 fn added(
     rt: &impl Abort,
     alloc: Global,

@@ -1,5 +1,5 @@
-//! A node that is alone in its farm, where it finds no memory or its tape fails. What found no memory is done once
-//! more: node and tape are as they were.
+//! A node that is alone in its farm, with allocation failures or a failing tape. Whatever met an allocation failure is repeated
+//! once: node and tape are unchanged.
 use crate::tape::Unsynced;
 use crate::value::{MAP_A, ballot, map, slot};
 use std::alloc::Global;
@@ -10,8 +10,7 @@ use wf_node::{Input, Node, NodeFault};
 use wf_proposer::Standing;
 use wf_tape::{MemoryTape, Tape};
 
-/// The records of a proposal of the map `a` up to the text of the map that is voted for: the round that is tried, the
-/// promise, the vote.
+/// The records of a proposal of the map `a` up to the text of the map that is voted for: the round tried, the promise, the vote.
 const BEFORE_VOTE: &[u8] = &[
     1, 1, 0, 0, 0, 4, 0, 0, 0, 1, 1, 2, 0, 0, 0, 7, 0, 1, 0, 0, 0, 1, 0, 1, 3, 0, 0, 0, 171, 0, 1,
     0, 0, 0, 1, 0,
@@ -20,7 +19,7 @@ const BEFORE_VOTE: &[u8] = &[
 /// The last record up to the text of the map that is published.
 const BEFORE_PUBLISHED: &[u8] = &[1, 4, 0, 0, 0, 166, 0, 1];
 
-/// What stands behind the records of a proposal of the map `a`, where these are the first.
+/// The bytes after the records of a proposal of the map `a`, if these are the first.
 fn behind_proposal(bytes: &[u8]) -> Option<&[u8]> {
     let voted = bytes.strip_prefix(BEFORE_VOTE)?.strip_prefix(MAP_A)?;
     voted.strip_prefix(BEFORE_PUBLISHED)?.strip_prefix(MAP_A)
@@ -48,7 +47,7 @@ fn is_of_proposal(tape: MemoryTape) -> bool {
     is_whole
 }
 
-/// Proposes the map `a`: the messages that go out.
+/// Proposes the map `a`: the messages sent.
 fn propose(rt: &impl Abort, alloc: Global, node: &mut Node<MemoryTape>) -> Vec<Message> {
     match node.step(alloc, Input::Propose(map(rt, alloc, MAP_A))) {
         Ok(messages) => messages,
@@ -59,7 +58,7 @@ fn propose(rt: &impl Abort, alloc: Global, node: &mut Node<MemoryTape>) -> Vec<M
     }
 }
 
-/// The input that a message is.
+/// A message as an input.
 fn delivered(rt: &impl Abort, message: &Message) -> Input {
     match message.copy() {
         Ok(copy) => Input::Deliver(copy),
@@ -67,7 +66,7 @@ fn delivered(rt: &impl Abort, message: &Message) -> Input {
     }
 }
 
-/// The messages that go out where this one comes in.
+/// The messages sent when this one is delivered.
 fn answers(
     rt: &impl Abort,
     alloc: Global,
@@ -82,7 +81,7 @@ fn answers(
     }
 }
 
-/// The same, where the first of these messages comes in.
+/// The same when the first of these messages is delivered.
 fn answers_to_first(
     rt: &impl Abort,
     alloc: Global,
@@ -97,7 +96,7 @@ fn answers_to_first(
     answered
 }
 
-/// The tape of a node that proposed the map `a` and took in its own messages until the map was published.
+/// The tape of a node that proposed the map `a` and received its own messages until the map was published.
 fn proposed(rt: &impl Abort, alloc: Global) -> MemoryTape {
     let mut node = opened(rt, alloc, MemoryTape::new(Vec::new(alloc)));
     let prepare = propose(rt, alloc, &mut node);
@@ -122,7 +121,7 @@ fn a_node_opens_on_its_tape_and_leaves_it(rt: HostRuntime) {
     assert!(rt; is_of_proposal(node.close()));
 }
 
-/// The fault of a step, None where it is done.
+/// The error of a step, None if it is done.
 fn fault_of(alloc: Global, node: &mut Node<Unsynced>, input: Input) -> Option<NodeFault> {
     match node.step(alloc, input) {
         Ok(messages) => {
@@ -133,7 +132,7 @@ fn fault_of(alloc: Global, node: &mut Node<Unsynced>, input: Input) -> Option<No
     }
 }
 
-/// The same of the step that takes in a Prepare.
+/// The same for the step that receives a Prepare.
 fn fault_of_prepare(
     rt: &impl Abort,
     alloc: Global,
@@ -143,7 +142,7 @@ fn fault_of_prepare(
     fault_of(alloc, node, Input::Deliver(prepare))
 }
 
-/// How often the tape failed of a node that isn't used any more.
+/// The number of failures of a node's tape; the node isn't used any more.
 fn failures_of(node: Node<Unsynced>) -> u64 {
     let tape = node.close();
     let failures = tape.failures();
@@ -154,7 +153,7 @@ fn failures_of(node: Node<Unsynced>) -> u64 {
 #[test]
 fn a_node_whose_tape_fails_is_halted(rt: HostRuntime) {
     let bytes = Vec::new(rt.alloc());
-    // It is sound for the sync of the opening alone.
+    // Only the sync of the opening succeeds.
     let tape = Unsynced {
         bytes,
         sound: 1,

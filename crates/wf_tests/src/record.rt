@@ -24,7 +24,7 @@ fn numbers_at(kind: &'static str, slot: Slot, ballot: Ballot) -> (&'static str, 
     )
 }
 
-/// The text of a record's definition, where it has one.
+/// The text of a record's definition, if it has one.
 fn text_of(record: &Record) -> Option<&[u8]> {
     match record {
         Record::Tried(_) | Record::Promised(_, _) => None,
@@ -32,7 +32,7 @@ fn text_of(record: &Record) -> Option<&[u8]> {
     }
 }
 
-/// The record's copy, made once more where it found no memory.
+/// The record's copy, repeated once if an allocation failed.
 fn copy_of(rt: &impl Abort, record: &Record) -> Record {
     match record.copy() {
         Ok(copy) => copy,

@@ -1,5 +1,5 @@
-//! Nodes that are served at a listener, on one thread: the clients have sent their requests before the server accepts. Where something
-//! found no memory, all is done once more, in another folder.
+//! Nodes that are served at a listener, on one thread: the clients send their requests before the server accepts. If an
+//! allocation failed, everything is repeated once, in another folder.
 ghost use Rattle.std.specs.Prelude.{◌≤◌};
 ghost use Rattle.wf_serve.specs.Service.{IsService};
 
@@ -15,15 +15,15 @@ const STATUS: &[u8] = b"GET /status HTTP/1.1\r\n\r\n";
 const PUBLISH: &[u8] =
     b"POST /publish HTTP/1.1\r\nContent-Length: 63\r\n\r\nMAP NAME \"a\" EXTENT 0 0 4 4 PROJECTION \"init=epsg:4326\" END END";
 
-/// What clients are answered that publish the first map at node 0, and ask the nodes 1 and 2 where they stand.
+/// The responses to clients that publish the first map at node 0, and ask nodes 1 and 2 for their status.
 const AFTER_PUBLISH: &[u8] =
     b"HTTP/1.1 202 Accepted\r\nContent-Type: text/plain\r\nContent-Length: 15\r\nConnection: close\r\n\r\naccepted for 1\nHTTP/1.1 200 OK\r\nContent-Type: text/plain\r\nContent-Length: 33\r\nConnection: close\r\n\r\nnode 1 published 1 proposal none\nHTTP/1.1 200 OK\r\nContent-Type: text/plain\r\nContent-Length: 33\r\nConnection: close\r\n\r\nnode 2 published 1 proposal none\n";
 
-/// What clients are answered that ask the nodes 0, 1 and 2 after a new start.
+/// The responses to clients that ask nodes 0, 1 and 2 for their status after a restart.
 const AFTER_START: &[u8] =
     b"HTTP/1.1 200 OK\r\nContent-Type: text/plain\r\nContent-Length: 33\r\nConnection: close\r\n\r\nnode 0 published 1 proposal none\nHTTP/1.1 200 OK\r\nContent-Type: text/plain\r\nContent-Length: 33\r\nConnection: close\r\n\r\nnode 1 published 1 proposal none\nHTTP/1.1 200 OK\r\nContent-Type: text/plain\r\nContent-Length: 33\r\nConnection: close\r\n\r\nnode 2 published 1 proposal none\n";
 
-/// Three nodes for so many connections.
+/// Three nodes for this many connections.
 fn three_nodes(port: u16, requests: u32, state: Option<&str>) -> Service<'_>
     requires { requests ≤ 3 }
     ensures { IsService result }
@@ -44,7 +44,7 @@ fn client(rt: &HostRuntime, port: u16, request: &[u8]) -> io::Result<TcpStream> 
     Ok(stream)
 }
 
-/// What three clients are answered by nodes that open in a folder.
+/// The responses to three clients of nodes that open in a folder.
 fn answers(rt: &HostRuntime, folder: &str, first_request: &[u8]) -> io::Result<Vec<u8>> {
     let listener = listen(rt, 0)?;
     let port = listener.local_addr()?.port();
@@ -62,7 +62,7 @@ fn answers(rt: &HostRuntime, folder: &str, first_request: &[u8]) -> io::Result<V
     Ok(answers)
 }
 
-/// Whether these clients are answered so.
+/// Whether these are the responses to these clients.
 fn are_answered(rt: &HostRuntime, folder: &str, first_request: &[u8], expected: &[u8]) -> bool {
     match answers(rt, folder, first_request) {
         Ok(answers) => {
@@ -74,7 +74,7 @@ fn are_answered(rt: &HostRuntime, folder: &str, first_request: &[u8], expected: 
     }
 }
 
-/// Whether a map that is published in an empty folder is there after a new start.
+/// Whether a map that is published in an empty folder is there after a restart.
 fn outlasts_a_new_start(rt: &HostRuntime, folder: &str) -> bool {
     are_answered(rt, folder, PUBLISH, AFTER_PUBLISH)
         && are_answered(rt, folder, STATUS, AFTER_START)
@@ -87,7 +87,7 @@ fn a_published_map_is_there_after_a_new_start(rt: HostRuntime) {
     assert!(rt; outlasts_a_new_start(&rt, "farm") || outlasts_a_new_start(&rt, "again"));
 }
 
-/// Why nodes in a folder aren't served at this port, None where they are, and whether the port is told.
+/// Why nodes in a folder aren't served at this port, None if they are, and whether the port is printed.
 fn started(rt: &HostRuntime, port: u16, folder: &str) -> (Option<ServeFault>, bool) {
     let mut sink = Output::new(rt.alloc(), 64);
     let outcome = serve(rt, three_nodes(port, 0, Some(folder)), &mut sink);
@@ -99,7 +99,7 @@ fn started(rt: &HostRuntime, port: u16, folder: &str) -> (Option<ServeFault>, bo
     (outcome.err(), told)
 }
 
-/// An opening would remove the torn record.
+/// Opening the tape would remove the torn record.
 #[test]
 fn a_start_where_port_or_folder_is_taken_changes_no_tape(rt: HostRuntime) {
     new_folder(&rt, "taken");

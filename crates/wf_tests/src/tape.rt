@@ -6,10 +6,10 @@ use std::process::Abort;
 use std::rt::Files;
 use wf_tape::{AddFault, FileTape, Journal, OpenFault, Record, Tape, TapeFault};
 
-/// The bytes of a Tried record of round 1, and the first of one that is torn.
+/// The bytes of a Tried record of round 1, and a prefix of one that is torn.
 const TRIED: &[u8] = &[1, 1, 0, 0, 0, 4, 0, 0, 0, 1];
 
-/// Those of three Tried records, of the rounds 1, 2 and 3.
+/// The bytes of three Tried records, of rounds 1, 2 and 3.
 const THREE_TRIED: &[u8] = &[
     1, 1, 0, 0, 0, 4, 0, 0, 0, 1, 1, 1, 0, 0, 0, 4, 0, 0, 0, 2, 1, 1, 0, 0, 0, 4, 0, 0, 0, 3,
 ];
@@ -22,8 +22,8 @@ pub fn new_folder(rt: &(impl Abort + Files + AllocGlobal), folder: &str) {
     fs::create_dir(rt, folder).expect(rt, "a folder");
 }
 
-/// Opens a journal over the file, adds a Tried record of this round, and tells how many records the
-/// journal had; None where the tape fails.
+/// Opens a journal over the file, adds a Tried record of this round, and returns the number of records that the journal had; None
+/// if the tape fails.
 fn records_before<R: Abort + Files + AllocGlobal>(
     rt: &R,
     path: &str,
@@ -35,7 +35,7 @@ fn records_before<R: Abort + Files + AllocGlobal>(
     }
 }
 
-/// The same of a tape that is open.
+/// The same for a tape that is open.
 fn records_on<R: Abort + Files + AllocGlobal>(
     rt: &R,
     tape: FileTape<&R>,
@@ -58,7 +58,7 @@ fn records_on<R: Abort + Files + AllocGlobal>(
     }
 }
 
-/// Adds a Tried record of this round, and tells whether it could be added.
+/// Adds a Tried record of this round, and returns whether it could be added.
 fn is_added<R: Abort + Files + AllocGlobal>(
     rt: &R,
     mut journal: Journal<FileTape<&R>>,
@@ -71,7 +71,7 @@ fn is_added<R: Abort + Files + AllocGlobal>(
     added
 }
 
-/// Why no journal opens over the file, and how often its tape failed; None where one opens.
+/// Why no journal opens over the file, and the number of its tape's failures; None if one opens.
 fn fault_of<R: Abort + Files + AllocGlobal>(rt: &R, path: &str) -> Option<(OpenFault, u64)> {
     let tape = FileTape::open(rt.alloc(), rt, path).expect(rt, "a tape");
     match Journal::open(rt.alloc(), tape) {
@@ -113,7 +113,7 @@ fn a_torn_record_is_removed_from_a_file(rt: HostRuntime) {
     assert!(rt; holds(&rt, "torn/tape", TRIED));
 }
 
-/// A stop between the steps of a replacement leaves the second file beside the old content.
+/// A crash between the steps of a replacement leaves the second file beside the old content.
 #[test]
 fn a_second_file_left_over_does_not_hurt(rt: HostRuntime) {
     new_folder(&rt, "left");
@@ -129,7 +129,7 @@ fn a_file_in_no_folder_is_no_tape(rt: HostRuntime) {
     assert!(&rt; matches!(opened.err(), Some(TapeFault::Device)));
 }
 
-/// A second file that can't be written, since a folder stands in its place.
+/// The second file can't be written, since its path is a folder.
 #[test]
 fn a_replacement_that_fails_is_counted(rt: HostRuntime) {
     new_folder(&rt, "stuck");
@@ -139,7 +139,7 @@ fn a_replacement_that_fails_is_counted(rt: HostRuntime) {
     assert!(rt; holds(&rt, "stuck/tape", TORN));
 }
 
-/// A tape in memory whose syncs fail after so many that are sound.
+/// A tape in memory whose syncs fail after this many that succeed.
 #[derive(Drop)]
 pub struct Unsynced {
     pub bytes: Vec<u8>,
@@ -206,8 +206,8 @@ fn a_journal_is_halted_where_a_sync_fails(rt: HostRuntime) {
     }
 }
 
-/// Adds a record to a journal that isn't halted: why it can't be added, whether the journal is halted then,
-/// and how often its tape failed.
+/// Adds a record to a journal that isn't halted: why it can't be added, whether the journal is halted then, and the number of its
+/// tape's failures.
 fn after_add(
     rt: &impl Abort,
     alloc: Global,

@@ -1,4 +1,4 @@
-//! The nodes, slots, rounds, ballots and definitions of the tests. What found no memory is made once more.
+//! The nodes, slots, rounds, ballots and definitions of the tests. What met an allocation failure is repeated once.
 use std::alloc::Global;
 use std::process::Abort;
 use wf_ballot::{Ballot, NodeId, Round, Slot};

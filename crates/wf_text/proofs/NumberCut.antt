@@ -1,4 +1,4 @@
--- A number's text is cut into the parts that it was joined of.
+-- The spelling of a number's parts is cut into those parts.
 use Rattle.std.proofs.Common.{◌≡◌, ℕ, suc, ◌+◌, ◌≤◌, Bool, true, false, eqb, List, [], ◌∷◌, ◌++◌, length, Option, Some, None, Ok, Err, cond, refl, sym, ap, ◌∙◌, arith}
 use Rattle.std.specs.Prelude.{ℤ}
 use Rattle.std.specs.Char.{is_ascii_digit}
@@ -55,7 +55,7 @@ digits_begin_with_no_sign : (digits : List ℕ) → AreDigits digits → 1 ≤ l
 digits_begin_with_no_sign [] e least = absurd (omega arith)
 digits_begin_with_no_sign (d ∷ digits) e least = digit_is_no_sign d (and_parts (is_ascii_digit d) (list_all is_ascii_digit digits) e).0
 
--- what stands behind a number's sign begins with a digit or a point
+-- what follows a number's sign begins with a digit or a point
 behind_sign_no_sign : (whole : List ℕ) (fraction : Fraction) (ending : List ℕ) → AreDigits whole → 1 ≤ length whole + length (behind_point fraction)
     → begins is_sign (whole ++ (fraction_text fraction ++ ending)) ≡ false
 behind_sign_no_sign (d ∷ whole) fraction ending e least = digit_is_no_sign d (and_parts (is_ascii_digit d) (list_all is_ascii_digit whole) e).0

@@ -1,4 +1,4 @@
--- What is cut of a number's text has the form of a number and joins to that text again.
+-- The parts that a number's text is cut into have the form of a number and spell that text.
 use Rattle.std.proofs.Common.{◌≡◌, ℕ, suc, ◌+◌, ◌≤◌, Bool, true, false, eqb, List, [], ◌∷◌, ◌++◌, length, Option, Some, None, refl, sym, ap, arith, inl, inr}
 use Rattle.std.specs.Prelude.{ℤ, option_map}
 use Rattle.std.specs.Char.{is_ascii_digit}

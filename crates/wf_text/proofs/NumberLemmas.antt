@@ -28,7 +28,7 @@ raised-more value i most = rw pow_more (omega arith)
 pub lowered-more : (value i : ℕ) → value / 10 ^ i / 10 ≡ value / 10 ^ (i + 1)
 lowered-more value i = rw pow_more (div-div-eq-div-mul value (10 ^ i) 10)
 
--- the digits behind the point fit behind those before it
+-- the digits after the point fit together with those before it
 pub fraction_room : (spelled whole fraction : ℕ) → spelled + 23 ≤ (0 + 23) * 10 ^ whole → whole ≤ 9 → fraction ≤ 25 → (spelled + 23) * 10 ^ fraction ≤ 2 ^ 128
 fraction_room spelled whole fraction bound nine many =
     let before : 10 ^ whole ≤ 10 ^ 9 = pow-le-pow_right (omega arith) nine in

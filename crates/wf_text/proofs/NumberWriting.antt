@@ -4,7 +4,7 @@ use Rattle.std.proofs.lemmas.List.{append-nil, length-append}
 use Rattle.wf_text.specs.Limit.{most_number_bytes}
 use Rattle.wf_text.specs.NumberDraft.{IsDraftOf, Writes}
 
--- bytes that are added wherever there is room for them are written: a text that is short enough leaves room
+-- bytes that are appended if there is room are appended if the text is short enough
 pub pushed : {before bytes after : List ℕ} → (length before + length bytes ≤ most_number_bytes → after ≡ before ++ bytes) → Writes before bytes after
 pushed {before = before} {bytes = bytes} {after = after} added = record { behind = λ text is. record { whole = λ short. grown text is short } } where
   grown : (text : List ℕ) → IsDraftOf before text → length (text ++ bytes) ≤ most_number_bytes → after ≡ text ++ bytes
@@ -25,7 +25,7 @@ both {c = c} {x = x} {y = y} first second = record {
 pub same : {a b x y : List ℕ} → Writes a x b → x ≡ y → Writes a y b
 same {a = a} {b = b} first e = subst (λ (bytes : List ℕ). Writes a bytes b) e first
 
--- what is written first is the whole text, if it is short enough
+-- what is written into an empty buffer is the whole text, if it is short enough
 pub whole_text : {a b x : List ℕ} → a ≡ [] → Writes a x b → length x ≤ most_number_bytes → b ≡ x
 whole_text empty written short =
     let all = written.behind [] (record { whole = λ _. empty }) in

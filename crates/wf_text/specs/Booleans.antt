@@ -1,4 +1,4 @@
--- Tests that are joined by `&&`, one by one.
+-- Each conjunct of tests that are joined by `&&`.
 use Rattle.std.proofs.Common.{◌≡◌, ◌&&◌, Bool, true, false, not, refl}
 
 pub and_left : (a b : Bool) → (a && b) ≡ true → a ≡ true

@@ -9,7 +9,7 @@ most_text_bytes = 1_000
 abbrev pub most_millionths : ℕ
 most_millionths = 100_000_000_000_000
 
--- the most digits of a number as it is written: before its point, behind it, and of its power of ten
+-- the most digits of a written number: before its point, after it, and of its power of ten
 abbrev pub most_whole_digits : ℕ
 most_whole_digits = 9
 

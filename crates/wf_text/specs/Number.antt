@@ -1,7 +1,7 @@
 -- What a number's text means, in millionths of a unit.
 --
--- The form: an optional sign, digits, and optionally a point and digits, with at least one digit in all; then optionally `e` or `E`,
--- an optional sign and one to three digits, a power of ten. `5.` and `.5` are numbers.
+-- The form: an optional sign, digits, and optionally a point and digits, with at least one digit in all; then optionally `e` or
+-- `E`, an optional sign and one to three digits, a power of ten. `5.` and `.5` are numbers.
 use Rattle.std.specs.Prelude.{ℕ, ◌+◌, ◌-◌, ◌*◌, ◌/◌, ◌^◌, ◌==◌, ◌&&◌, ◌||◌, Bool, false, nat_lt, nat_le, List, [], ◌∷◌, ◌++◌, length, drop, take_while, fold, Option, Some, None, option_map, Result, Ok, Err, ℤ, pos, negsuc, ◌+ℤ◌, ◌-ℤ◌, neg_ℤ, if◌then◌else◌}
 use Rattle.std.specs.Char.{is_ascii_digit}
 use Rattle.std.specs.List.{list_all, prefix_len}
@@ -24,19 +24,19 @@ is_negative (b ∷ rest) = b == 45
 abbrev pub is_sign : ℕ → Bool
 is_sign b = b == 45 || b == 43
 
--- the text behind a `-` or `+`, if there is one
+-- the text after a leading `-` or `+`, if there is one
 abbrev pub after_sign : List ℕ → List ℕ
 after_sign [] = []
 after_sign (b ∷ rest) = if is_sign b then rest else b ∷ rest
 
--- the digits that the text begins with, and what follows them
+-- the digits that the text begins with, and the rest
 abbrev pub leading_digits : List ℕ → List ℕ
 leading_digits bytes = take_while is_ascii_digit bytes
 
 abbrev pub after_digits : List ℕ → List ℕ
 after_digits bytes = drop (prefix_len is_ascii_digit bytes) bytes
 
--- the digits behind a point, if the text begins with one, and what follows them
+-- the digits after a point, if the text begins with one, and the rest
 abbrev pub fraction_digits : List ℕ → List ℕ
 fraction_digits [] = []
 fraction_digits (b ∷ rest) = if b == 46 then leading_digits rest else []
@@ -45,7 +45,7 @@ abbrev pub after_fraction : List ℕ → List ℕ
 after_fraction [] = []
 after_fraction (b ∷ rest) = if b == 46 then after_digits rest else b ∷ rest
 
--- the value that the digits spell behind a value
+-- the value that the digits spell, appended to the digits of a value
 abbrev pub spelled_onto : ℕ → List ℕ → ℕ
 spelled_onto value digits = fold (λ v b. v * 10 + (b - 48)) value digits
 
@@ -56,7 +56,7 @@ signed negative magnitude = if negative then neg_ℤ (pos magnitude) else pos ma
 abbrev pub is_power_digits : List ℕ → Bool
 is_power_digits digits = nat_lt 0 (length digits) && nat_le (length digits) most_power_digits && list_all is_ascii_digit digits
 
--- one to three digits behind an optional sign
+-- one to three digits after an optional sign
 abbrev pub signed_power : List ℕ → Option ℤ
 signed_power text = if is_power_digits (after_sign text) then Some (signed (is_negative text) (spelled_onto 0 (after_sign text))) else None
 
@@ -68,12 +68,12 @@ abbrev pub power_of : List ℕ → Option ℤ
 power_of [] = Some (pos 0)
 power_of (b ∷ rest) = if is_power_mark b then signed_power rest else None
 
--- the parts together, where there is a digit and a power
+-- the number of these parts, if there is at least one digit and the power is valid
 abbrev pub numeral_from : Bool → List ℕ → List ℕ → Option ℤ → Option Numeral
 numeral_from negative whole fraction power = if length whole + length fraction == 0 then None
     else option_map (λ p. record { negative = negative; whole = whole; fraction = fraction; power = p }) power
 
--- the parts of a text that has the form of a number
+-- the parts of a text that has the form of a number, else None
 unfoldable pub numeral : List ℕ → Option Numeral
 numeral text = let behind_sign = after_sign text in let behind_whole = after_digits behind_sign in
     numeral_from (is_negative text) (leading_digits behind_sign) (fraction_digits behind_whole) (power_of (after_fraction behind_whole))

@@ -1,7 +1,7 @@
--- The form of a number's text: an optional `-` or `+`, digits, and optionally a point and digits, with at least one digit in all; then
--- optionally `e` or `E`, an optional sign and one to three digits, a power of ten. `5.` and `.5` are numbers.
+-- The form of a number's text: an optional `-` or `+`, digits, and optionally a point and digits, with at least one digit in all;
+-- then optionally `e` or `E`, an optional sign and one to three digits, a power of ten. `5.` and `.5` are numbers.
 --
--- A number is written part by part; a text is a number's where it is what such parts spell, one behind the other. Nothing here cuts a text.
+-- A written number is its parts from left to right; its text is their spellings, one after the other. Nothing here cuts a text.
 use Rattle.std.specs.Prelude.{◌≡◌, ◌↔◌, ⊤, ℕ, ◌+◌, ◌≤◌, Bool, true, false, List, [], ◌∷◌, ◌++◌, length, Some, Err, ℤ, pos}
 use Rattle.std.specs.Char.{is_ascii_digit}
 use Rattle.std.specs.List.{list_all}
@@ -23,7 +23,7 @@ is_minus Unsigned = false
 is_minus Plus = false
 is_minus Minus = true
 
--- no point, or a point with the digits behind it
+-- no point, or a point followed by digits
 pub data Fraction : Type 0 where
   NoPoint : Fraction
   WithPoint : List ℕ → Fraction
@@ -44,7 +44,7 @@ abbrev pub mark_byte : Mark → ℕ
 mark_byte SmallE = 101
 mark_byte CapitalE = 69
 
--- no power of ten, or a mark with the sign and the digits of one
+-- no power of ten, or a mark followed by a sign and digits
 pub data Ending : Type 0 where
   NoPower : Ending
   WithPower : Mark → Sign → List ℕ → Ending
@@ -57,7 +57,7 @@ abbrev pub power_of_ten : Ending → ℤ
 power_of_ten NoPower = pos 0
 power_of_ten (WithPower mark sign digits) = signed (is_minus sign) (spelled_onto 0 digits)
 
--- a number as it is written, from left to right
+-- a written number, from left to right
 pub record Written : Type 0 where
   pub sign : Sign
   pub whole : List ℕ
@@ -67,7 +67,7 @@ pub record Written : Type 0 where
 abbrev pub text_of : Written → List ℕ
 text_of w = sign_text w.sign ++ (w.whole ++ (fraction_text w.fraction ++ ending_text w.ending))
 
--- what is written, as the parts that have a value: the digits stay as they are, zeros too
+-- the written number as the parts that have a value: the digits unchanged, with leading and trailing zeros
 abbrev pub parts_of : Written → Numeral
 parts_of w = record { negative = is_minus w.sign; whole = w.whole; fraction = behind_point w.fraction; power = power_of_ten w.ending }
 
@@ -85,28 +85,28 @@ abbrev pub IsEnding : Ending → Type 0
 IsEnding NoPower = ⊤
 IsEnding (WithPower mark sign digits) = ArePowerDigits digits
 
--- there are digits where digits belong, and at least one before and behind the point together
+-- there are digits where digits belong, and at least one before and after the point together
 pub record IsWritten (w : Written) : Type 0 where
   pub whole : AreDigits w.whole
   pub fraction : AreDigits (behind_point w.fraction)
   pub least : 1 ≤ length w.whole + length (behind_point w.fraction)
   pub ending : IsEnding w.ending
 
--- there is a way to write a number that spells this text and has these parts
+-- some written number spells this text and has these parts
 pub record HasParts (text : List ℕ) (parts : Numeral) : Type 0 where
   pub written : Written
   pub is_written : IsWritten written
   pub spells : text_of written ≡ text
   pub says : parts_of written ≡ parts
 
--- a text is cut into parts exactly where it has them
+-- reading cuts a text into parts iff the text has those parts
 abbrev pub CutIntoItsParts : Type 0
 CutIntoItsParts = (text : List ℕ) (parts : Numeral) → (numeral text ≡ Some parts) ↔ HasParts text parts
 
--- a text that has parts means what they say
+-- a text that has parts means their value
 abbrev pub MeansItsParts : Type 0
 MeansItsParts = (text : List ℕ) (parts : Numeral) → HasParts text parts → number text ≡ in_range parts
 
--- a text is no number exactly where it has no parts
+-- reading a text returns BadNumber iff the text has no parts
 abbrev pub BadWithoutParts : Type 0
 BadWithoutParts = (text : List ℕ) → (number text ≡ Err BadNumber) ↔ ((parts : Numeral) → ¬ HasParts text parts)

@@ -1,4 +1,4 @@
--- What is written of a number is read as that number: the law, and the facts about its digits that crates above use.
+-- Reading the text of a number returns that number: the theorem, and the facts about its digits that other crates use.
 use Rattle.std.proofs.Common.{◌≡◌, ◌≢◌, ℕ, zero, suc, ◌+◌, ◌-◌, ◌*◌, ◌/◌, ◌%◌, ◌^◌, ◌<◌, ◌≤◌, Bool, true, false, not, ◌⊎◌, eqb, ltb, List, [], ◌∷◌, ◌++◌, length, Option, Some, Ok, refl, sym, ap, ◌∙◌, arith, rules, lit<, inl, inr}
 use Rattle.std.specs.Prelude.{ℤ, pos, negsuc, ◌+ℤ◌, ◌-ℤ◌, nat_abs}
 use Rattle.std.specs.Char.{is_ascii_digit}
@@ -59,7 +59,7 @@ are_digits_fraction (suc places) parts lt = elim (cases_eq parts 0) [
   | inr ne ↦ rw (ne_eqb parts 0 ne, digit_byte (parts / 10 ^ places) (top_digit places parts lt)) (are_digits_fraction places (parts % 10 ^ places) (mod_below parts (10 ^ places) (one-le-pow places 10 (lit< tt))))
 ]
 
--- digits behind a number n, filled up with zeros to so many places, are n and these parts
+-- the digits of n followed by these digits, filled up with zeros to that many digits, spell n and these parts
 record Fill (places parts n : ℕ) (ds : List ℕ) : Type 0 where
   short : length ds ≤ places
   value : spelled_onto n ds * 10 ^ (places - length ds) ≡ n * 10 ^ places + parts
@@ -93,7 +93,7 @@ fraction_fills (suc places) parts n lt = elim (cases_eq parts 0) [
 
 -- ---- the text is cut into its parts again
 
--- the digits before this end here
+-- the text is empty or begins with no digit, so the digits before it end there
 abbrev begins_no_digit : List ℕ → Bool
 begins_no_digit [] = true
 begins_no_digit (b ∷ rest) = not (is_ascii_digit b)
@@ -119,7 +119,7 @@ numeral_with negative whole fraction = record { negative = negative; whole = who
 some_digit : (ds : List ℕ) (n : ℕ) → 0 < length ds → eqb (length ds + n) 0 ≡ false
 some_digit ds n lt = ne_eqb (length ds + n) 0 (λ e. absurd (omega (arith, e)))
 
--- the parts of a text without its sign
+-- the parts of a text after its sign
 abbrev parts_of : Bool → List ℕ → Option Numeral
 parts_of negative text = numeral_from negative (leading_digits text) (reading.fraction_digits (after_digits text)) (power_of (reading.after_fraction (after_digits text)))
 
@@ -200,7 +200,7 @@ magnitude_is_spelled n most =
       value = rw start (fill.value ∙ omega arith);
     }
 
--- where the fraction is zero, no point is written
+-- if the fraction is zero, no point is written
 pub fraction_text-cases : (parts : ℕ) → ((fraction_text parts ≡ []) × (fraction_digits 6 parts ≡ [])) ⊎ (fraction_text parts ≡ 46 ∷ fraction_digits 6 parts)
 unfolding fraction_text
 fraction_text-cases parts = elim (cases_eq parts 0) [

@@ -10,11 +10,11 @@ use Rattle.wf_text.specs.Limit.{most_text_bytes}
 abbrev pub is_layout : ℕ → Bool
 is_layout c = c == 9 || c == 10 || c == 13
 
--- the character may stand in a text: no control character but TAB, LF and CR, no backslash, not U+FFFE or U+FFFF
+-- a text may contain the character: no control character but TAB, LF and CR, no backslash, not U+FFFE or U+FFFF
 abbrev pub is_text_character : ℕ → Bool
 is_text_character c = not (nat_lt c 32 && not (is_layout c)) && not (c == 92) && not (c == 0xFFFE) && not (c == 0xFFFF)
 
--- the text holds a `"` and a `'`, so neither can stand around it
+-- the text contains a `"` and a `'`, so it fits between neither
 abbrev pub has_both_quotes : List ℕ → Bool
 has_both_quotes bytes = list_any (λ b. b == 34) bytes && list_any (λ b. b == 39) bytes
 
@@ -25,7 +25,7 @@ is_text bytes = nat_le (length bytes) most_text_bytes && is_utf8 bytes && list_a
 abbrev pub IsText : List ℕ → Type 0
 IsText bytes = is_text bytes ≡ true
 
--- the fault is allocation failure, which says nothing of the bytes
+-- the error is allocation failure, which says nothing about the bytes
 abbrev pub is_memory : TextFault → Bool
 is_memory OutOfMemory = true
 is_memory TooLong = false
@@ -33,8 +33,8 @@ is_memory NotUtf8 = false
 is_memory ForbiddenCharacter = false
 is_memory BothQuotes = false
 
--- The bytes have the fault, and none of those that are judged before it: the length first, then UTF-8, then the characters, then the
--- quotes. Memory is wanted only for the copy of a text.
+-- The error is the first that applies to the bytes: length, then UTF-8, then characters, then quotes. Allocation fails only for a
+-- valid text, when it is copied.
 abbrev pub IsFirstFault : TextFault → List ℕ → Type 0
 IsFirstFault TooLong bytes = most_text_bytes < length bytes
 IsFirstFault NotUtf8 bytes = (length bytes ≤ most_text_bytes) × (is_utf8 bytes ≡ false)

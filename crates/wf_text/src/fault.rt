@@ -1,8 +1,8 @@
-//! Why a number or a text was rejected.
+//! Errors of numbers and texts.
 
 use thiserror::Error;
 
-/// Why a text is no coordinate.
+/// Why a text isn't a coordinate.
 #[derive(Clone, Copy, Debug, PartialEq, Eq, Error)]
 pub enum NumberFault {
     /// The text hasn't the form of a number.
@@ -13,10 +13,10 @@ pub enum NumberFault {
     OutOfRange,
 }
 
-/// Why bytes are no text of a map definition.
+/// Why bytes aren't a text of a map definition.
 #[derive(Clone, Copy, Debug, PartialEq, Eq, Error)]
 pub enum TextFault {
-    /// Memory ran out.
+    /// Allocation failed.
     #[error("out of memory")]
     OutOfMemory,
     /// More bytes than a text may have.

@@ -1,13 +1,13 @@
-//! Texts and numbers: what a word or a string of a mapfile may say, as values.
+//! The texts and numbers of a mapfile, as bounded values.
 //!
-//! A [`text::Text`] is UTF-8 of a bounded length that one kind of quote can stand around. A [`micro::Micro`] is a coordinate, a whole
-//! number of millionths of a unit; a [`whole::Whole`] is a whole number in a range; a [`number_text::NumberText`] is a coordinate's
-//! text. Contracts see a text and a number's text as their bytes, and a number as itself.
+//! A [`text::Text`] is UTF-8 of at most 1,000 bytes that fits between quotes of one kind. A [`micro::Micro`] is a coordinate, an
+//! integer number of millionths of a unit. A [`whole::Whole`] is an integer in a range. A [`number_text::NumberText`] is the text
+//! of a coordinate. Model: a `Text` and a `NumberText` are their bytes; a `Micro` and a `Whole` are their number.
 //!
-//! It promises that every value is within the limits of `specs/Limit.antt`, and each accessor says so. A text's number is read exactly
-//! as `specs/Number.antt` defines, without floating point and without memory, and a number is written in one way, that of
-//! `specs/NumberText.antt`, without memory too: what is written is read as that number again. Bytes are rejected as a text for the first
-//! of their faults. It says nothing of what a map holds (wf_def), nor of tokens (wf_token).
+//! Promises: every value is within the limits of `specs/Limit.antt`. A number is read exactly as `specs/Number.antt` defines and
+//! written exactly as `specs/NumberText.antt` defines, both without floating point and without allocating; reading what was
+//! written returns the same number. A rejected text returns its first error. Not here: what a map contains (wf_def) and tokens
+//! (wf_token).
 #![tactic(auto)]
 
 pub mod fault;

@@ -20,7 +20,7 @@ pub const MOST_POWER_DIGITS: usize = 3;
 /// The longest text that a coordinate is written as, in bytes: a `-`, nine digits, a point and six digits.
 pub const MOST_NUMBER_BYTES: usize = 17;
 
-/// Each constant is the number that the definitions name. A law: the call does nothing.
+/// Each constant is the number in the definitions. A theorem: the call does nothing.
 pub fn constants_are_the_limits()
     ensures text_bytes { MOST_TEXT_BYTES ≡ most_text_bytes }
     ensures millionths { MOST_MILLIONTHS ≡ most_millionths }

@@ -28,10 +28,9 @@ impl Model for Micro {
 }
 
 impl Micro {
-    /// Reads a number's text as a mapfile writes it: an optional sign, digits with an optional point among,
-    /// before or behind them, and an optional power of ten. What lies below a millionth is dropped. Another form is `BadNumber`.
-    /// More than 9 digits before the point, more than 25 behind it, or a magnitude over the limit is `OutOfRange`. It takes no
-    /// memory.
+    /// Reads a number as a mapfile writes it: an optional sign, digits with an optional point, and an optional power of ten.
+    /// Digits below a millionth are dropped. Another form is `BadNumber`. More than 9 digits before the point, more than 25 after
+    /// it, or a magnitude over the limit is `OutOfRange`. Doesn't allocate.
     #[tactic(auto, unfolding(crate::specs::Number::number))]
     pub fn read(text: &[u8]) -> Result<Self, NumberFault>
         ensures { result ≡ number text.now }
@@ -43,7 +42,7 @@ impl Micro {
         Ok(Micro { millionths })
     }
 
-    /// The coordinate of this many millionths, where the magnitude is within the limit.
+    /// The coordinate of that many millionths, if the magnitude is within the limit.
     pub fn from_millionths(millionths: i64) -> Option<Self>
         ensures within { IsSome result ↔ IsMicro millionths }
         ensures value { IfSome result (λ m. m ≡ millionths) }

@@ -28,7 +28,7 @@ impl<'a> Model for Numeral<'a> {
 }
 
 impl<'a> Numeral<'a> {
-    /// The parts of a text that has the form of a number.
+    /// The parts of a text that has the form of a number, else `None`.
     #[tactic(auto, unfolding(crate::specs::Number::numeral))]
     pub(crate) fn new(text: &'a [u8]) -> Option<Self>
         ensures { result ≡ numeral text.now }
@@ -38,7 +38,7 @@ impl<'a> Numeral<'a> {
         Numeral::from_parts(is_negative(text), whole, fraction, power_of(rest))
     }
 
-    /// The parts together, where there is a digit and a power.
+    /// The number of these parts, if there is at least one digit and the power is valid.
     fn from_parts(
         negative: bool,
         whole: &'a [u8],
@@ -81,7 +81,7 @@ fn after_sign(text: &[u8]) -> &[u8]
     }
 }
 
-/// How many digits the text begins with.
+/// The number of digits that the text begins with.
 fn count_digits(text: &[u8]) -> usize
     ensures value { result ≡ prefix_len is_ascii_digit text.now }
     ensures within { result ≤ length text.now }
@@ -89,7 +89,7 @@ fn count_digits(text: &[u8]) -> usize
     text.iter().take_while(|byte| byte.is_ascii_digit()).count()
 }
 
-/// The digits that the text begins with, and what follows them.
+/// The digits that the text begins with, and the rest.
 fn split_digits(text: &[u8]) -> (&[u8], &[u8])
     ensures digits { result.0.now ≡ leading_digits text.now }
     ensures rest { result.1.now ≡ after_digits text.now }
@@ -104,7 +104,7 @@ fn is_point(byte: u8) -> bool
     byte == b'.'
 }
 
-/// The digits behind a point, if the text begins with one, and what follows them.
+/// The digits after a point, if the text begins with one, and the rest.
 fn split_fraction(text: &[u8]) -> (&[u8], &[u8])
     ensures digits { result.0.now ≡ fraction_digits text.now }
     ensures rest { result.1.now ≡ after_fraction text.now }
@@ -132,7 +132,7 @@ fn power_of(text: &[u8]) -> Option<i16>
     }
 }
 
-/// One to three digits behind an optional sign.
+/// One to three digits after an optional sign.
 fn signed_power(text: &[u8]) -> Option<i16>
     ensures { result ≡ signed_power text.now }
 {
@@ -156,7 +156,7 @@ fn are_digits(text: &[u8]) -> bool
     text.iter().all(|byte| byte.is_ascii_digit())
 }
 
-/// What the digits spell behind a value.
+/// The value that the digits spell, appended to the digits of a value.
 fn spelled_onto(value: u128, digits: &[u8]) -> u128
     requires { (value + 23) * 10 ^ length digits.now ≤ 2 ^ 128 }
     ensures value { result ≡ spelled_onto value digits.now }
@@ -178,7 +178,7 @@ fn small_value(digits: &[u8]) -> i16
     spelled_onto(0, digits) as i16
 }
 
-/// The value times ten as often as said, or the first number over the limit where that is less.
+/// The value times 10 ^ `times`, or the first number over the limit if that is less.
 fn raised(value: u128, times: u32) -> u64
     ensures { result ≡ min (value * 10 ^ times) (most_millionths + 1) }
 {
@@ -189,7 +189,7 @@ fn raised(value: u128, times: u32) -> u64
     raised
 }
 
-/// The value divided by ten as often as said, or the first number over the limit where that is less.
+/// The value divided by 10 ^ `times`, or the first number over the limit if that is less.
 fn lowered(value: u128, times: u32) -> u64
     ensures { result ≡ min (value / 10 ^ times) (most_millionths + 1) }
 {
@@ -200,7 +200,7 @@ fn lowered(value: u128, times: u32) -> u64
     lowered.min(u128::from(MOST_MILLIONTHS) + 1) as u64
 }
 
-/// The value times a power of ten, or the first number over the limit where that is less.
+/// The value times a power of ten, or the first number over the limit if that is less.
 #[tactic(auto, unfolding(crate::specs::Number::scaled))]
 fn scaled(value: u128, power: i32) -> u64
     ensures { result ≡ min (scaled value power) (most_millionths + 1) }
@@ -219,7 +219,7 @@ impl<'a> Numeral<'a> {
         self.whole.len() > MOST_WHOLE_DIGITS || self.fraction.len() > MOST_FRACTION_DIGITS
     }
 
-    /// The magnitude in millionths, or the first number over the limit where that is less.
+    /// The magnitude in millionths, or the first number over the limit if that is less.
     fn capped_magnitude(&self) -> u64
         requires whole { length self.now.whole ≤ most_whole_digits }
         requires fraction { length self.now.fraction ≤ most_fraction_digits }
@@ -246,7 +246,7 @@ impl<'a> Numeral<'a> {
     }
 }
 
-/// What the digits before and behind the point spell together.
+/// The value that the digits before and after the point spell together.
 fn all_digits(whole: &[u8], fraction: &[u8]) -> u128
     requires whole { length whole.now ≤ most_whole_digits }
     requires fraction { length fraction.now ≤ most_fraction_digits }
@@ -255,7 +255,7 @@ fn all_digits(whole: &[u8], fraction: &[u8]) -> u128
     spelled_onto(spelled_onto(0, whole), fraction)
 }
 
-/// The power of ten that makes millionths of all digits.
+/// The power of ten that turns all digits, read as one integer, into millionths.
 fn places(power: i16, fraction: &[u8]) -> i32
     requires { length fraction.now ≤ most_fraction_digits }
     ensures { result ≡ pos 6 +ℤ power -ℤ pos (length fraction.now) }

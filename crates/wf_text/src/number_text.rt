@@ -13,14 +13,14 @@ use itoa::Buffer;
 use std::alloc::AllocError;
 use std::marker::Model;
 
-/// How many millionths a unit has.
+/// The number of millionths in a unit.
 const UNIT: u64 = 1_000_000;
 
-/// How many digits a fraction in millionths has.
+/// The number of digits of a fraction in millionths.
 const FRACTION_DIGITS: u32 = 6;
 
-/// The canonical text of a number of millionths: `-` where it is negative, no leading zeros, and a fraction without trailing zeros only
-/// where it isn't zero. It allocates nothing.
+/// The canonical text of a coordinate: `-` if it is negative, no leading zeros, a fraction only if it isn't zero, and no trailing
+/// zeros in it. Doesn't allocate.
 #[derive(Drop)]
 pub struct NumberText {
     bytes: ArrayVec<u8, MOST_NUMBER_BYTES>,
@@ -39,7 +39,7 @@ impl NumberText {
     pub fn of(number: Micro) -> Self
         ensures { result ≡ number_text number }
     {
-        // A coordinate is within its limit, so its text is.
+        // A coordinate is within its limit, so its text is within the length.
         let _ = number.millionths();
         let mut bytes: ArrayVec<u8, MOST_NUMBER_BYTES> = ArrayVec::new();
         push_number(&mut bytes, number);
@@ -55,7 +55,7 @@ impl NumberText {
     }
 }
 
-/// Writes the canonical text of a number of millionths at the end, or nothing where memory runs out.
+/// Appends the canonical text of a number, or leaves `out` as it was if allocation fails.
 pub fn write_number(number: Micro, out: &mut Vec<u8>) -> Result<(), AllocError>
     ensures ok { OnOk result (out.new.items ≡ out.old.items ++ number_text number) }
     ensures err { OnErr result (out.new.items ≡ out.old.items) }
@@ -64,21 +64,21 @@ pub fn write_number(number: Micro, out: &mut Vec<u8>) -> Result<(), AllocError>
     out.extend_from_slice(text.as_bytes())
 }
 
-/// Adds the bytes, where there is room for them.
+/// Appends the bytes if there is room for them.
 fn extend(out: &mut ArrayVec<u8, MOST_NUMBER_BYTES>, bytes: &[u8])
     ensures { length out.old.items + length bytes.now ≤ most_number_bytes → out.new.items ≡ out.old.items ++ bytes.now }
 {
     let _ = out.try_extend_from_slice(bytes);
 }
 
-/// Writes a piece of a number's text behind what is there.
+/// Appends a piece of a number's text.
 fn push(out: &mut ArrayVec<u8, MOST_NUMBER_BYTES>, bytes: &[u8])
     ensures { Writes out.old.items bytes.now out.new.items }
 {
     extend(out, bytes);
 }
 
-/// Writes a whole number.
+/// Writes an integer.
 fn push_whole(out: &mut ArrayVec<u8, MOST_NUMBER_BYTES>, whole: u64)
     ensures { Writes out.old.items (decimal whole) out.new.items }
 {
@@ -122,7 +122,7 @@ fn push_magnitude(out: &mut ArrayVec<u8, MOST_NUMBER_BYTES>, millionths: u64)
     push_fraction(out, millionths % UNIT);
 }
 
-/// Writes a number below zero, whose magnitude in millionths is given.
+/// Writes a negative number, given its magnitude in millionths.
 fn push_negative(out: &mut ArrayVec<u8, MOST_NUMBER_BYTES>, millionths: u64)
     ensures { Writes out.old.items (45 ∷ magnitude_text millionths) out.new.items }
 {

@@ -14,13 +14,13 @@ use std::alloc::{AllocError, Global};
 use std::hash::{Hash, Hasher};
 use std::marker::Model;
 
-/// A text of a map definition: UTF-8 of at most 1,000 bytes, without backslash, without control characters other than TAB, LF and
-/// CR, without U+FFFE and U+FFFF, and not with both kinds of quote.
+/// A text of a map definition: UTF-8 of at most 1,000 bytes, without backslash, U+FFFE, U+FFFF or control characters other than
+/// TAB, LF and CR, and not with both kinds of quote.
 pub struct Text {
     text: String,
 }
 
-// By hand: a crate above proves one call where it drops a text, and not its string's letting go anew.
+// Written by hand: callers then prove one call where they drop a text, not the release of its string.
 impl Drop for Text {
     fn drop(self) {
         let Text { text } = self;
@@ -40,8 +40,8 @@ impl Model for Text {
 }
 
 impl Text {
-    /// The text of these bytes. A rejection names the first of the faults that the bytes have: too long, not UTF-8, a character that no
-    /// text may hold, both kinds of quote. `OutOfMemory` comes only where the bytes are a text, whose copy found no memory.
+    /// The text of these bytes. An error is the first that applies: too long, not UTF-8, a forbidden character, both kinds of
+    /// quote. `OutOfMemory` is returned only if the bytes are a text and copying them fails.
     pub fn new(alloc: Global, bytes: &[u8]) -> Result<Self, TextFault>
         ensures value { IfOk result (λ text. text ≡ bytes.now) }
         ensures within { IfOk result IsText }
@@ -55,7 +55,7 @@ impl Text {
         }
     }
 
-    /// A copy of what is known to be a text.
+    /// A copy of a `str` that is a text.
     pub fn from_str(alloc: Global, text: &str) -> Result<Self, AllocError>
         requires { IsText text.now }
         ensures { IfOk result (λ copy. copy ≡ text.now) }
@@ -82,7 +82,7 @@ impl Text {
     }
 }
 
-/// Whether the character may stand in a text, whatever else the text holds.
+/// Whether a text may contain the character.
 pub fn is_text_character(c: char) -> bool
     ensures { result ≡ is_text_character c }
 {
@@ -96,8 +96,8 @@ fn is_layout(c: char) -> bool
     c == '\t' || c == '\n' || c == '\r'
 }
 
-/// The bytes as a `str`, where they are a text. A rejection names the first of the faults that the bytes have, in the order of
-/// [`TextFault`]; it is never `OutOfMemory`, since nothing is copied.
+/// The bytes as a `str`, if they are a text. An error is the first that applies, in the order of [`TextFault`]; it is never
+/// `OutOfMemory`, since nothing is copied.
 #[tactic(auto, unfolding(crate::specs::Text::is_text))]
 pub fn checked(bytes: &[u8]) -> Result<&str, TextFault>
     ensures value { IfOk result (λ text. text.now ≡ bytes.now) }
@@ -118,7 +118,7 @@ pub fn checked(bytes: &[u8]) -> Result<&str, TextFault>
     Ok(text)
 }
 
-/// The bytes as a `str`, where they are UTF-8.
+/// The bytes as a `str`, if they are UTF-8.
 fn utf8(bytes: &[u8]) -> Result<&str, TextFault>
     ensures ok { IfOk result (λ text. (text.now ≡ bytes.now) × (is_utf8 bytes.now ≡ true)) }
     ensures err { IfErr result (λ fault. (fault ≡ NotUtf8) × (is_utf8 bytes.now ≡ false)) }
@@ -129,7 +129,7 @@ fn utf8(bytes: &[u8]) -> Result<&str, TextFault>
     }
 }
 
-/// Whether each character may stand in a text.
+/// Whether a text may contain each character.
 fn all_may_stand(text: &str) -> bool
     ensures { result ≡ list_all is_text_character (chars text.now) }
 {

@@ -1,11 +1,11 @@
-//! Whole numbers in a range.
+//! Integers in a range.
 ghost use Rattle.std.specs.Prelude.{◌≡◌, ◌↔◌, ◌≤◌, IsSome, IfSome};
 ghost use Rattle.wf_text.specs.Whole.{whole_between};
 
 use crate::micro::Micro;
 use std::marker::Model;
 
-/// A whole number from `LEAST` to `MOST`.
+/// An integer from `LEAST` to `MOST`.
 #[derive(Clone, Copy, PartialEq, Eq)]
 pub struct Whole<const LEAST: u8, const MOST: u8> {
     number: u8,
@@ -24,7 +24,7 @@ impl<const LEAST: u8, const MOST: u8> Model for Whole<LEAST, MOST> {
 }
 
 impl<const LEAST: u8, const MOST: u8> Whole<LEAST, MOST> {
-    /// The number, where it is in the range.
+    /// The number, if it is in the range.
     pub fn new(number: u8) -> Option<Self>
         ensures within { IsSome result ↔ ((LEAST ≤ number) × (number ≤ MOST)) }
         ensures value { IfSome result (λ whole. whole ≡ number) }
@@ -36,7 +36,7 @@ impl<const LEAST: u8, const MOST: u8> Whole<LEAST, MOST> {
         }
     }
 
-    /// The whole number of a coordinate's units, where it is one in the range.
+    /// The coordinate's number of units, if it is an integer in the range.
     #[tactic(auto, unfolding(crate::specs::Whole::whole_between))]
     pub fn from_micro(number: Micro) -> Option<Self>
         ensures { result ≡ whole_between LEAST MOST number }

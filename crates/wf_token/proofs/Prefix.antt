@@ -3,7 +3,7 @@ use Rattle.std.proofs.Common.{◌≡◌, ◌+◌, suc, Bool, true, false, List, 
 use Rattle.std.specs.List.{list_all, prefix_len}
 use Rattle.wf_token.specs.Lexeme.{begins}
 
--- what stands before the first element that fails a test passes it
+-- the elements before the first that fails a test pass it
 front_passes_by : {X : Type 0} (passes : Bool) (test : X → Bool) (x : X) (xs : List X) → test x ≡ passes → list_all test (take (prefix_len test xs) xs) ≡ true → list_all test (take (prefix_len test (x ∷ xs)) (x ∷ xs)) ≡ true
 front_passes_by true test x xs passes rest =
     let counted : 1 + prefix_len test xs ≡ suc (prefix_len test xs) = omega arith in
@@ -14,7 +14,7 @@ pub front_passes : {X : Type 0} (test : X → Bool) (xs : List X) → list_all t
 front_passes test [] = refl
 front_passes test (x ∷ xs) = front_passes_by (test x) test x xs refl (front_passes test xs)
 
--- and where anything follows, its first element fails it
+-- the first element of the rest, if there is one, fails the test
 back_fails_by : {X : Type 0} (passes : Bool) (test : X → Bool) (x : X) (xs : List X) → test x ≡ passes → begins test (drop (prefix_len test xs) xs) ≡ false → begins test (drop (prefix_len test (x ∷ xs)) (x ∷ xs)) ≡ false
 back_fails_by true test x xs passes rest =
     let counted : 1 + prefix_len test xs ≡ suc (prefix_len test xs) = omega arith in

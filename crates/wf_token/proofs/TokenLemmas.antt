@@ -1,4 +1,4 @@
--- What the automaton does with a whole word, string or comment, and with what stands behind it.
+-- What the automaton does with a whole word, string or comment, and with what follows it.
 use Rattle.std.proofs.Common.{◌≡◌, ℕ, Bool, true, false, cond, ◌&&◌, List, [], ◌∷◌, ◌++◌, refl, sym, ◌∙◌, ap, append_assoc, arith, ◌<◌, take, drop, length}
 use Rattle.std.specs.Prelude.{Option, Some, None, ◌==◌}
 use Rattle.std.specs.List.{list_all, prefix_len}
@@ -44,7 +44,7 @@ slash-is-plain : (b : ℕ) → is_slash b ≡ true → is_plain b ≡ true
 unfolding is_plain is_slash is_quote is_hash
 slash-is-plain b slash = grind (arith, nat_tests)
 
--- where a token may begin
+-- between tokens
 
 pub between-empty : (bs : List ℕ) → length bs ≡ 0 → tokens_from Between bs ≡ Some []
 unfolding tokens_from at_end
@@ -71,7 +71,7 @@ pub between-comment : (b c : ℕ) (bs : List ℕ) → is_slash b ≡ true → is
 unfolding tokens_from step
 between-comment b c bs slash star = rw (between-plain b (slash-is-plain b slash), slash, star)
 
--- a `/` that no `*` follows is a word's first byte
+-- a `/` that isn't followed by `*` is a word's first byte
 behind-slash : (b : ℕ) (bs : List ℕ) → is_slash b ≡ true → begins is_star bs ≡ false → tokens_from BehindSlash bs ≡ tokens_from (InWord (b ∷ [])) bs
 unfolding tokens_from step at_end is_slash
 behind-slash b [] slash star = rw (eqb-true b 47 slash)
@@ -115,7 +115,7 @@ unfolding tokens_from step step_in_word ends_word
 word-refused w [] stops ends = absurd (cc)
 word-refused w (b ∷ rest) stops ends = grind arith
 
--- a word's bytes are cut off at the first that is none
+-- a word's bytes end at the first byte that isn't one of a word
 pub word-cut : (bs : List ℕ) → tokens_from (InWord []) bs ≡ tokens_from (InWord (take (prefix_len is_plain bs) bs)) (drop (prefix_len is_plain bs) bs)
 word-cut bs =
     let n = prefix_len is_plain bs in
@@ -124,7 +124,7 @@ word-cut bs =
 pub word-stops : (bs : List ℕ) → begins is_plain (drop (prefix_len is_plain bs) bs) ≡ false
 word-stops bs = back_fails is_plain bs
 
--- a word has a byte
+-- a word has at least one byte
 pub word-shortens : (bs : List ℕ) → begins is_plain bs ≡ true → 0 < prefix_len is_plain bs
 word-shortens [] front = absurd (cc)
 word-shortens (b ∷ bs) front = rw front (omega arith)
@@ -156,7 +156,7 @@ pub string-open : (q : ℕ) (s : List ℕ) → tokens_from (InString q s) [] ≡
 unfolding tokens_from at_end
 string-open q s = refl
 
--- a string's bytes are cut off at its quote
+-- a string's bytes end at its quote
 pub string-cut : (q : ℕ) (bs : List ℕ) → tokens_from (InString q []) bs ≡ tokens_from (InString q (take (prefix_len (goes_on q) bs) bs)) (drop (prefix_len (goes_on q) bs) bs)
 string-cut q bs =
     let n = prefix_len (goes_on q) bs in
@@ -165,11 +165,11 @@ string-cut q bs =
 pub string-stops : (q : ℕ) (bs : List ℕ) → begins (goes_on q) (drop (prefix_len (goes_on q) bs) bs) ≡ false
 string-stops q bs = back_fails (goes_on q) bs
 
--- where a string's bytes stop, its quote stands
+-- the byte that ends a string's bytes is its quote
 quote-stands : (q b : ℕ) (bs : List ℕ) → begins (goes_on q) (b ∷ bs) ≡ false → b ≡ q
 quote-stands q b bs stops = grind (arith, nat_tests)
 
--- a string whose bytes are cut off before `rest`, by what they are
+-- a string whose bytes end before `rest`, by what they are
 pub string-closes-at : (q : ℕ) (s rest : List ℕ) (b : ℕ) (after : List ℕ) → rest ≡ b ∷ after → begins (goes_on q) rest ≡ false → is_text s ≡ true → tokens_from (InString q s) rest ≡ prepend (Quoted s) (tokens_from Between after)
 string-closes-at q s rest b after e stops may =
     rw e (rw (quote-stands q b after (rw e at stops)) (string-closes q s after may))
@@ -197,7 +197,7 @@ pub block-closes : (b c : ℕ) (bs : List ℕ) → is_star b ≡ true → is_sla
 unfolding tokens_from step
 block-closes b c bs star slash = rw (star, slash)
 
--- a `*` that no `/` follows is like any byte of the comment
+-- a `*` that isn't followed by `/` is like any other byte of the comment
 behind-star : (bs : List ℕ) → begins is_slash bs ≡ false → tokens_from BehindStar bs ≡ tokens_from BlockComment bs
 unfolding tokens_from step at_end
 behind-star [] other = refl
@@ -228,7 +228,7 @@ prepend_all-push xs x o = rw (map-append token_value xs (x ∷ [])) (prepend_all
 pub prepend_all-end : (xs : List Token) → prepend_all xs (Some []) ≡ Some xs
 prepend_all-end xs = prepend_all-some xs [] ∙ ap (λ (ts : List Token). Some ts) (append-nil xs)
 
--- what the lexer's functions use
+-- lemmas for the lexer's functions
 
 pub empty : (bs : List ℕ) → length bs ≡ 0 → bs ≡ []
 empty [] none = refl

@@ -1,4 +1,4 @@
--- What the lexer's steps say of a text: words for their contracts. The tokens of a text are defined in `Token`.
+-- What the lexer's steps return: definitions for their contracts. The tokens of a text are defined in `Token`.
 use Rattle.std.specs.Prelude.{ℕ, ◌<◌, ◌≤◌, Bool, true, false, not, ◌&&◌, ◌||◌, ◌==◌, List, [], ◌∷◌, length, Option, Some, None, ⊤}
 use Rattle.wf_token.specs.declared.lexeme.Lexeme.{Lexeme}
 use Rattle.wf_token.specs.declared.lexeme.Lexeme.TheVariants.{Gap, Found, End, Fault}
@@ -11,7 +11,7 @@ tokens_by (Found kind text after) = prepend (value_of_kind kind text.now) (token
 tokens_by End = Some []
 tokens_by (Fault kind at) = None
 
--- what is left is shorter than n bytes; a fault stands within n bytes of the end
+-- the rest is shorter than n bytes; an error is within n bytes of the end
 abbrev pub IsWithin : ℕ → Lexeme → Type 0
 IsWithin n (Gap after) = length after.now < n
 IsWithin n (Found kind text after) = length after.now < n
@@ -28,11 +28,11 @@ unfoldable pub opens_comment : List ℕ → Bool
 opens_comment [] = false
 opens_comment (b ∷ bs) = is_slash b && begins is_star bs
 
--- whether a word may end before this: at the end, or at white space, `#` or a quote
+-- whether a word may end here: at the end, or before white space, `#` or a quote
 unfoldable pub ends_word : List ℕ → Bool
 ends_word [] = true
 ends_word (b ∷ bs) = is_white b || is_hash b || is_quote b
 
--- whether a string in this quote goes on over a byte
+-- whether a byte is inside a string in this quote: it isn't the quote
 abbrev pub goes_on : ℕ → ℕ → Bool
 goes_on q b = not (b == q)

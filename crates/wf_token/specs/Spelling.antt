@@ -11,19 +11,19 @@ use Rattle.wf_token.specs.Token.{Token, Word, Quoted, Between, is_plain, is_slas
 
 -- ---- spelling
 
--- the quote around a text: `"`, or `'` where the text holds `"`
+-- the quote around a text: `"`, or `'` if the text contains `"`
 abbrev pub quote_for : List ℕ → ℕ
 quote_for text = if list_any (λ b. b == 34) text then 39 else 34
 
 abbrev pub quoted : List ℕ → List ℕ
 quoted text = quote_for text ∷ text ++ quote_for text ∷ []
 
--- a word as it is, a text in its quotes
+-- a word unchanged, a text in its quotes
 abbrev pub spelled : Token → List ℕ
 spelled (Word word) = word
 spelled (Quoted text) = quoted text
 
--- tokens with single spaces between them, and LF
+-- tokens separated by single spaces, followed by LF
 unfoldable pub line : List Token → List ℕ
 line [] = 10 ∷ []
 line (token ∷ []) = spelled token ++ 10 ∷ []
@@ -39,12 +39,12 @@ tokens_of lines = flat_map (λ tokens. tokens) lines
 
 -- ---- what may be spelled
 
--- a word that may be written: bytes of words, at least one, and no `/` at its front
+-- a word that may be written: bytes of words, at least one, and the first isn't `/`
 abbrev pub is_word : List ℕ → Bool
 is_word [] = false
 is_word (b ∷ bs) = not (is_slash b) && is_plain b && list_all is_plain bs
 
--- no byte of a text is its quote
+-- no byte of a text is this quote
 abbrev pub lacks : ℕ → List ℕ → Bool
 lacks q text = list_all (λ b. not (b == q)) text
 
@@ -53,16 +53,16 @@ abbrev pub is_written : Token → Bool
 is_written (Word w) = is_word w
 is_written (Quoted text) = is_text text && lacks (quote_for text) text
 
--- every token of every line is one
+-- every token of every line is read back as that token
 abbrev pub are_written : List (List Token) → Bool
 are_written lines = list_all (list_all is_written) lines
 
--- a digit or `-` is at the front, as of a number that is written
+-- a digit or `-` is at the front, as of the text of a number
 abbrev pub begins_like_number : List ℕ → Bool
 begins_like_number [] = false
 begins_like_number (b ∷ bs) = is_ascii_digit b || b == 45
 
--- ---- laws
+-- ---- theorems
 
 abbrev pub LinesAreReadAgain : Type 0
 LinesAreReadAgain = (lines : List (List Token)) → are_written lines ≡ true → tokens_from Between (text_of lines) ≡ Some (tokens_of lines)

@@ -1,4 +1,4 @@
--- The tokens of spelled lines are the tokens that were spelled, whatever follows.
+-- The tokens of spelled lines are the tokens that were spelled, whatever follows the lines.
 use Rattle.std.proofs.Common.{◌≡◌, ℕ, true, false, not, ◌&&◌, cond, eqb, List, [], ◌∷◌, ◌++◌, Option, Some, refl, sym, ap, ◌∙◌, subst, append_assoc, arith}
 use Rattle.std.specs.List.{flat_map, list_any, list_all}
 use Rattle.std.proofs.lemmas.Bool.Decides.{nat_tests}
@@ -8,7 +8,7 @@ use Rattle.wf_token.specs.Token.{Token, Word, Quoted, Between, InWord, InString,
 use Rattle.wf_text.specs.Booleans.{and_left, and_right, not_true}
 use Rattle.wf_token.specs.Spelling.{quote_for, spelled, line, is_word, lacks, is_written, are_written, tokens_of}
 
--- a byte that ends a word: the space or the LF behind each token
+-- a byte that ends a word: the space or the LF after each token
 pub record IsGap (b : ℕ) : Type 0 where
   pub plain : is_plain b ≡ false
   pub white : is_white b ≡ true
@@ -21,7 +21,7 @@ pub line_gap : IsGap 10
 unfolding is_plain is_white
 line_gap = record { plain = refl; white = refl }
 
--- a byte of a word is none that begins something else
+-- a byte of a word doesn't begin anything else
 plain_not_white : (b : ℕ) → is_plain b ≡ true → is_white b ≡ false
 unfolding is_plain is_white
 plain_not_white b e = grind (arith, nat_tests)

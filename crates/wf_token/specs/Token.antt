@@ -1,5 +1,5 @@
--- The tokens of a mapfile (MapServer mapfile reference: words, strings in either quote, comments), by an
--- automaton that reads the text byte by byte.
+-- The tokens of a mapfile (MapServer mapfile reference: words, strings in either quote, comments), by an automaton that reads the
+-- text byte by byte.
 use Rattle.std.specs.Prelude.{ℕ, Bool, not, ◌&&◌, ◌||◌, ◌==◌, nat_lt, if◌then◌else◌, List, [], ◌∷◌, ◌++◌, drop, nat_eq, Option, Some, None, map}
 use Rattle.std.specs.List.{starts_with}
 use Rattle.wf_text.specs.Text.{is_text}
@@ -7,7 +7,7 @@ use Rattle.wf_token.specs.declared.token.Token.{Token as LexedToken}
 use Rattle.wf_token.specs.declared.token.TokenKind.{TokenKind}
 use Rattle.wf_token.specs.declared.token.TokenKind.TheVariants.{Word as WordKind, Quoted as QuotedKind}
 
--- what the grammar sees: a word, or what stands between two quotes
+-- what the grammar sees: a word, or the text between two quotes
 pub data Token : Type 0 where
   Word : List ℕ → Token
   Quoted : List ℕ → Token
@@ -28,7 +28,7 @@ is_hash b = b == 35
 unfoldable pub ends_line : ℕ → Bool
 ends_line b = b == 10
 
--- `/` and `*`, the marks of the other kind of comment
+-- `/` and `*`, the marks of a block comment
 unfoldable pub is_slash : ℕ → Bool
 is_slash b = b == 47
 
@@ -41,28 +41,28 @@ is_plain b =
     nat_lt 32 b && nat_lt b 127 &&
     not (is_quote b || is_hash b || b == 92 || b == 40 || b == 41 || b == 91 || b == 93 || b == 123 || b == 125)
 
--- where the automaton is in the text
+-- the state of the automaton
 pub data Place : Type 0 where
-  -- a token may begin here
+  -- between tokens, where one may begin
   Between : Place
-  -- behind a `/` at which a token may begin: a comment's mark, or a word's first byte
+  -- after a `/` between tokens: it begins a comment, or is a word's first byte
   BehindSlash : Place
   LineComment : Place
   BlockComment : Place
-  -- behind a `*` in a block comment
+  -- after a `*` in a block comment
   BehindStar : Place
-  -- in a word, behind these bytes of it
+  -- in a word, after these bytes of it
   InWord : List ℕ → Place
-  -- in a string in this quote, behind these bytes of it
+  -- in a string in this quote, after these bytes of it
   InString : ℕ → List ℕ → Place
 
--- what one byte does: it goes to a place, it ends a token and goes to a place, or the text has no tokens
+-- the effect of one byte: a new state, the end of a token and a new state, or the text has no tokens
 pub data Step : Type 0 where
   Goes : Place → Step
   Ends : Token → Place → Step
   Refuses : Step
 
--- where a token may begin
+-- the step between tokens
 unfoldable pub step_between : ℕ → Step
 step_between b =
     if is_white b then Goes Between else
@@ -71,7 +71,7 @@ step_between b =
     if is_slash b then Goes BehindSlash else
     if is_plain b then Goes (InWord (b ∷ [])) else Refuses
 
--- a word ends before white space, `#` or a quote, which then count as where a token may begin
+-- a word ends before white space, `#` or a quote; that byte then counts as one between tokens
 unfoldable pub step_in_word : List ℕ → ℕ → Step
 step_in_word w b =
     if is_plain b then Goes (InWord (w ++ b ∷ [])) else
@@ -79,7 +79,7 @@ step_in_word w b =
     if is_hash b then Ends (Word w) LineComment else
     if is_quote b then Ends (Word w) (InString b []) else Refuses
 
--- a string ends at the next quote of its kind, and holds what a text may hold
+-- a string ends at the next quote of its kind, and its bytes are a valid text
 unfoldable pub step_in_string : ℕ → List ℕ → ℕ → Step
 step_in_string q s b =
     if b == q
@@ -106,12 +106,12 @@ at_end BehindStar = None
 at_end (InWord w) = Some (Word w ∷ [])
 at_end (InString q s) = None
 
--- a token before those of the rest, where the rest has tokens
+-- a token followed by those of the rest, if the rest has tokens
 abbrev pub prepend : Token → Option (List Token) → Option (List Token)
 prepend t None = None
 prepend t (Some ts) = Some (t ∷ ts)
 
--- tokens before those of the rest, where the rest has tokens
+-- tokens followed by those of the rest, if the rest has tokens
 abbrev pub prepend_all : List Token → Option (List Token) → Option (List Token)
 prepend_all [] rest = rest
 prepend_all (t ∷ ts) rest = prepend t (prepend_all ts rest)
@@ -121,21 +121,21 @@ follow (Goes p) rest = rest p
 follow (Ends t p) rest = prepend t (rest p)
 follow Refuses rest = None
 
--- the tokens of what is left of a text, at a place
+-- the tokens of the rest of a text, from a state
 unfoldable pub tokens_from : Place → List ℕ → Option (List Token)
 tokens_from p [] = at_end p
 tokens_from p (b ∷ bs) = follow (step p b) (λ q. tokens_from q bs)
 
--- a text without the byte order mark at its front
+-- the text without a leading byte order mark
 unfoldable pub without_mark : List ℕ → List ℕ
 without_mark bs = if starts_with nat_eq bs (239 ∷ 187 ∷ 191 ∷ []) then drop 3 bs else bs
 
--- the tokens of a whole text: none where a byte stands that no token may hold, a string isn't a text, or a
--- quote or a block comment stays open
+-- the tokens of a whole text: none if it contains a byte that no token may hold, a string that isn't a valid text, or a string or
+-- block comment that doesn't end
 unfoldable pub tokens : List ℕ → Option (List Token)
 tokens bs = tokens_from Between (without_mark bs)
 
--- the value of one of the lexer's tokens: its kind and its bytes, without its place
+-- the value of a token of the lexer: its kind and its bytes, without its byte offset
 abbrev pub value_of_kind : TokenKind → List ℕ → Token
 value_of_kind WordKind bytes = Word bytes
 value_of_kind QuotedKind bytes = Quoted bytes

@@ -75,7 +75,7 @@ number_word_is (negsuc n) most =
 pub number_is_word : (m : ℤ) → IsMicro m → is_word (number_text m) ≡ true
 number_is_word m h = (number_word_is m h).0
 
--- and so are the digits of a whole number
+-- the digits of an integer are a word
 pub decimal_is_word : (n : ℕ) → n < 2 ^ 64 → is_word (decimal n) ≡ true
 decimal_is_word n fits =
     rw (← append-nil (decimal n)) (digits_word (decimal n) [] (are_digits_decimal n fits) (decimal_nonempty n fits) refl).0

@@ -67,7 +67,7 @@ fn is_plain(byte: u8) -> bool
     }
 }
 
-/// How many bytes at the front are a word's.
+/// The number of bytes of the word at the front.
 fn word_length(bytes: &[u8]) -> usize
     ensures length { result ≡ prefix_len is_plain bytes.now }
     ensures within { result ≤ length bytes.now }
@@ -75,7 +75,7 @@ fn word_length(bytes: &[u8]) -> usize
     bytes.iter().take_while(|byte| is_plain(**byte)).count()
 }
 
-/// How many bytes stand before the next quote of this kind, or in all where none does.
+/// The number of bytes before the next quote of this kind, or of all bytes if there is none.
 fn string_length(bytes: &[u8], quote: u8) -> usize
     ensures length { result ≡ prefix_len (goes_on quote) bytes.now }
     ensures within { result ≤ length bytes.now }
@@ -94,7 +94,7 @@ fn ends_word(bytes: &[u8]) -> bool
     }
 }
 
-/// What follows the rest of a line, of which these bytes are the rest.
+/// What follows the line that these bytes continue.
 #[tactic(auto, using(crate::proofs::TokenLemmas::line_steps))]
 fn after_line(bytes: &[u8]) -> &[u8]
     ensures tokens { tokens_from Between result.now ≡ tokens_from LineComment bytes.now }
@@ -121,7 +121,7 @@ fn after_slash(bytes: &[u8]) -> Option<&[u8]>
     }
 }
 
-/// What follows a block comment, of which these bytes are the rest, if it ends.
+/// What follows the block comment that these bytes continue, if it ends.
 #[tactic(auto, using(crate::proofs::TokenLemmas::block_steps))]
 fn after_comment(bytes: &[u8]) -> Option<&[u8]>
     ensures closed { IfSome result (λ after. tokens_from Between after.now ≡ tokens_from BlockComment bytes.now) }
@@ -140,7 +140,7 @@ fn after_comment(bytes: &[u8]) -> Option<&[u8]>
     None
 }
 
-/// The word at the front, which begins with a byte of a word.
+/// The word at the front; the first byte is one of a word.
 #[tactic(auto, using(crate::proofs::TokenLemmas::word_steps))]
 fn word(bytes: &[u8]) -> Lexeme<'_>
     requires { begins is_plain bytes.now ≡ true }
@@ -169,7 +169,7 @@ fn is_text(bytes: &[u8]) -> bool
     checked(bytes).is_ok()
 }
 
-/// Where the first character stands that no text may hold, in bytes from the front.
+/// The byte offset of the first character that no text may hold.
 fn first_forbidden(text: &[u8]) -> Option<usize>
     ensures { IfSome result (λ offset. offset < length text.now) }
 {
@@ -182,8 +182,8 @@ fn first_forbidden(text: &[u8]) -> Option<usize>
     None
 }
 
-/// Why a string that begins at `opening` is rejected, whose bytes are the first `count` of `inside`: for the first character
-/// that no text may hold, for its length, or since it stays open.
+/// The error of a string that begins at `opening`, whose bytes are the first `count` of `inside`: a character that no text may
+/// hold, else its length, else a missing closing quote.
 fn refused_string<'a>(
     opening: &'a [u8],
     inside: &'a [u8],
@@ -211,7 +211,7 @@ fn refused_string<'a>(
     }
 }
 
-/// The string that begins at `opening` with this quote, whose bytes begin at `inside`.
+/// The string in this quote that begins at `opening`, whose bytes begin at `inside`.
 #[tactic(auto, using(crate::proofs::TokenLemmas::string_steps))]
 fn string<'a>(opening: &'a [u8], quote: u8, inside: &'a [u8]) -> Lexeme<'a>
     requires { opening.now ≡ quote ∷ inside.now }
@@ -231,7 +231,7 @@ fn string<'a>(opening: &'a [u8], quote: u8, inside: &'a [u8]) -> Lexeme<'a>
     }
 }
 
-/// What stands behind `/*`, if that is at the front.
+/// What follows `/*`, if that is at the front.
 #[tactic(auto, using(crate::proofs::TokenLemmas::comment_steps), unfolding(crate::specs::Lexeme::opens_comment))]
 fn comment_inside(bytes: &[u8]) -> Option<&[u8]>
     ensures tokens { IfSome result (λ inside. tokens_from BlockComment inside.now ≡ tokens_from Between bytes.now) }
@@ -260,7 +260,7 @@ fn block_comment<'a>(opening: &'a [u8], inside: &'a [u8]) -> Lexeme<'a>
     }
 }
 
-/// What is at the front of a text, where a token may begin.
+/// What is at the front of a text, between tokens.
 #[tactic(auto, using(crate::proofs::TokenLemmas::between_steps), unfolding(crate::specs::Lexeme::opens_comment))]
 fn lexeme(bytes: &[u8]) -> Lexeme<'_>
     ensures tokens { tokens_by result ≡ tokens_from Between bytes.now }
@@ -289,7 +289,7 @@ fn lexeme(bytes: &[u8]) -> Lexeme<'_>
     }
 }
 
-/// A text without the byte order mark at its front.
+/// The text without a leading byte order mark.
 #[tactic(auto, unfolding(crate::specs::Token::without_mark))]
 fn without_mark(bytes: &[u8]) -> &[u8]
     ensures text { result.now ≡ without_mark bytes.now }
@@ -298,8 +298,8 @@ fn without_mark(bytes: &[u8]) -> &[u8]
     bytes.strip_prefix(&BYTE_ORDER_MARK).unwrap_or(bytes)
 }
 
-/// The tokens of a text up to its end or its first fault from the left. Places count from the front of the bytes given, a
-/// byte order mark included.
+/// The tokens of a text up to its end or its first error. Byte offsets count from the front of the bytes given, including a byte
+/// order mark.
 #[tactic(auto, using(crate::proofs::TokenLemmas::token_list), unfolding(crate::specs::Token::tokens))]
 pub fn tokenize<'a>(alloc: Global, bytes: &'a [u8]) -> Result<Tokens<'a>, AllocError>
     ensures lexed { IfOk result (λ lexed. IfNone lexed.fault (tokens bytes.now ≡ Some (token_values lexed.tokens.items))) }

@@ -1,15 +1,15 @@
-//! Tokens of a mapfile: bytes to words and strings, and lines of tokens to bytes.
+//! The tokens of a mapfile: from bytes to words and strings, and from lines of tokens to bytes.
 //!
-//! A text is cut into tokens or has none (MapServer mapfile reference, the part of it that `specs/Token.antt` defines, by an automaton
-//! that reads byte by byte): words, strings in either quote, white space and two kinds of comment. Contracts see a token as its kind and
-//! its bytes, without its place.
+//! A text has a list of tokens or none (MapServer mapfile reference, the part of it that `specs/Token.antt` defines as an
+//! automaton over bytes): words, strings in either quote, white space and two kinds of comment. Model: a token is its kind and
+//! its bytes, without its byte offset.
 //!
-//! It promises that [`lexer::tokenize`] gives the tokens of a text, or a fault only where the text has none; each byte is looked at a
-//! bounded number of times. Which fault, and its place, is tested and not proved. Tokens that are spelled as lines, as
-//! `specs/Spelling.antt` defines, are read as they were spelled, and such lines are UTF-8: laws over the definitions alone. It says
-//! nothing of what tokens mean (wf_mapfile), nor of which lines a map has (wf_canon).
+//! Promises: [`lexer::tokenize`] returns the tokens of a text, and an error only if the text has none. It looks at each byte a
+//! bounded number of times. Which error, and its byte offset, is tested and not proved. Tokens that are spelled as lines, as
+//! `specs/Spelling.antt` defines, are read back as the same tokens, and such lines are UTF-8: theorems about the definitions. Not
+//! here: what tokens mean (wf_mapfile), and which lines a map has (wf_canon).
 //!
-//! The way through it: `lexer` goes over a text by steps, each of which finds a `lexeme` at its front, and keeps each `token`.
+//! Modules: `lexer` steps over a text; each step finds a `lexeme` at its front, and the lexer collects each `token`.
 #![tactic(auto)]
 
 mod lexeme;

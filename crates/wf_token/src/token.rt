@@ -1,22 +1,22 @@
-//! The tokens of a mapfile: words and strings with their places, and what a text without tokens is rejected for.
+//! The tokens of a mapfile, words and strings with their byte offsets, and the errors of a text that has none.
 
 use std::alloc::Global;
 
-/// Whether a token stood in quotes.
+/// Whether a token was quoted.
 #[derive(Clone, Copy)]
 pub enum TokenKind {
     /// A run of bytes without quotes.
     Word,
-    /// What stood between two quotes.
+    /// The bytes between two quotes.
     Quoted,
 }
 
-/// A token, which borrows the text that it stands in.
+/// A token, which borrows from its text.
 #[derive(Clone, Copy)]
 pub struct Token<'a> {
-    /// Whether it stood in quotes.
+    /// Whether it was quoted.
     pub kind: TokenKind,
-    /// Where it begins, in bytes from the front of the file: a string at its opening quote.
+    /// Its byte offset in the file; that of a string is its opening quote's.
     pub place: usize,
     /// Its bytes, without quotes.
     pub text: &'a [u8],
@@ -25,26 +25,26 @@ pub struct Token<'a> {
 /// Why a text has no tokens.
 #[derive(Clone, Copy)]
 pub enum LexFaultKind {
-    /// A quote or a comment that stays open, or a byte that no token may hold.
+    /// A missing closing quote or comment end, or a byte that no token may hold.
     BadToken,
     /// A string over 1,000 bytes.
     OutOfRange,
 }
 
-/// The first fault of a text, from the left.
+/// The first error of a text, from the left.
 #[derive(Clone, Copy)]
 pub struct LexFault {
-    /// What is wrong.
+    /// Which error it is.
     pub kind: LexFaultKind,
-    /// Where, in bytes from the front of the file.
+    /// Its byte offset in the file.
     pub place: usize,
 }
 
-/// The tokens of a text up to its end, or up to its first fault.
+/// The tokens of a text up to its end, or up to its first error.
 #[derive(Drop)]
 pub struct Tokens<'a> {
     /// The tokens, in order.
     pub tokens: Vec<Token<'a>, Global>,
-    /// What ended them before the text did.
+    /// The error that ended them, if one did.
     pub fault: Option<LexFault>,
 }

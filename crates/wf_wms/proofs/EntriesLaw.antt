@@ -18,7 +18,7 @@ pub first_entry : (text : List ℕ) → position_or_len (λ b. b == 44) text < l
 unfolding entries
 first_entry text some = slice_split_first (λ b. b == 44) text 0 some
 
--- there is an entry in each list
+-- each list has an entry
 pub some_entry : (text : List ℕ) → 0 < length (entries text)
 unfolding entries
 some_entry text = omega (arith, length-slice_split (λ b. b == 44) text)
@@ -53,7 +53,7 @@ five_entries t a u b v c w d x first second third fourth =
     ap four_of (first ∙ ap (λ rest. a ∷ rest) (second ∙ ap (λ rest. b ∷ rest) (third ∙ ap (λ rest. c ∷ rest) fourth)))
     ∙ over_four a b c d (entries x) (some_entry x)
 
--- a place that was looked for stands in the list
+-- an index that was found lies in the list
 pub found_within : (p : List ℕ → Bool) (names : List (List ℕ)) (found : Option ℕ) → found ≡ position p names → IfSome found (λ i. i < length names)
 found_within p names None is = tt
 found_within p names (Some i) is = (position-Some p names i [] (sym is)).0

@@ -17,7 +17,7 @@ unfolding map_at
 empty_there history zero map none empty = ap Some (sym empty)
 empty_there history (suc k) map none empty = absurd (omega (arith, none))
 
--- where one map alone is published, each other sequence has it
+-- where only one map is published, every other sequence has it
 pub only_there : (history : List Definition) (s : ℕ) (map : Definition) → map ∷ [] ≡ history → s ≢ 0 → s ≤ length history → map_at history s ≡ Some map
 unfolding map_at definition_at
 only_there history zero map is some within = absurd (some refl)

@@ -1,4 +1,4 @@
--- How a query is judged, step by step.
+-- The checks of a query, step by step.
 use Rattle.std.proofs.Common.{◌≡◌, ◌∙◌, ◌<◌, ◌≤◌, sym, subst, ℕ, List, length}
 use Rattle.std.specs.Prelude.{Some, Result, Ok, Err}
 use Rattle.std.specs.List.{All}
@@ -17,12 +17,12 @@ use Rattle.wf_wms.specs.declared.operation.Operation.TheVariants.{Map}
 use Rattle.wf_wms.proofs.HistoryLaw.{map_there}
 use Rattle.wf_wms.proofs.ServiceLaw.{map_drawn}
 
--- what is wanted may be less
+-- a weaker property follows
 pub judged_weaker : (history : List Definition) (P Q : AnswerValue → Type 0) (judged : Judged) → ((answer : AnswerValue) → P answer → Q answer) → IsJudged history P judged → IsJudged history Q judged
 judged_weaker history P Q (Ready answer) follows is = follows answer is
 judged_weaker history P Q (Picture asked) follows is = record { of = is.of; answers = λ answer picture. follows answer (is.answers answer picture) }
 
--- the parameters behind MAPSEQ are rejected
+-- the parameters after MAPSEQ are rejected
 pub picture_rejected : (history : List Definition) (sequence : ℕ) (map : Definition) (pairs : List (List ℕ × List ℕ)) (e : Exception) (answer : AnswerValue) →
     map_at history sequence ≡ Some map → Err e ≡ picture_in map pairs → answer ≡ rejection e → (other : Definition) → map_at history sequence ≡ Some other →
     IsMapAnswer other (picture_in other pairs) answer
@@ -32,7 +32,7 @@ picture_rejected history sequence map pairs e answer there rejected is other oth
     let R : Result RequestValue Exception → Type 0 = λ r. IsMapAnswer map r answer in
     subst P same (subst R rejected is)
 
--- or they ask for a picture
+-- or they request a picture
 pub picture_wanted : (history : List Definition) (map : Definition) (pairs : List (List ℕ × List ℕ)) (asked : Asked) → asked.sequence ≤ length history →
     map_at history asked.sequence ≡ Some map → Ok asked.request ≡ picture_in map pairs → All (λ place. place < length map.layers) asked.request.layers →
     (other : Definition) → map_at history asked.sequence ≡ Some other → IsAsked history (IsMapAnswer other (picture_in other pairs)) asked
@@ -46,7 +46,7 @@ picture_wanted history map pairs asked within there wanted layers other other_th
           subst R wanted (picture map there);
     })
 
--- so does the request of a map whose MAPSEQ is taken
+-- so does a GetMap request whose MAPSEQ is accepted
 pub sequence_judged : (history : List Definition) (s number : ℕ) (pairs : List (List ℕ × List ℕ)) (judged : Judged) → map_sequence s pairs ≡ Ok number → number ≤ length history →
     ((map : Definition) → map_at history number ≡ Some map → IsJudged history (IsMapAnswer map (picture_in map pairs)) judged) →
     IsJudged history (IsAnswerOn (Ok Map) s history pairs) judged

@@ -1,4 +1,4 @@
--- Kept pictures: each stays the picture of its key, and what is cut out of it is the image that is asked for.
+-- Kept pictures: each stays the picture of its key, and what is cut out of it is the requested image.
 use Rattle.std.proofs.Common.{◌≡◌, ◌∙◌, ◌<◌, ◌≤◌, ap, refl, sym, subst, subst₂, ℕ, zero, suc, nat_eq, ◌&&◌, Bool, true, inl, inr, List, [], ◌∷◌, ◌++◌, length, ℤ, arith}
 use Rattle.std.specs.Prelude.{Option, Some, None, IfSome, Contains, slice_get, option_copied, Result, Ok, Err, OnOk, OnErr}
 use Rattle.std.specs.List.{All}
@@ -83,7 +83,7 @@ kept_under history key other p same kept = record {
       (kept.shows cell other_cell);
 }
 
--- what the derived test of two keys says
+-- the derived equality of two keys
 abbrev pub eq : Key → Key → Bool
 eq = (keys.ghosts).eq
 
@@ -179,7 +179,7 @@ pub found_in : (cache : CacheValue) (key : Key) (found : Option (Bor PixmapValue
 found_in cache key None is = tt
 found_in cache key (Some pixmap) is = λ history kept. found_kept history cache key pixmap.now (sym is) kept
 
--- after a put all are kept, also where there was no memory for it
+-- after a put each entry is its key's picture, also if the allocation failed
 pub put_or_not : {X E : Type 0} (history : List Definition) (old new : CacheValue) (key : Key) (p : PixmapValue) (result : Result X E) →
     OnOk result (new ≡ lru_cache (put_entries eq old key p) old.cap) → OnErr result (new ≡ old) → AllKept history old → IsKept history key p → AllKept history new
 put_or_not history old new key p (Ok x) put stays kept is = subst (AllKept history) (sym put) (put_kept history old key p kept is)
@@ -230,7 +230,7 @@ module _ (history : List Definition) (key : Key) (view : ViewValue) (p : PixmapV
         let of_view = subst (λ (v : ViewValue). IsPicture v.width v.height (labelled map key.layers.items v (background_of key)) p) viewed of_map in
         subst₂ (λ (l : List ℕ) (b : Color). IsPicture view.width view.height (labelled map l view b) p) is.layers is.background of_view
 
--- ---- what is asked for
+-- ---- the request
 
 tile_sized : (e box : ExtentValue) (width height : ℕ) (cell : GridCell) → fits e box width height cell ≡ true → (width ≡ tile_pixels) × (height ≡ tile_pixels)
 unfolding fits
@@ -259,7 +259,7 @@ module _ (history : List Definition) (asked : Asked) (of : IsAskedOf history ask
     lies = subst (λ (s : Size). LiesIn s view) tile_size_asked lies;
   }
 
-  -- the tile's file is the picture that is asked for
+  -- the tile's file is the requested picture
   pub picture_asked : background_of key ≡ asked.request.background → (file : List ℕ) → IsTileOf history key view file → IsPictureFor history asked (picture_answer file)
   picture_asked background file tile = λ other other_there.
       let same : map ≡ other = same_Some map other (sym there ∙ other_there) in

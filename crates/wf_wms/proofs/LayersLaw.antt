@@ -1,4 +1,4 @@
--- Where a layer of a name stands among a map's.
+-- The index of a layer of a name in a map.
 use Rattle.std.proofs.Common.{◌≡◌, ◌∙◌, ap, sym, ℕ, ◌+◌, ◌<◌, Bool, true, false, List, [], ◌∷◌, ◌++◌, length, get_or, take, refl, arith, below_more, bytes_eq}
 use Rattle.std.specs.Prelude.{Option, Some, None, IfSome, is_none, option_map}
 use Rattle.std.specs.List.{All, cons_option, filter_map, position, position_or_len, slice_get}
@@ -12,7 +12,7 @@ use Rattle.wf_def.specs.Limits.{layer_names}
 use Rattle.wf_wms.specs.MapRequest.{layer_of}
 use Rattle.wf_wms.proofs.EntriesLaw.{found_within}
 
--- the first that passes, and none that does
+-- the first that passes, or none
 pub found_at : (p : List ℕ → Bool) (names : List (List ℕ)) (i : ℕ) → i < length names → ((k : ℕ) → k < i → p (get_or names k []) ≡ false) →
     p (get_or names i []) ≡ true → position p names ≡ Some i
 found_at p names i within before here =
@@ -25,7 +25,7 @@ found_nowhere p names before =
     let at : position_or_len p names ≡ length names = position_or_len_is p names (length names) [] (omega arith) before (λ past. absurd (omega arith)) in
     rw at (grind (arith, nat_tests))
 
--- the name that stands beside a layer
+-- the name of a layer
 name_at : (layers : List (List ℕ × LayerDefinition)) (i : ℕ) (name : List ℕ) (layer : LayerDefinition) → slice_get layers i ≡ Some (name, layer) →
     get_or (layer_names layers) i [] ≡ name
 name_at layers i name layer here =
@@ -50,7 +50,7 @@ pub passed_over : (d : Definition) (name given : List ℕ) (layer : LayerDefinit
     (k : ℕ) → k < i + 1 → bytes_eq name (get_or (layer_names d.layers) k []) ≡ false
 passed_over d name given layer i here before other = below_more _ _ before (ap (bytes_eq name) (name_at d.layers i given layer here) ∙ other)
 
--- the places are those of layers
+-- the index is that of a layer
 layer_within : (d : Definition) (name : List ℕ) → IfSome (layer_of d name) (λ place. place < length d.layers)
 unfolding layer_of
 layer_within d name =
@@ -67,7 +67,7 @@ layers_within d [] = All-nil (λ place. place < length d.layers)
 layers_within d (name ∷ names) =
     one_more_within (length d.layers) (layer_of d name) (filter_map (layer_of d) names) (layer_within d name) (layers_within d names)
 
--- the next name is that of a layer
+-- the next name is a layer's
 pub one_more_place : (d : Definition) (names : List (List ℕ)) (n place : ℕ) (name : List ℕ) (old new : List ℕ) → n < length names → get_or names n [] ≡ name →
     layer_of d name ≡ Some place → old ≡ filter_map (layer_of d) (take n names) → new ≡ old ++ place ∷ [] → new ≡ filter_map (layer_of d) (take (n + 1) names)
 one_more_place d names n place name old new within is found so_far written =
@@ -83,7 +83,7 @@ pub one_more_known : (d : Definition) (names : List (List ℕ)) (n place : ℕ) 
     ((k : ℕ) → k < n → is_none (layer_of d (get_or names k [])) ≡ false) → (k : ℕ) → k < n + 1 → is_none (layer_of d (get_or names k [])) ≡ false
 one_more_known d names n place name is found before = below_more _ _ before (ap (λ (o : Option ℕ). is_none o) (ap (layer_of d) is ∙ found))
 
--- the next name is that of no layer
+-- the next name isn't a layer's
 pub unknown_at : (d : Definition) (names : List (List ℕ)) (n : ℕ) (name : List ℕ) → n < length names → get_or names n [] ≡ name → layer_of d name ≡ None →
     ((k : ℕ) → k < n → is_none (layer_of d (get_or names k [])) ≡ false) → position (λ name. is_none (layer_of d name)) names ≡ Some n
 unknown_at d names n name within is unknown before =

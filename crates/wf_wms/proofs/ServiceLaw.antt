@@ -20,7 +20,7 @@ pub get_some : (history : List Definition) (s : ℕ) (found : Option (Bor Defini
 get_some history s None is within = let there = map_there history s within in let both : None ≡ Some there.0 = is ∙ there.1 in cc
 get_some history s (Some x) is within = refl
 
--- a request of a map whose VERSION or MAPSEQ is rejected
+-- a GetMap request whose VERSION or MAPSEQ is rejected
 pub map_rejected : (s : ℕ) (history : List Definition) (pairs : List (List ℕ × List ℕ)) (e : Exception) (answer : AnswerValue) → s ≤ length history →
     map_sequence s pairs ≡ Err e → answer ≡ rejection e → IsAnswerOn (Ok Map) s history pairs answer
 unfolding map_request
@@ -32,7 +32,7 @@ map_rejected s history pairs e answer within failed is =
       is_answer = rw failed is;
     }
 
--- and one of a map that is there
+-- and one for a map that exists
 pub map_drawn : (s : ℕ) (history : List Definition) (pairs : List (List ℕ × List ℕ)) (number : ℕ) (map : Definition) (answer : AnswerValue) →
     map_sequence s pairs ≡ Ok number → map_at history number ≡ Some map → IsMapAnswer map (picture_in map pairs) answer →
     IsAnswerOn (Ok Map) s history pairs answer
@@ -119,7 +119,7 @@ one_answer images s history other query answer another agree is also =
     let P : Definition → Type 0 = λ m. IsAnswerTo (operation_of (parameter (codes "REQUEST") (pairs_of query))) s m (pairs_of query) another in
     one_to (operation_of (parameter (codes "REQUEST") (pairs_of query))) s is.map (pairs_of query) answer another images is.is_answer (subst P (sym same) also.is_answer)
 
--- what is answered to an operation other than GetMap is said of the map alone
+-- the answer to an operation other than GetMap depends only on the map
 operation_described : (operation : Result Operation Exception) (s : ℕ) (history : List Definition) (pairs : List (List ℕ × List ℕ)) (d : Definition) (answer : AnswerValue) →
     map_at history s ≡ Some d → operation ≢ Ok Map → IsAnswerOn operation s history pairs answer → answer ≡ description_to operation s d pairs
 operation_described (Err e) s history pairs d answer there other is = is.is_answer

@@ -1,4 +1,4 @@
--- The answer to a request: the exception of the first check that fails, else what the request asks for.
+-- The answer to a request: the exception of the first check that fails, else what the requested operation returns.
 use Rattle.std.specs.Prelude.{◌≡◌, ◌≢◌, ℕ, List, [], ◌∷◌, bytes_eq, codes, Option, Some, None, Result, Ok, Err, if◌then◌else◌}
 use Rattle.wf_def.specs.Definition.{Definition}
 use Rattle.wf_learner.specs.History.{map_at}
@@ -19,7 +19,7 @@ use Rattle.wf_wms.specs.declared.kind.Kind.TheVariants as kind
 use Rattle.wf_wms.specs.declared.operation.Operation.{Operation}
 use Rattle.wf_wms.specs.declared.operation.Operation.TheVariants.{Capabilities, Map}
 
--- what a client gets: what kind of answer it is, its media type and its bytes
+-- an answer: its kind, its media type and its bytes
 pub record AnswerValue : Type 0 where
   pub kind : Kind
   pub media : List ℕ
@@ -62,7 +62,7 @@ check_sequence standing.Below = None
 check_sequence standing.Equal = Some exception.CurrentUpdateSequence
 check_sequence standing.Above = Some exception.InvalidUpdateSequence
 
--- why a query gets no metadata at the sequence s, where it gets none
+-- the exception if a query gets no metadata at the sequence s
 unfoldable pub metadata_fault : ℕ → List (List ℕ × List ℕ) → Option Exception
 metadata_fault s pairs = first_failing (
     check_service (parameter (codes "SERVICE") pairs)
@@ -77,7 +77,7 @@ rejection_or_metadata (Some e) s d = rejection e
 unfoldable pub metadata_answer : ℕ → Definition → List (List ℕ × List ℕ) → AnswerValue
 metadata_answer s d pairs = rejection_or_metadata (metadata_fault s pairs) s d
 
--- the answer to an operation, where GetMap is none of this server's
+-- the answer to an operation, where GetMap isn't supported
 abbrev pub description_to : Result Operation Exception → ℕ → Definition → List (List ℕ × List ℕ) → AnswerValue
 description_to (Err e) s d pairs = rejection e
 description_to (Ok Capabilities) s d pairs = metadata_answer s d pairs
@@ -91,11 +91,11 @@ description s d query = description_to (operation_of (parameter (codes "REQUEST"
 abbrev pub pixmap : List ℕ
 pixmap = codes "image/x-portable-pixmap"
 
--- the answer with the file of a picture
+-- the answer with a picture file
 abbrev pub picture_answer : List ℕ → AnswerValue
 picture_answer file = record { kind = kind.Map; media = pixmap; bytes = file }
 
--- the answer is the picture that is asked for of a map
+-- the answer is the requested picture of a map
 pub record IsPictureOf (d : Definition) (request : RequestValue) (answer : AnswerValue) : Type 0 where
   pub of_kind : answer.kind ≡ kind.Map
   pub of_media : answer.media ≡ pixmap
@@ -116,14 +116,14 @@ abbrev pub or_own : ℕ → Result ℕ Exception → ℕ
 or_own s (Ok other) = other
 or_own s (Err e) = s
 
--- the sequence whose map an operation describes or draws: for GetMap the one that MAPSEQ names, else the server's own
+-- the sequence of the map that an operation describes or draws: for GetMap the one that MAPSEQ names, else the server's
 abbrev pub subject_of : Result Operation Exception → ℕ → List (List ℕ × List ℕ) → ℕ
 subject_of (Err e) s pairs = s
 subject_of (Ok Capabilities) s pairs = s
 subject_of (Ok Map) s pairs = or_own s (map_sequence s pairs)
 
--- The answer to an operation at the sequence s, of a history, whose first entry is that of sequence 1. Of the history, it depends on
--- the map that is described or drawn alone.
+-- The answer to an operation at the sequence s of a history, whose first entry has sequence 1. It depends on the history only
+-- through the map that is described or drawn.
 pub record IsAnswerOn (operation : Result Operation Exception) (s : ℕ) (history : List Definition) (pairs : List (List ℕ × List ℕ)) (answer : AnswerValue) : Type 0 where
   pub map : Definition
   pub is_published : map_at history (subject_of operation s pairs) ≡ Some map
@@ -137,13 +137,13 @@ IsAnswerOf s history query answer = IsAnswerOn (operation_of (parameter (codes "
 unfoldable pub subject : ℕ → List ℕ → ℕ
 subject s query = subject_of (operation_of (parameter (codes "REQUEST") (pairs_of query))) s (pairs_of query)
 
--- so histories that agree on that map have one answer
+-- so histories that agree on that map have the same answer
 abbrev pub EachQueryHasOneAnswer : Type 0
 EachQueryHasOneAnswer = (s : ℕ) (history other : List Definition) (query : List ℕ) (answer another : AnswerValue) →
     map_at history (subject s query) ≡ map_at other (subject s query) →
     IsAnswerOf s history query answer → IsAnswerOf s other query another → another ≡ answer
 
--- apart from GetMap, a server answers as one that describes the map of its sequence alone
+-- apart from GetMap, the answer of a server is the description of the map of its sequence
 abbrev pub AnswersAreDescriptions : Type 0
 AnswersAreDescriptions = (s : ℕ) (history : List Definition) (query : List ℕ) (d : Definition) (answer : AnswerValue) →
     map_at history s ≡ Some d → operation_of (parameter (codes "REQUEST") (pairs_of query)) ≢ Ok Map →

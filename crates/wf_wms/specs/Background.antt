@@ -6,13 +6,13 @@ use Rattle.wf_wms.specs.declared.exception.Exception.{Exception}
 use Rattle.wf_wms.specs.declared.exception.Exception.TheVariants as exception
 use Rattle.wf_wms.specs.declared.exception.Parameter.TheVariants as parameters
 
--- what comes next is read where this is there
+-- binds an option: `next` is applied if there is a value
 infixl 10 ◌>>=◌
 abbrev pub ◌>>=◌ : {A B : Type 0} → Option A → (A → Option B) → Option B
 None >>= next = None
 (Some x) >>= next = next x
 
--- where BGCOLOR is absent
+-- the background if BGCOLOR is absent
 abbrev pub white : Color
 white = record { r = 255; g = 255; b = 255 }
 

@@ -22,7 +22,7 @@ element name text = start_tag name ++ escape text ++ end_tag name
 unfoldable pub online_resource : List ℕ → List ℕ
 online_resource address = codes "<OnlineResource xlink:type=\"simple\" xlink:href=\"" ++ escape address ++ codes "\"/>"
 
--- what the service is (7.2.4.2 and 7.2.4.3): LayerLimit in layers, MaxWidth and MaxHeight in pixels
+-- the service's description (7.2.4.2 and 7.2.4.3): LayerLimit in layers, MaxWidth and MaxHeight in pixels
 unfoldable pub service : Definition → List ℕ
 service d =
     line (codes "<Service>")
@@ -35,7 +35,7 @@ service d =
     ++ line (codes "<MaxHeight>1024</MaxHeight>")
     ++ line (codes "</Service>")
 
--- one operation, the media type of its answer, and where to send it (7.2.4.4)
+-- one operation, the media type of its answer, and its address (7.2.4.4)
 unfoldable pub operation : List ℕ → List ℕ → List ℕ → List ℕ
 operation name format address =
     line (start_tag name)
@@ -43,12 +43,12 @@ operation name format address =
     ++ line (codes "<DCPType><HTTP><Get>" ++ online_resource address ++ codes "</Get></HTTP></DCPType>")
     ++ line (end_tag name)
 
--- the end of the operations, and the form of exceptions
+-- the end of the operations, and the format of exceptions
 abbrev pub after_operations : List ℕ
 after_operations =
     line (codes "</Request>") ++ line (codes "<Exception>") ++ line (codes "<Format>XML</Format>") ++ line (codes "</Exception>")
 
--- the operations, and the form of exceptions
+-- the operations, and the format of exceptions
 unfoldable pub requests : Definition → List ℕ
 requests d =
     line (codes "<Request>")
@@ -56,7 +56,7 @@ requests d =
     ++ (operation (codes "GetMap") (codes "image/x-portable-pixmap") d.address
     ++ after_operations))
 
--- a coordinate reference system that the layers are offered in (7.2.4.6.7)
+-- a coordinate reference system in which the layers are offered (7.2.4.6.7)
 unfoldable pub crs_line : List ℕ → List ℕ
 crs_line crs = line (codes "<CRS>" ++ crs ++ codes "</CRS>")
 
@@ -97,7 +97,7 @@ layer_line entry = line (
     codes "<Layer queryable=\"0\">" ++ element (codes "Name") entry.0 ++ element (codes "Title") entry.1.title
     ++ codes "<Style><Name>default</Name><Title>default</Title></Style></Layer>")
 
--- the layers, in order, under the one that stands for the map (7.2.4.5)
+-- the layers, in order, nested in the one that represents the map (7.2.4.5)
 unfoldable pub layers : Definition → List ℕ
 layers d =
     line (codes "<Layer>")

@@ -22,7 +22,7 @@ name_of parameter.Width = codes "WIDTH"
 name_of parameter.Height = codes "HEIGHT"
 name_of parameter.BackgroundColor = codes "BGCOLOR"
 
--- the standard's code of an exception, where it has one
+-- the standard's code of an exception, if it has one
 abbrev pub code_of : Exception → Option (List ℕ)
 code_of (exception.MissingParameter name) = None
 code_of (exception.BadValue name) = None
@@ -35,7 +35,7 @@ code_of exception.InvalidUpdateSequence = Some (codes "InvalidUpdateSequence")
 code_of exception.OperationNotSupported = Some (codes "OperationNotSupported")
 code_of exception.MapNotPublished = None
 
--- what an exception says to people
+-- the message of an exception
 abbrev pub words_of : Exception → List ℕ
 words_of (exception.MissingParameter name) = codes "missing parameter " ++ name_of name
 words_of (exception.BadValue name) = codes "bad value of " ++ name_of name
@@ -48,7 +48,7 @@ words_of exception.InvalidUpdateSequence = codes "update sequence is invalid"
 words_of exception.OperationNotSupported = codes "operation is not supported"
 words_of exception.MapNotPublished = codes "map sequence is not published here"
 
--- the attribute with the code, where there is one
+-- the attribute with the code, if there is one
 abbrev pub code_attribute : Option (List ℕ) → List ℕ
 code_attribute None = []
 code_attribute (Some code) = codes " code=\"" ++ (code ++ codes "\"")

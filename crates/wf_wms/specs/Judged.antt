@@ -1,4 +1,5 @@
--- How a query is judged before a picture is drawn: its answer is made, or it asks for a picture, and whoever has the picture has the answer.
+-- The checks of a query before a picture is drawn. The result is the answer, or a request for a picture whose answer is the
+-- query's.
 use Rattle.std.specs.Prelude.{◌≡◌, ◌≤◌, ◌<◌, List, length, Some}
 use Rattle.std.specs.List.{All}
 use Rattle.wf_def.specs.Definition.{Definition}
@@ -8,18 +9,18 @@ use Rattle.wf_wms.specs.declared.asked.Asked.{Asked}
 use Rattle.wf_wms.specs.declared.asked.Judged.{Judged}
 use Rattle.wf_wms.specs.declared.asked.Judged.TheVariants.{Ready, Picture}
 
--- A picture is asked for of a map that the history has, and its layers are that map's.
+-- The requested picture is of a map that the history has, and its layers are that map's.
 pub record IsAskedOf (history : List Definition) (asked : Asked) : Type 0 where
   pub within : asked.sequence ≤ length history
   pub map : Definition
   pub is_published : map_at history asked.sequence ≡ Some map
   pub layers : All (λ place. place < length map.layers) asked.request.layers
 
--- the answer is the picture that is asked for
+-- the answer is the requested picture
 abbrev pub IsPictureFor : List Definition → Asked → AnswerValue → Type 0
 IsPictureFor history asked answer = (map : Definition) → map_at history asked.sequence ≡ Some map → IsPictureOf map asked.request answer
 
--- Each answer that is the picture which is asked for is one that is wanted.
+-- Each answer that is the requested picture satisfies `wanted`.
 pub record IsAsked (history : List Definition) (wanted : AnswerValue → Type 0) (asked : Asked) : Type 0 where
   pub of : IsAskedOf history asked
   pub answers : (answer : AnswerValue) → IsPictureFor history asked answer → wanted answer

@@ -1,4 +1,4 @@
--- Kept pictures: which picture each entry of a cache is, and what is cut out of it.
+-- Kept pictures: the picture of each cache entry, and the tiles that are cut out of it.
 use Rattle.std.specs.Prelude.{◌≡◌, ◌≤◌, ◌<◌, ℕ, List, ◌++◌, length, Some, pos, Contains}
 use Rattle.std.specs.List.{All}
 use Rattle.lru.specs.LruCache.{LruCache}
@@ -28,21 +28,21 @@ most_kept = 64
 abbrev pub background_of : Key → Color
 background_of key = record { r = key.red; g = key.green; b = key.blue }
 
--- the cell is among the key's four columns and four rows of its level
+-- the cell is in the key's four columns and four rows of its level
 pub record IsCellOf (key : Key) (cell : GridCell) : Type 0 where
   pub level : cell.z ≡ key.level
   pub column : quotient cell.col (pos 4) ≡ key.column
   pub row : quotient cell.row (pos 4) ≡ key.row
 
--- The pixmap is the key's picture: of the map that the history has at the key's sequence, with the key's layers and background, the
--- labelled picture that the tile of each of the key's cells is cut out of.
+-- The pixmap is the key's picture: the labelled picture, of the map that the history has at the key's sequence, with the key's
+-- layers and background, out of which the tile of each of the key's cells is cut.
 pub record IsKept (history : List Definition) (key : Key) (p : PixmapValue) : Type 0 where
   pub map : Definition
   pub is_published : map_at history key.sequence ≡ Some map
   pub shows : (cell : GridCell) → IsCellOf key cell →
       IsPicture most_pixels most_pixels (labelled map key.layers.items (tile_view map.extent cell) (background_of key)) p
 
--- a cache's entries, the most recently used first, and how many there may be
+-- a cache's entries, the most recently used first, and its capacity
 abbrev pub CacheValue : Type 0
 CacheValue = LruCache Key PixmapValue
 
@@ -50,7 +50,7 @@ CacheValue = LruCache Key PixmapValue
 unfoldable pub AllKept : List Definition → CacheValue → Type 0
 AllKept history cache = (key : Key) (p : PixmapValue) → Contains cache.entries (key, p) → IsKept history key p
 
--- it stays so where the history grows
+-- it still is when the history has grown
 abbrev pub GrowthKeepsAll : Type 0
 GrowthKeepsAll = (history more : List Definition) (cache : CacheValue) → AllKept history cache → AllKept (history ++ more) cache
 
@@ -74,7 +74,7 @@ pub record IsRequestOf (key : Key) (request : RequestValue) : Type 0 where
   pub background : background_of key ≡ request.background
   pub size : request.size ≡ tile_size
 
--- the bytes are the image of each request of the key that has the view
+-- the bytes are the image of each request of the key with this view
 abbrev pub IsTileOf : List Definition → Key → ViewValue → List ℕ → Type 0
 IsTileOf history key view bytes = (map : Definition) (request : RequestValue) → map_at history key.sequence ≡ Some map →
     IsRequestOf key request → IsViewFor map.extent request view → IsImageOf map request bytes

@@ -1,7 +1,7 @@
--- The request of a map: OGC 06-042, 7.3.2 and 7.3.3. MAPSEQ is this profile's own, and so is that STYLES may be absent.
+-- The GetMap request: OGC 06-042, 7.3.2 and 7.3.3. This profile adds MAPSEQ, and STYLES may be absent.
 --
--- Each parameter is judged by a function of its value, which gives its part of the request, or the exception; `MapRequest` puts them
--- in order, and the first that rejects answers.
+-- Each parameter is checked by a function of its value: it gives a part of the request, or the exception. `map_request` puts the
+-- checks in order; the first exception is the answer.
 use Rattle.std.specs.Prelude.{ℕ, ◌+◌, ◌==◌, ◌&&◌, Bool, true, false, not, nat_le, nat_lt, List, [], ◌∷◌, length, bytes_eq, codes, filter_map, position, is_none, Option, Some, None, ok_or, Result, Ok, Err, ℤ, pos, ◌+ℤ◌, int_le, ⊤, if◌then◌else◌}
 use Rattle.std.specs.Char.{is_ascii_digit}
 use Rattle.std.specs.List.{list_all, slice_split}
@@ -24,7 +24,7 @@ use Rattle.wf_wms.specs.declared.exception.Exception.TheVariants as exception
 use Rattle.wf_wms.specs.declared.exception.Parameter.{Parameter}
 use Rattle.wf_wms.specs.declared.exception.Parameter.TheVariants as parameters
 
--- what comes next is judged where this part is there
+-- binds a result: `next` is applied if this check passes
 infixl 10 ◌>>=◌
 abbrev pub ◌>>=◌ : {A B : Type 0} → Result A Exception → (A → Result B Exception) → Result B Exception
 (Ok x) >>= next = next x
@@ -35,7 +35,7 @@ abbrev pub passed_or : Exception → Bool → Result ⊤ Exception
 passed_or e true = Ok tt
 passed_or e false = Err e
 
--- nothing that was found, or the exception of the place where it was, counted from 1
+-- Ok if nothing was found, else the exception with its index, counted from 1
 abbrev pub none_or : (ℕ → Exception) → Option ℕ → Result ⊤ Exception
 none_or at None = Ok tt
 none_or at (Some i) = Err (at (i + 1))
@@ -44,38 +44,38 @@ none_or at (Some i) = Err (at (i + 1))
 unfoldable pub entries : List ℕ → List (List ℕ)
 entries text = slice_split (λ b. b == 44) text
 
--- VERSION is that of the standard (7.3.3.1)
+-- checks VERSION: it is that of the standard (7.3.3.1)
 abbrev pub check_version : Option (List ℕ) → Result ⊤ Exception
 check_version None = Err (exception.MissingParameter parameters.Version)
 check_version (Some version) = passed_or (exception.BadValue parameters.Version) (bytes_eq version (codes "1.3.0"))
 
--- MAPSEQ, at a server of the sequence s: digits of any length are a number, which isn't above s; s where it is absent
+-- MAPSEQ at a server at the sequence s: digits of any length, a number not above s; s if it is absent
 abbrev pub sequence_in : ℕ → Option (List ℕ) → Result ℕ Exception
 sequence_in s None = Ok s
 sequence_in s (Some text) = if list_all is_ascii_digit text
     then (if nat_lt s (number_of_digits text) then Err exception.MapNotPublished else Ok (number_of_digits text))
     else Err (exception.BadValue parameters.MapSequence)
 
--- FORMAT is the one format of pictures (7.3.3.7)
+-- checks FORMAT: it is the one format of pictures (7.3.3.7)
 abbrev pub check_format : Option (List ℕ) → Result ⊤ Exception
 check_format None = Err (exception.MissingParameter parameters.Format)
 check_format (Some format) = passed_or exception.InvalidFormat (bytes_eq format (codes "image/x-portable-pixmap"))
 
--- the most layers of a request, as the service metadata says (LayerLimit)
+-- the most layers of a request, as in the service metadata (LayerLimit)
 abbrev pub most_entries : ℕ
 most_entries = 64
 
--- the place of the layer of this name among the map's
+-- the index in the map of the layer of this name
 unfoldable pub layer_of : Definition → List ℕ → Option ℕ
 layer_of d name = position (bytes_eq name) (layer_names d.layers)
 
--- LAYERS names at most 64 layers, each a layer of the map; a name may stand twice (7.3.3.3)
+-- checks LAYERS: at most 64 names, each of a layer of the map; a name may occur twice (7.3.3.3)
 unfoldable pub check_layers : Definition → List (List ℕ) → Result ⊤ Exception
 check_layers d names = do
   _ ← passed_or (exception.BadValue parameters.Layers) (nat_le (length names) most_entries)
   none_or exception.LayerNotDefined (position (λ name. is_none (layer_of d name)) names)
 
--- STYLES has an entry for each layer, empty or `default`; where it is absent, each layer has its default style (7.3.3.4)
+-- STYLES has an entry for each layer, empty or `default`; if it is absent, each layer has its default style (7.3.3.4)
 abbrev pub is_style : List ℕ → Bool
 is_style [] = true
 is_style (byte ∷ bytes) = bytes_eq (byte ∷ bytes) (codes "default")
@@ -89,14 +89,15 @@ abbrev pub check_styles : ℕ → Option (List ℕ) → Result ⊤ Exception
 check_styles count None = Ok tt
 check_styles count (Some text) = check_style_list count (entries text)
 
--- CRS is one that the map is offered in, with its order of axes (7.3.3.5, 6.7.3 and annex B): the first axis of EPSG:4326 is the latitude
+-- CRS is one in which the map is offered, with its axis order (7.3.3.5, 6.7.3 and annex B): the first axis of EPSG:4326 is the
+-- latitude
 abbrev pub axes_in : Projection → Option (List ℕ) → Result Axes Exception
 axes_in projection None = Err (exception.MissingParameter parameters.Crs)
 axes_in Epsg4326 (Some crs) = if bytes_eq crs (codes "EPSG:4326") then Ok NorthFirst
     else (if bytes_eq crs (codes "CRS:84") then Ok EastFirst else Err exception.InvalidCrs)
 axes_in Epsg3857 (Some crs) = if bytes_eq crs (codes "EPSG:3857") then Ok EastFirst else Err exception.InvalidCrs
 
--- the entries, where there are four
+-- the entries, if there are four
 unfoldable pub four_of : List (List ℕ) → Option (List ℕ × List ℕ × List ℕ × List ℕ)
 four_of (a ∷ b ∷ c ∷ d ∷ []) = Some (a, b, c, d)
 four_of _ = None
@@ -105,16 +106,16 @@ abbrev pub coordinate_of : Result ℤ NumberFault → Result ℤ Exception
 coordinate_of (Ok z) = Ok z
 coordinate_of (Err fault) = Err (exception.BadValue parameters.Bbox)
 
--- the lower corner and the upper one along a pair of axes, in the axes of the map's EXTENT
+-- the lower and the upper corner along a pair of axes, in the axis order of the map's EXTENT
 abbrev pub box_along : Axes → ℤ → ℤ → ℤ → ℤ → ExtentValue
 box_along EastFirst a b c d = record { minx = a; miny = b; maxx = c; maxy = d }
 box_along NorthFirst a b c d = record { minx = b; miny = a; maxx = d; maxy = c }
 
--- the shortest side of a box, in millionths
+-- the least side of a box, in millionths
 abbrev pub least_side : ℕ
 least_side = 1_000
 
--- the side is long enough, so that the minimum is below the maximum
+-- the side is long enough; so the minimum is below the maximum
 abbrev pub is_side : ℤ → ℤ → Bool
 is_side low high = int_le (low +ℤ pos least_side) high
 
@@ -130,12 +131,12 @@ box_of axes (Some four) = do
   d ← coordinate_of (number four.3)
   large_enough (box_along axes a b c d)
 
--- BBOX is four numbers, the lower corner and the upper one along the axes of CRS (7.3.3.6)
+-- BBOX is four numbers: the lower and the upper corner along the axes of CRS (7.3.3.6)
 abbrev pub box_in : Axes → Option (List ℕ) → Result ExtentValue Exception
 box_in axes None = Err (exception.MissingParameter parameters.Bbox)
 box_in axes (Some text) = box_of axes (four_of (entries text))
 
--- the most pixels of a picture's width and of its height, as the service metadata says (MaxWidth, MaxHeight)
+-- the greatest width and height of a picture in pixels, as in the service metadata (MaxWidth, MaxHeight)
 abbrev pub most_pixels : ℕ
 most_pixels = 1_024
 
@@ -155,7 +156,7 @@ picture_size pairs = do
   height ← size_in parameters.Height (parameter (codes "HEIGHT") pairs)
   Ok (record { width = width; height = height })
 
--- the request of these layers: the parameters behind STYLES
+-- the request for these layers: the parameters after STYLES
 unfoldable pub request_in : List ℕ → Projection → List (List ℕ × List ℕ) → Result RequestValue Exception
 request_in layers projection pairs = do
   axes ← axes_in projection (parameter (codes "CRS") pairs)
@@ -164,44 +165,44 @@ request_in layers projection pairs = do
   background ← background_in (parameter (codes "BGCOLOR") pairs)
   Ok (record { layers = layers; bbox = box; size = size; background = background })
 
--- LAYERS by the places of its layers among the map's, the lowest in the picture first
+-- LAYERS as its layers' indices in the map, the lowest in the picture first
 unfoldable pub named_layers : Definition → List (List ℕ) → Result (List ℕ) Exception
 named_layers d names = do
   _ ← check_layers d names
   Ok (filter_map (layer_of d) names)
 
--- the same, where STYLES has an entry for each
+-- the same, if STYLES has an entry for each
 unfoldable pub styled_layers : Definition → List (List ℕ) → Option (List ℕ) → Result (List ℕ) Exception
 styled_layers d names styles = do
   layers ← named_layers d names
   _ ← check_styles (length names) styles
   Ok layers
 
--- the names that LAYERS lists, behind FORMAT
+-- the names that LAYERS lists, after the check of FORMAT
 unfoldable pub listed_names : List (List ℕ × List ℕ) → Result (List ℕ) Exception
 listed_names pairs = do
   _ ← check_format (parameter (codes "FORMAT") pairs)
   ok_or (parameter (codes "LAYERS") pairs) (exception.MissingParameter parameters.Layers)
 
--- the layers that are asked for: the parameters up to STYLES
+-- the requested layers: the parameters up to STYLES
 unfoldable pub layers_in : Definition → List (List ℕ × List ℕ) → Result (List ℕ) Exception
 layers_in d pairs = do
   names ← listed_names pairs
   styled_layers d (entries names) (parameter (codes "STYLES") pairs)
 
--- the picture that a query asks for of a map
+-- the picture of a map that a query requests
 unfoldable pub picture_in : Definition → List (List ℕ × List ℕ) → Result RequestValue Exception
 picture_in d pairs = do
   layers ← layers_in d pairs
   request_in layers d.projection pairs
 
--- the sequence whose map a query asks for, at a server of the sequence s
+-- the sequence of the map that a query requests, at a server at the sequence s
 unfoldable pub map_sequence : ℕ → List (List ℕ × List ℕ) → Result ℕ Exception
 map_sequence s pairs = do
   _ ← check_version (parameter (codes "VERSION") pairs)
   sequence_in s (parameter (codes "MAPSEQ") pairs)
 
--- the whole request, where d is the map of that sequence: the first check that fails answers
+-- the whole request, where d is the map of that sequence: the exception is that of the first check that fails
 unfoldable pub map_request : ℕ → Definition → List (List ℕ × List ℕ) → Result RequestValue Exception
 map_request s d pairs = do
   _ ← map_sequence s pairs

@@ -1,5 +1,5 @@
--- The UPDATESEQUENCE parameter: OGC 06-042, 7.2.3.5 and its table 4. The rows for a value that is no
--- number and for an empty value are this profile's own.
+-- The UPDATESEQUENCE parameter: OGC 06-042, 7.2.3.5 and its table 4. The rows for a value that isn't a number and for an empty
+-- value are this profile's.
 use Rattle.std.specs.Prelude.{ℕ, List, [], ◌∷◌, nat_lt, ◌==◌, Option, Some, None, if◌then◌else◌}
 use Rattle.std.specs.List.{list_all}
 use Rattle.std.specs.Char.{is_ascii_digit}
@@ -7,11 +7,11 @@ use Rattle.wf_wms.specs.Digits.{number_of_digits}
 use Rattle.wf_wms.specs.declared.standing.Standing.{Standing}
 use Rattle.wf_wms.specs.declared.standing.Standing.TheVariants.{Absent, NoNumber, Below, Equal, Above}
 
--- a number, beside the sequence s
+-- how a number compares with the sequence s
 abbrev pub standing_of : ℕ → ℕ → Standing
 standing_of number s = if number == s then Equal else (if nat_lt number s then Below else Above)
 
--- where the value of UPDATESEQUENCE stands, at the sequence s
+-- how the value of UPDATESEQUENCE compares with the sequence s
 abbrev pub sequence_rule : Option (List ℕ) → ℕ → Standing
 sequence_rule None s = Absent
 sequence_rule (Some []) s = Absent

@@ -2,7 +2,7 @@
 -- (attribute values).
 use Rattle.std.specs.Prelude.{ℕ, List, [], ◌∷◌, ◌++◌, ◌==◌, codes, flat_map, if◌then◌else◌}
 
--- a byte as it stands in character data and in attribute values
+-- a byte as it is written in character data and in attribute values
 unfoldable pub escape_byte : ℕ → List ℕ
 escape_byte byte =
     if byte == 38 then codes "&amp;" else (
@@ -14,7 +14,7 @@ escape_byte byte =
     if byte == 10 then codes "&#10;" else (
     if byte == 13 then codes "&#13;" else byte ∷ [])))))))
 
--- a text with each byte escaped that markup could take for its own
+-- a text with each byte escaped that could be read as markup
 unfoldable pub escape : List ℕ → List ℕ
 escape text = flat_map escape_byte text
 

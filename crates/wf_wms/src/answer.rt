@@ -16,7 +16,7 @@ const XML: &str = "text/xml";
 /// The media type of pictures: a pixmap in the raw form of Netpbm's PPM format.
 const PIXMAP: &str = "image/x-portable-pixmap";
 
-/// What a client gets.
+/// The answer to a query.
 #[derive(Drop)]
 pub struct Answer {
     pub kind: Kind,
@@ -56,7 +56,7 @@ impl Answer {
         })
     }
 
-    /// The answer with the file of a picture.
+    /// The answer with a picture file.
     pub(crate) fn picture(file: Vec<u8>) -> Self
         ensures { result ≡ picture_answer file.items }
     {

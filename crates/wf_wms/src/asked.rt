@@ -1,9 +1,9 @@
-//! What a query asks for, its checks passed.
+//! What a query asks for, once its checks pass.
 
 use crate::answer::Answer;
 use wf_picture::request::PictureRequest;
 
-/// A picture that is asked for of a map.
+/// A request for a picture of a map.
 #[derive(Drop)]
 pub(crate) struct Asked {
     /// The update sequence of the map.
@@ -11,10 +11,10 @@ pub(crate) struct Asked {
     pub request: PictureRequest,
 }
 
-/// A query, judged.
+/// A checked query.
 #[derive(Drop)]
 pub(crate) enum Judged {
-    /// The answer is made already: no picture is asked for.
+    /// The answer, complete: no picture is requested.
     Ready(Answer),
     Picture(Asked),
 }

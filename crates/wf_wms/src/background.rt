@@ -6,14 +6,14 @@ ghost use Rattle.wf_wms.specs.Background.{background_in, color_of, hex_byte, hex
 use crate::exception::{Exception, Parameter};
 use wf_def::color::Color;
 
-/// The colour of what no layer covers, where BGCOLOR is absent.
+/// The background colour if BGCOLOR is absent.
 const WHITE: Color = Color {
     r: 255,
     g: 255,
     b: 255,
 };
 
-/// The colour of what no layer covers.
+/// The background colour: that of pixels that no layer covers.
 pub(crate) fn background(value: Option<&str>) -> Result<Color, Exception>
     ensures { result ≡ background_in (option_map (λ text. text.now) value.entry) }
 {
@@ -71,7 +71,7 @@ fn hex_byte(high: u8, low: u8) -> Option<u8>
     }
 }
 
-/// What a hexadecimal digit counts.
+/// The value of a hexadecimal digit.
 fn hex_digit(byte: u8) -> u8
     requires { is_ascii_hexdigit byte ≡ true }
     ensures value { result ≡ digit_value byte }

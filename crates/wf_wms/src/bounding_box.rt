@@ -10,10 +10,10 @@ use crate::exception::{Exception, Parameter};
 use wf_def::extent::Extent;
 use wf_def::micro::Micro;
 
-/// The shortest side of a box, in millionths of a unit.
+/// The least side of a box, in millionths of a unit.
 const LEAST_SIDE: i64 = 1000;
 
-/// The box that BBOX gives along these axes, in the axes of the map's EXTENT.
+/// The box that BBOX gives along these axes, in the axis order of the map's EXTENT.
 pub(crate) fn bounding_box(axes: Axes, value: Option<&str>) -> Result<Extent, Exception>
     ensures value { result ≡ box_in axes (option_map (λ text. text.now) value.entry) }
     ensures within { IfOk result IsLargeEnough }
@@ -50,7 +50,7 @@ fn coordinate(text: &str) -> Result<Micro, Exception>
     }
 }
 
-/// The box with these sides, where they are long enough.
+/// The box with these sides, if they are long enough.
 fn large_enough(minx: Micro, miny: Micro, maxx: Micro, maxy: Micro) -> Result<Extent, Exception>
     ensures value { result ≡ large_enough (record { minx = minx; miny = miny; maxx = maxx; maxy = maxy }) }
     ensures within { IfOk result IsLargeEnough }
@@ -62,7 +62,7 @@ fn large_enough(minx: Micro, miny: Micro, maxx: Micro, maxy: Micro) -> Result<Ex
     }
 }
 
-/// Whether the side is long enough, so that the minimum is below the maximum.
+/// Whether the side is long enough; so the minimum is below the maximum.
 fn is_side(low: Micro, high: Micro) -> bool
     ensures { result ≡ is_side low high }
 {

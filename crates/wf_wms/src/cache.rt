@@ -27,8 +27,8 @@ const TILE: Size = Size {
     height: 256,
 };
 
-/// Pictures that are kept for the next request: each is 1,024 by 1,024 pixels of the grid of a map, which sixteen tiles are cut out of.
-/// The least recently used goes where there is no room.
+/// A cache of pictures: each has 1,024 by 1,024 pixels of a map's grid, and sixteen tiles are cut out of it. When it is full, the
+/// least recently used is dropped.
 #[derive(Drop)]
 pub struct Cache {
     kept: LruCache<Key, Pixmap>,
@@ -43,7 +43,7 @@ impl Model for Cache {
 }
 
 impl Cache {
-    /// A cache for `capacity` pictures, 1 to 64, that has none yet. A picture takes 3 MB. Allocation failure is the only error.
+    /// An empty cache for `capacity` pictures, 1 to 64. A picture takes 3 MB. Returns Ok unless allocation fails.
     pub fn new(alloc: Global, capacity: usize) -> Result<Self, AllocError>
         requires least { 1 ≤ capacity }
         requires most { capacity ≤ most_kept }
@@ -56,8 +56,8 @@ impl Cache {
         })
     }
 
-    /// The file of the tile that the key and the view are of, cut out of the key's picture. That is drawn where it isn't kept, and kept
-    /// from then on, if there is memory to keep it.
+    /// The file of the tile of this key and view, cut out of the key's picture. If the picture isn't kept, it is drawn, and kept
+    /// unless an allocation fails.
     pub(crate) fn tile(
         &mut self,
         alloc: Global,
@@ -115,7 +115,7 @@ impl Cache {
         self.kept.peek(key)
     }
 
-    /// Keeps a picture, if there is memory to keep it; where there is none the others stay.
+    /// Keeps a picture; if an allocation fails, the cache is unchanged.
     fn keep(&mut self, key: Key, pixmap: Pixmap)
         ensures kept { (history : List Definition) → AllKept history self.old → IsKept history key pixmap → AllKept history self.new }
         ensures capacity { self.new.cap ≡ self.old.cap }
@@ -125,7 +125,7 @@ impl Cache {
 }
 
 impl Key {
-    /// The key of the picture that a tile is cut out of, where the tile of this cell is asked for.
+    /// The key of the picture that the requested tile, that of this cell, is cut out of.
     pub(crate) fn of(asked: Asked, cell: GridCell) -> Self
         ensures sequence { result.sequence ≡ asked.sequence }
         ensures layers { result.layers.items ≡ asked.request.layers }

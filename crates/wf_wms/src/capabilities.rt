@@ -1,5 +1,4 @@
-//! The service metadata document, block by block. Each call appends its block whole; allocation
-//! failure is the only error.
+//! The service metadata document, block by block. Each call appends its whole block and returns Ok unless allocation fails.
 ghost use Rattle.std.specs.Prelude.{◌≡◌, ◌++◌, OnOk, IfOk, flat_map};
 ghost use Rattle.wf_wms.specs.Capabilities.{start_tag, end_tag, element, online_resource, service, operation, requests, crs_lines, side, box_line, box_lines, layer_line, layers, opening, capabilities};
 
@@ -52,7 +51,7 @@ fn write_online_resource(address: &Text, document: &mut Vec<u8>) -> Result<(), A
     Ok(())
 }
 
-// What the service is (OGC 06-042, 7.2.4.2 and 7.2.4.3).
+// The service's description (OGC 06-042, 7.2.4.2 and 7.2.4.3).
 fn write_service(map: &MapDef, document: &mut Vec<u8>) -> Result<(), AllocError>
     ensures { OnOk result (document.new.items ≡ document.old.items ++ service map.now) }
 {
@@ -70,7 +69,7 @@ fn write_service(map: &MapDef, document: &mut Vec<u8>) -> Result<(), AllocError>
     Ok(())
 }
 
-// One operation: the format of its answer, and where to send it (OGC 06-042, 7.2.4.4).
+// One operation: the format of its answer, and its address (OGC 06-042, 7.2.4.4).
 fn write_operation(
     name: &str,
     format: &str,
@@ -90,7 +89,7 @@ fn write_operation(
     Ok(())
 }
 
-// The operations, and the form of exceptions.
+// The operations, and the format of exceptions.
 fn write_requests(map: &MapDef, document: &mut Vec<u8>) -> Result<(), AllocError>
     ensures { OnOk result (document.new.items ≡ document.old.items ++ requests map.now) }
 {
@@ -171,7 +170,7 @@ const WORLD: &str = "<EX_GeographicBoundingBox><westBoundLongitude>-180</westBou
 <eastBoundLongitude>180</eastBoundLongitude><southBoundLatitude>-90</southBoundLatitude>\
 <northBoundLatitude>90</northBoundLatitude></EX_GeographicBoundingBox>\n";
 
-// A layer: its name, its title and the one style that each has (OGC 06-042, 7.2.4.6).
+// A layer: its name, its title and its one style (OGC 06-042, 7.2.4.6).
 fn write_layer_line(name: &Text, layer: &Layer, document: &mut Vec<u8>) -> Result<(), AllocError>
     ensures { OnOk result (document.new.items ≡ document.old.items ++ layer_line (name.now, layer.now)) }
 {
@@ -196,7 +195,7 @@ fn write_layer_lines(map: &MapDef, document: &mut Vec<u8>) -> Result<(), AllocEr
     Ok(())
 }
 
-// The layers, under the one that stands for the map (OGC 06-042, 7.2.4.5).
+// The layers, nested in the one that represents the map (OGC 06-042, 7.2.4.5).
 fn write_layers(map: &MapDef, document: &mut Vec<u8>) -> Result<(), AllocError>
     ensures { OnOk result (document.new.items ≡ document.old.items ++ layers map.now) }
 {

@@ -6,7 +6,7 @@ use crate::axes::Axes;
 use crate::exception::{Exception, Parameter};
 use wf_def::choice::Projection;
 
-/// The axes of the coordinate reference system, where a map of the projection is offered in it.
+/// The axes of the coordinate reference system, if maps of the projection are offered in it.
 pub(crate) fn axes(projection: Projection, crs: Option<&str>) -> Result<Axes, Exception>
     ensures { result ≡ axes_in projection (option_map (λ text. text.now) crs.entry) }
 {

@@ -1,10 +1,10 @@
-//! Whole numbers in decimal digits.
+//! Integers in decimal digits.
 ghost use Rattle.std.specs.Prelude.{◌≡◌, ◌^◌, ◌-◌, min};
 ghost use Rattle.std.specs.List.{list_all};
 ghost use Rattle.std.specs.Char.{is_ascii_digit};
 ghost use Rattle.wf_wms.specs.Digits.{number_of_digits};
 
-/// The whole number that decimal digits stand for, or `u64::MAX` where it is greater.
+/// The value of decimal digits, or `u64::MAX` if it is greater.
 pub(crate) fn number_of(digits: &str) -> u64
     ensures { result ≡ min (number_of_digits digits.now) (2 ^ 64 - 1) }
 {
@@ -17,7 +17,7 @@ pub(crate) fn number_of(digits: &str) -> u64
     number
 }
 
-/// Whether the text has no other bytes than decimal digits.
+/// Whether all bytes of the text are decimal digits.
 pub(crate) fn is_all_digits(text: &str) -> bool
     ensures { result ≡ list_all is_ascii_digit text.now }
 {

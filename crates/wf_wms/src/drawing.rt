@@ -1,4 +1,4 @@
-//! The picture that is asked for is drawn, or cut out of a kept one.
+//! Draws the requested picture, or cuts it out of a kept one.
 ghost use Rattle.std.specs.Prelude.{◌≡◌, IfOk};
 ghost use Rattle.wf_wms.specs.Judged.{IsAskedOf, IsPictureFor};
 ghost use Rattle.wf_wms.specs.Kept.{AllKept};
@@ -13,7 +13,7 @@ use wf_learner::History;
 use wf_paint::cell::GridCell;
 use wf_picture::picture::{draw, view_of};
 
-/// The answer with the picture, drawn anew.
+/// The answer with the picture, drawn without a cache.
 pub(crate) fn drawn<M: Maps>(alloc: Global, maps: &M, asked: Asked) -> Result<Answer, AllocError>
     requires { IsAskedOf (M.definitions maps.now) asked }
     ensures { IfOk result (λ answer. IsPictureFor (M.definitions maps.now) asked answer) }
@@ -22,7 +22,7 @@ pub(crate) fn drawn<M: Maps>(alloc: Global, maps: &M, asked: Asked) -> Result<An
     Ok(Answer::picture(draw(alloc, map, &asked.request)?))
 }
 
-/// The same answer. A tile of the map's grid is cut out of the picture that the cache keeps, or keeps from now on.
+/// The same answer. A tile of the map's grid is cut out of the cache's picture, which is drawn if it isn't kept yet.
 pub(crate) fn drawn_by(
     alloc: Global,
     cache: &mut Cache,

@@ -2,14 +2,14 @@
 ghost use Rattle.std.specs.Prelude.{◌≡◌, ◌∷◌, [], length, MatchOption, option_map};
 ghost use Rattle.wf_wms.specs.MapRequest.{entries, four_of};
 
-/// The first entry, and the list of the others, where there is a comma.
+/// The first entry, and the list of the others if there is a comma.
 fn cut(text: &str) -> Option<(&str, &str)>
     ensures { MatchOption result (entries text.now ≡ text.now ∷ []) (λ cut. entries text.now ≡ cut.0.now ∷ entries cut.1.now) }
 {
     text.split_once(',')
 }
 
-/// How many entries there are.
+/// The number of entries.
 #[tactic(auto, unfolding(crate::specs::MapRequest::entries))]
 pub(crate) fn count_entries(text: &str) -> usize
     ensures { result ≡ length (entries text.now) }
@@ -17,7 +17,7 @@ pub(crate) fn count_entries(text: &str) -> usize
     text.as_bytes().split(|byte| *byte == b',').count()
 }
 
-/// The entries, where there are four.
+/// The entries, if there are four.
 pub(crate) fn four_entries(text: &str) -> Option<(&str, &str, &str, &str)>
     ensures { option_map (λ four. (four.0.now, four.1.now, four.2.now, four.3.now)) result ≡ four_of (entries text.now) }
 {

@@ -1,4 +1,4 @@
-//! Why a request is rejected.
+//! Service exceptions.
 
 /// The parameters that an exception can name.
 #[derive(Clone, Copy, PartialEq, Eq)]
@@ -18,27 +18,27 @@ pub enum Parameter {
     BackgroundColor,
 }
 
-/// A service exception (OGC 06-042, 6.11 and table E.1). The numbers are the product's own.
+/// A service exception (OGC 06-042, 6.11 and table E.1). The numbers E1 to E10 are this project's.
 #[derive(Clone, Copy, PartialEq, Eq)]
 pub enum Exception {
-    /// E1: a parameter that the request needs is absent.
+    /// E1: a required parameter is absent.
     MissingParameter(Parameter),
-    /// E2: a parameter's value isn't one that the request can have.
+    /// E2: a parameter's value isn't allowed.
     BadValue(Parameter),
-    /// E3: an entry of LAYERS, counted from 1, is no layer's name.
+    /// E3: this entry of LAYERS, counted from 1, isn't a layer's name.
     LayerNotDefined(usize),
-    /// E4: an entry of STYLES, counted from 1, is no style's name.
+    /// E4: this entry of STYLES, counted from 1, isn't a style's name.
     StyleNotDefined(usize),
     /// E5: the map isn't offered in this coordinate reference system.
     InvalidCrs,
     /// E6: maps aren't offered in this format.
     InvalidFormat,
-    /// E7: UPDATESEQUENCE is the server's own, so the client's metadata is current.
+    /// E7: UPDATESEQUENCE equals the server's, so the client's metadata is current.
     CurrentUpdateSequence,
-    /// E8: UPDATESEQUENCE is above the server's, or no number.
+    /// E8: UPDATESEQUENCE is above the server's, or not a number.
     InvalidUpdateSequence,
-    /// E9: an operation that this server doesn't have.
+    /// E9: the server doesn't support this operation.
     OperationNotSupported,
-    /// E10: the map of a sequence that isn't published here.
+    /// E10: no map is published here at this sequence.
     MapNotPublished,
 }

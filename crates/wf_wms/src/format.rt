@@ -1,10 +1,10 @@
-//! Parameters that have one value.
+//! Parameters with one allowed value.
 ghost use Rattle.std.specs.Prelude.{◌≡◌, option_map};
 ghost use Rattle.wf_wms.specs.MapRequest.{check_format, check_version};
 
 use crate::exception::{Exception, Parameter};
 
-/// VERSION is that of the standard (OGC 06-042, 7.3.3.1).
+/// Checks VERSION: it is that of the standard (OGC 06-042, 7.3.3.1).
 pub(crate) fn check_version(version: Option<&str>) -> Result<(), Exception>
     ensures { result ≡ check_version (option_map (λ text. text.now) version.entry) }
 {
@@ -15,7 +15,7 @@ pub(crate) fn check_version(version: Option<&str>) -> Result<(), Exception>
     }
 }
 
-/// FORMAT is the one format of pictures (OGC 06-042, 7.3.3.7).
+/// Checks FORMAT: it is the one format of pictures (OGC 06-042, 7.3.3.7).
 pub(crate) fn check_format(format: Option<&str>) -> Result<(), Exception>
     ensures { result ≡ check_format (option_map (λ text. text.now) format.entry) }
 {

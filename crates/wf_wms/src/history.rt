@@ -9,7 +9,7 @@ impl Maps for History {
     ghost definitions = { λ history. history.definitions };
 
     fn published_map(&self, seq: u16) -> &MapDef {
-        // The history ensures that its length is a sequence.
+        // By the history's contract its length is an update sequence.
         let _ = self.published();
         let seq = Seq::new(seq).unwrap();
         self.get(seq).unwrap()

@@ -1,4 +1,4 @@
-//! How a query is judged.
+//! Checks of a query.
 ghost use Rattle.std.specs.Prelude.{◌≡◌, ◌≤◌, Ok, Some, IfOk, length};
 ghost use Rattle.wf_def.specs.Definition.{Definition};
 ghost use Rattle.wf_learner.specs.History.{map_at};
@@ -17,8 +17,8 @@ use crate::operation::Operation;
 use crate::query::Query;
 use std::alloc::{AllocError, Global};
 
-/// What a query comes to at an update sequence that the maps have: its answer, or the picture that it asks for. An error comes for
-/// allocation failure alone.
+/// Checks a query at an update sequence that the maps have: its answer, or the picture that it requests. Returns Ok unless
+/// allocation fails.
 pub(crate) fn judged<M: Maps>(
     alloc: Global,
     seq: u16,
@@ -39,7 +39,7 @@ pub(crate) fn judged<M: Maps>(
     }
 }
 
-/// What GetMap comes to (OGC 06-042, 7.3).
+/// The same for GetMap (OGC 06-042, 7.3).
 fn map_judged<M: Maps>(
     alloc: Global,
     seq: u16,
@@ -55,7 +55,7 @@ fn map_judged<M: Maps>(
     }
 }
 
-/// What the parameters behind MAPSEQ come to at the map of this sequence.
+/// The same for the parameters after MAPSEQ, for the map of this sequence.
 fn picture_judged<M: Maps>(
     alloc: Global,
     sequence: u16,

@@ -1,11 +1,11 @@
-//! Which picture is kept.
+//! Keys of kept pictures.
 
-/// The picture that sixteen tiles are cut out of: which map it is of, what it shows, and where it lies in the grid.
+/// The key of a picture that sixteen tiles are cut out of: its map, layers and background, and its position in the grid.
 #[derive(Drop, PartialEq, Eq, Hash)]
 pub struct Key {
     /// The update sequence of the map.
     pub(crate) sequence: u16,
-    /// The layers as requested, by their indices among the map's, the lowest in the picture first.
+    /// The layers as requested, by their indices in the map, the lowest in the picture first.
     pub(crate) layers: Vec<usize>,
     /// The red of the background.
     pub(crate) red: u8,
@@ -15,8 +15,8 @@ pub struct Key {
     pub(crate) blue: u8,
     /// The level of the grid.
     pub(crate) level: u32,
-    /// Which four columns of the level, counted from the grid's first.
+    /// The index of its four columns at the level, counted from the grid's first.
     pub(crate) column: i64,
-    /// Which four rows of the level, counted from the grid's first.
+    /// The index of its four rows at the level, counted from the grid's first.
     pub(crate) row: i64,
 }

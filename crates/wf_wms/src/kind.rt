@@ -1,6 +1,6 @@
 use crate::exception::Exception;
 
-/// What an answer is.
+/// The kind of an answer.
 #[derive(Clone, Copy, PartialEq, Eq)]
 pub enum Kind {
     /// The service metadata.

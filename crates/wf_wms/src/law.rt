@@ -1,22 +1,23 @@
-//! The laws of answers.
+//! Theorems about answers.
 ghost use Rattle.wf_wms.specs.Answer.{AnswersAreDescriptions, EachQueryHasOneAnswer};
 ghost use Rattle.wf_wms.specs.Kept.{GrowthKeepsAll};
 
-/// A query has one answer, and no other, wherever the map that it asks for is the same: the answer is a function of the update
-/// sequence, the query and that map, and of nothing else in the history. A law: the call does nothing.
+/// A query has exactly one answer in all histories with the same map at the requested sequence: the answer is a function of the
+/// update sequence, the query and that map, and of nothing else in the history. A theorem: the call does nothing.
 pub fn each_query_has_one_answer()
     ensures { EachQueryHasOneAnswer }
 {
     wf_picture::law::there_is_one_image();
 }
 
-/// Apart from GetMap, the answer of a server is what [`crate::describe`] returns about the map of its update sequence: so the service
-/// metadata of a preview is what `describe` writes at sequence 1. A law: the call does nothing.
+/// Apart from GetMap, the answer of a server is what [`crate::describe`] returns about the map of its update sequence: so the
+/// service metadata of a preview is what `describe` returns at sequence 1. A theorem: the call does nothing.
 pub fn answers_are_descriptions()
     ensures { AnswersAreDescriptions }
 {}
 
-/// Pictures that are kept for a history are those of a history that goes on from it: lists only grow. A law: the call does nothing.
+/// If each entry of a cache is its key's picture in a history, it is so in any history that extends it. A theorem: the call does
+/// nothing.
 pub fn kept_pictures_outlast_growth()
     ensures { GrowthKeepsAll }
 {}

@@ -8,11 +8,11 @@ use crate::exception::{Exception, Parameter};
 use std::alloc::{AllocError, Global};
 use wf_def::map::MapDef;
 
-/// The most layers of a request, as the service metadata says (LayerLimit).
+/// The most layers of a request, as in the service metadata (LayerLimit).
 const MOST_ENTRIES: usize = 64;
 
-/// The layers that the list names, by their indices among the map's, in its order: at most 64, each a layer of the map. A name may stand
-/// twice.
+/// The layers that the list names, by their indices in the map, in the list's order: at most 64, each a layer of the map. A name
+/// may occur twice.
 #[tactic(auto, unfolding(crate::specs::MapRequest::named_layers, crate::specs::MapRequest::check_layers))]
 pub(crate) fn named_layers(
     alloc: Global,
@@ -32,7 +32,7 @@ pub(crate) fn named_layers(
     }
 }
 
-/// The indices of the named layers among the map's, in the order of the list; or the index of the first name that is no layer's.
+/// The indices of the named layers in the map, in the order of the list; or the index of the first name that isn't a layer's.
 fn layer_places(
     alloc: Global,
     map: &MapDef,
@@ -56,7 +56,7 @@ fn layer_places(
     Ok(Ok(places))
 }
 
-/// The index of the layer of this name among the map's.
+/// The index in the map of the layer of this name.
 fn layer_of(map: &MapDef, name: &[u8]) -> Option<usize>
     ensures place { result ≡ layer_of map.now name.now }
     ensures within { IfSome result (λ place. place < length map.now.layers) }

@@ -1,20 +1,23 @@
-//! Requests of the Web Map Service (OGC 06-042, version 1.3.0) to answers.
+//! Answers requests of the Web Map Service (OGC 06-042, version 1.3.0): a query string in, an answer out.
 //!
-//! An answer is seen as its kind, its media type and its bytes. `specs/Answer.antt` defines it as the
-//! exception of the first check that fails, else what the request asks for, over the pairs of the query
-//! as the URL Standard's form syntax has them; `specs/MapRequest.antt` has the checks of GetMap, parameter
-//! by parameter and then in order; `specs/Capabilities.antt` and `specs/Exception.antt` are the two
-//! documents, line by line. Which bytes a picture has is defined in wf_picture.
+//! An answer is modelled as its kind, its media type and its bytes. `specs/Answer.antt` defines the answer to a query: the
+//! exception of the first check that fails, else what the requested operation returns. The query is parsed by the URL Standard's
+//! form syntax. `specs/MapRequest.antt` has the checks of GetMap, parameter by parameter and then in order;
+//! `specs/Capabilities.antt` and `specs/Exception.antt` define the two XML documents, line by line. The bytes of a picture are
+//! defined in wf_picture. A history is the list of published map definitions: update sequence n names the n-th, 0 the empty map.
 //!
-//! It promises, allocation failure aside, that [`service::answer`] returns the defined answer at an update
-//! sequence of a history, [`service::preview`] that of a history of one map alone, and [`describe`] that about
-//! one map definition, where GetMap is an operation that isn't supported. A query has one such answer, which
-//! depends on the history only through the map that it describes or draws
-//! ([`law::each_query_has_one_answer`]), and apart from GetMap it is what `describe` returns
-//! ([`law::answers_are_descriptions`]). [`service::answer_cached`] returns the same answer by a
-//! [`cache::Cache`] of pictures, if each is its key's in this history (`specs/Kept.antt`); they are so
-//! afterwards, and for any history that goes on from this one ([`law::kept_pictures_outlast_growth`]). It
-//! says nothing of how a query or an answer travels, nor which pictures are kept.
+//! It promises, unless an allocation fails:
+//! - [`service::answer`] returns the defined answer at an update sequence of a history; [`service::preview`] that of a history of
+//!   one map alone
+//! - [`describe`] returns the defined answer about one map definition, where GetMap isn't supported
+//! - a query has one answer, and it depends on the history only through the map that it describes or draws
+//!   ([`law::each_query_has_one_answer`])
+//! - apart from GetMap the answer is what `describe` returns ([`law::answers_are_descriptions`])
+//! - [`service::answer_cached`] returns the same answer by a [`cache::Cache`] of pictures, if each entry is its key's picture in
+//!   this history (`specs/Kept.antt`); each still is afterwards, also in any history that extends this one
+//!   ([`law::kept_pictures_outlast_growth`])
+//!
+//! It says nothing about the transport of queries and answers, nor about which pictures are kept.
 #![tactic(auto)]
 
 mod answer;

@@ -1,4 +1,4 @@
-//! The request of a map (OGC 06-042, 7.3.2 and 7.3.3): the parameters behind MAPSEQ.
+//! The GetMap request (OGC 06-042, 7.3.2 and 7.3.3): the parameters after MAPSEQ.
 ghost use Rattle.std.specs.Prelude.{◌≡◌, ◌<◌, All, IfOk, length, ok_or, option_map};
 ghost use Rattle.std.specs.Result.{result_map_both};
 ghost use Rattle.wf_wms.specs.MapRequest.{entries, layers_in, listed_names, picture_in, request_in, styled_layers};
@@ -17,7 +17,7 @@ use wf_def::choice::Projection;
 use wf_def::map::MapDef;
 use wf_picture::request::PictureRequest;
 
-/// The picture that a query asks for of a map, or the exception of the first check that fails.
+/// The picture of a map that a query requests, or the exception of the first check that fails.
 #[tactic(auto, unfolding(crate::specs::MapRequest::picture_in))]
 pub(crate) fn map_request(
     alloc: Global,
@@ -33,7 +33,7 @@ pub(crate) fn map_request(
     }
 }
 
-/// The layers that are asked for, by their indices among the map's, the lowest in the picture first: what the parameters up to STYLES say.
+/// The requested layers by their indices in the map, the lowest in the picture first: from the parameters up to STYLES.
 #[tactic(auto, unfolding(crate::specs::MapRequest::layers_in))]
 fn layers(
     alloc: Global,
@@ -49,7 +49,7 @@ fn layers(
     }
 }
 
-/// The value of LAYERS; FORMAT is judged before it.
+/// The value of LAYERS; FORMAT is checked first.
 #[tactic(auto, unfolding(crate::specs::MapRequest::listed_names))]
 fn listed_names(query: &Query) -> Result<&str, Exception>
     ensures { result_map_both (λ names. names.now) (λ e. e) result ≡ listed_names query.now }
@@ -64,7 +64,7 @@ fn layer_list(value: Option<&str>) -> Result<&str, Exception>
     value.ok_or(Exception::MissingParameter(Parameter::Layers))
 }
 
-/// The layers of these names, where STYLES has an entry for each.
+/// The layers of these names, if STYLES has an entry for each.
 #[tactic(auto, unfolding(crate::specs::MapRequest::styled_layers))]
 fn styled_layers(
     alloc: Global,
@@ -84,7 +84,7 @@ fn styled_layers(
     }
 }
 
-/// The request of these layers: what the parameters behind STYLES say.
+/// The request for these layers: from the parameters after STYLES.
 #[tactic(auto, unfolding(crate::specs::MapRequest::request_in))]
 fn request_of(
     layers: Vec<usize>,

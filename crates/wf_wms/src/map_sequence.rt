@@ -1,4 +1,4 @@
-//! The MAPSEQ parameter: the update sequence whose map is asked for.
+//! The MAPSEQ parameter: the update sequence of the requested map.
 ghost use Rattle.std.specs.Prelude.{◌≡◌, ◌≤◌, IfOk, option_map};
 ghost use Rattle.wf_wms.specs.MapRequest.{map_sequence, sequence_in};
 
@@ -7,7 +7,7 @@ use crate::exception::{Exception, Parameter};
 use crate::format::check_version;
 use crate::query::Query;
 
-/// The sequence whose map a query asks for, at a server of the update sequence `seq`; VERSION is judged before it.
+/// The sequence of the map that a query requests at a server at update sequence `seq`; VERSION is checked first.
 #[tactic(auto, unfolding(crate::specs::MapRequest::map_sequence))]
 pub(crate) fn map_sequence(query: &Query, seq: u16) -> Result<u16, Exception>
     ensures value { result ≡ map_sequence seq query.now }
@@ -17,8 +17,7 @@ pub(crate) fn map_sequence(query: &Query, seq: u16) -> Result<u16, Exception>
     sequence_in(query.parameter("MAPSEQ"), seq)
 }
 
-/// The sequence that MAPSEQ names at a server of the update sequence `seq`; where it is absent, `seq` itself. Digits of any length are
-/// read as their whole number.
+/// The sequence that MAPSEQ names at a server at update sequence `seq`; `seq` if it is absent. Digits may have any length.
 fn sequence_in(value: Option<&str>, seq: u16) -> Result<u16, Exception>
     ensures value { result ≡ sequence_in seq (option_map (λ text. text.now) value.entry) }
     ensures within { IfOk result (λ number. number ≤ seq) }

@@ -5,12 +5,12 @@ ghost use Rattle.wf_learner.specs.History.{map_at};
 
 use wf_def::map::MapDef;
 
-/// Where a server finds its maps.
+/// A server's source of maps.
 pub(crate) trait Maps {
-    /// The published definitions: the first is that of sequence 1.
+    /// The published definitions; the first has sequence 1.
     ghost definitions: { Self → List Definition };
 
-    /// The map of a published sequence, the empty one for 0.
+    /// The map of a published sequence; the empty map for 0.
     fn published_map(&self, seq: u16) -> &MapDef
         requires { seq ≤ length (definitions self.now) }
         ensures { map_at (definitions self.now) seq ≡ Some result.now };

@@ -1,11 +1,11 @@
-//! The maps where one alone is published.
+//! The maps of a server with one published map.
 
 use crate::maps::Maps;
 use std::alloc::{AllocError, Global};
 use std::marker::Model;
 use wf_def::map::MapDef;
 
-/// The maps of a server that has published this one alone, as sequence 1.
+/// The maps of a server that has published only this one, as sequence 1.
 #[derive(Drop)]
 pub(crate) struct OnlyMap<'a> {
     map: &'a MapDef,
@@ -27,7 +27,7 @@ impl<'a> Model for OnlyMap<'a> {
 impl<'a> OnlyMap<'a> {
     ghost use Rattle.std.specs.Prelude.{◌≡◌, IfOk, [], ◌∷◌};
 
-    /// Allocation failure is the only error.
+    /// Returns Ok unless allocation fails.
     pub(crate) fn new(alloc: Global, map: &'a MapDef) -> Result<Self, AllocError>
         ensures { IfOk result (λ maps. maps ≡ map.now ∷ []) }
     {

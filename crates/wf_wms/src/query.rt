@@ -4,14 +4,14 @@ ghost use Rattle.wf_wms.specs.Query.{pairs_of, parameter, is_same_name};
 use std::alloc::{AllocError, Global};
 use std::marker::Model;
 
-// The names are equal but for ASCII letter case.
+// Whether the names are equal up to ASCII case.
 fn is_same_name(a: &str, b: &str) -> bool
     ensures { result ≡ is_same_name a.now b.now }
 {
     a.eq_ignore_ascii_case(b)
 }
 
-/// The names and values of a query, decoded, in their order.
+/// The decoded names and values of a query, in order.
 #[derive(Drop)]
 pub struct Query {
     pairs: Vec<(String, String)>,
@@ -24,7 +24,7 @@ impl Model for Query {
 }
 
 impl Query {
-    /// Reads a query string, in one pass.
+    /// Parses a query string in one pass. Returns Ok unless allocation fails.
     pub fn read(alloc: Global, query: &[u8]) -> Result<Self, AllocError>
         ensures { IfOk result (λ read. read ≡ pairs_of query.now) }
     {
@@ -35,8 +35,8 @@ impl Query {
         Ok(Query { pairs })
     }
 
-    /// The value of a parameter: names compare without ASCII letter case, the first of a repeated
-    /// name stands, and an empty value counts as absent.
+    /// The value of a parameter. Names are compared without ASCII case; the first pair of a repeated name counts; an empty value
+    /// counts as absent.
     pub fn parameter(&self, name: &str) -> Option<&str>
         ensures { option_map (λ value. value.now) result ≡ parameter name.now self.now }
     {

@@ -1,4 +1,4 @@
-//! The words of a service exception, and its report in XML.
+//! The text of a service exception, and its report in XML.
 ghost use Rattle.std.specs.Prelude.{◌≡◌, ◌++◌, OnOk, IfOk, option_map, codes, decimal};
 ghost use Rattle.wf_wms.specs.Exception.{name_of, code_of, words_of, code_attribute, exception_report};
 
@@ -30,7 +30,7 @@ impl Parameter {
 }
 
 impl Exception {
-    /// The standard's code, where this exception has one (OGC 06-042, table E.1).
+    /// The standard's code, if this exception has one (OGC 06-042, table E.1).
     pub fn code(self) -> Option<&'static str>
         ensures { option_map (λ code. code.now) result ≡ code_of self }
     {
@@ -48,7 +48,7 @@ impl Exception {
     }
 }
 
-// Appends words about a parameter, and its name.
+// Appends text about a parameter, then its name.
 fn write_named(words: &str, parameter: Parameter, document: &mut Vec<u8>) -> Result<(), AllocError>
     ensures { OnOk result (document.new.items ≡ document.old.items ++ (words.now ++ name_of parameter)) }
 {
@@ -56,7 +56,7 @@ fn write_named(words: &str, parameter: Parameter, document: &mut Vec<u8>) -> Res
     write_text(parameter.name(), document)
 }
 
-// Appends "layer 2 is not defined", or the same of a style.
+// Appends "layer 2 is not defined", or the same for a style.
 fn write_not_defined(thing: &str, entry: usize, document: &mut Vec<u8>) -> Result<(), AllocError>
     ensures { OnOk result (document.new.items ≡ document.old.items ++ (thing.now ++ (decimal entry ++ codes " is not defined"))) }
 {
@@ -65,7 +65,7 @@ fn write_not_defined(thing: &str, entry: usize, document: &mut Vec<u8>) -> Resul
     write_text(" is not defined", document)
 }
 
-// Appends what the exception says to people.
+// Appends the exception's message.
 fn write_words(exception: Exception, document: &mut Vec<u8>) -> Result<(), AllocError>
     ensures { OnOk result (document.new.items ≡ document.old.items ++ words_of exception) }
 {
@@ -87,7 +87,7 @@ fn write_words(exception: Exception, document: &mut Vec<u8>) -> Result<(), Alloc
     }
 }
 
-// Appends the attribute with the exception's code, where it has one.
+// Appends the attribute with the exception's code, if it has one.
 fn write_code(exception: Exception, document: &mut Vec<u8>) -> Result<(), AllocError>
     ensures { OnOk result (document.new.items ≡ document.old.items ++ code_attribute (code_of exception)) }
 {
@@ -107,8 +107,8 @@ const REPORT_CLOSING: &str = "</ServiceException>
 </ServiceExceptionReport>
 ";
 
-/// The report of one exception, as bytes of an XML document (OGC 06-042, 7.3.3.11 and annex E.2): what a request that fails
-/// a check is answered with. An error comes for allocation failure alone.
+/// The report of one exception, as bytes of an XML document (OGC 06-042, 7.3.3.11 and annex E.2): the answer to a request that
+/// fails a check. Returns Ok unless allocation fails.
 pub fn report(alloc: Global, exception: Exception) -> Result<Vec<u8>, AllocError>
     ensures { IfOk result (λ document. document.items ≡ exception_report exception) }
 {

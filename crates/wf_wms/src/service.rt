@@ -14,8 +14,8 @@ use std::alloc::{AllocError, Global};
 use wf_def::map::MapDef;
 use wf_learner::History;
 
-/// The answer to a query at an update sequence that the history has: the service metadata (OGC 06-042, 7.2), a picture of the map that
-/// MAPSEQ names (7.3), or the exception of the first check that fails. An error comes for allocation failure alone.
+/// The answer to a query at an update sequence of the history: the service metadata (OGC 06-042, 7.2), a picture of the map that
+/// MAPSEQ names (7.3), or the exception of the first check that fails. Returns Ok unless allocation fails.
 pub fn answer(
     alloc: Global,
     seq: u16,
@@ -28,9 +28,9 @@ pub fn answer(
     answer_from(alloc, seq, history, query)
 }
 
-/// The same answer, by a cache of pictures of the history's maps: tiles are cut out of the picture that is kept for them, and that is
-/// drawn and kept only where it isn't kept yet. Where there is no memory to keep it, the answer is the same. An error comes for
-/// allocation failure alone; the cache is then as good as before.
+/// The same answer, by a cache of pictures of the history's maps. A tile is cut out of its kept picture; a picture that isn't
+/// kept yet is drawn and kept. If an allocation to keep it fails, the answer is the same. Returns Ok unless allocation fails; the
+/// cache's entries are pictures of their keys also after an error.
 pub fn answer_cached(
     alloc: Global,
     cache: &mut Cache,
@@ -50,8 +50,8 @@ pub fn answer_cached(
     }
 }
 
-/// The answer of a server that has published this map alone, at sequence 1: what a map will look like. MAPSEQ may also name sequence 0,
-/// the empty map. An error comes for allocation failure alone.
+/// The answer of a server that has published only this map, at sequence 1: a preview. MAPSEQ may also name sequence 0, the empty
+/// map. Returns Ok unless allocation fails.
 pub fn preview(alloc: Global, map: &MapDef, query: &[u8]) -> Result<Answer, AllocError>
     ensures { IfOk result (λ answer. IsAnswerOf 1 (map.now ∷ []) query.now answer) }
 {
@@ -61,7 +61,7 @@ pub fn preview(alloc: Global, map: &MapDef, query: &[u8]) -> Result<Answer, Allo
     answer
 }
 
-// The answer to a query at an update sequence that the maps have, drawn anew.
+// The answer to a query at an update sequence that the maps have, without a cache.
 fn answer_from<M: Maps>(
     alloc: Global,
     seq: u16,

@@ -1,13 +1,13 @@
-/// Where the value of UPDATESEQUENCE stands beside the server's own update sequence.
+/// How the value of UPDATESEQUENCE compares with the server's update sequence.
 #[derive(Clone, Copy)]
 pub enum Standing {
     /// The parameter is absent, or its value is empty.
     Absent,
-    /// The value isn't made of decimal digits alone.
+    /// The value has a byte that isn't a decimal digit.
     NoNumber,
     /// The number is below the server's.
     Below,
-    /// The number is the server's.
+    /// The number equals the server's.
     Equal,
     /// The number is above the server's.
     Above,

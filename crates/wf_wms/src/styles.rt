@@ -5,10 +5,10 @@ ghost use Rattle.wf_wms.specs.MapRequest.{check_style_list, check_styles, entrie
 use crate::entries::count_entries;
 use crate::exception::{Exception, Parameter};
 
-/// The one style that each layer has, as the service metadata says.
+/// The one style of each layer, as in the service metadata.
 const DEFAULT_STYLE: &str = "default";
 
-/// STYLES has as many entries as LAYERS, each a style's name; or it is absent, and each layer has its default style.
+/// Checks STYLES: it has as many entries as LAYERS, each a style's name; or it is absent, and each layer has its default style.
 pub(crate) fn check_styles(layers: usize, value: Option<&str>) -> Result<(), Exception>
     ensures { result ≡ check_styles layers (option_map (λ text. text.now) value.entry) }
 {
@@ -18,7 +18,7 @@ pub(crate) fn check_styles(layers: usize, value: Option<&str>) -> Result<(), Exc
     }
 }
 
-/// The list has one entry for each of these layers, each a style's name.
+/// Checks that the list has one entry for each of these layers, each a style's name.
 #[tactic(auto, unfolding(crate::specs::MapRequest::check_style_list))]
 fn check_style_list(layers: usize, names: &str) -> Result<(), Exception>
     ensures { result ≡ check_style_list layers (entries names.now) }
@@ -32,7 +32,7 @@ fn check_style_list(layers: usize, names: &str) -> Result<(), Exception>
     }
 }
 
-/// The index of the first name that is no style's.
+/// The index of the first name that isn't a style's.
 fn first_unknown(names: &str) -> Option<usize>
     ensures index { result ≡ position (λ name. not (is_style name)) (entries names.now) }
     ensures within { IfSome result (λ index. index < length (entries names.now)) }
@@ -43,7 +43,7 @@ fn first_unknown(names: &str) -> Option<usize>
         .position(|name| !is_style(name))
 }
 
-/// Whether the name is that of a style, or empty, which stands for the default one.
+/// Whether the name is a style's, or empty, which means the default style.
 fn is_style(name: &[u8]) -> bool
     ensures { result ≡ is_style name.now }
 {

@@ -18,8 +18,7 @@ fn compared(number: u64, seq: u16) -> Standing
     }
 }
 
-/// Where the value of UPDATESEQUENCE stands at a server of the update sequence `seq`. Digits of any
-/// length are read as their whole number.
+/// How the value of UPDATESEQUENCE compares with the update sequence `seq` of the server. Digits may have any length.
 pub(crate) fn standing(value: Option<&str>, seq: u16) -> Standing
     ensures { result ≡ sequence_rule (option_map (λ text. text.now) value.entry) seq }
 {

@@ -1,4 +1,4 @@
-//! Pieces of XML documents. Each call appends its piece whole; allocation failure is the only error.
+//! Pieces of XML documents. Each call appends its whole piece and returns Ok unless allocation fails.
 ghost use Rattle.std.specs.Prelude.{◌≡◌, ◌++◌, OnOk, codes, decimal};
 ghost use Rattle.wf_wms.specs.Xml.{escape, escape_byte};
 

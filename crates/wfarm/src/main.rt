@@ -1,4 +1,4 @@
-//! The program `wfarm`: `wf_commands` has all that it does.
+//! The program `wfarm`: calls `wf_commands`, which has all of its code.
 #![tactic(auto)]
 
 use std::process::ExitCode;

@@ -1,4 +1,4 @@
-//! When two map definitions are equal: where all their fields are, with the same layers in the same order.
+//! Equality of map definitions: all fields are equal, with the same layers in the same order.
 ghost use Rattle.std.specs.Prelude.{◌≡◌, ◌↔◌, IsTrue};
 ghost use Rattle.std.specs.Cmp.{partial_equiv_from_equiv};
 ghost use Rattle.wf_def.specs.Equality.{definition_eq};

@@ -9,17 +9,17 @@ use wf_def::text::Text;
 pub struct ClassSlots {
     /// How the features are drawn.
     pub styles: Styles,
-    /// What is said at most once.
+    /// The keywords that come at most once.
     pub single: ClassOnce,
 }
 
-/// What CLASS says at most once.
+/// The keywords of CLASS that come at most once.
 #[derive(Default, Drop)]
 pub struct ClassOnce {
-    /// What the class is called.
+    /// The name.
     pub name: Option<Text>,
-    /// What the attribute of a feature of this class equals.
+    /// The text that the attribute of a feature of this class equals.
     pub expression: Option<Text>,
-    /// How the features' texts are drawn.
+    /// How the features' labels are drawn.
     pub label: Option<Label>,
 }

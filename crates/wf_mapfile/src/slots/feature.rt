@@ -8,11 +8,11 @@ use wf_def::text::Text;
 pub struct FeatureSlots {
     /// The parts of the shape.
     pub parts: Parts,
-    /// What is said at most once.
+    /// The keywords that come at most once.
     pub single: FeatureOnce,
 }
 
-/// What FEATURE says at most once.
+/// The keywords of FEATURE that come at most once.
 #[derive(Default, Drop)]
 pub struct FeatureOnce {
     /// The values of the attributes.

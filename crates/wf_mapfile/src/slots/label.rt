@@ -10,9 +10,9 @@ use wf_def::whole::Whole;
 pub struct LabelSlots {
     /// The letters' colour.
     pub color: Option<Color>,
-    /// How large the letters are.
+    /// The size of the letters.
     pub size: Option<LabelSize>,
-    /// Where the text stands to its point.
+    /// The text's position relative to its point.
     pub position: Option<LabelPosition>,
     /// Which labels are placed first.
     pub priority: Option<Whole<1, MOST_PRIORITY>>,

@@ -13,16 +13,16 @@ pub struct LayerSlots {
     pub classes: Classes,
     /// The shapes.
     pub features: Features,
-    /// What is said at most once.
+    /// The keywords that come at most once.
     pub single: LayerOnce,
 }
 
-/// What LAYER says at most once.
+/// The keywords of LAYER that come at most once.
 #[derive(Default, Drop)]
 pub struct LayerOnce {
-    /// What the layer is called.
+    /// The name.
     pub name: Option<LayerName>,
-    /// What the features are.
+    /// The kind of features.
     pub kind: Option<LayerKind>,
     /// The attribute that chooses a feature's class.
     pub class_item: Option<Text>,
@@ -32,11 +32,11 @@ pub struct LayerOnce {
     pub items: Option<Text>,
     /// The pairs that are kept.
     pub metadata: Option<Metadata>,
-    /// What is dropped.
+    /// The dropped keywords.
     pub dropped: LayerDropped,
 }
 
-/// What LAYER says and is dropped: that it came.
+/// The dropped keywords of LAYER: whether each came.
 #[derive(Default, Drop)]
 pub struct LayerDropped {
     /// Whether the layer is on.

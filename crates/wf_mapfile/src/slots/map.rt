@@ -11,26 +11,26 @@ use wf_def::text::Text;
 pub struct MapSlots {
     /// The layers.
     pub layers: Layers,
-    /// What is said at most once.
+    /// The keywords that come at most once.
     pub single: MapOnce,
 }
 
-/// What MAP says at most once.
+/// The keywords of MAP that come at most once.
 #[derive(Default, Drop)]
 pub struct MapOnce {
-    /// What the map is called.
+    /// The name.
     pub name: Option<Text>,
     /// The box that the map covers.
     pub extent: Option<Extent>,
     /// The coordinate system of the extent.
     pub projection: Option<Projection>,
-    /// What the map tells the web.
+    /// The texts of the service.
     pub web: Option<Metadata>,
-    /// What is dropped.
+    /// The dropped keywords.
     pub dropped: MapDropped,
 }
 
-/// What MAP says and is dropped: that it came.
+/// The dropped keywords of MAP: whether each came.
 #[derive(Default, Drop)]
 pub struct MapDropped {
     /// The size of a picture.
@@ -43,6 +43,6 @@ pub struct MapDropped {
     pub status: Option<()>,
     /// The format of a picture.
     pub image_type: Option<()>,
-    /// The folder of data.
+    /// The directory of data.
     pub shape_path: Option<()>,
 }

@@ -7,12 +7,12 @@ use wf_def::whole::Whole;
 /// STYLE.
 #[derive(Default, Drop)]
 pub struct StyleSlots {
-    /// What fills a polygon or a marker, and draws a line.
+    /// The colour of a polygon's or marker's interior, or of a line.
     pub color: Option<Color>,
-    /// What draws the border.
+    /// The colour of the border.
     pub outline_color: Option<Color>,
-    /// How wide a line or a border is, in pixels.
+    /// The width of a line or a border, in pixels.
     pub width: Option<Whole<1, MOST_WIDTH>>,
-    /// How large a marker is, in pixels.
+    /// The size of a marker, in pixels.
     pub size: Option<Whole<1, MOST_SIZE>>,
 }

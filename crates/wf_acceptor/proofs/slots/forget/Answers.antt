@@ -1,4 +1,4 @@
--- The slot's value is taken out.
+-- The slot's value is removed.
 use Rattle.wf_acceptor.proofs.BySlot.{by_slot-forget}
 use Rattle.wf_acceptor.proofs.slots.forget.Goals as goal
 

@@ -1,4 +1,4 @@
--- Growing moves entries at most.
+-- Growing only moves entries.
 use Rattle.wf_acceptor.proofs.BySlot.{by_slot-same}
 use Rattle.wf_acceptor.proofs.slots.make_room.Goals as goal
 

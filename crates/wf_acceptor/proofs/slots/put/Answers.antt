@@ -1,4 +1,4 @@
--- There is room, so the value is put in.
+-- There is room, so the insertion succeeds.
 use Rattle.wf_acceptor.proofs.BySlot.{by_slot-put}
 use Rattle.wf_acceptor.proofs.slots.put.Goals as goal
 

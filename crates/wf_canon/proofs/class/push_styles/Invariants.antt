@@ -5,6 +5,6 @@ use Rattle.wf_token.specs.Spelling.{text_of}
 use Rattle.wf_canon.specs.Draft.{Writes}
 use Rattle.wf_canon.proofs.class.push_styles.Given as goal
 
--- what is written so far is what was there, and the first of them
+-- written so far: what was there, and the elements before this one
 abbrev pub invariant-loop-style : goal.invariant-loop-style
 invariant-loop-style l = Writes l.initial.out (text_of (flat_map style_lines (take l.style-index l.styles))) l.out

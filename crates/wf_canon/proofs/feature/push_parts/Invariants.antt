@@ -5,6 +5,6 @@ use Rattle.wf_token.specs.Spelling.{text_of}
 use Rattle.wf_canon.specs.Draft.{Writes}
 use Rattle.wf_canon.proofs.feature.push_parts.Given as goal
 
--- what is written so far is what was there, and the first of them
+-- written so far: what was there, and the elements before this one
 abbrev pub invariant-loop-part : goal.invariant-loop-part
 invariant-loop-part l = Writes l.initial.out (text_of (flat_map part_lines (take l.part-index l.parts))) l.out

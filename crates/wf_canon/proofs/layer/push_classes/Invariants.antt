@@ -5,6 +5,6 @@ use Rattle.wf_token.specs.Spelling.{text_of}
 use Rattle.wf_canon.specs.Draft.{Writes}
 use Rattle.wf_canon.proofs.layer.push_classes.Given as goal
 
--- what is written so far is what was there, and the first of them
+-- written so far: what was there, and the elements before this one
 abbrev pub invariant-loop-class : goal.invariant-loop-class
 invariant-loop-class l = Writes l.initial.out (text_of (flat_map class_lines (take l.class-index l.classes))) l.out

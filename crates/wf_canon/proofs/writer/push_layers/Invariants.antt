@@ -5,6 +5,6 @@ use Rattle.wf_token.specs.Spelling.{text_of}
 use Rattle.wf_canon.specs.Draft.{Writes}
 use Rattle.wf_canon.proofs.writer.push_layers.Given as goal
 
--- what is written so far is what was there, and the first of them
+-- written so far: what was there, and the elements before this one
 abbrev pub invariant-loop-index : goal.invariant-loop-index
 invariant-loop-index l = Writes l.initial.out (text_of (flat_map layer_lines (take l.index l.map.layers))) l.out

@@ -1,4 +1,4 @@
--- What the nodes asked is heard, and so they are led on.
+-- The nodes' requests are delivered, and so the nodes are led on.
 use Rattle.std.proofs.Common.{◌<◌, sym, subst}
 use Rattle.wf_farm.specs.Delivering.{AreHandedOut}
 use Rattle.wf_farm.proofs.asking.catch_up.Goals as goal

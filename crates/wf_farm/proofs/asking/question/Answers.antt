@@ -1,4 +1,4 @@
--- What the node says is what was asked; where there is no room nothing is.
+-- The node's messages are those asked for; without room nothing is sent.
 use Rattle.std.proofs.Common.{[], ◌++◌, length, refl, sym, ap, subst, ◌∙◌}
 use Rattle.std.proofs.lemmas.Option.{slice_get_read}
 use Rattle.wf_model.specs.Table as table
@@ -36,7 +36,7 @@ returns-in-Ok-clause-asked g c = λ asked. record {
   sent_are = c.send.ensures ∙ ap (λ ms. ms ++ c.in-Ok.said.items) c.reserve.ensures.items;
 }
 
--- no memory for what the node would say
+-- an allocation fails within the node's step
 pub returns-in-Err-clause-led : goal.returns-in-Err-clause-led
 returns-in-Err-clause-led g c =
     let at = slice_get_read c.args.nodes.now (length c.args.nodes.now) c.args.place c.index-nodes-place.result refl c.requires.within c.index-nodes-place.is in

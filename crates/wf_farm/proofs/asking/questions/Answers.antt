@@ -1,4 +1,4 @@
--- One question more.
+-- One more node asked.
 use Rattle.std.proofs.Common.{sym, subst, arith}
 use Rattle.wf_farm.specs.Asking.{AreAsked, First, Next}
 use Rattle.wf_farm.specs.Leading.{AreLedSaying}

@@ -1,4 +1,4 @@
--- What was asked so far was said by the nodes; and where nothing was lost, each node so far was asked.
+-- The messages so far were sent by the nodes; and if nothing was lost, each node so far was asked.
 use Rattle.std.proofs.Common.{◌≡◌, false}
 use Rattle.wf_farm.specs.Asking.{AreAsked}
 use Rattle.wf_farm.specs.Leading.{AreLedSaying}

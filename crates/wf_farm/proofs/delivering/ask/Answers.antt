@@ -1,4 +1,4 @@
--- Where no memory was wanted a rejection is an answer, and nothing is said.
+-- Without allocation failure a rejection is an answer, and nothing is sent.
 use Rattle.wf_node.specs.Input.{view}
 use Rattle.wf_farm.proofs.Deliveries.{quiet_answers, quiet_few, quiet_takes}
 use Rattle.wf_farm.proofs.Events.{on_err}

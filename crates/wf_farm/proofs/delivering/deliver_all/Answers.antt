@@ -1,4 +1,4 @@
--- To no node nothing is delivered.
+-- Without nodes nothing is delivered.
 use Rattle.std.proofs.Common.{arith}
 use Rattle.wf_farm.specs.Delivering.{AnyPart, StandFor}
 use Rattle.wf_farm.specs.DeliveringLaws.{each_grows_itself, halted_itself}
@@ -20,7 +20,7 @@ returns-then-is_empty-clause-halted g c = halted_itself c.args.nodes.now
 pub returns-then-is_empty-clause-lists : goal.returns-then-is_empty-clause-lists
 returns-then-is_empty-clause-lists g c = each_grows_itself c.args.nodes.now
 
--- To some it is what the deliveries say.
+-- With nodes the result is that of the deliveries.
 pub returns-clause-delivered : goal.returns-clause-delivered
 returns-clause-delivered g c = c.deliver_each.ensures.delivered.any
 

@@ -1,4 +1,4 @@
--- One delivery more; where there was no room for it, those so far.
+-- One more delivery; without room for it, those so far.
 use Rattle.std.proofs.Common.{◌≡◌, nat_lt, false, true, length, sym, subst, arith}
 use Rattle.wf_farm.specs.Delivering.{AreHandedOut, HaveCome, IsEnd, IsDelivered}
 use Rattle.wf_farm.proofs.Deliveries.{come_done, come_on, come_start, handed_out, none_left, whether_left}
@@ -40,7 +40,7 @@ returns-in-Err-clause-delivered g c =
     subst (λ ns. IsDelivered g.T.Tape.honest g.T.Tape.images c.args.nodes.now c.args.sent.now.items c.loop-progress.progress.done ns) (sym c.in-Err.ensures.none)
     (come_done g.T.Tape.honest g.T.Tape.images c.args.nodes.now c.args.sent.now.items c.loop-progress.progress c.loop-progress.nodes c.loop-progress.sent.items c.loop-progress.invariant)
 
--- as many deliveries were made as may be
+-- the limit of deliveries is reached
 pub returns-clause-handed : goal.returns-clause-handed
 returns-clause-handed g c =
     let count : c.len-2.result ≡ length c.loop-progress.sent.items = omega (arith, c.len-2.ensures) in

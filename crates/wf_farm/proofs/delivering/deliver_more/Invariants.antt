@@ -1,4 +1,4 @@
--- How far the deliveries have come.
+-- The progress of the deliveries.
 use Rattle.std.proofs.Common.{◌-◌}
 use Rattle.wf_farm.specs.Delivering.{HaveCome}
 use Rattle.wf_farm.proofs.delivering.deliver_more.Given as goal

@@ -1,4 +1,4 @@
--- The message is handed to the node at its place; without room nothing is.
+-- The message is delivered to the node at its index; without room nothing is.
 use Rattle.std.proofs.Common.{◌≡◌, ◌++◌, length, slice_get, slice_set, Some, refl, sym, ap, subst, ◌∙◌}
 use Rattle.std.proofs.lemmas.Option.{slice_get_read}
 use Rattle.wf_codec.specs.Message.{view}

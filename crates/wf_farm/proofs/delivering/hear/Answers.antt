@@ -1,4 +1,4 @@
--- What is answered is what was said; without memory nothing is.
+-- The messages returned are those sent; after an allocation failure none are.
 use Rattle.std.proofs.Common.{sym, subst}
 use Rattle.wf_node.specs.Input.{view}
 use Rattle.wf_farm.specs.Delivering.{Takes}

@@ -1,4 +1,4 @@
--- What a step that is done says is few; after a fault the node is as it was, or halted.
+-- A completed step sends few messages; after an error the node is unchanged, or halted.
 use Rattle.wf_node.specs.Input.{view}
 use Rattle.wf_farm.proofs.Deliveries.{any_answered, any_lost, any_rejected, any_short, any_taken}
 use Rattle.wf_farm.proofs.delivering.step.Goals as goal

@@ -1,4 +1,4 @@
--- Every node's number stands at its own place.
+-- Every node's number is at its own index.
 use Rattle.std.proofs.Common.{subst, arith}
 use Rattle.wf_farm.proofs.Listed.{IsUpTo, up_to_targets}
 use Rattle.wf_farm.proofs.targets.every_node.Goals as goal

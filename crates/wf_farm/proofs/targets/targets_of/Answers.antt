@@ -1,4 +1,4 @@
--- The names sorted, and each kept once.
+-- The names sorted, without duplicates.
 use Rattle.std.proofs.Common.{◌<◌, length, arith}
 use Rattle.wf_farm.proofs.Listed.{some_sorted, sorted_targets}
 use Rattle.wf_farm.proofs.targets.targets_of.Goals as goal

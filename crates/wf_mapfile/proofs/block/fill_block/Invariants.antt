@@ -2,7 +2,7 @@ use Rattle.std.proofs.Common.{◌≡◌, ◌-◌}
 use Rattle.wf_mapfile.specs.Steps.{fill}
 use Rattle.wf_mapfile.proofs.block.fill_block.Given as goal
 
--- what is left to fill, from here, gives what was to be filled, within what it was
+-- filling from the remaining tokens and the slots so far gives the same as filling from the start
 abbrev pub invariant-loop : goal.invariant-loop
 invariant-loop g l =
     (fill (g.S.Slots.put (g.S.Slots.within l.initial.slots)) (l.end - l.counter) (g.S.Slots.said l.slots) l.parser

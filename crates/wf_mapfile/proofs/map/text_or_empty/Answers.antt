@@ -1,4 +1,4 @@
--- The default is a text, as its bytes show.
+-- The default is a text: the test computes.
 use Rattle.std.proofs.Common.{refl}
 use Rattle.std.specs.Str.{is_utf8, chars}
 use Rattle.wf_def.specs.Text.{is_text}

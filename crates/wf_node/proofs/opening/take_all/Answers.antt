@@ -1,4 +1,4 @@
--- Each turn takes one record more.
+-- Each iteration applies one more record.
 use Rattle.std.proofs.Common.{◌≡◌, refl, ◌∙◌, rules}
 use Rattle.wf_node.specs.Kept.{stored_of}
 use Rattle.wf_node.proofs.Folded.{none_taken, taken_more, room_there}

@@ -1,4 +1,4 @@
--- The records so far are taken, and the others are still to come.
+-- The records so far are applied, and the others remain.
 use Rattle.std.proofs.Common.{◌≡◌}
 use Rattle.wf_node.specs.Kept.{stored_of}
 use Rattle.wf_node.proofs.Folded.{HasTaken}

@@ -1,4 +1,4 @@
--- Each cache is good for every history, and so for its node's.
+-- Each cache is valid for every history, and so for its node's.
 use Rattle.std.proofs.Common.{length, sym, subst, ap, arith}
 use Rattle.wf_serve.specs.Caching.{AreEmpty}
 use Rattle.wf_serve.proofs.Caches.{none_yet, kept_empty}

@@ -1,4 +1,4 @@
--- So many caches are there, and none has a picture yet.
+-- This many caches are there, all empty.
 use Rattle.std.proofs.Common.{◌≡◌, length}
 use Rattle.wf_serve.specs.Caching.{AreEmpty}
 use Rattle.wf_serve.proofs.caching.caches_for.Given as goal

@@ -1,4 +1,4 @@
--- One connection more, by the node whose turn it is.
+-- One more connection, by the node whose turn it is.
 use Rattle.std.proofs.Common.{◌≡◌, length, subst, arith}
 use Rattle.wf_serve.specs.Connections.{HaveCome}
 use Rattle.wf_serve.proofs.Come.{none_came, one_more_came}

@@ -1,4 +1,4 @@
--- So many connections have come, events of the model led the nodes on, and the caches are theirs.
+-- This many connections were served, events of the model led the nodes on, and each cache is its node's.
 use Rattle.std.proofs.Common.{length}
 use Rattle.wf_farm.specs.Leading.{AreLedOn}
 use Rattle.wf_serve.specs.Caching.{AreKept}

@@ -1,4 +1,4 @@
--- Where there is no connection nothing happens.
+-- Without a connection nothing happens.
 use Rattle.std.proofs.Common.{refl, inl, inr}
 use Rattle.wf_serve.proofs.connections.serve_next.Goals as goal
 

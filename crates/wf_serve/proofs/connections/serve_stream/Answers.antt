@@ -1,4 +1,4 @@
--- What the connection did is what serving it did, whatever came in by it.
+-- The effect of the connection is that of serving it, whatever was received on it.
 use Rattle.wf_serve.proofs.connections.serve_stream.Goals as goal
 
 pub returns-clause-answered : goal.returns-clause-answered

@@ -1,4 +1,4 @@
--- Where the port wasn't told nothing happens.
+-- If the port wasn't printed, nothing happens.
 use Rattle.wf_serve.proofs.listening.serve_kept.Goals as goal
 
 pub returns-in-Ok-clause-led : goal.returns-in-Ok-clause-led

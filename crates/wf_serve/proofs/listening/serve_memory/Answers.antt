@@ -1,4 +1,4 @@
--- The nodes that opened are as many as were asked for, and stand in turn.
+-- The opened nodes are as many as requested, each at its index.
 use Rattle.std.proofs.Common.{refl, arith}
 use Rattle.wf_serve.proofs.Opened.{in_place}
 use Rattle.wf_serve.proofs.listening.serve_memory.Goals as goal

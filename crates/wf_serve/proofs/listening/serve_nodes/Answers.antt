@@ -1,4 +1,4 @@
--- The nodes catch up, and then the connections come.
+-- The nodes catch up, and then the connections are served.
 use Rattle.std.proofs.Common.{refl, arith}
 use Rattle.wf_serve.proofs.listening.serve_nodes.Goals as goal
 

@@ -1,4 +1,4 @@
--- No node stands yet; then one more stands behind the others.
+-- There is no node yet; then one more is appended.
 use Rattle.std.proofs.Common.{length, sym, ap, subst}
 use Rattle.wf_farm.specs.Delivering.{StandAmong}
 use Rattle.wf_serve.proofs.Opened.{none_yet}

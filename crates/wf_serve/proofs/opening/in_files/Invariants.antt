@@ -1,4 +1,4 @@
--- So many nodes stand in turn.
+-- This many nodes are there, each at its index.
 use Rattle.std.proofs.Common.{◌≡◌, length}
 use Rattle.wf_farm.specs.Delivering.{StandAmong}
 use Rattle.wf_serve.proofs.opening.in_files.Given as goal

@@ -1,4 +1,4 @@
--- So many nodes stand in turn, all on empty tapes.
+-- This many nodes are there, each at its index, all on empty tapes.
 use Rattle.std.proofs.Common.{◌≡◌, length}
 use Rattle.wf_farm.specs.Delivering.{StandAmong}
 use Rattle.wf_farm.specs.Leading.{AreFresh}

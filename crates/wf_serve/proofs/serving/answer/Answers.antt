@@ -1,4 +1,4 @@
--- What the node promises of its step is its answer.
+-- What the node promises of its step is its result.
 use Rattle.wf_node.specs.Input.{view}
 use Rattle.wf_serve.proofs.Asked.{answered}
 use Rattle.wf_serve.proofs.serving.answer.Goals as goal

@@ -1,4 +1,4 @@
--- The node is asked, and then heard.
+-- The node is asked, and then its messages are delivered.
 use Rattle.wf_serve.proofs.serving.ask.Goals as goal
 
 pub hear-requires : goal.hear-requires

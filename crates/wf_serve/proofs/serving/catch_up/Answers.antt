@@ -1,4 +1,4 @@
--- One node more that has caught up.
+-- One more node that has caught up.
 use Rattle.std.proofs.Common.{◌≡◌, length, subst, arith}
 use Rattle.wf_serve.specs.Serving.{HaveCaughtUp}
 use Rattle.wf_serve.proofs.Come.{none_caught, one_more_caught}

@@ -1,4 +1,4 @@
--- So many nodes have caught up, and events of the model led them on.
+-- This many nodes have caught up, and events of the model led them on.
 use Rattle.wf_farm.specs.Leading.{AreLedOn}
 use Rattle.wf_serve.specs.Serving.{HaveCaughtUp}
 use Rattle.wf_serve.proofs.serving.catch_up.Given as goal

@@ -1,4 +1,4 @@
--- So many deliveries were made.
+-- This many deliveries were made.
 use Rattle.wf_serve.proofs.serving.hear.Goals as goal
 
 pub deliver_all-requires : goal.deliver_all-requires

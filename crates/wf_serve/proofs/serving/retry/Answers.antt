@@ -1,4 +1,4 @@
--- Where the proposal runs, the node is asked and heard; else nothing happens.
+-- If the proposal runs, the node is asked and its messages are delivered; otherwise nothing happens.
 use Rattle.std.proofs.Common.{◌≡◌, ◌≢◌, length, refl, sym, subst, inl, inr}
 use Rattle.std.proofs.lemmas.Option.{slice_get_read}
 use Rattle.wf_edge.specs.Page.{standing_at}

@@ -1,4 +1,4 @@
--- The node at the place is asked, and every other one is as it was.
+-- The node at the index is asked, and every other one is unchanged.
 use Rattle.std.proofs.Common.{length, refl, sym, subst}
 use Rattle.std.proofs.lemmas.Option.{slice_get_read}
 use Rattle.wf_node.specs.Input.{view}

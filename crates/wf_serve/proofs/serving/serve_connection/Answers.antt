@@ -1,4 +1,4 @@
--- The request, the deliveries and the second try come one after the other, each leading the nodes on.
+-- The request, the deliveries and the retry come in turn, each leading the nodes on.
 use Rattle.std.proofs.Common.{arith}
 use Rattle.wf_farm.specs.DeliveringLaws.{keeps_turn_twice}
 use Rattle.wf_serve.proofs.Caches.{kept_grown}

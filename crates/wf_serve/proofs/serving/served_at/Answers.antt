@@ -1,4 +1,4 @@
--- The node at the place serves the request, and every other one is as it was.
+-- The node at the index serves the request, and every other one is unchanged.
 use Rattle.std.proofs.Common.{length, refl, sym, subst, subst₂, arith}
 use Rattle.std.proofs.lemmas.Option.{slice_get_read}
 use Rattle.wf_edge.specs.Serving.{IsOutcome, MovesOnce}

@@ -2,7 +2,7 @@ use Rattle.std.proofs.Common.{◌≡◌, ◌≤◌, ◌-◌, length, vec_len}
 use Rattle.std.specs.Io.KnownBytes.{Consumes}
 use Rattle.wf_stream.proofs.stream.read_up_to.Given as goal
 
--- what was read was taken from the front, and no read has failed
+-- the bytes read were taken from the front, and no read has failed
 abbrev pub invariant-loop-bytes : goal.invariant-loop-bytes
 invariant-loop-bytes g l =
     Consumes (g.S.Source.left l.fn.source) (g.S.Source.left l.source) l.bytes.items

@@ -3,7 +3,7 @@ use Rattle.wf_tape.specs.Record.{view}
 use Rattle.wf_tape.specs.Records.{Splits}
 use Rattle.wf_tape.proofs.reading.read_records.Given as goal
 
--- the bytes are the records found so far, and then the rest
+-- the bytes are the records found so far, followed by the rest
 abbrev pub invariant-loop-alloc : goal.invariant-loop-alloc
 invariant-loop-alloc l = Splits l.bytes (map view l.records.items) l.rest
 

@@ -2,7 +2,7 @@ use Rattle.std.proofs.Common.{◌≡◌, ◌≤◌, length}
 use Rattle.wf_token.specs.Token.{Between, prepend_all, tokens_from, tokens, token_values}
 use Rattle.wf_token.proofs.lexer.tokenize.Given as goal
 
--- the tokens so far, before those of what is left, are those of the whole text
+-- the tokens so far, followed by those of the rest, are those of the whole text
 abbrev pub invariant-loop-after : goal.invariant-loop-after
 invariant-loop-after l = record {
   tokens : prepend_all (token_values l.tokens.items) (tokens_from Between l.rest) ≡ tokens l.bytes;

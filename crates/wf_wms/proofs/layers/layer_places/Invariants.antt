@@ -3,7 +3,7 @@ use Rattle.std.specs.Prelude.{filter_map, is_none}
 use Rattle.wf_wms.specs.MapRequest.{entries, layer_of}
 use Rattle.wf_wms.proofs.layers.layer_places.Given as goal
 
--- the names so far are those of layers, whose places stand there
+-- the names so far are layers' names, and their indices are in the list
 abbrev pub invariant-loop-name : goal.invariant-loop-name
 invariant-loop-name l = record {
   known : (k : ℕ) → k < length l.yielded → is_none (layer_of l.map (get_or (entries l.names) k [])) ≡ false;

@@ -1,4 +1,4 @@
--- What is taken in is applied.
+-- The record is applied.
 use Rattle.wf_acceptor.proofs.Applied.{applied_if_ok}
 use Rattle.wf_acceptor.proofs.acceptor.Acceptor.apply.Goals as goal
 

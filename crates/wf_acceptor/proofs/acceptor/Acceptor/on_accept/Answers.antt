@@ -1,4 +1,4 @@
--- How the ballot stands to the promise, and then the vote, decide.
+-- By cases: the ballot compared with the promise, then with the vote.
 use Rattle.std.proofs.Common.{Some, sym, ◌∙◌, ap}
 use Rattle.wf_codec.specs.declared.message.Message.TheVariants as message
 use Rattle.wf_acceptor.specs.Acceptor.{Acceptor}

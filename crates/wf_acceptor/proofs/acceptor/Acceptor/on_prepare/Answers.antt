@@ -1,4 +1,4 @@
--- How the ballot stands to the promise decides.
+-- By cases: the ballot compared with the promise.
 use Rattle.std.proofs.Common.{None, sym, ◌∙◌}
 use Rattle.wf_acceptor.specs.Prepared.{nack_of}
 use Rattle.wf_acceptor.proofs.Answered.{promising, replying, prepare_row, answers_as, answers_if_ok, stores_if_err, promising_answers, promising_stores, refusal_answers, silence_answers}

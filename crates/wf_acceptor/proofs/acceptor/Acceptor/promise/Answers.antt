@@ -1,4 +1,4 @@
--- The vote that is reported is the one that the acceptor shows.
+-- The vote that is reported is that of the acceptor's model.
 use Rattle.std.proofs.Common.{◌≡◌, ◌∙◌, ap}
 use Rattle.std.specs.FinMap as map
 use Rattle.wf_acceptor.specs.Acceptor.{Acceptor}

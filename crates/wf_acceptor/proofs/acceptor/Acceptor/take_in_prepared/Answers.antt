@@ -13,7 +13,7 @@ use Rattle.wf_acceptor.specs.Prepared.{definition_of, with_open}
 use Rattle.wf_acceptor.proofs.acceptor.Acceptor.take_in_prepared.Goals as goal
 use Rattle.wf_acceptor.proofs.acceptor.Acceptor.take_in_prepared.Goals.{in-Some-Promised, in-Some-Accepted+in-Some, in-Some-Accepted+in_default-take_definition, in-Some+in-Tried-1, in-None-1}
 
--- The promise and the vote of a vote's record are put in.
+-- The promise and the vote of a vote's record are inserted.
 voted : (old : Part) (s : ℕ) (b : Ballot) (d : Definition) (r : Record) (c : Definition) (promises : FinMap nat_cmp Ballot)
     (votes : FinMap nat_cmp (Ballot × Definition)) → r ≡ Accepted s b d → Some c ≡ definition_of (Some r) → promises ≡ insert old.promises s b →
     votes ≡ insert old.votes s (b, c) →

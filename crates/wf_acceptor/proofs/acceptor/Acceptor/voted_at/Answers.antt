@@ -1,4 +1,4 @@
--- The vote that is found is the one that the acceptor shows.
+-- The vote that is found is that of the acceptor's model.
 use Rattle.std.proofs.Common.{◌≡◌, Some, None, sym, ◌∙◌, ap}
 use Rattle.std.specs.Option.{option_copied}
 use Rattle.std.specs.FinMap as map

@@ -1,4 +1,4 @@
--- Two maps within the limits have one text exactly where they are equal.
+-- Two maps within the limits have the same text iff they are equal.
 use Rattle.std.proofs.Common.{◌≡◌, ℕ, Bool, List, ap, ◌∙◌}
 use Rattle.std.specs.Bool.{Decides}
 use Rattle.std.specs.Str.{bytes_eq}

@@ -1,4 +1,4 @@
--- The words of the empty map are texts: the test computes.
+-- The texts of the empty map are valid: the test computes.
 use Rattle.std.proofs.Common.{refl}
 use Rattle.std.specs.Char.{encode_utf8}
 use Rattle.std.specs.Str.{is_utf8, chars}

@@ -4,7 +4,7 @@ use Rattle.arrayvec.specs.ArrayVec.{array_vec_len}
 use Rattle.wf_edge.specs.Request.{IsUnfinished}
 use Rattle.wf_edge.proofs.front.Front.read.Given as goal
 
--- what was read was taken from the front, no head is whole yet, and no read has failed
+-- the bytes read were taken from the front, no head is complete yet, and no read has failed
 abbrev pub invariant-loop-bytes : goal.invariant-loop-bytes
 invariant-loop-bytes g l = record {
   taken : Consumes (g.S.Source.left l.fn.source) (g.S.Source.left l.source) l.bytes.items;

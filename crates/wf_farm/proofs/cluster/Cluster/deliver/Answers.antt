@@ -1,4 +1,4 @@
--- The message of that number is handed to the node; where it isn't sent, or no node runs there, nothing happens.
+-- The message of that number is delivered to the node; if it wasn't sent, or no node runs there, nothing happens.
 use Rattle.std.proofs.Common.{◌≡◌, length, map, Some, refl, sym, subst, arith}
 use Rattle.std.proofs.lemmas.Option.{slice_get_past, slice_get_read}
 use Rattle.wf_codec.specs.Message.{view}

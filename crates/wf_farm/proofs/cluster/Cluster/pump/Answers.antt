@@ -1,4 +1,4 @@
--- One delivery more; a fault leaves the deliveries so far.
+-- One more delivery; an error leaves the deliveries so far.
 use Rattle.std.proofs.Common.{sym, subst, arith}
 use Rattle.wf_farm.specs.Progress.{HasCome}
 use Rattle.wf_farm.proofs.Events.{same_members}

@@ -1,4 +1,4 @@
--- How far the pump has come.
+-- The progress of the pump.
 use Rattle.std.proofs.Common.{◌-◌}
 use Rattle.wf_farm.specs.Cluster.{KeepMembers}
 use Rattle.wf_farm.specs.Progress.{HasCome}

@@ -1,4 +1,4 @@
--- The node at the place comes back; where there is none, nothing happens.
+-- The node in the entry restarts; if there is none, nothing happens.
 use Rattle.std.proofs.Common.{length, refl, arith}
 use Rattle.std.proofs.lemmas.Option.{slice_get_past, slice_get_read}
 use Rattle.wf_farm.proofs.Events.{absent_restarts, cast_id, cast_members, place_restarts, place_stays}

@@ -1,4 +1,4 @@
--- The proposal begins anew; where no node runs, or it rejects, nothing happens.
+-- The proposal restarts; if no node runs, or it rejects, nothing happens.
 use Rattle.std.proofs.Common.{length, refl, sym, subst}
 use Rattle.std.proofs.lemmas.Option.{slice_get_read}
 use Rattle.wf_model.specs.Table as table

@@ -1,4 +1,4 @@
--- One event more has happened; a fault leaves the events so far.
+-- One more event has happened; an error leaves the events so far.
 use Rattle.std.proofs.Common.{◌+◌, length, map, take, refl, arith}
 use Rattle.std.proofs.lemmas.Option.{slice_get_read}
 use Rattle.wf_farm.specs.Event.{view}

@@ -1,4 +1,4 @@
--- The step of the node at the place is the world's; where no node runs, nothing happens.
+-- The step of the node in the entry is the world's; if no node runs, nothing happens.
 use Rattle.std.proofs.Common.{◌++◌, length, slice_set, None, IfOk, refl, sym, ap, subst, ◌∙◌}
 use Rattle.std.proofs.lemmas.Option.{slice_get_read}
 use Rattle.wf_node.specs.Input.{view}

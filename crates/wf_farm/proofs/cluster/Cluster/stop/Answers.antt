@@ -1,4 +1,4 @@
--- The node at the place stops; where there is none, nothing happens.
+-- The node in the entry stops; if there is none, nothing happens.
 use Rattle.std.proofs.Common.{length, refl, arith}
 use Rattle.std.proofs.lemmas.Option.{slice_get_past, slice_get_read}
 use Rattle.wf_farm.proofs.Events.{absent_stops, place_keeps, place_stops}

@@ -1,4 +1,4 @@
--- Where no node runs, where there is no input, and where the step is rejected, nothing happens.
+-- If no node runs, there is no input, or the step is rejected, nothing happens.
 use Rattle.std.proofs.Common.{length, map, refl, sym, subst}
 use Rattle.std.proofs.lemmas.Option.{slice_get_read}
 use Rattle.wf_codec.specs.Message.{view as view_message}

@@ -1,4 +1,4 @@
--- The node at the place stops where its step wouldn't be rejected; else nothing happens.
+-- The node in the entry stops if its step wouldn't be rejected; otherwise nothing happens.
 use Rattle.std.proofs.Common.{length, map, None, refl, sym, subst, ◌∙◌, arith}
 use Rattle.std.proofs.lemmas.Option.{same_Some, slice_get_past, slice_get_read}
 use Rattle.wf_codec.specs.Message.{view as view_message}

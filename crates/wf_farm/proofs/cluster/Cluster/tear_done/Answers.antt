@@ -1,4 +1,4 @@
--- The step of the node at the place is torn after its record; where there is no node or no input, nothing happens.
+-- The node in the entry crashes after its step's record; if there is no node or no input, nothing happens.
 use Rattle.std.proofs.Common.{length, option_map, refl, sym, ap, ◌∙◌, arith}
 use Rattle.std.proofs.lemmas.Option.{slice_get_past, slice_get_read}
 use Rattle.wf_model.specs.World.{After}

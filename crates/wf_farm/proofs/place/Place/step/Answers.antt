@@ -1,4 +1,4 @@
--- Whatever a step answers, its node is a member still: its tape doesn't fail.
+-- Whatever a step returns, its node is still a member: its tape doesn't fail.
 use Rattle.std.proofs.Common.{sym, subst}
 use Rattle.wf_node.specs.Input.{view}
 use Rattle.wf_farm.specs.declared.place.Place.TheVariants.{Running}

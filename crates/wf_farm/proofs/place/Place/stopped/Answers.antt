@@ -1,4 +1,4 @@
--- A node that ran is closed; a tape stays.
+-- A running node is closed; a tape is unchanged.
 use Rattle.std.proofs.Common.{sym, subst}
 use Rattle.wf_farm.specs.declared.place.Place.TheVariants.{Stopped}
 use Rattle.wf_farm.specs.Place.{Stops}

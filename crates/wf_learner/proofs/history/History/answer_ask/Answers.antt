@@ -1,4 +1,4 @@
--- Each turn of the loop tells of one sequence more.
+-- Each iteration appends the message of one more sequence.
 use Rattle.std.proofs.Common.{suc, arith}
 use Rattle.wf_learner.proofs.Told.{none_told, next_told, all_told}
 use Rattle.wf_learner.proofs.history.History.answer_ask.Goals as goal

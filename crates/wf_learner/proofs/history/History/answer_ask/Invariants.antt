@@ -1,4 +1,4 @@
--- What is told so far, and what is still to be told, are what is to be told from the slot on.
+-- The messages so far, followed by those still to come, are those from the slot on.
 use Rattle.std.proofs.Common.{◌≡◌, ℕ, ◌+◌, ◌++◌, map}
 use Rattle.wf_model.specs.Table.{most_told, told_from}
 use Rattle.wf_codec.specs.Message.{view as view_message}

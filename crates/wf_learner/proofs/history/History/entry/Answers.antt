@@ -1,4 +1,4 @@
--- The definition stands one place before its number.
+-- The definition's index is one below its number.
 use Rattle.std.proofs.Common.{◌≡◌, ℕ, ◌-◌, List, length, slice_get, Option, Some, None, Bor, refl, sym, ◌∙◌, ap}
 use Rattle.std.proofs.lemmas.Option.{slice_get_past, slice_get_read}
 use Rattle.std.specs.Option.{option_copied}
@@ -8,7 +8,7 @@ use Rattle.wf_learner.specs.History.{History}
 use Rattle.wf_learner.proofs.Told.{definition_before}
 use Rattle.wf_learner.proofs.history.History.entry.Goals as goal
 
--- what is lent is the element, where there is one
+-- what is borrowed is the element, if there is one
 lent : {X : Type 0} (xs : List X) (i : ℕ) (r : Option (Bor X)) → IsItemAt xs i r → option_copied r ≡ slice_get xs i
 lent xs i None got = sym (slice_get_past xs i got.3)
 lent xs i (Some x) got = sym (slice_get_read xs (length xs) i x.now refl got.3.0 got.1)

@@ -1,4 +1,4 @@
--- The definitions grow by the chosen one exactly where its slot is the next, which is the row.
+-- The definitions grow by the chosen one iff its slot is the next, as in the transition.
 use Rattle.std.proofs.Common.{◌≡◌, arith}
 use Rattle.std.proofs.lemmas.Grind.{common_steps}
 use Rattle.wf_learner.specs.History.{with_chosen}

@@ -21,7 +21,7 @@ add_layer-requires-clause-features c = (turn c).features
 pub add_layer-requires-clause-points : goal.add_layer-requires-clause-points
 add_layer-requires-clause-points c = (turn c).points
 
--- no two layers have one name
+-- no two layers have the same name
 pub unreachable-requires : goal.unreachable-requires
 unreachable-requires c =
     let new = (turn (goal.at.unreachable-requires c).After-into_text).new in

@@ -6,7 +6,7 @@ use Rattle.wf_mapfile.proofs.Unlike.{Entry}
 use Rattle.wf_mapfile.proofs.GatheredLaw.{one_more, left_over}
 use Rattle.wf_mapfile.proofs.layers.Layers.push.Goals as goal
 
--- one more layer, where it may follow those that are there
+-- the list with one more layer, if that may follow the others
 pub invariant_of-self-2 : goal.invariant_of-self-2
 invariant_of-self-2 c =
     let inside = c.self.inside in

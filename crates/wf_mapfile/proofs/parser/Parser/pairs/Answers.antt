@@ -6,7 +6,7 @@ use Rattle.wf_mapfile.specs.Pairs.{keep}
 use Rattle.wf_mapfile.proofs.Pairs.{collect_more}
 use Rattle.wf_mapfile.proofs.parser.Parser.pairs.Goals as goal
 
--- a pair behind those so far
+-- a pair after those so far
 pub loop-preserved : goal.loop-preserved
 loop-preserved c =
     let key = string_bytes c.in_ok-key.key in

@@ -3,7 +3,7 @@ use Rattle.wf_mapfile.specs.Grammar.{end}
 use Rattle.wf_mapfile.proofs.PointsLaw.{points_more, points_fit}
 use Rattle.wf_mapfile.proofs.parser.Parser.points.Goals as goal
 
--- a point behind those so far
+-- a point after those so far
 pub loop-preserved : goal.loop-preserved
 loop-preserved c =
     let closed : is_some (end c.loop.self) ≡ false = search rules in

@@ -1,4 +1,4 @@
--- What the acceptor and the history take in of the record is what the fold makes of it.
+-- The record's effect on the acceptor and the history is that of the fold.
 use Rattle.std.proofs.Common.{◌≡◌, true, sym, ap, subst, ◌∙◌}
 use Rattle.wf_model.specs.Stored.{fits, with_record}
 use Rattle.wf_tape.specs.Record.{view}

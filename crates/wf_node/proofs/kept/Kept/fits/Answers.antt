@@ -1,4 +1,4 @@
--- A published definition fits where it is the next one.
+-- A published definition fits iff it is the next one.
 use Rattle.std.proofs.Common.{length, ap, ◌∙◌}
 use Rattle.wf_node.specs.Kept.{Kept, stored_of}
 use Rattle.wf_node.proofs.Keeping.{fits_in_turn}

@@ -1,4 +1,4 @@
--- The acceptor's row is this node's, and it publishes nothing.
+-- The acceptor's transition is this node's, and it publishes nothing.
 use Rattle.std.proofs.Common.{IfOk, OnErr, subst}
 use Rattle.wf_model.specs.Table.{on_prepare}
 use Rattle.wf_node.specs.Kept.{Kept, IsRow, Stores, stored_of}

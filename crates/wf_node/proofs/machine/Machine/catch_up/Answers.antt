@@ -1,4 +1,4 @@
--- The next sequence is asked for, where there is one.
+-- The next sequence is asked for, if there is one.
 use Rattle.std.proofs.Common.{◌+◌, ◌<◌, [], ◌∷◌, length, refl, sym, subst, ap, ◌∙◌}
 use Rattle.std.proofs.lemmas.Bool.{false≢true}
 use Rattle.wf_ballot.specs.Sequence.{last_sequence}

@@ -1,4 +1,4 @@
--- The proposer answers with the row, or wants memory for an answer that it hears.
+-- The proposer returns the transition, or allocation fails for an answer that it counts.
 use Rattle.std.proofs.Common.{refl, sym, subst, ◌∙◌}
 use Rattle.wf_def.specs.Definition.{Definition}
 use Rattle.wf_model.specs.Message as model

@@ -1,4 +1,4 @@
--- The row is all that is told, and memory is wanted where that is something.
+-- The transition only sends, and allocation can fail only if it sends something.
 use Rattle.std.proofs.Common.{Ok, Err, ◌≤◌, length, subst, ap, ◌∙◌}
 use Rattle.wf_model.specs.Message as model
 use Rattle.wf_model.specs.Table.{Deliver, told_from, most_told}

@@ -1,4 +1,4 @@
--- How the slot stands to the next one decides.
+-- By cases: the slot compared with the next one.
 use Rattle.std.proofs.Common.{◌+◌, ◌<◌, ◌≤◌, [], ◌∷◌, length, sym, subst, ap, ◌∙◌, arith}
 use Rattle.std.proofs.lemmas.Bool.{false≢true}
 use Rattle.wf_ballot.specs.Sequence.{last_sequence}

@@ -1,4 +1,4 @@
--- The highest round told is kept.
+-- The highest reported round is kept.
 use Rattle.std.proofs.Common.{ap, ◌∙◌}
 use Rattle.wf_def.specs.Definition.{Definition}
 use Rattle.wf_model.specs.Message as model

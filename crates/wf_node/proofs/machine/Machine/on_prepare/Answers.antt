@@ -1,4 +1,4 @@
--- A published definition is told; else the acceptor answers.
+-- A published definition is sent; otherwise the acceptor answers.
 use Rattle.std.proofs.Common.{Err, refl, sym, ◌∙◌}
 use Rattle.wf_model.specs.Message as model
 use Rattle.wf_model.specs.Table.{Deliver, on_prepare, told}

@@ -1,4 +1,4 @@
--- The definition's record is stored, the proposal ends, and nothing is said.
+-- The definition's record is stored, the proposal ends, and nothing is sent.
 use Rattle.std.proofs.Common.{◌≡◌, true, map, Some, Ok, Err, Global, IsSome, refl, sym, subst, ap, ◌∙◌}
 use Rattle.wf_codec.specs.Message as message
 use Rattle.wf_def.specs.Definition.{Definition}

@@ -1,4 +1,4 @@
--- A second try is rejected as the proposer rejects it, and stores its round.
+-- A retry is rejected as the proposer rejects it, and stores its round.
 use Rattle.std.proofs.Common.{sym, subst, ap, ◌∙◌, IsSome}
 use Rattle.wf_def.specs.Definition.{Definition}
 use Rattle.wf_model.specs.Table.{Retry, Row}

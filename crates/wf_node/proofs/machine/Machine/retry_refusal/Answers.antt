@@ -1,4 +1,4 @@
--- A second try would be rejected as the proposer would refuse it.
+-- A retry would be rejected as the proposer would reject it.
 use Rattle.std.proofs.Common.{sym}
 use Rattle.wf_model.specs.Table.{refuse_retry}
 use Rattle.wf_proposer.specs.Proposer.{working_of}

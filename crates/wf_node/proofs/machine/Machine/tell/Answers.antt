@@ -1,4 +1,4 @@
--- Memory is wanted only where there is something to tell.
+-- Allocation can fail only if there is something to send.
 use Rattle.std.proofs.Common.{◌≤◌, length, subst}
 use Rattle.wf_node.proofs.Rows.{told_something}
 use Rattle.wf_node.proofs.machine.Machine.tell.Goals as goal

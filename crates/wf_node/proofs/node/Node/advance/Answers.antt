@@ -1,4 +1,4 @@
--- What the parts do is the node's step, and keeps what is true of each node.
+-- The step of the parts is the node's step, and preserves the invariant of nodes.
 use Rattle.std.proofs.Common.{subst, ap, ◌∙◌}
 use Rattle.wf_node.specs.Input.{view}
 use Rattle.wf_node.specs.Node.{view_of}

@@ -1,4 +1,4 @@
--- What the node shows of its parts is what these say.
+-- The node's result is that of its parts.
 use Rattle.std.proofs.Common.{sym, subst}
 use Rattle.wf_model.specs.Table.{refuse_proposal}
 use Rattle.wf_node.specs.Fault.{IsWhyNot}

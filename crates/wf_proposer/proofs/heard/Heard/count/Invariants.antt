@@ -1,4 +1,4 @@
--- So many of the nodes before this one were heard, and no more than there are.
+-- The count of the nodes before this one, which is at most the number of nodes.
 use Rattle.std.proofs.Common.{◌≡◌, ◌≤◌}
 use Rattle.wf_ballot.specs.Majority.{count_nodes}
 use Rattle.wf_proposer.specs.Heard.{among}

@@ -1,4 +1,4 @@
--- What is answered is a proposal's beginning, at the sequence of the one that runs.
+-- The result is the beginning of a proposal, at the sequence of the running one.
 use Rattle.wf_proposer.proofs.Begun.{again-answer}
 use Rattle.wf_proposer.proofs.proposer.Proposer.retry.Goals as goal
 

@@ -1,4 +1,4 @@
--- Where no proposal runs, what is answered is a proposal's beginning.
+-- If no proposal is running, the result is the beginning of one.
 use Rattle.wf_proposer.proofs.Begun.{first-answer}
 use Rattle.wf_proposer.proofs.proposer.Proposer.start.Goals as goal
 

@@ -1,4 +1,4 @@
--- The front of what was read is kept, and what is left reads as it did.
+-- The prefix of the records is kept, and each image reads as it did.
 use Rattle.std.proofs.Common.{refl, sym, ap, subst, ◌∙◌}
 use Rattle.wf_tape.specs.Journal.{Holds, AllReadAs, Follows, ReadsSame}
 use Rattle.wf_tape.proofs.Settling.{holds_found, reads_held, same_found}

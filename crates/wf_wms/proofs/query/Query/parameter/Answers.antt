@@ -48,7 +48,7 @@ never name pairs i past =
 not_zero : (n : ℕ) → (suc n == 0) ≡ true → ⊥
 not_zero n zero = grind (arith, nat_tests)
 
--- an empty value is none, and another is itself
+-- an empty value counts as absent, any other as itself
 none_if_empty : (value : List ℕ) → (length value == 0) ≡ true → unless_empty value ≡ None
 none_if_empty [] empty = refl
 none_if_empty (byte ∷ bytes) empty = absurd (not_zero (length bytes) empty)

@@ -5,12 +5,12 @@ use Rattle.wf_def.specs.Text.{is_text}
 use Rattle.wf_mapfile.specs.Map.{definition, map_of}
 use Rattle.wf_mapfile.proofs.slots.map.MapSlots.filled.Goals as goal
 
--- The default is a text, as its bytes show.
+-- The default is a text: the test computes.
 pub text_or-requires : goal.text_or-requires
 unfolding is_text is_utf8 chars encode_utf8
 text_or-requires c = refl
 
--- What must be said was, and the layers are put into a map of the rest.
+-- The required keywords came, and the layers are added to a map of the rest.
 pub returns-in-Ok-into_map : goal.returns-in-Ok-into_map
 unfolding map_of definition
 returns-in-Ok-into_map c =
