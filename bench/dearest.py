@@ -61,12 +61,35 @@ scattered.side = 0
 scattered.draw = random.Random(1)
 
 
+def distinct(_):
+    """Up and down over the whole height, each end at one of 90 places: hardly any two edges are equal."""
+    distinct.side = 9 - distinct.side
+    return (distinct.draw.randrange(90) / 10, distinct.side)
+
+
+distinct.side = 0
+distinct.draw = random.Random(2)
+
+
+def oblique(k):
+    """To and fro over the whole width, just flatter than 1 to 1, each end at one of 10 places."""
+    return (9 * (k % 2), oblique.draw.randrange(10) / 10 + 8 * (k % 2))
+
+
+oblique.draw = random.Random(3)
+
+
 def cases():
     comb = [feature(fitting(zigzag, 4))]
     falling = "".join(style(f"COLOR {{color}} OUTLINECOLOR {{color}} WIDTH {16 - k}", k) for k in range(8))
     yield "one polygon of full-height edges, 8 outlines of falling width", mapfile("POLYGON", falling, comb)
     yield "one polygon of edges with ends anywhere, 8 outlines of falling width", mapfile(
         "POLYGON", falling, [feature(fitting(scattered, 4))])
+    yield "one polygon of distinct edges with ends anywhere, 8 outlines of falling width", mapfile(
+        "POLYGON", falling, [feature(fitting(distinct, 6))])
+    yield "the same edges, one fill", mapfile("POLYGON", styles("COLOR {color}", 1), [feature(fitting(distinct, 6))])
+    yield "one polygon of oblique edges, 8 outlines of falling width", mapfile(
+        "POLYGON", falling, [feature(fitting(oblique, 6))])
     yield "one polygon of slanted edges, 8 outlines of falling width", mapfile(
         "POLYGON", falling, [feature(fitting(lambda k: (9 * (k % 2), 7 * (k % 2)), 4))])
     yield "one polygon of full-height edges, 8 fills and outlines of 16 pixels", mapfile(

@@ -1,74 +1,164 @@
 #!/usr/bin/python3
 """Tries the page of examples/viewer in a real browser, over the built program: not in CI.
 
-Usage: tools/try_viewer.py [PROGRAM] [--shots FOLDER]    (default crates/wfarm/out/wfarm)
+Usage: tools/try_viewer.py [PROGRAM] [--shots FOLDER] [--wms ADDRESS]    (default crates/wfarm/out/wfarm)
 
-It serves the page, Leaflet (Debian's libjs-leaflet) and the farm's three paths at one address, opens it in headless Chromium
-(Debian's chromium, chromium-driver and python3-selenium), and looks: no error in the console, every tile there, each tile's
-pixels the farm's own, a publish seen within the page's interval, an older sequence and two sequences side by side, a mapfile
-with an error marked, a farm that is gone, and a narrow window. Screenshots go to the folder.
+It serves the page by nginx with examples/nginx.conf (its port, certificate, publishers and folder changed), opens it in headless
+Chromium, and looks at what it shows: each tile's pixels beside the farm's own bytes, labels across borders, which node drew each
+tile, publishes, older sequences, errors, keyboard and window. Between nginx and the farm stands a relay that counts connections, so
+that the tool knows for itself which node answered. With --wms it also looks at another WMS 1.3.0 through the page, such as MapServer
+(an address up to the query, `http://127.0.0.1:8090/wms?map=county`). Screenshots go to the folder.
+
+It needs Debian's nginx-light, libjs-leaflet, chromium, chromium-driver, python3-selenium and openssl.
 """
 
 import argparse
-import http.server
+import base64
+import json
 import pathlib
+import re
+import socket
+import ssl
 import subprocess
 import sys
+import tempfile
 import threading
 import time
 import urllib.error
+import urllib.parse
 import urllib.request
 
 from selenium import webdriver
 from selenium.webdriver.common.by import By
+from selenium.webdriver.common.keys import Keys
 
 HERE = pathlib.Path(__file__).resolve().parent
 sys.path.insert(0, str(HERE))
 from try_serve import Farm  # noqa: E402
 
-VIEWER = HERE.parent / "examples" / "viewer"
-LEAFLET = pathlib.Path("/usr/share/javascript/leaflet")
-FARM_PATHS = ("/wms", "/status", "/publish")
-KINDS = {".html": "text/html", ".js": "text/javascript", ".css": "text/css", ".png": "image/png"}
+EXAMPLES = HERE.parent / "examples"
+NODES = 3
+LABEL = bytes((1, 2, 3))  # the colour of labels in ACROSS
+ACROSS = """MAP NAME "across" EXTENT 0 0 1024 1024 PROJECTION "init=epsg:3857" END WEB METADATA "wms_title" "Across %d" END END
+LAYER NAME ground TYPE POLYGON CLASS STYLE COLOR %s OUTLINECOLOR 90 90 90 END END
+FEATURE POINTS 60 60 960 100 900 900 500 700 100 960 60 60 END END END
+LAYER NAME names TYPE POINT CLASS STYLE COLOR 200 0 0 SIZE 8 END LABEL COLOR 1 2 3 SIZE GIANT END END
+FEATURE POINTS 512 512 END TEXT "Across four tiles" END FEATURE POINTS 256 300 END TEXT "and two" END END END"""
+SQUARE_DEGREES = """MAP NAME "degrees" EXTENT 10 50 14 54 PROJECTION "init=epsg:4326" END
+LAYER NAME ground TYPE POLYGON CLASS STYLE COLOR 90 160 90 END END FEATURE POINTS 10.2 50.2 13.9 50.5 12 53.7 END END END
+END"""
+TALL = """MAP NAME "tall" EXTENT 0 0 100 250 PROJECTION "init=epsg:3857" END
+LAYER NAME ground TYPE POLYGON CLASS STYLE COLOR 90 90 190 END END FEATURE POINTS 10 10 90 10 50 240 END END END
+END"""
 
 
-class Site(http.server.BaseHTTPRequestHandler):
-    """The page's files, and the farm's paths handed on."""
+class Relay:
+    """Stands before the farm and counts its connections: node c mod n answers connection c."""
 
-    farm = None
+    def __init__(self):
+        self.lock = threading.Lock()
+        self.target, self.count, self.asked, self.behind = None, 0, [], None
+        self.socket = socket.create_server(("127.0.0.1", 0))
+        self.port = self.socket.getsockname()[1]
+        threading.Thread(target=self.accept, daemon=True).start()
 
-    def do_GET(self):
-        path = self.path.partition("?")[0]
-        if path in FARM_PATHS:
-            self.hand_on(None)
-            return
-        file = LEAFLET / path[len("/leaflet/"):] if path.startswith("/leaflet/") else VIEWER / (path[1:] or "index.html")
-        if file.is_file():
-            self.answer(200, KINDS.get(file.suffix, "application/octet-stream"), file.read_bytes())
-        else:
-            self.answer(404, "text/plain", b"404\n")
+    def aim(self, port):
+        """A farm that has had no connection yet."""
+        with self.lock:
+            self.target, self.count, self.asked = port, 0, []
 
-    def do_POST(self):
-        self.hand_on(self.rfile.read(int(self.headers["Content-Length"])))
+    def accept(self):
+        while True:
+            client, _ = self.socket.accept()
+            threading.Thread(target=self.hand_on, args=(client,), daemon=True).start()
 
-    def hand_on(self, body):
+    def hand_on(self, client):
+        with client:
+            try:
+                asked = self.request(client)
+                with self.lock:
+                    farm = socket.create_connection(("127.0.0.1", self.target), timeout=60)
+                    node, self.count = self.count % NODES, self.count + 1
+                    self.asked.append((node, asked.split(b"\r\n")[0].decode("latin-1")))
+                with farm:
+                    farm.sendall(asked)
+                    came = b"".join(iter(lambda: farm.recv(1 << 16), b""))
+                if self.behind is not None and came.startswith(b"HTTP/1.1 200") and b"\r\n\r\nnode %d " % self.behind in came:
+                    came = re.sub(rb"published \d", b"published 0", came, count=1)
+                client.sendall(came)
+            except OSError:
+                pass
+
+    @staticmethod
+    def request(client):
+        came = b""
+        while b"\r\n\r\n" not in came:
+            piece = client.recv(1 << 16)
+            if not piece:
+                raise OSError("no request")
+            came += piece
+        head, _, body = came.partition(b"\r\n\r\n")
+        length = re.search(rb"(?i)content-length: *(\d+)", head)
+        while length and len(body) < int(length[1]):
+            body += client.recv(1 << 16)
+        return head + b"\r\n\r\n" + body
+
+    def ask(self, path, body=None):
+        """The status and the body of an answer."""
         try:
-            with urllib.request.urlopen(Site.farm + self.path, data=body, timeout=60) as it:
-                self.answer(it.status, it.headers["Content-Type"], it.read())
+            with urllib.request.urlopen(f"http://127.0.0.1:{self.port}/{path}", data=body, timeout=60) as it:
+                return it.status, it.read()
         except urllib.error.HTTPError as it:
-            self.answer(it.code, it.headers["Content-Type"], it.read())
-        except OSError:
-            self.close_connection = True
+            return it.code, it.read()
 
-    def answer(self, status, media, body):
-        self.send_response(status)
-        self.send_header("Content-Type", media)
-        self.send_header("Content-Length", str(len(body)))
-        self.end_headers()
-        self.wfile.write(body)
+    def drew(self, path):
+        """The node that was asked last for this path."""
+        with self.lock:
+            return [node for node, line in self.asked if line.split(" ")[1] == "/" + path][-1]
 
-    def log_message(self, *words):
-        pass
+
+class Nginx:
+    """nginx with examples/nginx.conf, its names changed."""
+
+    def __init__(self, folder, relay, wms):
+        with socket.create_server(("127.0.0.1", 0)) as free:
+            self.port = free.getsockname()[1]
+        self.address = f"https://127.0.0.1:{self.port}/"
+        made = ["openssl", "req", "-x509", "-newkey", "rsa:2048", "-nodes", "-days", "2", "-subj", "/CN=127.0.0.1"]
+        subprocess.run([*made, "-keyout", f"{folder}/key.pem", "-out", f"{folder}/cert.pem"], check=True, capture_output=True)
+        site = (EXAMPLES / "nginx.conf").read_text(encoding="utf-8")
+        for said, here in (("listen 443 ssl", f"listen 127.0.0.1:{self.port} ssl"), ("server_name maps.county.example", "server_name _"),
+                           ("/etc/ssl/maps.county.example.pem", f"{folder}/cert.pem"), ("/etc/ssl/maps.county.example.key", f"{folder}/key.pem"),
+                           ("https://maps\\.county\\.example", f"https://127\\.0\\.0\\.1:{self.port}"), ("allow 10.0.0.0/8", "allow 127.0.0.0/8"),
+                           ("/usr/share/wfarm/viewer", str(EXAMPLES / "viewer")), ("http://127.0.0.1:8080", f"http://127.0.0.1:{relay.port}")):
+            assert said in site, said
+            site = site.replace(said, here)
+        if wms:
+            site = site.replace("location / {", "location = /other { proxy_pass %s; }\n    location / {" % wms.partition("?")[0])
+        temporary = "".join(f"{it}_temp_path {folder}/{it};\n" for it in ("client_body", "proxy", "fastcgi", "uwsgi", "scgi"))
+        types = "types { text/html html; text/css css; text/javascript js; image/png png; }"
+        (folder / "nginx.conf").write_text(
+            f"daemon off; pid {folder}/pid; error_log {folder}/log;\nevents {{}}\nhttp {{ access_log off; {types}\n{temporary}{site}\n}}\n",
+            encoding="utf-8")
+        self.process = subprocess.Popen(["nginx", "-e", f"{folder}/log", "-p", str(folder), "-c", f"{folder}/nginx.conf"])
+        for _ in range(100):
+            try:
+                socket.create_connection(("127.0.0.1", self.port), timeout=5).close()
+                return
+            except OSError:
+                time.sleep(0.1)
+
+    def publish_from(self, origin):
+        """The status of a publish by a page of that origin."""
+        request = urllib.request.Request(self.address + "publish", data=b"MAP", headers={"Origin": origin})
+        try:
+            return urllib.request.urlopen(request, timeout=20, context=ssl._create_unverified_context()).status
+        except urllib.error.HTTPError as it:
+            return it.code
+
+    def end(self):
+        self.process.terminate()
+        self.process.wait()
 
 
 class Look:
@@ -83,106 +173,371 @@ class Look:
 
     def within(self, seconds, what, test):
         """Waits until the test holds."""
-        end = time.time() + seconds
-        while time.time() < end:
-            if test():
-                break
+        begun = time.time()
+        while not (held := test()) and time.time() < begun + seconds:
             time.sleep(0.2)
-        self(what, test())
+        self(f"{what} ({time.time() - begun:.1f} s)" if held else what, held)
 
 
-LOADED = "return [...document.querySelectorAll('#left .leaflet-tile')].every(it => it.classList.contains('leaflet-tile-loaded'))"
-COUNT = "return document.querySelectorAll('#left .leaflet-tile-loaded').length"
-# the pixels of each tile on the page beside those of the farm's own answer for its box
-COMPARE = """
-const done = arguments[arguments.length - 1];
+# the tiles of a map on the page: place, path, pixels, and the words of the tint
+READ = """
+const [id, done] = arguments;
 (async () => {
-  let alike = 0, unlike = 0;
-  const layer = state.maps.left.tiles;
-  for (const key of Object.keys(layer._tiles)) {
-    const tile = layer._tiles[key];
-    const shown = tile.el.getContext('2d').getImageData(0, 0, 256, 256).data;
-    const own = decode(await ask(queryOf(tile.coords, layer.options.sequence))).data;
-    shown.every((it, k) => it === own[k]) ? alike += 1 : unlike += 1;
+  const found = [];
+  const layer = state.maps[id].tiles;
+  for (const tile of Object.values(layer._tiles)) {
+    const canvas = tile.el.querySelector('canvas');
+    const data = canvas.getContext('2d').getImageData(0, 0, 256, 256).data;
+    let text = '';
+    for (let k = 0; k < data.length; k += 4) text += String.fromCharCode(data[k], data[k + 1], data[k + 2]);
+    const { sequence } = layer.options;
+    const path = queryOf(boxOf(tile.coords), 256, await namesAt(sequence), sequence);
+    found.push({ ...tile.coords, x: tile.coords.x, y: tile.coords.y, z: tile.coords.z, path, rgb: btoa(text), by: tile.el.querySelector('.tint')?.textContent ?? null });
   }
-  done([alike, unlike]);
+  done(JSON.stringify(found));
 })();
+"""
+LOADED = """
+const it = state.maps[arguments[0]];
+const tiles = it && it.tiles ? Object.values(it.tiles._tiles) : [];
+return tiles.length > 0 && tiles.every((tile) => tile.loaded && tile.current) && it.old.length === 0;
 """
 
 
-def errors(browser):
-    return [it["message"] for it in browser.get_log("browser") if it["level"] == "SEVERE"]
+class Page:
+    """The page in the browser."""
+
+    def __init__(self, browser, shots):
+        self.browser, self.shots = browser, shots
+
+    def text(self, name):
+        return self.browser.find_element(By.ID, name).text
+
+    def run(self, script, *words):
+        return self.browser.execute_script(script, *words)
+
+    def set_to(self, name, value):
+        self.run("const it = document.getElementById(arguments[0]); it.value = arguments[1]; it.dispatchEvent(new Event('input'));"
+                 "it.dispatchEvent(new Event('change'))", name, value)
+
+    def click(self, name):
+        self.browser.find_element(By.ID, name).click()
+
+    def loaded(self, name="left"):
+        return self.run(LOADED, name)
+
+    def tiles(self, name="left"):
+        return json.loads(self.browser.execute_async_script(READ, name))
+
+    def zoom(self, level):
+        self.run("const it = state.maps.left.map; const [a, b, c] = extent();"
+                 "it.setView([b + (c - a) / 2, (a + c) / 2], arguments[0], {animate: false})", level)
+
+    def publish(self, file):
+        self.browser.find_element(By.ID, "file").send_keys(str(file))
+        self.click("publish")
+
+    def shoot(self, name):
+        if self.shots:
+            self.browser.save_screenshot(str(self.shots / f"{name}.png"))
+
+    def errors(self):
+        """What the console says, but for the browser's own line on each answer that isn't 200 or doesn't come."""
+        return [it["message"] for it in self.browser.get_log("browser") if "Failed to load resource" not in it["message"]]
 
 
-def open_browser(size):
+def pixels_of(ppm):
+    head = re.match(rb"P6\s+(\d+)\s+(\d+)\s+255\s", ppm)
+    return ppm[head.end():] if head else None
+
+
+def alike(tiles, ask):
+    """How many tiles have the pixels of the server's own answer, and how many don't."""
+    good = sum(base64.b64decode(it["rgb"]) == pixels_of(ask(it["path"])[1]) for it in tiles)
+    return good, len(tiles) - good
+
+
+def together(tiles, side):
+    """One picture of the tiles 0 to side - 1 in both directions."""
+    by_place = {(it["x"], it["y"]): base64.b64decode(it["rgb"]) for it in tiles}
+    rows = []
+    for y in range(side):
+        row = [by_place[x, y] for x in range(side)]
+        rows += [part[768 * k:768 * (k + 1)] for k in range(256) for part in row]
+    return b"".join(rows)
+
+
+def try_first_maps(page, relay, look):
+    look.within(15, "nothing is published yet, and the page says so", lambda: page.text("message") == "Nothing is published yet.")
+    relay.ask("publish", (ACROSS % (1, "200 220 190")).encode())
+    look.within(8, "a publish is seen", lambda: page.text("shown") == "1 of 1" and page.text("title") == "Across 1")
+    look.within(30, "every tile is there", page.loaded)
+    page.zoom(2)
+    look.within(30, "and at level 2", page.loaded)
+    tiles = page.tiles()
+    inside = [it for it in tiles if it["z"] == 2 and 0 <= it["x"] < 4 and 0 <= it["y"] < 4]
+    look(f"the sixteen tiles of the extent are there, of {len(tiles)}", len(inside) == 16)
+    good, bad = alike(tiles, relay.ask)
+    look(f"the pixels of {good} tiles are the farm's own, of {bad} they aren't", good >= 16 and not bad)
+    whole = pixels_of(relay.ask("wms?VERSION=1.3.0&REQUEST=GetMap&LAYERS=ground,names&STYLES=&CRS=EPSG:3857&BBOX=0,0,1024,1024&WIDTH=1024"
+                                "&HEIGHT=1024&FORMAT=image/x-portable-pixmap")[1])
+    look("the sixteen together are the picture of the whole extent", together(inside, 4) == whole)
+    borders = [sum(whole[3 * (1024 * y + x):][:3] == LABEL for y in range(1024)) for x in (511, 512)]
+    look(f"a label crosses the border between them ({borders[0]} and {borders[1]} of its pixels beside it)", min(borders) > 0)
+    page.shoot("level-2")
+    look.within(8, "three nodes stand at 1", lambda: [it.split()[:4] for it in page.text("nodes").splitlines()]
+                == [["node", str(k), "published", "1"] for k in range(NODES)])
+
+
+def judged(tiles, relay):
+    """Of tinted tiles: those whose node the relay knows to be the one that is said, those of which it isn't, and those without a node."""
+    said = [(re.fullmatch(r"node (\d+)", it["by"] or ""), relay.drew(it["path"])) for it in tiles]
+    true = sum(bool(it and int(it[1]) == drew) for it, drew in said)
+    unknown = sum(it is None for it, _ in said)
+    return true, len(tiles) - true - unknown, unknown
+
+
+def try_renderers(page, relay, look):
+    with relay.lock:
+        relay.asked.clear()
+    page.click("tint")
+    look.within(60, "tiles are tinted by the node that drew them", lambda: page.loaded() and all(it["by"] for it in page.tiles()))
+    tiles = page.tiles()
+    true, wrong, unknown = judged(tiles, relay)
+    look(f"of {len(tiles)} tiles the node is right of {true}, wrong of {wrong}, unknown of {unknown}, by {len(relay.asked)} connections",
+         true == len(tiles) and not wrong)
+    by = {(it["x"], it["y"]): it["by"] for it in tiles}
+    look("all three nodes drew some, and neighbours are of different ones", len(set(by.values())) == NODES
+         and all(by[x, y] != by.get((x + 1, y)) and by[x, y] != by.get((x, y + 1)) for x, y in by))
+    inside = [it for it in tiles if it["z"] == 2 and 0 <= it["x"] < 4 and 0 <= it["y"] < 4]
+    whole = pixels_of(relay.ask(inside[0]["path"].replace(re.search(r"BBOX=[^&]*", inside[0]["path"])[0], "BBOX=0,0,1024,1024").replace("256", "1024"))[1])
+    look("tiles of three nodes together are one picture", together(inside, 4) == whole)
+    page.shoot("renderers")
+    stop = threading.Event()
+
+    def ask_on():
+        while not stop.is_set():
+            relay.ask("status")
+            time.sleep(0.01)
+
+    noise = threading.Thread(target=ask_on)
+    noise.start()
+    page.click("tint")
+    look.within(30, "the tint goes", lambda: page.loaded() and not any(it["by"] for it in page.tiles()))
+    with relay.lock:
+        relay.asked.clear()
+    page.click("tint")
+    look.within(120, "with another client that asks a hundred times a second", lambda: page.loaded() and all(it["by"] for it in page.tiles()))
+    true, wrong, unknown = judged(page.tiles(), relay)
+    stop.set()
+    noise.join()
+    look(f"the node is right of {true} tiles, wrong of {wrong}, unknown of {unknown}", not wrong)
+    page.click("tint")
+    look.within(30, "the tint goes again", lambda: page.loaded() and not any(it["by"] for it in page.tiles()))
+
+
+def try_history(page, relay, look):
+    relay.ask("publish", (ACROSS % (2, "230 150 120")).encode())
+    look.within(8, "a second publish is seen", lambda: page.text("shown") == "2 of 2")
+    look.within(30, "and its tiles", lambda: page.loaded() and not alike(page.tiles(), relay.ask)[1])
+    slider = page.browser.find_element(By.ID, "sequence")
+    slider.send_keys(Keys.ARROW_LEFT)
+    look.within(30, "the slider's left arrow shows the sequence before", lambda: page.text("shown") == "1 of 2" and page.loaded()
+                and "MAPSEQ=1" in page.tiles()[0]["path"] and not alike(page.tiles(), relay.ask)[1])
+    page.set_to("other", 2)
+    page.click("compare")
+    look.within(30, "two sequences side by side", lambda: page.loaded("right") and page.loaded())
+    look("the right one is the other sequence, pixel by pixel", "MAPSEQ=2" in page.tiles("right")[0]["path"] and not alike(page.tiles("right"), relay.ask)[1])
+    page.run("state.maps.left.map.panBy([120, 40], {animate: false})")
+    look.within(10, "both move together", lambda: page.run("const c = (id) => state.maps[id].map.getCenter(); return c('left').distanceTo(c('right')) < 1"))
+    page.shoot("compared")
+    page.click("compare")
+    page.set_to("sequence", 2)
+    look.within(10, "one map again", lambda: page.run("return document.getElementById('right').hidden") and page.loaded())
+
+
+def try_publishing(page, relay, look, folder, nginx):
+    page.publish(EXAMPLES / "refused-include.map")
+    look.within(8, "an error in a mapfile is said and marked", lambda: page.text("answer").startswith("M5 4: ") and "line 1" in page.text("answer")
+                and page.run("return document.querySelector('#where mark').textContent") == "INCLUDE")
+    page.shoot("error")
+    (folder / "cut.map").write_text('MAP\n  NAME "é"\n  EXTENT 0 0 4 x4\n', encoding="utf-8")
+    page.publish(folder / "cut.map")
+    look.within(8, "an offset in bytes behind letters of two bytes", lambda: "line 3" in page.text("answer")
+                and page.run("return document.querySelector('#where mark').textContent") == "x4")
+    (folder / "long.map").write_bytes(b"#" * 70_000)
+    page.publish(folder / "long.map")
+    look.within(8, "a file that is too long", lambda: page.text("answer").startswith("The file is too long"))
+    (folder / "third.map").write_text(ACROSS % (3, "150 150 230"), encoding="utf-8")
+    page.publish(folder / "third.map")
+    look.within(8, "a map is accepted", lambda: "sequence 3" in page.text("answer"))
+    look.within(8, "and published, as the page says", lambda: page.text("answer") == "Published as sequence 3." and page.text("shown") == "3 of 3")
+    look("a page of another site can't publish", nginx.publish_from("https://elsewhere.example") == 403)
+
+
+def try_keyboard(page, look):
+    held = page.browser.find_element(By.ID, "left")
+    place = lambda: page.run("const it = state.maps.left.map; return [it.getCenter().lng, it.getZoom()]")
+    before = place()
+    held.send_keys(Keys.ARROW_RIGHT)
+    look.within(5, "an arrow key moves the map", lambda: place()[0] > before[0])
+    held.send_keys(Keys.ADD)
+    look.within(5, "plus zooms", lambda: place()[1] == before[1] + 1)
+    held.send_keys(Keys.SUBTRACT)
+    look.within(5, "minus zooms back", lambda: place()[1] == before[1])
+    box = page.browser.find_element(By.CSS_SELECTOR, "#layers input")
+    box.send_keys(Keys.SPACE)
+    look.within(15, "the space bar takes a layer away", lambda: page.loaded() and "ground" not in page.tiles()[0]["path"])
+    box = page.browser.find_element(By.CSS_SELECTOR, "#layers input")
+    box.send_keys(Keys.SPACE)
+    look.within(15, "and back", lambda: page.loaded() and "ground" in page.tiles()[0]["path"])
+
+
+def try_systems(page, relay, look):
+    relay.ask("publish", SQUARE_DEGREES.encode())
+    look.within(8, "a map in degrees is seen", lambda: page.text("shown") == "4 of 4" and page.loaded())
+    pictures = {}
+    for system in ("CRS:84", "EPSG:4326"):
+        page.set_to("crs", system)
+        page.zoom(2)
+        look.within(30, f"its tiles in {system}", lambda: page.loaded() and ("CRS=" + system.replace(":", "%3A")) in page.tiles()[0]["path"])
+        tiles = page.tiles()
+        good, bad = alike(tiles, relay.ask)
+        look(f"{good} have the farm's pixels, {bad} don't", good >= 16 and not bad)
+        pictures[system] = {(it["x"], it["y"], it["z"]): it["rgb"] for it in tiles}
+    look("both systems have the same tiles", pictures["CRS:84"] == pictures["EPSG:4326"])
+    page.set_to("sequence", 1)
+    look.within(15, "an exception in place of a picture is a sentence", lambda: page.text("message") == "The server says: CRS is not offered.")
+    page.set_to("sequence", 4)
+    look.within(15, "which goes", lambda: page.text("message") == "" and page.loaded())
+
+
+def try_odd_maps(page, relay, look):
+    relay.ask("publish", TALL.encode())
+    look.within(8, "an extent that isn't square is said", lambda: "2.50 times as high as wide" in page.text("note") and page.loaded())
+    tiles = page.tiles()
+    good, bad = alike(tiles, relay.ask)
+    look(f"{good} of its tiles have the farm's pixels, {bad} don't; rows go on above the first square",
+         not bad and min(it["y"] for it in tiles) < 0)
+    relay.ask("publish", (EXAMPLES / "a.map").read_bytes())
+    look.within(8, "a map without layers is said", lambda: page.text("message") == "This map has no layers.")
+    relay.ask("publish", (ACROSS % (7, "200 200 90")).replace("NAME ground", "NAME soil").encode())
+    look.within(8, "the next map", lambda: page.text("shown") == "7 of 7" and page.loaded())
+    page.set_to("sequence", 5)
+    look.within(15, "an older map with other layers is drawn with its own", lambda: page.loaded() and "LAYERS=ground&" in page.tiles()[0]["path"]
+                and not alike(page.tiles(), relay.ask)[1])
+    page.set_to("sequence", 7)
+    relay.behind = 2
+    look.within(10, "a node that is behind is marked", lambda: any(
+        it.startswith("node 2 published 0 ") and it.endswith("(behind)") for it in page.text("nodes").splitlines()))
+    page.shoot("behind")
+    relay.behind = None
+    look.within(10, "until it isn't any more", lambda: "behind" not in page.text("nodes"))
+
+
+def try_window(page, look):
+    page.browser.set_window_size(400, 800)
+    look.within(8, "a narrow window has the map above the rest, and nothing beside it", lambda: page.run(
+        "return document.querySelector('main').getBoundingClientRect().bottom <= document.querySelector('aside').getBoundingClientRect().top + 1"
+        " && document.documentElement.scrollWidth <= innerWidth"))
+    look.within(15, "its tiles", page.loaded)
+    page.shoot("narrow")
+    page.browser.set_window_size(1700, 1300)
+
+
+def try_ends(page, farm, relay, look, program):
+    farm.process.kill()
+    farm.process.wait()
+    look.within(12, "a farm that is gone is said to be", lambda: page.text("message") == "The farm does not answer.")
+    page.run("state.maps.left.map.panBy([600, 0], {animate: false})")
+    page.shoot("gone")
+    again = Farm(program, 1_000_000, None, nodes=2)
+    relay.aim(again.port)
+    look.within(40, "a farm that begins again with nothing is said to", lambda: page.text("message") == "Nothing is published yet.")
+    look.within(15, "with two nodes, of which the third is gone", lambda: page.text("nodes").splitlines()[-1].endswith("(gone)")
+                and page.text("nodes").count("published 0") == 2)
+    relay.ask("publish", SQUARE_DEGREES.encode())
+    look.within(8, "and its first map is seen", lambda: page.text("shown") == "1 of 1" and page.loaded() and page.text("message") == "")
+    return again
+
+
+def try_other(page, nginx, look, wms):
+    query = wms.partition("?")[2]
+    page.browser.get(f"{nginx.address}?" + urllib.parse.urlencode({"wms": f"other?{query}&" if query else "other"}))
+    look.within(20, "another WMS: its tiles are there", page.loaded)
+    look("its title is " + page.text("title"), page.text("title") not in ("", "wfarm"))
+    look("what only a farm has isn't shown", not any(page.browser.find_element(By.ID, it).is_displayed() for it in ("history", "farm", "publishing")))
+    formats = page.run("return [...document.getElementById('format').options].map((it) => it.value)")
+    base = wms.partition("?")[0]
+
+    def own(path):
+        with urllib.request.urlopen(base + path[len("other"):], timeout=60) as it:
+            return it.status, it.read()
+
+    for media in formats[:2]:
+        page.set_to("format", media)
+        look.within(30, f"tiles as {media}", lambda: page.loaded() and ("FORMAT=" + media.replace("/", "%2F")) in page.tiles()[0]["path"])
+        tiles = page.tiles()
+        if "pixmap" in media:
+            good, bad = alike(tiles, own)
+            look(f"{good} tiles have the server's pixels, {bad} don't", good and not bad)
+        else:
+            look("they aren't empty", any(len(set(base64.b64decode(it["rgb"]))) > 8 for it in tiles))
+        page.shoot("other-" + re.sub(r"\W", "-", media))
+    page.set_to("format", formats[0])
+    for system in page.run("return [...document.getElementById('crs').options].map((it) => it.value)"):
+        page.set_to("crs", system)
+        look.within(30, f"its tiles in {system}", lambda: page.loaded() and ("CRS=" + system.replace(":", "%3A")) in page.tiles()[0]["path"])
+        drawn = sum(len(set(base64.b64decode(it["rgb"]))) > 8 for it in page.tiles())
+        look(f"something is drawn on {drawn} of them", drawn > 0)
+        page.shoot("other-" + re.sub(r"\W", "-", system))
+
+
+def open_browser():
     options = webdriver.ChromeOptions()
-    for word in ("--headless=new", "--no-sandbox", "--disable-gpu", f"--window-size={size}"):
+    for word in ("--headless=new", "--no-sandbox", "--disable-gpu", "--ignore-certificate-errors", "--window-size=1700,1300"):
         options.add_argument(word)
     options.set_capability("goog:loggingPrefs", {"browser": "ALL"})
-    return webdriver.Chrome(options=options, service=webdriver.ChromeService(executable_path="/usr/bin/chromedriver")
-                            if hasattr(webdriver, "ChromeService") else webdriver.chrome.service.Service("/usr/bin/chromedriver"))
-
-
-def try_page(browser, farm, look, shots):
-    def shoot(name):
-        if shots:
-            browser.save_screenshot(str(shots / f"{name}.png"))
-
-    first = (HERE.parent / "examples" / "lakes.map").read_bytes()
-    second = first.replace(b"COLOR 150 190 235", b"COLOR 200 80 80")
-    text = lambda id_: browser.find_element(By.ID, id_).text
-    set_to = lambda id_, value: browser.execute_script(
-        "const it = document.getElementById(arguments[0]); it.value = arguments[1]; it.dispatchEvent(new Event('change'))", id_, value)
-    look.within(10, "nothing is published yet, and the page says so", lambda: text("message") == "Nothing is published yet.")
-    farm.ask("/publish", first)
-    look.within(8, "a publish is seen within the page's interval", lambda: text("shown") == "1 of 1")
-    look.within(30, "every tile is there", lambda: browser.execute_script(COUNT) >= 4 and browser.execute_script(LOADED))
+    browser = webdriver.Chrome(options=options, service=webdriver.chrome.service.Service("/usr/bin/chromedriver"))
     browser.set_script_timeout(120)
-    alike, unlike = browser.execute_async_script(COMPARE)
-    look(f"the pixels of {alike} tiles are the farm's own, of {unlike} they aren't", alike >= 4 and not unlike)
-    shoot("first")
-    look.within(8, "three nodes stand at 1", lambda: [it.split()[:4] for it in text("nodes").splitlines()] == [["node", str(k), "published", "1"] for k in range(3)])
-    farm.ask("/publish", second)
-    look.within(8, "a second publish is seen", lambda: text("shown") == "2 of 2")
-    look.within(30, "and its tiles", lambda: browser.execute_script(LOADED))
-    shoot("second")
-    set_to("sequence", 1)
-    look.within(30, "an older sequence is shown", lambda: text("shown") == "1 of 2" and browser.execute_script(LOADED))
-    browser.find_element(By.ID, "compare").click()
-    look.within(30, "two sequences side by side", lambda: browser.execute_script(
-        "return document.querySelectorAll('#right .leaflet-tile-loaded').length > 0"))
-    shoot("compared")
-    browser.find_element(By.ID, "file").send_keys(str(HERE.parent / "examples" / "refused-include.map"))
-    browser.find_element(By.ID, "publish").click()
-    look.within(8, "an error in a mapfile is marked in its line", lambda: text("answer").startswith("M5 4\n") and "^" in text("answer"))
-    look("nothing in the console: " + "; ".join(errors(browser)[:2]), not errors(browser) or all("400" in it for it in errors(browser)))
-    browser.set_window_size(400, 800)
-    look.within(8, "a narrow window has the map above the rest", lambda: browser.execute_script(
-        "return document.querySelector('main').getBoundingClientRect().bottom <= document.querySelector('aside').getBoundingClientRect().top + 1"))
-    shoot("narrow")
-    farm.process.kill()
-    look.within(12, "a farm that is gone is said to be", lambda: text("message") == "The farm does not answer.")
+    return browser
 
 
 def main():
     parser = argparse.ArgumentParser(description=__doc__, formatter_class=argparse.RawDescriptionHelpFormatter)
     parser.add_argument("program", nargs="?", default=HERE.parent / "crates" / "wfarm" / "out" / "wfarm")
     parser.add_argument("--shots", type=pathlib.Path)
+    parser.add_argument("--wms")
     given = parser.parse_args()
     if given.shots:
         given.shots.mkdir(parents=True, exist_ok=True)
-    look, farm = Look(), Farm(str(given.program), 1_000_000, None)
-    Site.farm = farm.address
-    server = http.server.ThreadingHTTPServer(("127.0.0.1", 0), Site)
-    threading.Thread(target=server.serve_forever, daemon=True).start()
-    browser = open_browser("1200,800")
-    try:
-        browser.get(f"http://127.0.0.1:{server.server_port}/")
-        try_page(browser, farm, look, given.shots)
-    finally:
-        browser.quit()
-        farm.process.kill()
-        farm.process.wait()
+    program, look, relay = str(given.program), Look(), Relay()
+    with tempfile.TemporaryDirectory(prefix="wfarm-viewer-") as name:
+        folder = pathlib.Path(name)
+        farm = Farm(program, 1_000_000, None)
+        relay.aim(farm.port)
+        nginx = Nginx(folder, relay, given.wms)
+        page = Page(open_browser(), given.shots)
+        try:
+            page.browser.get(nginx.address)
+            try_first_maps(page, relay, look)
+            try_renderers(page, relay, look)
+            try_history(page, relay, look)
+            try_publishing(page, relay, look, folder, nginx)
+            try_keyboard(page, look)
+            try_systems(page, relay, look)
+            try_odd_maps(page, relay, look)
+            try_window(page, look)
+            farm = try_ends(page, farm, relay, look, program)
+            if given.wms:
+                try_other(page, nginx, look, given.wms)
+            said = page.errors()
+            look("nothing in the console: " + "; ".join(said[:3]), not said)
+        finally:
+            page.browser.quit()
+            nginx.end()
+            farm.process.kill()
+            farm.process.wait()
     print(f"{look.good} as they should be, {look.bad} not")
     return 1 if look.bad else 0
 

@@ -73,6 +73,8 @@ impl Acceptor {
     ghost use Rattle.wf_model.specs.Stored.{nothing_stored};
     ghost use Rattle.wf_model.specs.Table as table;
     ghost use Rattle.wf_model.specs.Table.{on_prepare as prepare_row, on_accept as accept_row, votes_at};
+    ghost use Rattle.std.specs.Option.{option_copied};
+    ghost use Rattle.wf_codec.specs.Message.{view_vote};
     ghost use Rattle.wf_tape.specs.Record.{view as record_view};
     ghost use Rattle.wf_acceptor.specs.Acceptor.{promises_of, votes_of, ActsFor, Applies, IsNext, HasRoomFor};
     ghost use Rattle.wf_acceptor.specs.Answer.{Answers, Stores};
@@ -98,6 +100,30 @@ impl Acceptor {
     {
         match self.published {
             Some(last) => slot.number() <= last.number(),
+            None => false,
+        }
+    }
+
+    /// The promise at the slot.
+    pub fn promise_at(&self, slot: Slot) -> Option<Ballot>
+        ensures { result ≡ promises_of self.now.part slot }
+    {
+        value_at(&self.promises, slot).copied()
+    }
+
+    /// The vote at the slot: its ballot and its definition.
+    pub fn vote_at(&self, slot: Slot) -> Option<&(Ballot, Canon)>
+        ensures { view_vote (option_copied result) ≡ votes_of self.now.part slot }
+    {
+        value_at(&self.votes, slot)
+    }
+
+    /// Whether the vote at the slot is at this ballot.
+    pub fn voted_at(&self, slot: Slot, ballot: Ballot) -> bool
+        ensures { result ≡ votes_at (votes_of self.now.part slot) ballot }
+    {
+        match value_at(&self.votes, slot) {
+            Some((voted, _)) => *voted == ballot,
             None => false,
         }
     }
@@ -162,13 +188,6 @@ impl Acceptor {
         self.take_in(entry)
     }
 
-    // The promise at the slot.
-    fn promise_at(&self, slot: Slot) -> Option<Ballot>
-        ensures { result ≡ promises_of self.now.part slot }
-    {
-        value_at(&self.promises, slot).copied()
-    }
-
     // Whether the ballot is above the promise at the slot; true if there is no promise.
     fn is_above(&self, slot: Slot, ballot: Ballot) -> bool
         ensures { result ≡ table.is_above (promises_of self.now.part slot) ballot }
@@ -185,16 +204,6 @@ impl Acceptor {
     {
         match self.promise_at(slot) {
             Some(promise) => ballot.is_below(promise),
-            None => false,
-        }
-    }
-
-    // Whether the vote at the slot is at this ballot.
-    fn voted_at(&self, slot: Slot, ballot: Ballot) -> bool
-        ensures { result ≡ votes_at (votes_of self.now.part slot) ballot }
-    {
-        match value_at(&self.votes, slot) {
-            Some((voted, _)) => *voted == ballot,
             None => false,
         }
     }
@@ -243,7 +252,7 @@ impl Acceptor {
         ensures err { OnErr result (self.new ≡ self.old) }
     {
         make_room(&mut self.promises)?;
-        let vote = vote_at(&self.votes, slot)?;
+        let vote = copy_of_vote(&self.votes, slot)?;
         keep(&mut self.prepared, Record::Promised(slot, ballot));
         Ok(Answer {
             entry: Some(Record::Promised(slot, ballot)),
@@ -385,7 +394,7 @@ fn take_definition(prepared: &mut Option<Record>) -> Option<Canon>
 }
 
 // A copy of the slot's vote, to be reported.
-fn vote_at(
+fn copy_of_vote(
     votes: &HashMap<Slot, (Ballot, Canon)>,
     slot: Slot,
 ) -> Result<Option<(Ballot, Canon)>, AllocError>

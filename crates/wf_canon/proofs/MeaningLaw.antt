@@ -103,7 +103,7 @@ unread_if true read = refl
 unread_if false read = refl
 
 -- bytes that mean a map are UTF-8
-means-is_utf8 : (bytes : List ℕ) (def : Definition) (utf8 : Bool) → is_utf8 bytes ≡ utf8 → Means bytes def → is_utf8 bytes ≡ true
+pub means-is_utf8 : (bytes : List ℕ) (def : Definition) (utf8 : Bool) → is_utf8 bytes ≡ utf8 → Means bytes def → is_utf8 bytes ≡ true
 unfolding meaning
 means-is_utf8 bytes def true is meant = is
 means-is_utf8 bytes def false is meant =

@@ -1,10 +1,11 @@
 //! Map definitions with their canonical texts.
 
-ghost use Rattle.std.specs.Prelude.{◌≡◌, ◌<◌, ◌≤◌, length, if◌then◌else◌, IfOk, IfErr, OnOk};
+ghost use Rattle.std.specs.Prelude.{◌≡◌, ◌<◌, ◌≤◌, true, length, if◌then◌else◌, IfOk, IfErr, OnOk};
+ghost use Rattle.std.specs.Str.{is_utf8};
 ghost use Rattle.wf_def.specs.Limits.{IsWithinLimits};
 ghost use Rattle.wf_mapfile.specs.Meaning.{Means};
 ghost use Rattle.wf_mapfile.specs.Reading.{is_memory};
-ghost use Rattle.wf_canon.specs.Canon.{canon, most_canon_bytes};
+ghost use Rattle.wf_canon.specs.Canon.{canon, most_canon_bytes, IsCanon};
 ghost use Rattle.wf_canon.specs.Refusal.{IsCauseOf, IsWhyRefused, refused_again};
 
 use crate::draft::Draft;
@@ -12,6 +13,7 @@ use crate::fault::CanonFault;
 use crate::writer::push_map;
 use std::alloc::{AllocError, Global};
 use std::marker::Model;
+use std::rc::Rc;
 use wf_def::map::MapDef;
 use wf_mapfile::fault::MapFault;
 use wf_mapfile::read;
@@ -19,18 +21,23 @@ use wf_mapfile::read;
 /// The longest canonical text, in bytes.
 pub const MOST_CANON_BYTES: usize = 32_768;
 
-/// A map definition with its canonical text, which has at most 32,768 bytes.
-pub struct Canon {
+/// What the copies of a canonical text share.
+#[derive(Drop)]
+struct Written {
     text: Vec<u8>,
     def: MapDef,
+}
+
+/// A map definition with its canonical text, which has at most 32,768 bytes. Copies share both.
+pub struct Canon {
+    shared: Rc<Written>,
 }
 
 // Written by hand: callers then prove one call where they drop a definition, not one for each part.
 impl Drop for Canon {
     fn drop(self) {
-        let Canon { text, def } = self;
-        drop(text);
-        drop(def);
+        let Canon { shared } = self;
+        drop(shared);
     }
 }
 
@@ -41,23 +48,32 @@ impl Model for Canon {
 
     ghost use Rattle.wf_canon.specs.Canon.{IsCanon};
 
-    ghost view = { λ c. c.def };
+    ghost view = { λ c. c.shared.value.def };
 
-    ghost invariant = { λ c. IsCanon c.text.items c.def };
+    ghost invariant = { λ c. IsCanon c.shared.value.text.items c.shared.value.def };
 }
 
 impl Canon {
-    /// The canonical text of a definition (`TooBig` iff it is over 32,768 bytes).
+    /// The canonical text of a definition, and a copy of the definition (`TooBig` iff the text is over 32,768 bytes).
     pub fn of(alloc: Global, def: &MapDef) -> Result<Self, CanonFault>
         ensures value { IfOk result (λ canonical. canonical ≡ def.now) }
         ensures short { OnOk result (length (canon def.now) ≤ most_canon_bytes) }
         ensures cause { IfErr result (λ fault. IsCauseOf fault def.now) }
     {
         let text = text_of(alloc, def)?;
-        Ok(Canon {
-            text,
-            def: def.clone()?,
-        })
+        let own = def.clone()?;
+        Ok(share(alloc, text, own)?)
+    }
+
+    /// The canonical text of a definition, and the definition itself, which isn't copied (`TooBig` iff the text is over 32,768
+    /// bytes).
+    pub fn from_map(alloc: Global, def: MapDef) -> Result<Self, CanonFault>
+        ensures value { IfOk result (λ canonical. canonical ≡ def) }
+        ensures short { OnOk result (length (canon def) ≤ most_canon_bytes) }
+        ensures cause { IfErr result (λ fault. IsCauseOf fault def) }
+    {
+        let text = text_of(alloc, &def)?;
+        Ok(share(alloc, text, def)?)
     }
 
     /// The definition that a canonical text means. More than 32,768 bytes are `TooBig`, which is checked first; other bytes that
@@ -73,16 +89,16 @@ impl Canon {
         }
         let def = definition_of(alloc, bytes)?;
         let text = same_text(alloc, &def, bytes)?;
-        Ok(Canon { text, def })
+        Ok(share(alloc, text, def)?)
     }
 
-    /// A copy, for a message or a history that owns its value. Allocation failure is the only error.
+    /// A copy, for a message or a history that owns its value. It shares the text and the definition, so it allocates nothing. The
+    /// only error is that copies can't be counted any further, at 2^64 - 1 of them.
     pub fn copy(&self) -> Result<Self, AllocError>
         ensures { IfOk result (λ copy. copy ≡ self.now) }
     {
         Ok(Canon {
-            text: self.text.clone()?,
-            def: self.def.clone()?,
+            shared: self.shared.clone()?,
         })
     }
 
@@ -92,7 +108,7 @@ impl Canon {
         ensures short { length result.now ≤ most_canon_bytes }
         ensures within { IsWithinLimits self.now }
     {
-        self.text.as_slice()
+        self.shared.text.as_slice()
     }
 
     /// The definition.
@@ -100,8 +116,17 @@ impl Canon {
         ensures value { result.now ≡ self.now }
         ensures within { IsWithinLimits self.now }
     {
-        &self.def
+        &self.shared.def
     }
+}
+
+/// Puts a canonical text and its definition where copies can share them.
+fn share(alloc: Global, text: Vec<u8>, def: MapDef) -> Result<Canon, AllocError>
+    requires { IsCanon text.items def }
+    ensures { IfOk result (λ canonical. canonical ≡ def) }
+{
+    let shared = Rc::new(alloc, Written { text, def })?;
+    Ok(Canon { shared })
 }
 
 /// The canonical text of a definition, within the limit; bytes are counted before memory for them is allocated.
@@ -156,6 +181,7 @@ fn refused_again(fault: CanonFault) -> CanonFault
 fn definition_of(alloc: Global, bytes: &[u8]) -> Result<MapDef, CanonFault>
     requires { length bytes.now ≤ most_canon_bytes }
     ensures meant { IfOk result (λ def. Means bytes.now def) }
+    ensures utf8 { OnOk result (is_utf8 bytes.now ≡ true) }
     ensures cause { IfErr result (λ fault. IsWhyRefused fault bytes.now) }
 {
     match read(alloc, bytes) {

@@ -4,10 +4,12 @@
 //! mapfile reference). `specs/Canon.antt` defines it as the lines of a definition, one after the other. Model: a [`Canon`] is its
 //! definition.
 //!
-//! Promises: [`Canon::of`] returns exactly the text of its definition. [`Canon::from_bytes`] accepts exactly the canonical texts
-//! within the limit of 32,768 bytes, and returns their definition. Theorems about the definitions, for every map within the
-//! limits: the canonical text of a map means that map, and two maps with the same text are equal. Not here: which of two mapfiles
-//! a user would prefer.
+//! Promises: [`Canon::of`] and [`Canon::from_map`] return exactly the text of their definition. [`Canon::from_bytes`] accepts exactly
+//! the canonical texts within the limit of 32,768 bytes, and returns their definition. Theorems about the definitions, for every map
+//! within the limits: the canonical text of a map means that map, and two maps with the same text are equal. Not here: which of two
+//! mapfiles a user would prefer.
+//!
+//! Copies of a [`Canon`] share one text and one definition, so whoever needs one takes a copy: it allocates nothing.
 //!
 //! Modules: `draft` is a text while it is written, `line` writes the lines of one item; `class`, `feature`, `layer` and `writer`
 //! write blocks of lines. wf_token defines how tokens are written on a line, wf_text how a number is written.

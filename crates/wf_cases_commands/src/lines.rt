@@ -1,12 +1,11 @@
 //! Command lines.
-ghost use Rattle.wf_commands.specs.Line.{IsInRange};
-
-use crate::commands::tell_outcome;
+use crate::recorder::Recorder;
 use clap::Error;
 use std::alloc::Global;
-use wf_commands::arguments::line;
-use wf_commands::line::{Line, Service};
-use wf_commands::run::run_line;
+use wf_commands::ending::Ending;
+use wf_commands::program::{rejection_status, run_words};
+use wf_line::arguments::line;
+use wf_line::line::{Line, Service};
 use wf_stream::Stream;
 use wf_table::escape::unescape;
 use wf_table::{Answer, Answered, Asked, Unanswered};
@@ -49,16 +48,16 @@ fn tell_line(asked_for: Line<'_>, answer: &mut Answer) {
     }
 }
 
-// The exit status of a rejected command line.
-fn status_of(error: Error) -> i32 {
-    let status = error.exit_code();
+// The exit status of a rejected command line, whose text is printed.
+fn status_of(error: Error) -> u8 {
+    let status = rejection_status(error.kind(), true);
     drop(error);
     status
 }
 
-fn tell_rejection(status: i32, answer: &mut Answer) {
+fn tell_rejection(status: u8, answer: &mut Answer) {
     answer.text("rejected with status ");
-    answer.value(status.unsigned_abs());
+    answer.value(status);
     answer.line("");
 }
 
@@ -101,33 +100,33 @@ pub(crate) fn line_of(asked: Asked<'_>, answer: &mut Answer) -> Answered {
     Ok(())
 }
 
-// Runs what a command line asks for. Nodes are served over sockets, which no case has.
-fn run_words(asked: Asked<'_>, words: &[&str], answer: &mut Answer) -> Answered {
-    match line(asked.alloc, words) {
-        Ok(asked_for) => run_asked_for(asked, asked_for, answer),
-        Err(error) => {
-            tell_rejection(status_of(error), answer);
-            Ok(())
-        }
+fn tell_ending(ending: Ending, answer: &mut Answer) {
+    if let Some(fault) = ending.reported {
+        answer.value(fault);
+        answer.line("");
+    }
+    if ending.status != 0 {
+        answer.text("status ");
+        answer.value(ending.status);
+        answer.line("");
     }
 }
 
-fn run_asked_for(asked: Asked<'_>, asked_for: Line<'_>, answer: &mut Answer) -> Answered
-    requires { IsInRange asked_for }
-{
-    if let Line::Serve(_) = asked_for {
-        return Err(Unanswered::BadWords);
-    }
+// Runs what a command line asks for. In place of serving nodes a line tells what is to be served.
+fn tell_run(asked: Asked<'_>, words: &[&str], answer: &mut Answer) {
     let mut source = Stream::new(asked.input);
     let mut sink = Stream::new(answer.target());
-    let outcome = run_line(asked.alloc, asked_for, &mut source, &mut sink);
+    let server = Recorder { alloc: asked.alloc };
+    let outcome = run_words(asked.alloc, words, &mut source, &mut sink, &server);
     drop(sink);
-    tell_outcome(outcome, answer);
-    Ok(())
+    match outcome {
+        Ok(ending) => tell_ending(ending, answer),
+        Err(error) => tell_rejection(status_of(error), answer),
+    }
 }
 
-/// `run WORDS`: what the program writes about the input, or its error line. WORDS are the command line's, spelled with escapes,
-/// with `\n` between.
+/// `run WORDS`: what the program writes about the input, its error line, and the exit status if that isn't 0. WORDS are the
+/// command line's, spelled with escapes, with `\n` between.
 pub(crate) fn run(asked: Asked<'_>, answer: &mut Answer) -> Answered {
     let mut text = Answer::new(asked.alloc);
     let told = match unescape(asked.words.rest(), &mut text) {
@@ -143,7 +142,7 @@ fn run_text(asked: Asked<'_>, text: &Answer, answer: &mut Answer) -> Answered {
         return Err(Unanswered::BadWords);
     };
     let words = words_of(asked.alloc, text, '\n')?;
-    let told = run_words(asked, &words, answer);
+    tell_run(asked, &words, answer);
     drop(words);
-    told
+    Ok(())
 }

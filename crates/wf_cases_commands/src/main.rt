@@ -13,6 +13,7 @@ mod commands;
 mod lines;
 mod played;
 mod questions;
+mod recorder;
 
 use questions::CommandQuestions;
 use std::process::ExitCode;

@@ -6,6 +6,7 @@
 //! catchup                  the same
 //! deliver MESSAGE          the same, for a message that comes in
 //! fill SLOT MAP            `done`: the definition comes in as chosen, at each slot up to this one
+//! shorten                  `done`: the node's tape is shortened, or why it isn't
 //! published                the last published sequence
 //! definition SEQUENCE      the sequence and its map, none
 //! proposal                 the state of the node's proposal
@@ -91,6 +92,7 @@ impl Session<'_> {
             "catchup" => self.step(Input::CatchUp, answer),
             "deliver" => self.deliver(*call, answer),
             "fill" => self.fill(call, answer),
+            "shorten" => self.shorten(answer),
             asked => self.take_tape(asked, call, answer),
         }
     }
@@ -149,6 +151,15 @@ impl Session<'_> {
                 tell_sent(&messages, self.maps, answer);
                 drop(messages);
             }
+            Err(NodeFault::Memory) => return Err(Unanswered::Memory),
+            Err(fault) => tell_refused(fault, answer),
+        }
+        Ok(())
+    }
+
+    fn shorten(&mut self, answer: &mut Answer) -> Answered {
+        match self.node.shorten(self.alloc) {
+            Ok(()) => answer.line("done"),
             Err(NodeFault::Memory) => return Err(Unanswered::Memory),
             Err(fault) => tell_refused(fault, answer),
         }

@@ -1,14 +1,19 @@
-//! Test cases about numbers, texts, definitions, tokens, mapfiles, canonical texts and requests.
+//! Test cases about numbers, texts, definitions, tokens, mapfiles, canonical texts, requests about a map, and the HTTP edge of a
+//! node: requests as bytes, what is read of them or answered at once, and what a node answers.
 //!
 //! Standard input is a table of cases (`wf_table` defines its format); standard output is the report, whose last line has the
 //! counts. Each question is one function, by subject: `numbers`, `texts`, `definitions`, `tokens`, `mapfiles`, `canonical`,
-//! `requests`, `maps`, `reports`. `shown` has how definitions are shown.
+//! `requests`, `maps`, `reports`, `edge`. `shown` has how definitions are shown.
 //!
 //! The program is proved to be safe and to return, and nothing more: what the cases show is in the table.
 #![tactic(auto)]
 
+mod broken;
 mod canonical;
 mod definitions;
+mod edge;
+mod exchange;
+mod faltering;
 mod kept;
 mod mapfiles;
 mod maps;
@@ -16,6 +21,7 @@ mod numbers;
 mod questions;
 mod reports;
 mod requests;
+mod serving;
 mod shown;
 mod spellings;
 mod tables;

@@ -1,7 +1,7 @@
 //! The questions by their names.
 use crate::{
-    canonical, definitions, kept, mapfiles, maps, numbers, reports, requests, spellings, tables,
-    texts, tokens,
+    canonical, definitions, edge, kept, mapfiles, maps, numbers, reports, requests, spellings,
+    tables, texts, tokens,
 };
 use wf_table::{Answer, Answered, Asked, Questions, Unanswered};
 
@@ -81,6 +81,15 @@ fn about_requests(question: &str, asked: Asked<'_>, answer: &mut Answer) -> Answ
         "kept" => kept::kept(asked, answer),
         "report" => reports::report_of(asked, answer),
         "table" => tables::table(asked, answer),
+        _ => about_the_edge(question, asked, answer),
+    }
+}
+
+fn about_the_edge(question: &str, asked: Asked<'_>, answer: &mut Answer) -> Answered {
+    match question {
+        "hear" => edge::hear(asked, answer),
+        "serve" => edge::serve_one(asked, answer),
+        "refuse" => edge::refuse(asked, answer),
         _ => Err(Unanswered::UnknownQuestion),
     }
 }

@@ -1,4 +1,3 @@
+mod Ended
 mod Judged
-mod Named
 mod Outcome
-mod PlainWords

@@ -1,6 +1,5 @@
-pub mod CommandLine
 pub mod Counting
 pub mod Ending
-pub mod Line
+pub mod Program
 pub mod Run
 pub mod Serving

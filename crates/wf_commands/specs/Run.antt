@@ -12,8 +12,8 @@ use Rattle.wf_wms.specs.Answer.{AnswerValue, IsAnswerOf, description}
 use Rattle.wf_script.specs.Fault as script
 use Rattle.wf_script.specs.Lines.{most_script_bytes}
 use Rattle.wf_play.specs.Running.{IsFaultOf, IsScriptText, PlaysInput}
-use Rattle.wf_commands.specs.declared.line.Line.{Line}
-use Rattle.wf_commands.specs.declared.line.Line.TheVariants as lines
+use Rattle.wf_line.specs.declared.line.Line.{Line}
+use Rattle.wf_line.specs.declared.line.Line.TheVariants as lines
 use Rattle.wf_commands.specs.declared.fault.RunFault.{RunFault}
 use Rattle.wf_commands.specs.declared.fault.RunFault.TheVariants as faults
 

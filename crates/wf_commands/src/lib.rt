@@ -1,10 +1,12 @@
 //! The commands of the program `wfarm`. They answer a Web Map Service request about a mapfile, write its canonical text, play a
 //! script of a farm of servers, and serve a farm's nodes over HTTP.
 //!
-//! The crate is thin. [`arguments::line`] parses the command line's arguments to a [`line::Line`]; [`run::run_line`] runs the
-//! commands about an input, over any reader and writer; [`serve::run_serve`] serves nodes over HTTP; [`program::program`]
-//! connects them to the process. A [`fault::RunFault`] is the error of a run. Readers and writers are [`wf_stream::Source`] and
-//! [`wf_stream::Sink`], which count failed calls; [`wf_stream::Stream`] makes them of std's.
+//! The crate is thin. [`wf_line::arguments::line`] parses the command line's arguments to a [`wf_line::line::Line`]; [`run::run_line`] runs the
+//! commands about an input, over any reader and writer; a [`server::Server`] serves nodes, by [`server::Host`] over HTTP.
+//! [`program::run_words`] is the program over any words, reader, writer and server, and [`program::program`] connects it to the
+//! process. A [`fault::RunFault`] is the error of a run, an [`ending::Ending`] what is left to print, with the exit status. Readers
+//! and writers are [`wf_stream::Source`] and [`wf_stream::Sink`], which count failed calls; [`wf_stream::Stream`] makes them of
+//! std's.
 //!
 //! [`run::run_line`] promises, about a mapfile:
 //! - after Ok, exactly the output of the command for the one map that the input means is written: of `caps` the answer at that
@@ -21,17 +23,17 @@
 //!
 //! About both: a read error is returned only if a read has failed, a write error iff a write has.
 //!
-//! [`arguments::line`] promises the line that the arguments ask for by the rules of `clap`; arguments that ask for a line are
-//! rejected only if an allocation fails. [`serve::run_serve`] promises the cause of its error, and the line that it writes with
-//! its port; what it serves is `wf_serve`'s contract.
+//! [`program::run_words`] promises that exactly the command of that line was run, or none: for `serve`, that the server was called
+//! with the line's numbers of nodes, connections and pictures, its port and its folder, or none if it has none. The error of the
+//! run is the one to be printed, unless a write failed, and the exit status is 0 without an error and 1 with one. What serving
+//! means is the server's; of [`server::Host`] it is `wf_serve`'s contract.
 //!
-//! No contract says what standard input holds, what happens to the bytes after standard output, or what text is printed for a
-//! rejected command line.
+//! No contract says what standard input holds, what happens to the bytes after standard output, what text an error prints, or that
+//! the process hands its own words, input and output on; the stored run of `wfarm` shows these.
 #![tactic(auto)]
 
-pub mod arguments;
+pub mod ending;
 pub mod fault;
-pub mod line;
 pub mod program;
 pub mod run;
-pub mod serve;
+pub mod server;

@@ -7,19 +7,19 @@ ghost use Rattle.wf_canon.specs.Canon.{canon};
 ghost use Rattle.wf_canon.specs.Refusal.{IsCauseOf};
 ghost use Rattle.wf_wms.specs.Answer.{description};
 ghost use Rattle.wf_ballot.specs.Sequence.{last_sequence};
-ghost use Rattle.wf_commands.specs.Line.{IsInRange, IsOfInput};
+ghost use Rattle.wf_line.specs.Line.{IsInRange, IsOfInput};
 ghost use Rattle.wf_stream.specs.Reading.{TakesUpTo};
 ghost use Rattle.wf_script.specs.Lines.{most_script_bytes};
 ghost use Rattle.wf_commands.specs.Run.{most_input_bytes, most_read, judged, IsInputFault, IsMapFault, IsReadingFault, IsWriting, IsWritingOf, IsOutcome, IsOutcomeOf, IsCanonical, IsDescription, IsPreview, IsPlayed};
 ghost use Rattle.wf_commands.specs.Counting.{CountsReads, CountsWrites};
 
 use crate::fault::RunFault;
-use crate::line::Line;
 use std::alloc::Global;
 use std::io::ErrorKind;
 use wf_ballot::SEQUENCES;
 use wf_canon::Canon;
 use wf_def::map::MapDef;
+use wf_line::line::Line;
 use wf_mapfile::fault::MapFault;
 use wf_play::PlayFault;
 use wf_stream::{Sink, Source, read_up_to, write_all};
@@ -239,7 +239,7 @@ pub fn run_script<S: Source, K: Sink>(
     }
 }
 
-/// Runs a command about an input. [`crate::serve::run_serve`] serves nodes.
+/// Runs a command about an input. [`crate::program::run_command`] runs any.
 pub fn run_line<S: Source, K: Sink>(
     alloc: Global,
     line: Line<'_>,

@@ -6,12 +6,12 @@ use Rattle.wf_codec.specs.declared.message.Message.{Message}
 use Rattle.wf_def.specs.Definition.{Definition}
 use Rattle.wf_learner.specs.History.{map_at}
 use Rattle.wf_node.specs.Node.{Node}
-use Rattle.wf_wms.specs.Answer.{AnswerValue, EachQueryHasOneAnswer, IsAnswerOf, IsAnswerOn, IsMapAnswer, operation_of, or_own, subject, subject_of}
+use Rattle.wf_wms.specs.Answer.{AnswerValue, AsksForMap, EachQueryHasOneAnswer, IsAnswerOf, IsAnswerOn, IsMapAnswer, operation_of, or_own, subject, subject_of}
 use Rattle.wf_wms.specs.MapRequest.{map_request, map_sequence, picture_in}
 use Rattle.wf_wms.specs.Query.{pairs_of}
 use Rattle.wf_edge.specs.Checks.{judged}
 use Rattle.wf_edge.specs.Head.{Head, Begins, head_of}
-use Rattle.wf_edge.specs.Law.{AsksMapService, AsksForMap, stand_alike, are_asked_alike, EachQueryHasOnePage, EqualRequestsHaveEqualResponses}
+use Rattle.wf_edge.specs.Law.{AsksMapService, stand_alike, are_asked_alike, EachQueryHasOnePage, EqualRequestsHaveEqualResponses}
 use Rattle.wf_edge.specs.Notice.{response_of}
 use Rattle.wf_edge.specs.Page.{service_page, IsServicePage, IsServiceGiven}
 use Rattle.wf_edge.specs.Request.{Request, IsRefused, by_head, by_check, by_body, IsHeadRefusal, body_bytes}

@@ -1,12 +1,10 @@
 -- Equal requests to the map service have equal responses, at any node and any time.
-use Rattle.std.specs.Prelude.{◌≡◌, ◌≢◌, ℕ, List, length, codes, Some, Ok, Vec}
+use Rattle.std.specs.Prelude.{◌≡◌, ◌≢◌, ℕ, List, length, Some, Vec}
 use Rattle.wf_codec.specs.declared.message.Message.{Message}
 use Rattle.wf_def.specs.Definition.{Definition}
 use Rattle.wf_learner.specs.History.{map_at}
 use Rattle.wf_node.specs.Node.{Node}
-use Rattle.wf_wms.specs.Answer.{subject}
-use Rattle.wf_wms.specs.MapRequest.{map_sequence}
-use Rattle.wf_wms.specs.Query.{pairs_of, parameter}
+use Rattle.wf_wms.specs.Answer.{AsksForMap, subject}
 use Rattle.wf_edge.specs.Page.{IsServicePage}
 use Rattle.wf_edge.specs.Request.{Request, BeginsWith}
 use Rattle.wf_edge.specs.Response.{Response, response_bytes}
@@ -20,11 +18,6 @@ pub record AsksMapService (input query : List ℕ) : Type 0 where
   pub begins : BeginsWith input request
   pub of_service : request.asked ≡ Wms
   pub of_query : query_of request.head.target ≡ query
-
--- the query is a GetMap request (OGC 06-042, 7.3), and at a server whose last sequence is s it asks for the map of sequence m
-pub record AsksForMap (m s : ℕ) (query : List ℕ) : Type 0 where
-  pub request : parameter (codes "REQUEST") (pairs_of query) ≡ Some (codes "GetMap")
-  pub sequence : map_sequence s (pairs_of query) ≡ Ok m
 
 -- The query asks for the same map of two lists of published maps: either both have the same length, and the map that the query is
 -- about is the same; or the query is a GetMap request for a sequence at which both have the same map, however many more there

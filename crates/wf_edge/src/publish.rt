@@ -52,12 +52,12 @@ fn map_in(alloc: Global, body: &[u8]) -> Result<MapDef, PublishFault>
 
 // The map of a body, with its canonical text.
 #[tactic(auto, using(crate::proofs::PublishLaw::is_map, crate::proofs::PublishLaw::why_unwritten))]
-fn canon_of(alloc: Global, body: &[u8], map: &MapDef) -> Result<Canon, PublishFault>
-    requires { Means body.now map.now }
+fn canon_of(alloc: Global, body: &[u8], map: MapDef) -> Result<Canon, PublishFault>
+    requires { Means body.now map }
     ensures ok { IfOk result (IsMapOf body.now) }
     ensures err { IfErr result (IsWhyNoMap body.now) }
 {
-    match Canon::of(alloc, map) {
+    match Canon::from_map(alloc, map) {
         Ok(canon) => Ok(canon),
         Err(fault) => Err(unwritten(fault)),
     }
@@ -69,11 +69,7 @@ fn canon_in(alloc: Global, body: &[u8]) -> Result<Canon, PublishFault>
     ensures err { IfErr result (IsWhyNoMap body.now) }
 {
     match map_in(alloc, body) {
-        Ok(map) => {
-            let canon = canon_of(alloc, body, &map);
-            drop(map);
-            canon
-        }
+        Ok(map) => canon_of(alloc, body, map),
         Err(fault) => Err(fault),
     }
 }

@@ -6,14 +6,14 @@ use Rattle.wf_learner.specs.History.{map_at}
 use Rattle.wf_model.specs.Stored.{definition_at}
 use Rattle.wf_node.specs.Node.{Node, stored_of}
 use Rattle.wf_tape.specs.MemoryTape.{Kept}
-use Rattle.wf_wms.specs.Answer.{AnswerValue, EachQueryHasOneAnswer, IsAnswerOf, IsAnswerOn, IsMapAnswer, operation_of, or_own, subject}
+use Rattle.wf_wms.specs.Answer.{AnswerValue, AsksForMap, EachQueryHasOneAnswer, IsAnswerOf, IsAnswerOn, IsMapAnswer, operation_of, or_own, subject}
 use Rattle.wf_wms.specs.MapRequest.{map_request, map_sequence, picture_in}
 use Rattle.wf_wms.specs.Query.{pairs_of}
 use Rattle.wf_farm.specs.declared.fault.FarmFault.TheVariants.{Memory, NoNode}
 use Rattle.wf_farm.specs.declared.place.Place.{Place}
 use Rattle.wf_farm.specs.declared.place.Place.TheVariants.{Running, Stopped}
 use Rattle.wf_farm.specs.Agreement.{HasOneHistory, HasStored}
-use Rattle.wf_farm.specs.Answering.{Answers, AsksForMap, HasOneAnswer, HasOneMapAnswer, IsNoAnswer, sequence_at, sequence_in}
+use Rattle.wf_farm.specs.Answering.{Answers, HasOneAnswer, HasOneMapAnswer, IsNoAnswer, sequence_at, sequence_in}
 use Rattle.wf_farm.specs.Farm.{Farm, running_in}
 use Rattle.wf_farm.specs.Leading.{HaveOneAnswer, HaveOneHistory, HaveOneMapAnswer}
 

@@ -25,10 +25,9 @@ use Rattle.wf_node.specs.Step.{row_of, refusal_at, IsRow, IsSameNode}
 use Rattle.wf_node.specs.declared.fault.NodeFault.{NodeFault}
 use Rattle.wf_node.specs.declared.fault.NodeFault.TheVariants as fault_case
 use Rattle.wf_farm.specs.declared.progress.Progress.{Progress}
-use Rattle.wf_farm.specs.Asking as asking
-use Rattle.wf_farm.specs.Asking.{Answers}
-use Rattle.wf_farm.specs.Delivering as delivering
-use Rattle.wf_farm.specs.Delivering.{AnyPart, StandFor, IsNodeBy, IsNode, AreNodes, Shows, StandAmong, StandInTurn, MayLeave, IsDelivery, AreDeliveries, IsLed, Lead, AreDelivered, Takes, TakeOne, KeepHalted, KeepTurn, IsOne, IsEnd, IsHanded, AreHanded, First, Next, AreHandedOut, HaveCome, IsDelivered}
+use Rattle.wf_farm.specs.Giving as giving
+use Rattle.wf_farm.specs.Giving.{Answers, Takes, is_halt, is_memory, tells_halt}
+use Rattle.wf_farm.specs.Delivering.{AnyPart, StandFor, IsNodeBy, IsNode, AreNodes, Shows, StandAmong, StandInTurn, MayLeave, IsDelivery, AreDeliveries, IsLed, Lead, AreDelivered, TakeOne, KeepHalted, KeepTurn, IsOne, IsEnd, IsHanded, AreHanded, First, Next, AreHandedOut, counted, HaveCome, IsDelivered}
 use Rattle.wf_farm.specs.Progress.{next}
 use Rattle.wf_farm.specs.Pump.{begun, most_deliveries}
 use Rattle.wf_farm.specs.Turn.{node_after, messages_of, node_torn}
@@ -40,16 +39,7 @@ use Rattle.wf_farm.proofs.Turns.{turn_goes, turn_is, turn_sets, torn_sets}
 
 -- ---- what a node does with an input
 
--- which of two errors it is
-abbrev is_want : NodeFault → Bool
-is_want fault_case.Memory = true
-is_want fault_case.Busy = false
-is_want fault_case.SequenceFull = false
-is_want fault_case.RoundsFull = false
-is_want fault_case.Halted = false
-is_want fault_case.TapeFailed = false
-is_want fault_case.Nothing = false
-
+-- whether an error is a failure of the tape
 abbrev is_failure : NodeFault → Bool
 is_failure fault_case.Memory = false
 is_failure fault_case.Busy = false
@@ -59,18 +49,9 @@ is_failure fault_case.Halted = false
 is_failure fault_case.TapeFailed = true
 is_failure fault_case.Nothing = false
 
-abbrev is_halted : NodeFault → Bool
-is_halted fault_case.Memory = false
-is_halted fault_case.Busy = false
-is_halted fault_case.SequenceFull = false
-is_halted fault_case.RoundsFull = false
-is_halted fault_case.Halted = true
-is_halted fault_case.TapeFailed = false
-is_halted fault_case.Nothing = false
-
 abbrev says_halted : {A : Type 0} → Result A NodeFault → Bool
 says_halted (Ok x) = false
-says_halted (Err f) = is_halted f
+says_halted (Err f) = is_halt f
 
 not_true : (b : Bool) → (b ≡ true → ⊥) → b ≡ false
 not_true true never = absurd (never refl)
@@ -81,84 +62,60 @@ runs_by : {A : Type 0} (result : Result A NodeFault) (halted : Bool) → says_ha
 runs_by result halted other answers = not_true halted (λ is. false≢true (sym other ∙ ap says_halted (answers is)))
 
 -- an error that is neither allocation failure nor a failure of the tape
-neither : (f : NodeFault) → is_want f ≡ false → is_failure f ≡ false → (f ≢ fault_case.Memory) × (f ≢ fault_case.TapeFailed)
-neither f want failure = (λ is. false≢true (sym want ∙ ap is_want is), λ is. false≢true (sym failure ∙ ap is_failure is))
+neither : (f : NodeFault) → is_memory f ≡ false → is_failure f ≡ false → (f ≢ fault_case.Memory) × (f ≢ fault_case.TapeFailed)
+neither f memory failure = (λ is. false≢true (sym memory ∙ ap is_memory is), λ is. false≢true (sym failure ∙ ap is_failure is))
 
-module _ {T A : Type 0} (honest : Type 0) (images : T → List ℕ → Type 0) (node after : Node T) (input : Input Definition) where
-  pub any_taken : (result : Result (Vec Message A) NodeFault) → (node.halted ≡ true → result ≡ Err fault_case.Halted) → (node.halted ≡ false → fault.refused_by result ≡ refusal_at node input) →
-      IfOk result (λ said. IsRow node (row_of node input) said.items after) → IfOk result (λ said. Takes honest images input node after said.items)
-  any_taken (Ok said) halted refused is =
-      let runs = runs_by {A = Vec Message A} (Ok said) node.halted refl halted in
-      delivering.Steps runs (sym (refused runs)) is
-  any_taken (Err f) halted refused is = tt
+-- The error that a node would return to a proposal tells whether it is halted.
+pub halt_told : (halted : Bool) (why : Option Refusal) (told : Option NodeFault) → (halted ≡ true → told ≡ Some fault_case.Halted) → (halted ≡ false → fault.IsWhyNot why told) → tells_halt told ≡ halted
+halt_told true why told halts runs = ap tells_halt (halts refl)
+halt_told false why None halts runs = refl
+halt_told false why (Some fault_case.Memory) halts runs = refl
+halt_told false why (Some fault_case.Busy) halts runs = refl
+halt_told false why (Some fault_case.SequenceFull) halts runs = refl
+halt_told false why (Some fault_case.RoundsFull) halts runs = refl
+halt_told false why (Some fault_case.Halted) halts runs = absurd ((runs refl).1 (sym (runs refl).0))
+halt_told false why (Some fault_case.TapeFailed) halts runs = refl
+halt_told false why (Some fault_case.Nothing) halts runs = refl
 
-  pub any_lost : (result : Result (Vec Message A) NodeFault) → (node.halted ≡ true → result ≡ Err fault_case.Halted) → (node.halted ≡ false → fault.refused_by result ≡ refusal_at node input) →
-      IfErr result (λ f. f ≢ fault_case.Memory → f ≢ fault_case.TapeFailed → after ≡ node) → IfErr result (λ f. IsSameNode node after) → (result ≡ Err fault_case.Memory → after.halted ≡ false) →
-      (result ≡ Err fault_case.TapeFailed → after.halted ≡ true) →
-      (honest → result ≡ Err fault_case.TapeFailed → EachStandsFor (stored_of node) (store (stored_of node) (row_of node input).entry) (images after.tape)) → IfErr result (λ f. Takes honest images input node after [])
-  any_lost (Ok said) halted refused unchanged same spares halts torn = tt
-  any_lost (Err fault_case.Memory) halted refused unchanged same spares halts torn =
-      delivering.Spares (runs_by {A = Vec Message A} (Err fault_case.Memory) node.halted refl halted) (spares refl) same refl
-  any_lost (Err fault_case.TapeFailed) halted refused unchanged same spares halts torn =
-      let runs = runs_by {A = Vec Message A} (Err fault_case.TapeFailed) node.halted refl halted in
-      delivering.Fails runs (sym (refused runs)) (halts refl) same (λ h. torn h refl) refl
-  any_lost (Err fault_case.Busy) halted refused unchanged same spares halts torn = let other = neither fault_case.Busy refl refl in delivering.Keeps (unchanged other.0 other.1) refl
-  any_lost (Err fault_case.SequenceFull) halted refused unchanged same spares halts torn = let other = neither fault_case.SequenceFull refl refl in delivering.Keeps (unchanged other.0 other.1) refl
-  any_lost (Err fault_case.RoundsFull) halted refused unchanged same spares halts torn = let other = neither fault_case.RoundsFull refl refl in delivering.Keeps (unchanged other.0 other.1) refl
-  any_lost (Err fault_case.Halted) halted refused unchanged same spares halts torn = let other = neither fault_case.Halted refl refl in delivering.Keeps (unchanged other.0 other.1) refl
-  any_lost (Err fault_case.Nothing) halted refused unchanged same spares halts torn = let other = neither fault_case.Nothing refl refl in delivering.Keeps (unchanged other.0 other.1) refl
-
--- A step without allocation failure is an answer.
+-- Without an input that is lost a step is an answer.
 module _ {T : Type 0} (honest : Type 0) (images : T → List ℕ → Type 0) (node after : Node T) (input : Input Definition) where
-  rejects : (f : NodeFault) (why : Refusal) → fault.refusal_of f ≡ Some why → is_want f ≡ false → is_failure f ≡ false → node.halted ≡ false →
+  rejects : (f : NodeFault) (why : Refusal) → fault.refusal_of f ≡ Some why → is_memory f ≡ false → is_failure f ≡ false → node.halted ≡ false →
       (node.halted ≡ false → fault.refusal_of f ≡ refusal_at node input) → (f ≢ fault_case.Memory → f ≢ fault_case.TapeFailed → after ≡ node) → Answers honest images input node after []
-  rejects f why tells want failure runs refused unchanged =
-      let other = neither f want failure in
-      asking.Rejects why runs (sym (refused runs) ∙ tells) (unchanged other.0 other.1) refl
+  rejects f why tells memory failure runs refused unchanged =
+      let other = neither f memory failure in
+      giving.Rejects why runs (sym (refused runs) ∙ tells) (unchanged other.0 other.1) refl
 
 module _ {T A : Type 0} (honest : Type 0) (images : T → List ℕ → Type 0) (node after : Node T) (input : Input Definition) where
   pub any_answered : (result : Result (Vec Message A) NodeFault) → (node.halted ≡ true → result ≡ Err fault_case.Halted) → (node.halted ≡ false → fault.refused_by result ≡ refusal_at node input) →
       IfOk result (λ said. IsRow node (row_of node input) said.items after) → IfOk result (λ said. Answers honest images input node after said.items)
   any_answered (Ok said) halted refused is =
       let runs = runs_by {A = Vec Message A} (Ok said) node.halted refl halted in
-      asking.Steps runs (sym (refused runs)) is
+      giving.Steps runs (sym (refused runs)) is
   any_answered (Err f) halted refused is = tt
 
+  -- An error is an answer, unless it is allocation failure: then the input is lost.
   pub any_rejected : (result : Result (Vec Message A) NodeFault) → (node.halted ≡ true → result ≡ Err fault_case.Halted) → (result ≡ Err fault_case.Halted → node.halted ≡ true) →
       (node.halted ≡ false → fault.refused_by result ≡ refusal_at node input) →
-      IfErr result (λ f. f ≢ fault_case.Memory → f ≢ fault_case.TapeFailed → after ≡ node) → IfErr result (λ f. IsSameNode node after) → (result ≡ Err fault_case.TapeFailed → after.halted ≡ true) →
+      IfErr result (λ f. f ≢ fault_case.Memory → f ≢ fault_case.TapeFailed → after ≡ node) → IfErr result (λ f. IsSameNode node after) → (result ≡ Err fault_case.Memory → after.halted ≡ false) →
+      (result ≡ Err fault_case.TapeFailed → after.halted ≡ true) →
       (honest → result ≡ Err fault_case.TapeFailed → EachStandsFor (stored_of node) (store (stored_of node) (row_of node input).entry) (images after.tape)) →
-      IfErr result (λ f. f ≢ fault_case.Memory → Answers honest images input node after [])
-  any_rejected (Ok said) halted running refused unchanged same halts torn = tt
-  any_rejected (Err fault_case.Memory) halted running refused unchanged same halts torn = λ sufficed. absurd (sufficed refl)
-  any_rejected (Err fault_case.TapeFailed) halted running refused unchanged same halts torn = λ sufficed.
+      IfErr result (λ f. Takes honest images (is_memory f) input node after [])
+  any_rejected (Ok said) halted running refused unchanged same spares halts torn = tt
+  any_rejected (Err fault_case.Memory) halted running refused unchanged same spares halts torn =
+      record { runs = runs_by {A = Vec Message A} (Err fault_case.Memory) node.halted refl halted; still = spares refl; same = same; quiet = refl }
+  any_rejected (Err fault_case.TapeFailed) halted running refused unchanged same spares halts torn =
       let runs = runs_by {A = Vec Message A} (Err fault_case.TapeFailed) node.halted refl halted in
-      asking.Fails runs (sym (refused runs)) (halts refl) same (λ h. torn h refl) refl
-  any_rejected (Err fault_case.Halted) halted running refused unchanged same halts torn = λ sufficed.
-      let other = neither fault_case.Halted refl refl in asking.Halts (running refl) (unchanged other.0 other.1) refl
-  any_rejected (Err fault_case.Busy) halted running refused unchanged same halts torn = λ sufficed.
+      giving.Fails runs (sym (refused runs)) (halts refl) same (λ h. torn h refl) refl
+  any_rejected (Err fault_case.Halted) halted running refused unchanged same spares halts torn =
+      let other = neither fault_case.Halted refl refl in giving.Halts (running refl) (unchanged other.0 other.1) refl
+  any_rejected (Err fault_case.Busy) halted running refused unchanged same spares halts torn =
       rejects honest images node after input fault_case.Busy table.Busy refl refl refl (runs_by {A = Vec Message A} (Err fault_case.Busy) node.halted refl halted) refused unchanged
-  any_rejected (Err fault_case.SequenceFull) halted running refused unchanged same halts torn = λ sufficed.
+  any_rejected (Err fault_case.SequenceFull) halted running refused unchanged same spares halts torn =
       rejects honest images node after input fault_case.SequenceFull table.SequenceFull refl refl refl (runs_by {A = Vec Message A} (Err fault_case.SequenceFull) node.halted refl halted) refused unchanged
-  any_rejected (Err fault_case.RoundsFull) halted running refused unchanged same halts torn = λ sufficed.
+  any_rejected (Err fault_case.RoundsFull) halted running refused unchanged same spares halts torn =
       rejects honest images node after input fault_case.RoundsFull table.RoundsFull refl refl refl (runs_by {A = Vec Message A} (Err fault_case.RoundsFull) node.halted refl halted) refused unchanged
-  any_rejected (Err fault_case.Nothing) halted running refused unchanged same halts torn = λ sufficed.
+  any_rejected (Err fault_case.Nothing) halted running refused unchanged same spares halts torn =
       rejects honest images node after input fault_case.Nothing table.NothingToRetry refl refl refl (runs_by {A = Vec Message A} (Err fault_case.Nothing) node.halted refl halted) refused unchanged
-
--- The result of an error other than allocation failure: nothing is sent.
-module _ {T A E : Type 0} (honest : Type 0) (images : T → List ℕ → Type 0) (node after : Node T) (input : Input Definition) (f : NodeFault) where
-  pub quiet_takes : (result : Result (Vec Message A) E) → IfOk result (λ said. (said.items ≡ []) × (f ≢ fault_case.Memory)) → Takes honest images input node after [] → IfOk result (λ said. Takes honest images input node after said.items)
-  quiet_takes (Ok said) is takes = subst (λ ms. Takes honest images input node after ms) (sym is.0) takes
-  quiet_takes (Err e) is takes = tt
-
-  pub quiet_answers : (result : Result (Vec Message A) E) → IfOk result (λ said. (said.items ≡ []) × (f ≢ fault_case.Memory)) → (f ≢ fault_case.Memory → Answers honest images input node after []) →
-      IfOk result (λ said. Answers honest images input node after said.items)
-  quiet_answers (Ok said) is answers = subst (λ ms. Answers honest images input node after ms) (sym is.0) (answers is.1)
-  quiet_answers (Err e) is answers = tt
-
-pub quiet_few : {A E : Type 0} (f : NodeFault) (result : Result (Vec Message A) E) → IfOk result (λ said. (said.items ≡ []) × (f ≢ fault_case.Memory)) → IfOk result (λ said. length said.items ≤ most_told)
-quiet_few f (Ok said) is = let none : length said.items ≡ 0 = ap length is.0 in omega (arith, none)
-quiet_few f (Err e) is = tt
 
 -- No step sends more than eight messages.
 module _ {T A : Type 0} (node after : Node T) (input : Input Definition) where
@@ -167,9 +124,22 @@ module _ {T A : Type 0} (node after : Node T) (input : Input Definition) where
       omega (arith, length-map said.items message.view, ap length is.messages, short definition_eq node.n node.id (stored_of node) (working_of node) input)
   any_short short (Err f) is = tt
 
--- A lost input changes nothing, and nothing is sent.
-pub lost_by : {T : Type 0} (honest : Type 0) (images : T → List ℕ → Type 0) (input : Input Definition) (node : Node T) (said : List Message) → said ≡ [] → Takes honest images input node node said
-lost_by honest images input node said quiet = delivering.Keeps refl quiet
+pub none_few : (said : List Message) → said ≡ [] → length said ≤ most_told
+none_few said quiet = let none : length said ≡ 0 = ap length quiet in omega (arith, none)
+
+-- Nothing is sent: by a halted node, and if the input is lost before the node is asked.
+module _ {T : Type 0} (honest : Type 0) (images : T → List ℕ → Type 0) (input : Input Definition) (node : Node T) (said : List Message) (quiet : said ≡ []) where
+  pub halted_takes : (lost : Bool) → lost ≡ false → node.halted ≡ true → Takes honest images lost input node node said
+  halted_takes lost is halted = subst (λ b. Takes honest images b input node node said) (sym is) (giving.Halts halted refl quiet)
+
+  pub unheard_takes : (lost : Bool) → lost ≡ true → node.halted ≡ false → Takes honest images lost input node node said
+  unheard_takes lost is runs = subst (λ b. Takes honest images b input node node said) (sym is) (record { runs = runs; still = runs; same = refl; quiet = quiet })
+
+-- The same result by other names.
+pub takes_as : {T : Type 0} (honest : Type 0) (images : T → List ℕ → Type 0) (input : Input Definition) (node after : Node T) (lost now : Bool) (said sent : List Message) → now ≡ lost → sent ≡ said →
+    Takes honest images lost input node after said → Takes honest images now input node after sent
+takes_as honest images input node after lost now said sent is same takes =
+    subst (λ b. Takes honest images b input node after sent) (sym is) (subst (λ ms. Takes honest images lost input node after ms) (sym same) takes)
 
 -- ---- prefixes of published lists
 
@@ -334,6 +304,9 @@ module _ {T : Type 0} (stands : ℕ → Stored Definition → Type 0) (nodes : L
           messages = shows.messages;
         })
 
+    unchanged_shown : (w : World Definition) (said : List Message) → after ≡ node → said ≡ [] → Shows stands nodes sent w → IsActed stands i action w (slice_set nodes i after) (sent ++ said)
+    unchanged_shown w said same quiet shows = Stays (nothing_more quiet (keeps_shown w (λ x is. subst (λ n. IsNode (stands i) n x) (sym same) is) shows))
+
     fails_shown : (w : World Definition) (said : List Message) → node.halted ≡ false → refusal_at node input ≡ None → after.halted ≡ true → IsSameNode node after → said ≡ [] →
         stands i (stored_of node) ⊎ stands i (store (stored_of node) (row_of node input).entry) → Shows stands nodes sent w → IsActed stands i action w (slice_set nodes i after) (sent ++ said)
     unfolding kept_part stored_after
@@ -343,31 +316,39 @@ module _ {T : Type 0} (stands : ℕ → Stored Definition → Type 0) (nodes : L
         Tears After (nothing_more quiet (torn_shown w After runs goes halts same (store_begins (stored_of node) (row_of node input).entry) later shows))
 
     -- Whatever a node does with the action's input, the world is unchanged, or acts so.
-    pub takes_acts : (honest : Type 0) (images : T → List ℕ → Type 0) (said : List Message) → Takes honest images input node after said →
+    pub takes_acts : (honest : Type 0) (images : T → List ℕ → Type 0) (said : List Message) (lost : Bool) → Takes honest images lost input node after said →
         (after.halted ≡ true → (honest → EachStandsFor (stored_of node) (store (stored_of node) (row_of node input).entry) (images after.tape)) → stands i (stored_of node) ⊎ stands i (store (stored_of node) (row_of node input).entry)) →
         (w : World Definition) → Shows stands nodes sent w → IsActed stands i action w (slice_set nodes i after) (sent ++ said)
-    takes_acts honest images said (delivering.Keeps same quiet) torn w shows =
-        Stays (nothing_more quiet (keeps_shown w (λ x is. subst (λ n. IsNode (stands i) n x) (sym same) is) shows))
-    takes_acts honest images said (delivering.Spares runs runs_after same quiet) torn w shows =
-        Stays (nothing_more quiet (keeps_shown w (λ x is. spared_is (stands i) node after x runs runs_after same is) shows))
-    takes_acts honest images said (delivering.Steps runs goes is) torn w shows = Acts (steps_shown w said runs goes is shows)
-    takes_acts honest images said (delivering.Fails runs goes halts same each quiet) torn w shows = fails_shown w said runs goes halts same quiet (torn halts each) shows
+    takes_acts honest images said true is torn w shows =
+        Stays (nothing_more is.quiet (keeps_shown w (λ x was. spared_is (stands i) node after x is.runs is.still is.same was) shows))
+    takes_acts honest images said false (giving.Halts halted same quiet) torn w shows = unchanged_shown w said same quiet shows
+    takes_acts honest images said false (giving.Rejects why runs refused same quiet) torn w shows = unchanged_shown w said same quiet shows
+    takes_acts honest images said false (giving.Steps runs goes is) torn w shows = Acts (steps_shown w said runs goes is shows)
+    takes_acts honest images said false (giving.Fails runs goes halts same each quiet) torn w shows = fails_shown w said runs goes halts same quiet (torn halts each) shows
 
 -- ---- what is unchanged
 
 module _ {T : Type 0} (honest : Type 0) (images : T → List ℕ → Type 0) (node after : Node T) (input : Input Definition) (said : List Message) where
-  pub stays_halted : Takes honest images input node after said → node.halted ≡ true → after ≡ node
-  stays_halted (delivering.Keeps same quiet) halted = same
-  stays_halted (delivering.Spares runs runs_after same quiet) halted = absurd (both_ways node.halted runs halted)
-  stays_halted (delivering.Steps runs goes is) halted = absurd (both_ways node.halted runs halted)
-  stays_halted (delivering.Fails runs goes halts same each quiet) halted = absurd (both_ways node.halted runs halted)
+  pub stays_halted : (lost : Bool) → Takes honest images lost input node after said → node.halted ≡ true → after ≡ node
+  stays_halted true is halted = absurd (both_ways node.halted is.runs halted)
+  stays_halted false (giving.Halts was same quiet) halted = same
+  stays_halted false (giving.Rejects why runs refused same quiet) halted = same
+  stays_halted false (giving.Steps runs goes is) halted = absurd (both_ways node.halted runs halted)
+  stays_halted false (giving.Fails runs goes halts same each quiet) halted = absurd (both_ways node.halted runs halted)
 
-  pub stays_itself : Takes honest images input node after said → (after.id ≡ node.id) × (after.n ≡ node.n) × IsGrown node.parts.history after.parts.history
-  stays_itself (delivering.Keeps same quiet) =
+  by_itself : after ≡ node → (after.id ≡ node.id) × (after.n ≡ node.n) × IsGrown node.parts.history after.parts.history
+  by_itself same =
       (ap (λ (y : Node T). y.id) same, ap (λ (y : Node T). y.n) same, subst (λ (y : Node T). IsGrown node.parts.history y.parts.history) (sym same) (grown_itself node.parts.history))
-  stays_itself (delivering.Spares runs runs_after same quiet) = (ap (λ (y : Node T). y.id) same, ap (λ (y : Node T). y.n) same, same_grown node after same)
-  stays_itself (delivering.Steps runs goes is) = (is.id, is.n, row_grown node after (row_of node input) said is)
-  stays_itself (delivering.Fails runs goes halts same each quiet) = (ap (λ (y : Node T). y.id) same, ap (λ (y : Node T). y.n) same, same_grown node after same)
+
+  but_for_tape : IsSameNode node after → (after.id ≡ node.id) × (after.n ≡ node.n) × IsGrown node.parts.history after.parts.history
+  but_for_tape same = (ap (λ (y : Node T). y.id) same, ap (λ (y : Node T). y.n) same, same_grown node after same)
+
+  pub stays_itself : (lost : Bool) → Takes honest images lost input node after said → (after.id ≡ node.id) × (after.n ≡ node.n) × IsGrown node.parts.history after.parts.history
+  stays_itself true is = but_for_tape is.same
+  stays_itself false (giving.Halts halted same quiet) = by_itself same
+  stays_itself false (giving.Rejects why runs refused same quiet) = by_itself same
+  stays_itself false (giving.Steps runs goes is) = (is.id, is.n, row_grown node after (row_of node input) said is)
+  stays_itself false (giving.Fails runs goes halts same each quiet) = but_for_tape same
 
 module _ {T : Type 0} (nodes : List (Node T)) (i : ℕ) (node after : Node T) (at : slice_get nodes i ≡ Some node) where
   pub keeps_halted : (node.halted ≡ true → after ≡ node) → KeepHalted nodes (slice_set nodes i after)
@@ -401,21 +382,21 @@ module _ {T : Type 0} (honest : Type 0) (images : T → List ℕ → Type 0) (no
   abbrev heard : Input Definition
   heard = table.Deliver (message.view m)
 
-  takes_one : (stands : ℕ → Stored Definition → Type 0) → Takes honest images heard node after said →
+  takes_one : (stands : ℕ → Stored Definition → Type 0) (lost : Bool) → Takes honest images lost heard node after said →
       (after.halted ≡ true → (honest → EachStandsFor (stored_of node) (store (stored_of node) (row_of node heard).entry) (images after.tape)) → stands i (stored_of node) ⊎ stands i (store (stored_of node) (row_of node heard).entry)) →
       TakeOne stands nodes sent (slice_set nodes i after) (sent ++ said)
   unfolding TakeOne
-  takes_one stands takes torn = λ w shows.
+  takes_one stands lost takes torn = λ w shows.
       delivered_one stands i k w (slice_set nodes i after) (sent ++ said)
-      (takes_acts stands nodes sent i node after (table.Deliver k) heard at (sent_message sent k m there) turns honest images said takes torn w shows)
+      (takes_acts stands nodes sent i node after (table.Deliver k) heard at (sent_message sent k m there) turns honest images said lost takes torn w shows)
 
   -- One delivery to one of the nodes.
-  pub one_delivery : Takes honest images heard node after said → IsOne honest images nodes sent (slice_set nodes i after) (sent ++ said)
-  one_delivery takes = record {
-    any = takes_one AnyPart takes (λ halts each. inl tt);
-    on_tape = λ h left may. takes_one (StandFor left) takes (λ halts each. each h (left i) (left_here images nodes left i node after at may halts));
-    halted = keeps_halted nodes i node after at (stays_halted honest images node after heard said takes);
-    turn = keeps_turn nodes i node after at (stays_itself honest images node after heard said takes);
+  pub one_delivery : (lost : Bool) → Takes honest images lost heard node after said → IsOne honest images nodes sent (slice_set nodes i after) (sent ++ said)
+  one_delivery lost takes = record {
+    any = takes_one AnyPart lost takes (λ halts each. inl tt);
+    on_tape = λ h left may. takes_one (StandFor left) lost takes (λ halts each. each h (left i) (left_here images nodes left i node after at may halts));
+    halted = keeps_halted nodes i node after at (stays_halted honest images node after heard said lost takes);
+    turn = keeps_turn nodes i node after at (stays_itself honest images node after heard said lost takes);
   }
 
 -- No delivery at all.
@@ -514,14 +495,19 @@ done_by p false = refl
 done_on : (count : ℕ) (p : Progress) → (next count p).done ≡ p.done + 1
 done_on count p = done_by p (p.some + 1 == count)
 
+-- a delivery adds at most one to the count of those lost
+counted_most : (lost : ℕ) (loses : Bool) → counted lost loses ≤ lost + 1
+counted_most lost true = omega arith
+counted_most lost false = omega arith
+
 module _ {T : Type 0} (honest : Type 0) (images : T → List ℕ → Type 0) (nodes : List (Node T)) (messages : List Message) where
   -- a message that was sent is there afterwards
-  one_more_there : (middle after : List (Node T)) (i k : ℕ) (said more : List Message) → IsHanded honest images i k middle said after more → k < length more
-  one_more_there middle after i k said more handed =
+  one_more_there : (middle after : List (Node T)) (i k : ℕ) (loses : Bool) (said more : List Message) → IsHanded honest images i k loses middle said after more → k < length more
+  one_more_there middle after i k loses said more handed =
       omega (arith, slice_get_within said k handed.handed handed.there, ap length handed.sent_are, length-append said handed.said)
 
   -- Nothing is delivered yet.
-  pub come_start : 0 < length nodes → HaveCome honest images nodes messages (record { whole = 0; some = 0; done = 0 }) nodes messages
+  pub come_start : 0 < length nodes → HaveCome honest images nodes messages (record { whole = 0; some = 0; done = 0 }) 0 nodes messages
   come_start some = record {
     any = leads_nowhere AnyPart nodes messages;
     on_tape = λ h left may. leads_nowhere (StandFor left) nodes messages;
@@ -531,12 +517,13 @@ module _ {T : Type 0} (honest : Type 0) (images : T → List ℕ → Type 0) (no
     part = some;
     within = omega arith;
     most = omega arith;
+    fewer = omega arith;
   }
 
-  module _ (p : Progress) (middle after : List (Node T)) (said more : List Message) where
+  module _ (p : Progress) (lost : ℕ) (loses : Bool) (middle after : List (Node T)) (said more : List Message) where
     -- One more delivery.
-    pub come_on : HaveCome honest images nodes messages p middle said → p.done < most_deliveries → IsOne honest images middle said after more → IsHanded honest images p.some p.whole middle said after more →
-        HaveCome honest images nodes messages (next (length nodes) p) after more
+    pub come_on : HaveCome honest images nodes messages p lost middle said → p.done < most_deliveries → IsOne honest images middle said after more → IsHanded honest images p.some p.whole loses middle said after more →
+        HaveCome honest images nodes messages (next (length nodes) p) (counted lost loses) after more
     come_on come may one handed = record {
       any = subst (λ d. Lead AnyPart d nodes messages after more) (sym (done_on (length nodes) p)) (leads_on AnyPart p.done nodes middle after messages said more come.any one.any);
       on_tape = λ h left left_after.
@@ -544,15 +531,16 @@ module _ {T : Type 0} (honest : Type 0) (images : T → List ℕ → Type 0) (no
           (leads_on (StandFor left) p.done nodes middle after messages said more (come.on_tape h left (left_before images middle after left one.halted left_after)) (one.on_tape h left left_after));
       halted = halted_twice nodes middle after come.halted one.halted;
       turn = keeps_turn_twice nodes middle after come.turn one.turn;
-      order = Next p middle after said more come.order handed;
+      order = Next p lost loses middle after said more come.order handed;
       part = part_on (length nodes) p come.part;
-      within = within_on (length nodes) p (length more) (one_more_there middle after p.some p.whole said more handed);
+      within = within_on (length nodes) p (length more) (one_more_there middle after p.some p.whole loses said more handed);
       most = omega (arith, done_on (length nodes) p, may);
+      fewer = omega (arith, done_on (length nodes) p, come.fewer, counted_most lost loses);
     }
 
   -- The progress is what was delivered.
-  pub come_done : (p : Progress) (after : List (Node T)) (more : List Message) → HaveCome honest images nodes messages p after more → IsDelivered honest images nodes messages p.done after
-  come_done p after more come = record {
+  pub come_done : (p : Progress) (lost : ℕ) (after : List (Node T)) (more : List Message) → HaveCome honest images nodes messages p lost after more → IsDelivered honest images nodes messages p.done after
+  come_done p lost after more come = record {
     any = record { sent = more; lead = come.any };
     on_tape = λ h left may. record { sent = more; lead = come.on_tape h left may };
     halted = come.halted;
@@ -560,15 +548,6 @@ module _ {T : Type 0} (honest : Type 0) (images : T → List ℕ → Type 0) (no
     most = come.most;
   }
 
-  pub handed_out : (p : Progress) (after : List (Node T)) (more : List Message) → HaveCome honest images nodes messages p after more → (stopped : Bool) → IsEnd stopped p more →
-      AreHandedOut honest images nodes messages p.done stopped after
-  handed_out p after more come stopped ended = record { come = p; sent = more; handed = come.order; count = refl; ended = ended }
-
-  pub none_delivered : IsDelivered honest images nodes messages 0 nodes
-  none_delivered = record {
-    any = record { sent = messages; lead = leads_nowhere AnyPart nodes messages };
-    on_tape = λ h left may. record { sent = messages; lead = leads_nowhere (StandFor left) nodes messages };
-    halted = halted_itself nodes;
-    turn = keeps_turn_itself nodes;
-    most = omega arith;
-  }
+  pub handed_out : (p : Progress) (lost : ℕ) (after : List (Node T)) (more : List Message) → HaveCome honest images nodes messages p lost after more → (stopped : Bool) → IsEnd stopped p more →
+      AreHandedOut honest images nodes messages p.done lost stopped after
+  handed_out p lost after more come stopped ended = record { come = p; sent = more; handed = come.order; count = refl; ended = ended }

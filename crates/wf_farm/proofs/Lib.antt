@@ -2,6 +2,7 @@ mod Turns
 mod Steps
 mod Events
 mod Idle
+mod Allocating
 mod Runs
 mod Worlds
 mod Listed
@@ -10,3 +11,4 @@ mod Pumping
 mod Answered
 pub mod Deliveries
 mod OneRun
+mod Reopened

@@ -25,11 +25,13 @@ use Rattle.wf_node.specs.Step.{row_of, IsStep}
 use Rattle.wf_node.specs.declared.fault.NodeFault.{NodeFault}
 use Rattle.wf_node.specs.declared.fault.NodeFault.TheVariants as fault_case
 use Rattle.wf_farm.specs.Delivering as delivering
-use Rattle.wf_farm.specs.Delivering.{AnyPart, StandFor, IsNode, AreNodes, Shows, StandInTurn, MayLeave, IsLed, Lead, AreDelivered, Takes, KeepHalted, KeepTurn, IsDelivered}
+use Rattle.wf_farm.specs.Delivering.{AnyPart, StandFor, IsNode, AreNodes, Shows, StandInTurn, MayLeave, IsLed, Lead, AreDelivered, KeepHalted, KeepTurn, IsDelivered}
+use Rattle.wf_farm.specs.Giving as giving
+use Rattle.wf_farm.specs.Giving.{Answers, Takes, is_memory}
 use Rattle.wf_farm.specs.DeliveringLaws.{halted_itself, halted_twice, keeps_turn, keeps_turn_itself, keeps_turn_twice}
 use Rattle.wf_farm.specs.Leading.{IsLedWith, IsLedTo, LeadSaying, LeadTo, AreLedSaying, AreReached, AreFresh, HaveOneHistory, IsOwn, said_by, StepLeadsOn, DeliveriesLeadOn, NothingLeadsOn, NothingIsSaid, TwiceLeadsOn, BothAreSaid, UnheardLeadsOn, ReachedLeadsOn, ReachedOnTape, FreshAreReached, FreshOnTape}
 use Rattle.wf_farm.specs.Start.{fresh_node}
-use Rattle.wf_farm.proofs.Deliveries.{IsActed, Stays, Acts, Tears, any_taken, any_lost, running_is, takes_acts, stays_halted, stays_itself, keeps_halted, left_here, left_before, node_eq, begins_itself}
+use Rattle.wf_farm.proofs.Deliveries.{IsActed, Stays, Acts, Tears, any_answered, any_rejected, running_is, takes_acts, stays_halted, stays_itself, keeps_halted, left_here, left_before, node_eq, begins_itself}
 use Rattle.wf_farm.proofs.Turns.{world_of}
 
 -- ---- a node is asked to step
@@ -69,54 +71,61 @@ module _ {T : Type 0} (stands : ℕ → Stored Definition → Type 0) (w : World
 
 module _ {T : Type 0} (honest : Type 0) (images : T → List ℕ → Type 0) (nodes : List (Node T)) (i : ℕ) (node after : Node T) (input : Input Definition) (said : List Message)
     (at : slice_get nodes i ≡ Some node) (turns : StandInTurn nodes) (own : IsOwn input) where
-  takes_leads : (stands : ℕ → Stored Definition → Type 0) → Takes honest images input node after said →
+  takes_leads : (stands : ℕ → Stored Definition → Type 0) (lost : Bool) → Takes honest images lost input node after said →
       (after.halted ≡ true → (honest → EachStandsFor (stored_of node) (store (stored_of node) (row_of node input).entry) (images after.tape)) → stands i (stored_of node) ⊎ stands i (store (stored_of node) (row_of node input).entry)) →
       LeadSaying stands nodes said (slice_set nodes i after)
   unfolding LeadSaying
-  takes_leads stands takes torn = λ w sent shows.
+  takes_leads stands lost takes torn = λ w sent shows.
       let is = asked i input own in
       asked_once stands w (slice_set nodes i after) (sent ++ said) i input is
-      (takes_acts stands nodes sent i node after is.action input at (is.given (map message.view sent)) turns honest images said takes torn w shows)
+      (takes_acts stands nodes sent i node after is.action input at (is.given (map message.view sent)) turns honest images said lost takes torn w shows)
 
   -- Whatever a node does that is asked to step, it leads the nodes on.
-  pub takes_led : Takes honest images input node after said → AreLedSaying honest images nodes said (slice_set nodes i after)
-  takes_led takes = record {
-    any = takes_leads AnyPart takes (λ halts each. inl tt);
-    on_tape = λ h left may. takes_leads (StandFor left) takes (λ halts each. each h (left i) (left_here images nodes left i node after at may halts));
-    halted = keeps_halted nodes i node after at (stays_halted honest images node after input said takes);
-    turn = keeps_turn nodes i node after at (stays_itself honest images node after input said takes);
+  pub takes_led : (lost : Bool) → Takes honest images lost input node after said → AreLedSaying honest images nodes said (slice_set nodes i after)
+  takes_led lost takes = record {
+    any = takes_leads AnyPart lost takes (λ halts each. inl tt);
+    on_tape = λ h left may. takes_leads (StandFor left) lost takes (λ halts each. each h (left i) (left_here images nodes left i node after at may halts));
+    halted = keeps_halted nodes i node after at (stays_halted honest images node after input said lost takes);
+    turn = keeps_turn nodes i node after at (stays_itself honest images node after input said lost takes);
   }
 
--- What a node returns is what it does.
+-- What a node returns is what it does; the input is lost if it returns allocation failure.
 module _ {T : Type 0} (honest : Type 0) (content : T → List ℕ) (images : T → List ℕ → Type 0) (failures : T → ℕ) (before after : Node T) (input : Input Definition) where
-  takes_either : (answer : Result (Vec Message Global) NodeFault) → IfOk answer (λ said. Takes honest images input before after said.items) → IfErr answer (λ f. Takes honest images input before after []) →
-      Takes honest images input before after (said_by answer)
-  takes_either (Ok said) taken lost = taken
-  takes_either (Err f) taken lost = lost
+  abbrev is_lost : Result (Vec Message Global) NodeFault → Bool
+  is_lost (Ok said) = false
+  is_lost (Err f) = is_memory f
 
-  takes_running : (answer : Result (Vec Message Global) NodeFault) → before.halted ≡ false → IsStep honest content images failures before input answer after → Takes honest images input before after (said_by answer)
+  abbrev TakesBy : Result (Vec Message Global) NodeFault → Type 0
+  TakesBy answer = Takes honest images (is_lost answer) input before after (said_by answer)
+
+  takes_either : (answer : Result (Vec Message Global) NodeFault) → IfOk answer (λ said. Answers honest images input before after said.items) → IfErr answer (λ f. Takes honest images (is_memory f) input before after []) →
+      TakesBy answer
+  takes_either (Ok said) answered lost = answered
+  takes_either (Err f) answered lost = lost
+
+  takes_running : (answer : Result (Vec Message Global) NodeFault) → before.halted ≡ false → IsStep honest content images failures before input answer after → TakesBy answer
   takes_running answer runs step =
       let halted : before.halted ≡ true → answer ≡ Err fault_case.Halted = λ is. absurd (both_ways before.halted runs is) in
       takes_either answer
-      (any_taken honest images before after input answer halted (λ is. step.refused) step.done)
-      (any_lost honest images before after input answer halted (λ is. step.refused) step.unchanged step.same step.still_running step.halts step.torn)
+      (any_answered honest images before after input answer halted (λ is. step.refused) step.done)
+      (any_rejected honest images before after input answer halted (λ is. absurd (step.running is)) (λ is. step.refused) step.unchanged step.same step.still_running step.halts step.torn)
+
+  takes_halted : (answer : Result (Vec Message Global) NodeFault) → before.halted ≡ true → answer ≡ Err fault_case.Halted → after ≡ before → TakesBy answer
+  takes_halted answer is halted same = subst TakesBy (sym halted) (giving.Halts is same refl)
 
   takes_by : (halted : Bool) (answer : Result (Vec Message Global) NodeFault) → before.halted ≡ halted → (before.halted ≡ true → (answer ≡ Err fault_case.Halted) × (after ≡ before)) →
-      (before.halted ≡ false → IsStep honest content images failures before input answer after) → Takes honest images input before after (said_by answer)
-  takes_by true answer is refused steps = delivering.Keeps (refused is).1 (ap said_by (refused is).0)
+      (before.halted ≡ false → IsStep honest content images failures before input answer after) → TakesBy answer
+  takes_by true answer is refused steps = takes_halted answer is (refused is).0 (refused is).1
   takes_by false answer is refused steps = takes_running answer is (steps is)
 
   pub takes_answered : (answer : Result (Vec Message Global) NodeFault) → (before.halted ≡ true → (answer ≡ Err fault_case.Halted) × (after ≡ before)) →
-      (before.halted ≡ false → IsStep honest content images failures before input answer after) → Takes honest images input before after (said_by answer)
+      (before.halted ≡ false → IsStep honest content images failures before input answer after) → TakesBy answer
   takes_answered answer refused steps = takes_by before.halted answer refl refused steps
 
 pub step_leads_on : {T : Type 0} (honest : Type 0) (content : T → List ℕ) (images : T → List ℕ → Type 0) (failures : T → ℕ) → StepLeadsOn honest content images failures
 step_leads_on honest content images failures = λ nodes i before after input answer at turns own refused steps.
-    takes_led honest images nodes i before after input (said_by answer) at turns own (takes_answered honest content images failures before after input answer refused steps)
-
--- Nothing is appended to messages that are unchanged.
-pub nothing_behind : (sent sent_after : List Message) → sent_after ≡ sent → sent_after ≡ sent ++ []
-nothing_behind sent sent_after same = same ∙ sym (append-nil sent)
+    takes_led honest images nodes i before after input (said_by answer) at turns own (is_lost honest content images failures before after input answer)
+    (takes_answered honest content images failures before after input answer refused steps)
 
 -- ---- one run
 

@@ -5,7 +5,7 @@ use Rattle.wf_farm.specs.declared.progress.End.{End}
 use Rattle.wf_farm.specs.declared.progress.End.TheVariants.{Done, Stopped, NoMemory}
 use Rattle.wf_farm.specs.declared.progress.Progress.{Progress}
 use Rattle.wf_farm.specs.Farm.{Farm, size}
-use Rattle.wf_farm.specs.Progress.{HasCome, IsEnd, outcome}
+use Rattle.wf_farm.specs.Progress.{HasCome, IsEnd, MayEnd, outcome}
 use Rattle.wf_farm.specs.Pump.{AreTargets, begun, Pumps, IsPumped, IsPumpedPart, most_deliveries}
 
 module _ (names : List ℕ) (before after : Farm) (n : ℕ) (targets items : List ℕ) (p : Progress) (many : n ≡ size before) (same : targets ≡ items) (are : AreTargets n names items)
@@ -27,14 +27,14 @@ module _ (names : List ℕ) (before after : Farm) (n : ℕ) (targets items : Lis
   done_end Stopped end = (a_pump, (come.count ∙ end.0, end.1))
   done_end NoMemory end = tt
 
-  part_end : (end : End) → IsEnd before.pumped (length after.sent) p end → IfErr (outcome p end) (IsPumpedPart names before after)
-  part_end Done end = tt
-  part_end Stopped end = tt
-  part_end NoMemory end = inr (a_pump, come.count, end)
+  part_end : (end : End) → IsEnd before.pumped (length after.sent) p end → MayEnd targets before.pumped p before.places before.sent end → IfErr (outcome p end) (IsPumpedPart names before after)
+  part_end Done end may = tt
+  part_end Stopped end may = tt
+  part_end NoMemory end may = inr (a_pump, come.count, end, may)
 
   module _ (end : End) (is : IsEnd before.pumped (length after.sent) p end) (result : Result Bool FarmFault) (told : result ≡ outcome p end) where
     pub pump_done : IfOk result (IsPumped names before after)
     pump_done = subst (λ r. IfOk r (IsPumped names before after)) (sym told) (done_end end is)
 
-    pub pump_part : IfErr result (IsPumpedPart names before after)
-    pump_part = subst (λ r. IfErr r (IsPumpedPart names before after)) (sym told) (part_end end is)
+    pub pump_part : MayEnd targets before.pumped p before.places before.sent end → IfErr result (IsPumpedPart names before after)
+    pump_part may = subst (λ r. IfErr r (IsPumpedPart names before after)) (sym told) (part_end end is may)

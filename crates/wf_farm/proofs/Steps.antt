@@ -1,5 +1,5 @@
 -- One entry: what its node does is the turn of the farm's model.
-use Rattle.std.proofs.Common.{◌≡◌, ◌≢◌, ℕ, ◌≤◌, true, false, List, [], map, length, take, drop, slice_get, Option, Some, None, Result, Ok, Err, IfOk, IfErr, refl, sym, ap, subst, ◌∙◌, arith, inl, inr, Vec}
+use Rattle.std.proofs.Common.{◌≡◌, ◌≢◌, ℕ, ◌≤◌, Bool, true, false, List, [], map, length, take, drop, slice_get, Option, Some, None, Result, Ok, Err, IfOk, IfErr, refl, sym, ap, subst, ◌∙◌, arith, inl, inr, Vec}
 use Rattle.std.proofs.lemmas.Bool.{both_ways}
 use Rattle.std.proofs.lemmas.List.{append-nil, length-map, take-append-drop}
 use Rattle.std.proofs.lemmas.Option.{none-some, same_Some}
@@ -31,6 +31,7 @@ use Rattle.wf_farm.specs.declared.place.Place.{Place}
 use Rattle.wf_farm.specs.declared.place.Place.TheVariants.{Running, Stopped}
 use Rattle.wf_farm.specs.Fault.{number_of, told}
 use Rattle.wf_farm.specs.Leading.{IsFresh}
+use Rattle.wf_farm.specs.Reopening.{HasStoredAgain, IsReopened}
 use Rattle.wf_farm.specs.Place.{IsNode, IsMember, IsChanged, Stays, turn_at, IsStepped, IsTornAt, number_in, IsDenied, IsDeniedTorn, KeepsMember, Stops, Restarts, Steps, DeniesStep, Tears, DeniesTear, TellsWhyNot}
 use Rattle.wf_farm.specs.Start.{fresh_node}
 use Rattle.wf_farm.specs.Turn.{node_after, messages_of, node_torn, node_stopped, working_restarted, node_restarted}
@@ -230,7 +231,7 @@ stopped_member before kept = λ n i member. tt
 -- ---- a restart
 
 -- bytes stand for one stored part
-one_stand : AreReadOneWay → (bytes : List ℕ) (stored others : Stored Definition) → StandsFor stored bytes → StandsFor others bytes → stored ≡ others
+pub one_stand : AreReadOneWay → (bytes : List ℕ) (stored others : Stored Definition) → StandsFor stored bytes → StandsFor others bytes → stored ≡ others
 one_stand one bytes stored others first second =
     same_Some stored others (sym first.folds ∙ ap fold (one bytes first.records second.records first.reads second.reads) ∙ second.folds)
 
@@ -263,15 +264,31 @@ unfolding Restarts node_restarted working_restarted
 still_running node = λ x e. subst (λ y. node_restarted y ≡ shown node) (sym e) refl
 
 -- A tape that is returned stands for what it stood for.
+pub still_stands : (kept left : tape.Kept) (stored : Stored Definition) → Follows ReadsSame (IsImageOf kept) (IsImageOf left) → AllStandFor stored (IsImageOf kept) → AllStandFor stored (IsImageOf left)
+still_stands kept left stored follows stands = λ image there.
+    let earlier = follows image there in
+    let stood = stands earlier.0 earlier.1 in
+    record { records = stood.records; reads = earlier.2 stood.records stood.reads; folds = stood.folds }
+
+-- So does the entry of a node that stays stopped.
 pub not_opened : (kept left : tape.Kept) → Follows ReadsSame (IsImageOf kept) (IsImageOf left) → Stays (Stopped kept) (Stopped left)
 unfolding Stays
-not_opened kept left follows = λ x is. (
-  is.0,
-  λ image left_there.
-      let earlier = follows image left_there in
-      let stands = is.1 earlier.0 earlier.1 in
-      record { records = stands.records; reads = earlier.2 stands.records stands.reads; folds = stands.folds },
-)
+not_opened kept left follows = λ x is. (is.0, still_stands kept left x.stored follows is.1)
+
+-- ---- a node that is closed and opened again
+
+-- The bytes of the tape stand for what is stored again.
+found_again : (again : Node tape.Kept) (kept : tape.Kept) → IsFoldOf (stored_of again) kept.bytes → StandsFor (stored_of again) kept.bytes
+found_again again kept fold_of = record { records = fold_of.records; reads = (fold_of.rest, fold_of.tape.reads); folds = fold_of.folds }
+
+module _ (one : AreReadOneWay) (node again : Node tape.Kept) (kept : tape.Kept) (same : kept ≡ node.tape) (stands : node.halted ≡ false → AllStandFor (stored_of node) (IsImageOf kept)) where
+  stored_by : (halted : Bool) → node.halted ≡ halted → StandsFor (stored_of again) kept.bytes → HasStoredAgain halted node.tape.bytes node again
+  stored_by false is found = one_stand one kept.bytes (stored_of again) (stored_of node) found (stands is kept.bytes (content_is_image kept))
+  stored_by true is found = subst (λ (k : tape.Kept). StandsFor (stored_of again) k.bytes) same found
+
+  -- It runs, without a proposal, and has stored what it had.
+  pub opened_again : again.halted ≡ false → working_of again ≡ Idle → IsFoldOf (stored_of again) kept.bytes → IsReopened node.tape.bytes node again
+  opened_again runs idle fold_of = record { runs = runs; idle = idle; stored = stored_by node.halted refl (found_again again kept fold_of) }
 
 fold_none : fold {V = Definition} [] ≡ Some nothing_stored
 unfolding fold fold_from

@@ -1,10 +1,8 @@
 -- The answers of a farm's nodes to clients of the web map service.
-use Rattle.std.specs.Prelude.{◌≡◌, ℕ, List, codes, length, slice_get, Option, Some, None, Ok}
+use Rattle.std.specs.Prelude.{◌≡◌, ℕ, List, length, slice_get, Option, Some, None}
 use Rattle.wf_node.specs.Node.{Node}
 use Rattle.wf_tape.specs.MemoryTape.{Kept}
-use Rattle.wf_wms.specs.Answer.{AnswerValue, IsAnswerOf}
-use Rattle.wf_wms.specs.MapRequest.{map_sequence}
-use Rattle.wf_wms.specs.Query.{pairs_of, parameter}
+use Rattle.wf_wms.specs.Answer.{AnswerValue, AsksForMap, IsAnswerOf}
 use Rattle.wf_farm.specs.declared.fault.FarmFault.{FarmFault}
 use Rattle.wf_farm.specs.declared.fault.FarmFault.TheVariants.{Memory, NoNode}
 use Rattle.wf_farm.specs.Farm.{Farm, running_in}
@@ -28,11 +26,6 @@ pub record Answers (farm : Farm) (i s : ℕ) (query : List ℕ) (answer : Answer
 -- Nodes with the same last published sequence have one answer to a query: the same kind, media type and bytes.
 unfoldable pub HasOneAnswer : Farm → Type 0
 HasOneAnswer farm = (i j s : ℕ) (query : List ℕ) (answer another : AnswerValue) → Answers farm i s query answer → Answers farm j s query another → another ≡ answer
-
--- The query is a GetMap request (OGC 06-042, 7.3), and at a server whose last sequence is s it asks for the map of sequence m.
-pub record AsksForMap (m s : ℕ) (query : List ℕ) : Type 0 where
-  pub request : parameter (codes "REQUEST") (pairs_of query) ≡ Some (codes "GetMap")
-  pub sequence : map_sequence s (pairs_of query) ≡ Ok m
 
 -- Nodes that a query asks for the same map have one answer to it, whatever their last published sequences.
 unfoldable pub HasOneMapAnswer : Farm → Type 0

@@ -8,14 +8,14 @@ use Rattle.wf_def.specs.Equality.{definition_eq}
 use Rattle.wf_law.specs.Laws.{IsBeginning}
 use Rattle.wf_model.specs.Stored.{Stored}
 use Rattle.wf_model.specs.Table as table
-use Rattle.wf_model.specs.Table.{Action, Input, store}
+use Rattle.wf_model.specs.Table.{Action}
 use Rattle.wf_model.specs.World as world
 use Rattle.wf_model.specs.World.{World, Event, happens, steps}
 use Rattle.wf_node.specs.Growth.{IsGrown}
-use Rattle.wf_node.specs.Images.{StandsFor, EachStandsFor}
+use Rattle.wf_node.specs.Images.{StandsFor}
 use Rattle.wf_node.specs.Node.{Node, stored_of, working_of}
-use Rattle.wf_node.specs.Step.{row_of, refusal_at, IsRow, IsSameNode}
 use Rattle.wf_farm.specs.declared.progress.Progress.{Progress}
+use Rattle.wf_farm.specs.Giving.{Takes}
 use Rattle.wf_farm.specs.Progress.{next}
 use Rattle.wf_farm.specs.Pump.{begun, most_deliveries}
 
@@ -98,49 +98,43 @@ pub record AreDelivered {T : Type 0} (stands : ℕ → Stored Definition → Typ
   pub sent : List Message
   pub lead : Lead stands most nodes messages nodes_after sent
 
--- ---- one node, and the progress of the deliveries
-
-module _ {T : Type 0} (honest : Type 0) (images : T → List ℕ → Type 0) where
-  -- What a node does with an input. The input is lost, or rejected, as by a halted node: the node is unchanged. An allocation
-  -- fails within the step: the node is unchanged but for its tape. The node steps. Or its tape fails within the step, nothing is
-  -- sent, and each image stands for what was stored before or after.
-  pub data Takes (input : Input Definition) (before after : Node T) (said : List Message) : Type 0 where
-    Keeps : after ≡ before → said ≡ [] → Takes input before after said
-    Spares : before.halted ≡ false → after.halted ≡ false → IsSameNode before after → said ≡ [] → Takes input before after said
-    Steps : before.halted ≡ false → refusal_at before input ≡ None → IsRow before (row_of before input) said after → Takes input before after said
-    Fails : before.halted ≡ false → refusal_at before input ≡ None → after.halted ≡ true → IsSameNode before after
-        → (honest → EachStandsFor (stored_of before) (store (stored_of before) (row_of before input).entry) (images after.tape)) → said ≡ [] → Takes input before after said
+-- ---- the progress of the deliveries
 
 -- How the deliveries ended: each message sent by then was delivered to each node; or they stopped, and some were left.
 abbrev pub IsEnd : Bool → Progress → List Message → Type 0
 IsEnd false p sent = (p.some ≡ 0) × (p.whole ≡ length sent)
 IsEnd true p sent = p.whole < length sent
 
+-- the count of lost deliveries after one more delivery, by whether that is lost
+abbrev pub counted : ℕ → Bool → ℕ
+counted lost true = lost + 1
+counted lost false = lost
+
 module _ {T : Type 0} (honest : Type 0) (images : T → List ℕ → Type 0) where
-  -- Message k was delivered to node i, and the node's messages were sent.
-  pub record IsHanded (i k : ℕ) (nodes : List (Node T)) (sent : List Message) (nodes_after : List (Node T)) (sent_after : List Message) : Type 0 where
+  -- Message k was delivered to node i, and the node's messages were sent; or an allocation failed, and the delivery was lost.
+  pub record IsHanded (i k : ℕ) (lost : Bool) (nodes : List (Node T)) (sent : List Message) (nodes_after : List (Node T)) (sent_after : List Message) : Type 0 where
     pub node : Node T
     pub after : Node T
     pub handed : Message
     pub said : List Message
     pub at : slice_get nodes i ≡ Some node
     pub there : slice_get sent k ≡ Some handed
-    pub takes : Takes honest images (table.Deliver (message.view handed)) node after said
+    pub takes : Takes honest images lost (table.Deliver (message.view handed)) node after said
     pub nodes_are : nodes_after ≡ slice_set nodes i after
     pub sent_are : sent_after ≡ sent ++ said
 
   -- The messages were delivered to each node in turn, ascending, one message after the other, up to this progress: the first
-  -- `whole` messages to all nodes, and the next one to the first `some` nodes.
-  pub data AreHanded (nodes : List (Node T)) (messages : List Message) : Progress → List (Node T) → List Message → Type 0 where
-    First : AreHanded nodes messages (record { whole = 0; some = 0; done = 0 }) nodes messages
-    Next : (p : Progress) (middle after : List (Node T)) (said more : List Message) → AreHanded nodes messages p middle said → IsHanded p.some p.whole middle said after more
-        → AreHanded nodes messages (next (length nodes) p) after more
+  -- `whole` messages to all nodes, and the next one to the first `some` nodes. This many of the deliveries were lost.
+  pub data AreHanded (nodes : List (Node T)) (messages : List Message) : Progress → ℕ → List (Node T) → List Message → Type 0 where
+    First : AreHanded nodes messages (record { whole = 0; some = 0; done = 0 }) 0 nodes messages
+    Next : (p : Progress) (lost : ℕ) (loses : Bool) (middle after : List (Node T)) (said more : List Message) → AreHanded nodes messages p lost middle said
+        → IsHanded p.some p.whole loses middle said after more → AreHanded nodes messages (next (length nodes) p) (counted lost loses) after more
 
-  -- `done` deliveries were made, in that order, and this is how they ended.
-  pub record AreHandedOut (nodes : List (Node T)) (messages : List Message) (done : ℕ) (stopped : Bool) (nodes_after : List (Node T)) : Type 0 where
+  -- `done` deliveries were made, in that order, `lost` of them were lost, and this is how they ended.
+  pub record AreHandedOut (nodes : List (Node T)) (messages : List Message) (done lost : ℕ) (stopped : Bool) (nodes_after : List (Node T)) : Type 0 where
     pub come : Progress
     pub sent : List Message
-    pub handed : AreHanded nodes messages come nodes_after sent
+    pub handed : AreHanded nodes messages come lost nodes_after sent
     pub count : come.done ≡ done
     pub ended : IsEnd stopped come sent
 
@@ -175,15 +169,16 @@ module _ {T : Type 0} (honest : Type 0) (images : T → List ℕ → Type 0) whe
     pub turn : KeepTurn nodes nodes_after
 
   -- for the crate's own contracts: the deliveries have come this far
-  pub record HaveCome (nodes : List (Node T)) (messages : List Message) (p : Progress) (nodes_after : List (Node T)) (sent : List Message) : Type 0 where
+  pub record HaveCome (nodes : List (Node T)) (messages : List Message) (p : Progress) (lost : ℕ) (nodes_after : List (Node T)) (sent : List Message) : Type 0 where
     pub any : Lead AnyPart p.done nodes messages nodes_after sent
     pub on_tape : honest → (left : ℕ → List ℕ) → MayLeave images nodes_after left → Lead (StandFor left) p.done nodes messages nodes_after sent
     pub halted : KeepHalted nodes nodes_after
     pub turn : KeepTurn nodes nodes_after
-    pub order : AreHanded honest images nodes messages p nodes_after sent
+    pub order : AreHanded honest images nodes messages p lost nodes_after sent
     pub part : p.some < length nodes
     pub within : p.whole + begun p.some ≤ length sent
     pub most : p.done ≤ most_deliveries
+    pub fewer : lost ≤ p.done
 
   -- the result of the deliveries: `done` were made
   pub record IsDelivered (nodes : List (Node T)) (messages : List Message) (done : ℕ) (nodes_after : List (Node T)) : Type 0 where

@@ -14,8 +14,7 @@ use Rattle.wf_node.specs.Node.{Node, stored_of, working_of}
 use Rattle.wf_node.specs.Step.{IsStep}
 use Rattle.wf_node.specs.declared.fault.NodeFault.{NodeFault}
 use Rattle.wf_node.specs.declared.fault.NodeFault.TheVariants.{Halted}
-use Rattle.wf_wms.specs.Answer.{AnswerValue, IsAnswerOf}
-use Rattle.wf_farm.specs.Answering.{AsksForMap}
+use Rattle.wf_wms.specs.Answer.{AnswerValue, AsksForMap, IsAnswerOf}
 use Rattle.wf_farm.specs.Delivering.{AnyPart, StandFor, Shows, StandInTurn, MayLeave, KeepHalted, KeepTurn, IsDelivered}
 
 -- ---- what leads from a world
@@ -57,12 +56,6 @@ module _ {T : Type 0} (honest : Type 0) (images : T → List ℕ → Type 0) whe
     pub on_tape : honest → (left : ℕ → List ℕ) → MayLeave images nodes_after left → LeadTo (StandFor left) nodes nodes_after
     pub halted : KeepHalted nodes nodes_after
     pub turn : KeepTurn nodes nodes_after
-
-  -- for the crate's own contracts: some events lead on, and the messages that they send are appended to those sent before
-  pub record SayMore (nodes : List (Node T)) (sent : List Message) (nodes_after : List (Node T)) (sent_after : List Message) : Type 0 where
-    pub said : List Message
-    pub behind : sent_after ≡ sent ++ said
-    pub led : AreLedSaying nodes said nodes_after
 
 -- ---- from the start on
 

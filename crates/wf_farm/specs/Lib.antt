@@ -3,14 +3,16 @@ pub mod Turn
 pub mod Fault
 pub mod Place
 pub mod Cluster
+pub mod Allocating
 pub mod Start
 pub mod Farm
 pub mod Agreement
 pub mod Pump
 pub mod Progress
 pub mod Answering
+pub mod Giving
 pub mod Delivering
 pub mod PlaceLaws
 pub mod DeliveringLaws
 pub mod Leading
-pub mod Asking
+pub mod Reopening

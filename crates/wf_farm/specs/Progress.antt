@@ -8,7 +8,7 @@ use Rattle.wf_farm.specs.declared.progress.End.{End}
 use Rattle.wf_farm.specs.declared.progress.End.TheVariants.{Done, Stopped, NoMemory}
 use Rattle.wf_farm.specs.declared.progress.Progress.{Progress}
 use Rattle.wf_farm.specs.Cluster.{Moves}
-use Rattle.wf_farm.specs.Pump.{begun, deliveries, most_deliveries}
+use Rattle.wf_farm.specs.Pump.{NextMayAllocate, begun, deliveries, most_deliveries}
 
 -- one more delivery: on to the next of `round` targets, or the round is complete
 abbrev pub next : ℕ → Progress → Progress
@@ -29,6 +29,12 @@ abbrev pub IsEnd : ℕ → ℕ → Progress → End → Type 0
 IsEnd first count p Done = (p.some ≡ 0) × (first + p.whole ≡ count)
 IsEnd first count p Stopped = (p.done ≡ most_deliveries) × (first + p.whole < count)
 IsEnd first count p NoMemory = p.done < most_deliveries
+
+-- Where an allocation failed, the next delivery may allocate.
+abbrev pub MayEnd : List ℕ → ℕ → Progress → List Place → List Message → End → Type 0
+MayEnd targets first p places sent Done = Unit {0}
+MayEnd targets first p places sent Stopped = Unit {0}
+MayEnd targets first p places sent NoMemory = NextMayAllocate targets first p.whole p.some places sent
 
 -- the result for each end
 abbrev pub outcome : Progress → End → Result Bool FarmFault

@@ -1,10 +1,15 @@
 -- The deliveries of a pump: each message not pumped yet, by number, to each of its targets, ascending.
-use Rattle.std.specs.Prelude.{◌≡◌, ◌⊎◌, ◌<◌, ◌≤◌, ◌↔◌, ◌+◌, ℕ, zero, suc, Bool, true, false, List, [], ◌∷◌, ◌++◌, length, take, Contains}
+use Rattle.std.specs.Prelude.{◌≡◌, ◌⊎◌, ◌<◌, ◌≤◌, ◌↔◌, ◌+◌, ℕ, zero, suc, Bool, true, false, List, [], ◌∷◌, ◌++◌, length, take, get_or, Contains}
 use Rattle.std.specs.List.Sorted.{IsStrictlyIncreasing}
+use Rattle.wf_codec.specs.declared.message.Message.{Message}
 use Rattle.wf_def.specs.Definition.{Definition}
-use Rattle.wf_model.specs.World.{Event, Deliver}
+use Rattle.wf_def.specs.Equality.{definition_eq}
+use Rattle.wf_model.specs.World.{World, Event, Deliver, steps}
 use Rattle.wf_farm.specs.declared.fault.FarmFault.{FarmFault}
 use Rattle.wf_farm.specs.declared.fault.FarmFault.TheVariants.{Memory, NoNode}
+use Rattle.wf_farm.specs.declared.place.Place.{Place}
+use Rattle.wf_farm.specs.Allocating.{may_allocate}
+use Rattle.wf_farm.specs.Cluster.{Shows}
 use Rattle.wf_farm.specs.Farm.{Farm, Runs, size}
 
 -- the most deliveries of a pump
@@ -34,6 +39,11 @@ rounds nodes k (suc count) = to_each nodes k ++ rounds nodes (suc k) count
 -- whole rounds from message `first` on, then the next message to the first `some` nodes
 unfoldable pub deliveries : List ℕ → ℕ → ℕ → ℕ → List (Event Definition)
 deliveries nodes first whole some = rounds nodes first whole ++ to_each (take some nodes) (first + whole)
+
+-- After these deliveries the next one may allocate: its node takes the step.
+unfoldable pub NextMayAllocate : (targets : List ℕ) (first whole some : ℕ) → List Place → List Message → Type 0
+NextMayAllocate targets first whole some places sent = (w : World Definition) → Shows places sent w →
+    may_allocate (steps definition_eq w (deliveries targets first whole some)) (Deliver (get_or targets some 0) (first + whole)) ≡ true
 
 -- the number of messages that a partial round begins, where `some` of its deliveries are done
 abbrev pub begun : ℕ → ℕ
@@ -65,7 +75,9 @@ IsEnd {names} {before} {after} false pumps = (count pumps ≤ most_deliveries) �
 abbrev pub IsPumped : List ℕ → Farm → Farm → Bool → Type 0
 IsPumped names before after stopped = (pumps : Pumps names before after) × IsEnd stopped pumps
 
--- An allocation failed after this number of deliveries; or before the first one, and then nothing is changed.
+-- An allocation failed after this number of deliveries, at the next one, which has an effect; or before the first one, and then
+-- nothing is changed.
 abbrev pub IsPumpedPart : List ℕ → Farm → Farm → FarmFault → Type 0
-IsPumpedPart names before after (Memory done) = ((done ≡ 0) × (after ≡ before)) ⊎ ((pumps : Pumps names before after) × (count pumps ≡ done) × (done < most_deliveries))
+IsPumpedPart names before after (Memory done) = ((done ≡ 0) × (after ≡ before)) ⊎ ((pumps : Pumps names before after) × (count pumps ≡ done) × (done < most_deliveries)
+    × NextMayAllocate pumps.targets before.pumped pumps.whole pumps.some before.places before.sent)
 IsPumpedPart names before after NoNode = ⊥

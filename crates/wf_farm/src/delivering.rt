@@ -1,11 +1,11 @@
 //! Delivery of messages to nodes that a caller holds, over any kind of tape.
 
-ghost use Rattle.std.specs.Prelude.{◌≡◌, ◌≢◌, ◌<◌, ◌≤◌, ℕ, false, List, [], length, IfOk, IfErr, OnOk, OnErr};
+ghost use Rattle.std.specs.Prelude.{◌≡◌, ◌<◌, ◌≤◌, ◌+◌, ◌^◌, ℕ, false, List, [], length, IfOk, IfErr, OnErr};
 ghost use Rattle.wf_codec.specs.Message.{view as view_message};
 ghost use Rattle.wf_model.specs.Table.{most_told, Deliver};
 ghost use Rattle.wf_node.specs.Input.{view};
-ghost use Rattle.wf_farm.specs.Asking.{Answers};
-ghost use Rattle.wf_farm.specs.Delivering.{AnyPart, AreDelivered, AreHandedOut, EachGrows, IsDelivered, IsHanded, IsOne, KeepHalted, MayLeave, StandFor, StandInTurn, Takes};
+ghost use Rattle.wf_farm.specs.Delivering.{AnyPart, AreDelivered, AreHandedOut, EachGrows, IsDelivered, IsHanded, IsOne, KeepHalted, MayLeave, StandFor, StandInTurn, counted};
+ghost use Rattle.wf_farm.specs.Giving.{Answers, Takes, is_halt, is_memory, tells_halt};
 ghost use Rattle.wf_farm.specs.Pump.{most_deliveries};
 
 use crate::happening::{MOST_SAID, send};
@@ -23,13 +23,16 @@ use wf_tape::Tape;
 pub struct Pumped {
     /// The number of deliveries made, lost ones included.
     pub deliveries: usize,
+    /// The number of deliveries that an allocation failure lost: the node is then as if it hadn't received the message.
+    pub lost: usize,
     /// Whether it stopped early: after 100,000 deliveries, or because no room could be reserved for the messages of the next one.
     pub stopped: bool,
 }
 
 /// Delivers each message once to each node, ascending, and likewise each message that a node sends meanwhile, until none is left.
-/// Stops early after 100,000 deliveries, or if growing its own list of messages fails. A delivery that a node rejects, or for
-/// which an allocation fails, is lost, as on a network; a node whose tape fails is halted and accepts no further delivery.
+/// Stops early after 100,000 deliveries, or if growing its own list of messages fails. A delivery for which an allocation fails
+/// within the node, or before it, is lost, as on a network, and counted; the deliveries go on. A node whose tape fails is halted and
+/// accepts no further delivery.
 ///
 /// Node i of the slice must be node i of n, where n is its length; it may be empty. Whatever world of the model the nodes and the
 /// messages were, at most `deliveries` deliveries lead to the world that they are afterwards; a delivery at which a tape failed
@@ -39,8 +42,8 @@ pub fn deliver_all<T: Tape>(alloc: Global, nodes: &mut [Node<T>], messages: Vec<
     requires in_turn { StandInTurn nodes.old }
     ensures delivered { AreDelivered AnyPart result.deliveries nodes.old messages.items nodes.new }
     ensures on_tape { T.honest → (left : ℕ → List ℕ) → MayLeave T.images nodes.new left → AreDelivered (StandFor left) result.deliveries nodes.old messages.items nodes.new }
-    ensures handed { 0 < length nodes.old → AreHandedOut T.honest T.images nodes.old messages.items result.deliveries result.stopped nodes.new }
-    ensures none { nodes.old ≡ [] → result ≡ record { deliveries = 0; stopped = false } }
+    ensures handed { 0 < length nodes.old → AreHandedOut T.honest T.images nodes.old messages.items result.deliveries result.lost result.stopped nodes.new }
+    ensures none { nodes.old ≡ [] → result ≡ record { deliveries = 0; lost = 0; stopped = false } }
     ensures halted { KeepHalted nodes.old nodes.new }
     ensures in_turn { StandInTurn nodes.new }
     ensures size { length nodes.new ≡ length nodes.old }
@@ -51,6 +54,7 @@ pub fn deliver_all<T: Tape>(alloc: Global, nodes: &mut [Node<T>], messages: Vec<
         drop(messages);
         return Pumped {
             deliveries: 0,
+            lost: 0,
             stopped: false,
         };
     }
@@ -62,7 +66,7 @@ fn deliver_each<T: Tape>(alloc: Global, nodes: &mut [Node<T>], messages: Vec<Mes
     requires some { 0 < length nodes.old }
     requires in_turn { StandInTurn nodes.old }
     ensures delivered { IsDelivered T.honest T.images nodes.old messages.items result.deliveries nodes.new }
-    ensures handed { AreHandedOut T.honest T.images nodes.old messages.items result.deliveries result.stopped nodes.new }
+    ensures handed { AreHandedOut T.honest T.images nodes.old messages.items result.deliveries result.lost result.stopped nodes.new }
 {
     let mut sent = messages;
     let pumped = deliver_more(alloc, nodes, &mut sent);
@@ -75,22 +79,28 @@ fn deliver_more<T: Tape>(alloc: Global, nodes: &mut [Node<T>], sent: &mut Vec<Me
     requires some { 0 < length nodes.old }
     requires in_turn { StandInTurn nodes.old }
     ensures delivered { IsDelivered T.honest T.images nodes.old sent.old.items result.deliveries nodes.new }
-    ensures handed { AreHandedOut T.honest T.images nodes.old sent.old.items result.deliveries result.stopped nodes.new }
+    ensures handed { AreHandedOut T.honest T.images nodes.old sent.old.items result.deliveries result.lost result.stopped nodes.new }
 {
     let count = nodes.len();
     let mut progress = Progress::start();
+    let mut lost = 0;
     while progress.done < MOST_DELIVERIES {
         if progress.whole >= sent.len() {
             return Pumped {
                 deliveries: progress.done,
+                lost,
                 stopped: false,
             };
         }
         match deliver_one(alloc, nodes, sent, progress.some, progress.whole) {
-            Ok(()) => progress = progress.next(count),
+            Ok(loses) => {
+                lost = count_lost(lost, loses);
+                progress = progress.next(count);
+            }
             Err(_) => {
                 return Pumped {
                     deliveries: progress.done,
+                    lost,
                     stopped: true,
                 };
             }
@@ -98,95 +108,141 @@ fn deliver_more<T: Tape>(alloc: Global, nodes: &mut [Node<T>], sent: &mut Vec<Me
     }
     Pumped {
         deliveries: progress.done,
+        lost,
         stopped: progress.whole < sent.len(),
     }
 }
 
-/// Delivers a message to a node, and appends the messages that the node sends. Room is reserved first, since a node can't undo a
-/// step; if that fails, nothing is delivered.
+/// The count of lost deliveries after one more delivery.
+fn count_lost(lost: usize, loses: bool) -> usize
+    requires { lost + 1 < 2 ^ 64 }
+    ensures { result ≡ counted lost loses }
+{
+    if loses { lost + 1 } else { lost }
+}
+
+/// Delivers a message to a node, and appends the messages that the node sends; returns whether the delivery was lost. Room is
+/// reserved first, since a node can't undo a step; if that fails, nothing is delivered.
 fn deliver_one<T: Tape>(
     alloc: Global,
     nodes: &mut [Node<T>],
     sent: &mut Vec<Message>,
     node: usize,
     number: usize,
-) -> Result<(), AllocError>
+) -> Result<bool, AllocError>
     requires node { node < length nodes.old }
     requires number { number < length sent.old.items }
     requires in_turn { StandInTurn nodes.old }
     ensures one { IsOne T.honest T.images nodes.old sent.old.items nodes.new sent.new.items }
-    ensures handed { OnOk result (IsHanded T.honest T.images node number nodes.old sent.old.items nodes.new sent.new.items) }
+    ensures handed { IfOk result (λ lost. IsHanded T.honest T.images node number lost nodes.old sent.old.items nodes.new sent.new.items) }
     ensures none { OnErr result (nodes.new ≡ nodes.old) }
 {
     if sent.reserve(MOST_SAID).is_err() {
         return Err(AllocError);
     }
-    let said = hand(alloc, &mut nodes[node], &sent[number]);
-    send(sent, said);
-    Ok(())
+    let Said { messages, lost } = hand(alloc, &mut nodes[node], &sent[number]);
+    send(sent, messages);
+    Ok(lost)
+}
+
+/// The messages that a node sends on an input.
+struct Said {
+    messages: Vec<Message>,
+    // The input was lost: an allocation failed.
+    lost: bool,
 }
 
 /// Delivers a copy of a message to a node, and returns the messages that it sends. If the copy can't be allocated, the message is
-/// lost and nothing is sent.
-fn hand<T: Tape>(alloc: Global, node: &mut Node<T>, message: &Message) -> Vec<Message>
-    ensures takes { Takes T.honest T.images (Deliver (view_message message.now)) node.old node.new result.items }
-    ensures few { length result.items ≤ most_told }
+/// lost and nothing is sent. A halted node gets no copy, so it loses nothing.
+fn hand<T: Tape>(alloc: Global, node: &mut Node<T>, message: &Message) -> Said
+    ensures takes { Takes T.honest T.images result.lost (Deliver (view_message message.now)) node.old node.new result.messages.items }
+    ensures few { length result.messages.items ≤ most_told }
 {
+    if is_halted(node) {
+        return quiet(alloc, false);
+    }
     match message.copy() {
         Ok(copy) => hear(alloc, node, Input::Deliver(copy)),
-        Err(_) => Vec::new(alloc),
+        Err(_) => quiet(alloc, true),
     }
 }
 
-/// Returns the messages that a node sends on an input; none if it rejects or an allocation fails.
-fn hear<T: Tape>(alloc: Global, node: &mut Node<T>, input: Input) -> Vec<Message>
-    ensures takes { Takes T.honest T.images (view input) node.old node.new result.items }
-    ensures few { length result.items ≤ most_told }
-{
-    match ask(alloc, node, input) {
-        Ok(said) => said,
-        Err(_) => Vec::new(alloc),
-    }
-}
-
-/// Returns the messages that a node sends on an input, none if it rejects. Err if an allocation fails; then it has sent nothing.
-pub(crate) fn ask<T: Tape>(
-    alloc: Global,
-    node: &mut Node<T>,
-    input: Input,
-) -> Result<Vec<Message>, AllocError>
-    ensures takes { IfOk result (λ said. Takes T.honest T.images (view input) node.old node.new said.items) }
-    ensures lost { OnErr result (Takes T.honest T.images (view input) node.old node.new []) }
-    ensures answers { IfOk result (λ said. Answers T.honest T.images (view input) node.old node.new said.items) }
-    ensures few { IfOk result (λ said. length said.items ≤ most_told) }
+/// Returns the messages that a node sends on an input: none if it rejects, or if an allocation fails and the input is lost.
+fn hear<T: Tape>(alloc: Global, node: &mut Node<T>, input: Input) -> Said
+    ensures takes { Takes T.honest T.images result.lost (view input) node.old node.new result.messages.items }
+    ensures few { length result.messages.items ≤ most_told }
 {
     match step(alloc, node, input) {
-        Ok(said) => Ok(said),
-        Err(fault) => rejected(alloc, fault),
+        Ok(messages) => Said {
+            messages,
+            lost: false,
+        },
+        Err(fault) => quiet(alloc, wants_memory(fault)),
     }
 }
 
-/// The messages of a node that made no step: none. Err if an allocation failed.
-fn rejected(alloc: Global, fault: NodeFault) -> Result<Vec<Message>, AllocError>
-    ensures { IfOk result (λ said. (said.items ≡ []) × (fault ≢ NodeFault.Memory)) }
+/// No messages.
+fn quiet(alloc: Global, lost: bool) -> Said
+    ensures none { result.messages.items ≡ [] }
+    ensures lost { result.lost ≡ lost }
+{
+    Said {
+        messages: Vec::new(alloc),
+        lost,
+    }
+}
+
+/// Whether the error is allocation failure.
+fn wants_memory(fault: NodeFault) -> bool
+    ensures { result ≡ is_memory fault }
 {
     match fault {
-        NodeFault::Memory => Err(AllocError),
+        NodeFault::Memory => true,
         NodeFault::Busy
         | NodeFault::SequenceFull
         | NodeFault::RoundsFull
         | NodeFault::Halted
         | NodeFault::TapeFailed
-        | NodeFault::Nothing => Ok(Vec::new(alloc)),
+        | NodeFault::Nothing => false,
+    }
+}
+
+/// Whether the node is halted. Allocates nothing.
+fn is_halted<T: Tape>(node: &Node<T>) -> bool
+    ensures { result ≡ node.now.halted }
+{
+    is_halt_told(node.proposal_refusal())
+}
+
+/// Whether this is the rejection of a halted node.
+fn is_halt_told(refusal: Option<NodeFault>) -> bool
+    ensures { result ≡ tells_halt refusal }
+{
+    match refusal {
+        Some(fault) => says_halt(fault),
+        None => false,
+    }
+}
+
+/// Whether the error is that of a halted node.
+fn says_halt(fault: NodeFault) -> bool
+    ensures { result ≡ is_halt fault }
+{
+    match fault {
+        NodeFault::Halted => true,
+        NodeFault::Memory
+        | NodeFault::Busy
+        | NodeFault::SequenceFull
+        | NodeFault::RoundsFull
+        | NodeFault::TapeFailed
+        | NodeFault::Nothing => false,
     }
 }
 
 /// Performs a step of a node. Returns the messages that it sends, or an error, after which it has sent none.
 fn step<T: Tape>(alloc: Global, node: &mut Node<T>, input: Input) -> Result<Vec<Message>, NodeFault>
-    ensures taken { IfOk result (λ said. Takes T.honest T.images (view input) node.old node.new said.items) }
-    ensures lost { IfErr result (λ _. Takes T.honest T.images (view input) node.old node.new []) }
     ensures answers { IfOk result (λ said. Answers T.honest T.images (view input) node.old node.new said.items) }
-    ensures rejects { IfErr result (λ fault. fault ≢ NodeFault.Memory → Answers T.honest T.images (view input) node.old node.new []) }
+    ensures takes { IfErr result (λ fault. Takes T.honest T.images (is_memory fault) (view input) node.old node.new []) }
     ensures few { IfOk result (λ said. length said.items ≤ most_told) }
 {
     // Theorem of the model: no transition sends more than eight messages.

@@ -47,6 +47,7 @@ impl Farm {
     ghost use Rattle.wf_model.specs.World.{World, start};
     ghost use Rattle.wf_def.specs.Definition.{Definition};
     ghost use Rattle.wf_farm.specs.Agreement.{HasOneHistory, HistoriesGrow, IsOneWorld};
+    ghost use Rattle.wf_farm.specs.Allocating.{AllocatesAt};
     ghost use Rattle.wf_farm.specs.Cluster.{TellsWhy, last_refused};
     ghost use Rattle.wf_farm.specs.Event.{view};
     ghost use Rattle.wf_farm.specs.Farm.{IsAtOnce, Runs, RunsPart, Shows, running_in, size};
@@ -72,13 +73,14 @@ impl Farm {
     }
 
     /// Applies the events in order: the farm becomes the model's world after them. Err: F1 with the number of events done if an
-    /// allocation fails; the farm is then the world after these. In either case each node's published list before is a prefix of
-    /// its list afterwards.
+    /// allocation fails; the farm is then the world after these, and the next event would have an effect. In either case each
+    /// node's published list before is a prefix of its list afterwards.
     #[tactic(auto, using(crate::proofs::Worlds::farm_moved))]
     pub fn run(&mut self, alloc: Global, events: &[Event]) -> Result<(), FarmFault>
         ensures done { OnOk result (Runs (map view events.now) self.old self.new) }
         ensures refused { OnOk result (TellsWhy (λ w. last_refused w (map view events.now)) self.new.refused self.old.places self.old.sent) }
         ensures part { IfErr result (λ fault. RunsPart fault (map view events.now) self.old self.new) }
+        ensures may { IfErr result (λ fault. AllocatesAt fault (map view events.now) self.old.places self.old.sent) }
         ensures none { OnErr result (self.new.refused ≡ None) }
         ensures grows { HistoriesGrow self.old self.new }
         ensures size { size self.new ≡ size self.old }

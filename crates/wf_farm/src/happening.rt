@@ -7,6 +7,7 @@ ghost use Rattle.wf_model.specs.Table.{Action as ModelAction, Deliver, Propose, 
 ghost use Rattle.wf_model.specs.World as world;
 ghost use Rattle.wf_model.specs.World.{input_of};
 ghost use Rattle.wf_node.specs.Input.{view as view_input};
+ghost use Rattle.wf_farm.specs.Allocating.{MayAllocate, TakesStep};
 ghost use Rattle.wf_farm.specs.Cluster.{AreMembers, Happens, IsActed, IsTorn, KeepMembers, StayShown};
 ghost use Rattle.wf_farm.specs.Event.{view, view_action, view_kept};
 ghost use Rattle.wf_farm.specs.Farm.{running_in};
@@ -26,13 +27,14 @@ pub(crate) const MOST_SAID: usize = 8;
 
 impl Cluster {
     /// Applies the event, and returns the number of its rejection, if its node rejects. If an allocation fails, the world is
-    /// unchanged.
+    /// unchanged, and the event would have an effect.
     #[tactic(auto, using(crate::proofs::Events::same_members))]
     pub(crate) fn happen(&mut self, alloc: Global, event: &Event) -> Result<Option<u8>, AllocError>
         requires members { AreMembers self.old.places.items }
         requires size { length self.old.places.items ≤ 64 }
         ensures done { IfOk result (λ number. Happens (view event.now) number self.old.places.items self.old.sent.items self.new.places.items self.new.sent.items) }
         ensures err { OnErr result (StayShown self.old.places.items self.old.sent.items self.new.places.items self.new.sent.items) }
+        ensures may { OnErr result (MayAllocate (view event.now) self.old.places.items self.old.sent.items) }
         ensures members { KeepMembers self.old.places.items self.new.places.items }
         ensures grows { length self.old.sent.items ≤ length self.new.sent.items }
     {
@@ -62,6 +64,7 @@ impl Cluster {
         ensures grows { length self.old.sent.items ≤ length self.new.sent.items }
         ensures done { IfOk result (λ refused. IsActed node (Propose canon.now) refused self.old.places.items self.old.sent.items self.new.places.items self.new.sent.items) }
         ensures err { OnErr result (StayShown self.old.places.items self.old.sent.items self.new.places.items self.new.sent.items) }
+        ensures taken { OnErr result (TakesStep node (Propose canon.now) self.old.places.items self.old.sent.items) }
         ensures members { KeepMembers self.old.places.items self.new.places.items }
     {
         if !self.runs(node) {
@@ -83,6 +86,7 @@ impl Cluster {
         ensures grows { length self.old.sent.items ≤ length self.new.sent.items }
         ensures done { IfOk result (λ refused. IsActed node Retry refused self.old.places.items self.old.sent.items self.new.places.items self.new.sent.items) }
         ensures err { OnErr result (StayShown self.old.places.items self.old.sent.items self.new.places.items self.new.sent.items) }
+        ensures taken { OnErr result (TakesStep node Retry self.old.places.items self.old.sent.items) }
         ensures members { KeepMembers self.old.places.items self.new.places.items }
     {
         if !self.runs(node) {
@@ -106,6 +110,7 @@ impl Cluster {
         ensures grows { length self.old.sent.items ≤ length self.new.sent.items }
         ensures done { IfOk result (λ refused. IsActed node (Deliver number) refused self.old.places.items self.old.sent.items self.new.places.items self.new.sent.items) }
         ensures err { OnErr result (StayShown self.old.places.items self.old.sent.items self.new.places.items self.new.sent.items) }
+        ensures taken { OnErr result (TakesStep node (Deliver number) self.old.places.items self.old.sent.items) }
         ensures members { KeepMembers self.old.places.items self.new.places.items }
     {
         if !self.runs(node) {
@@ -129,6 +134,7 @@ impl Cluster {
         ensures done { (action : ModelAction Definition ℕ) → input_of (map view_message self.old.sent.items) action ≡ Some (view_input input) →
             IfOk result (λ refused. IsActed node action refused self.old.places.items self.old.sent.items self.new.places.items self.new.sent.items) }
         ensures err { OnErr result (StayShown self.old.places.items self.old.sent.items self.new.places.items self.new.sent.items) }
+        ensures runs { OnErr result (is_some (running_in (slice_get self.old.places.items node)) ≡ true) }
         ensures members { KeepMembers self.old.places.items self.new.places.items }
     {
         if !self.runs(node) {
@@ -168,6 +174,7 @@ impl Cluster {
         requires size { length self.old.places.items ≤ 64 }
         ensures done { IfOk result (λ number. Happens (world.Restart node) number self.old.places.items self.old.sent.items self.new.places.items self.new.sent.items) }
         ensures err { OnErr result (StayShown self.old.places.items self.old.sent.items self.new.places.items self.new.sent.items) }
+        ensures may { OnErr result (MayAllocate (world.Restart node) self.old.places.items self.old.sent.items) }
         ensures members { KeepMembers self.old.places.items self.new.places.items }
         ensures grows { length self.old.sent.items ≤ length self.new.sent.items }
     {
@@ -194,6 +201,7 @@ impl Cluster {
         requires members { AreMembers self.old.places.items }
         ensures done { IfOk result (λ number. IsTorn node (view_action action.now) (view_kept kept) number self.old.places.items self.old.sent.items self.new.places.items self.new.sent.items) }
         ensures err { OnErr result (StayShown self.old.places.items self.old.sent.items self.new.places.items self.new.sent.items) }
+        ensures may { OnErr result (MayAllocate (world.Torn node (view_action action.now) (view_kept kept)) self.old.places.items self.old.sent.items) }
         ensures members { KeepMembers self.old.places.items self.new.places.items }
         ensures grows { length self.old.sent.items ≤ length self.new.sent.items }
     {
@@ -239,6 +247,7 @@ impl Cluster {
         requires members { AreMembers self.old.places.items }
         ensures done { IfOk result (λ number. IsTorn node (view_action action.now) world.After number self.old.places.items self.old.sent.items self.new.places.items self.new.sent.items) }
         ensures err { OnErr result (StayShown self.old.places.items self.old.sent.items self.new.places.items self.new.sent.items) }
+        ensures taken { OnErr result (TakesStep node (view_action action.now) self.old.places.items self.old.sent.items) }
         ensures members { KeepMembers self.old.places.items self.new.places.items }
         ensures grows { length self.old.sent.items ≤ length self.new.sent.items }
     {

@@ -3,11 +3,12 @@
 
 ghost use Rattle.wf_farm.specs.Delivering.{AnyPart};
 ghost use Rattle.wf_farm.specs.Leading.{AreReached, BothAreSaid, DeliveriesLeadOn, FreshAreReached, FreshOnTape, HaveOneAnswer, HaveOneHistory, HaveOneMapAnswer, NothingIsSaid, NothingLeadsOn, ReachedLeadsOn, ReachedOnTape, StepLeadsOn, TwiceLeadsOn, UnheardLeadsOn};
+ghost use Rattle.wf_farm.specs.Reopening.{ReopenedAreReached, ReopenedOnTape};
 
 use wf_canon::Canon;
 use wf_law::earlier_messages;
 use wf_node::Node;
-use wf_tape::Tape;
+use wf_tape::{Tape, records_are_read_one_way};
 use wf_wms::law::each_query_has_one_answer;
 
 /// A step Propose, Retry or CatchUp of a node leads the nodes on, whatever it returns, and sends exactly the messages that it
@@ -47,6 +48,16 @@ pub fn fresh_nodes_are_reached<T: Tape>()
     ensures any { FreshAreReached T }
     ensures on_tape { FreshOnTape T }
 {}
+
+/// Nodes opened again from what reached nodes left on their tapes are reached: they stopped and restarted. If the tape of a node had
+/// failed, it may be opened from any bytes that a crash left of it. A theorem: the call does nothing.
+pub fn reopened_nodes_are_reached<T: Tape, U: Tape>()
+    ensures any { ReopenedAreReached T U }
+    ensures on_tape { ReopenedOnTape T U }
+{
+    // Theorem of the tape: it stands for exactly one stored part.
+    records_are_read_one_way();
+}
 
 /// The headline, for the nodes that a caller holds, over any kind of tape: if they are reached from the model's start, no two of
 /// them, running or halted, have published different maps under one sequence. The call does nothing.

@@ -9,7 +9,7 @@
 //! - A new farm is the model's start.
 //! - A run of events leaves exactly the model's world after them. A pump is a run of deliveries only, of each message not pumped
 //!   yet to each of its targets (`specs/Pump.antt`). If an allocation fails, the farm is the world after the events or deliveries
-//!   done, whose number the error reports.
+//!   done, whose number the error reports; it fails only at an event that has an effect (`specs/Allocating.antt`).
 //! - What a node published stays a prefix of what it publishes after a run or a pump.
 //! - No two nodes, running or stopped, publish different definitions under one sequence, since every farm is reached from the
 //!   start: [`Farm::agree`].
@@ -18,22 +18,21 @@
 //! - The four theorems of `wf_law` hold for the program's definitions.
 //!
 //! Nodes that a caller holds, over any kind of tape, receive one another's messages by [`deliver_all`]: each message is delivered
-//! to each node in turn, until none is left or it reports that it stopped early. Whatever world of the model the nodes and their
-//! messages were, at most the reported number of deliveries leads to the world that they are afterwards
-//! (`specs/Delivering.antt`). Nodes request missed definitions by [`catch_up`] (`specs/Asking.antt`).
+//! to each node in turn, until none is left or it reports that it stopped early, and it reports how many deliveries an allocation
+//! failure lost. Whatever world of the model the nodes and their messages were, at most the reported number of deliveries leads to
+//! the world that they are afterwards (`specs/Delivering.antt`, `specs/Giving.antt`).
 //!
 //! Successive calls on such nodes are one run of the model, by theorems: a step of a node, and the deliveries of the messages
 //! that it sent, lead on from whatever world the nodes were, however many messages were sent before ([`a_step_leads_on`],
 //! [`deliveries_lead_on`], [`leading_goes_on`]; `specs/Leading.antt`); nodes opened on empty tapes are the model's start
-//! ([`open_fresh`], [`fresh_nodes_are_reached`]); and nodes led on from reached nodes are reached ([`reached_stays`]). So such
-//! nodes agree and answer as a farm's do: [`reached_nodes_agree`], [`reached_nodes_answer_alike`].
+//! ([`open_fresh`], [`fresh_nodes_are_reached`]); nodes led on from reached nodes are reached ([`reached_stays`]); and so are nodes
+//! opened again from what reached nodes left on their tapes ([`reopen`], [`reopened_nodes_are_reached`]; `specs/Reopening.antt`).
+//! So such nodes agree and answer as a farm's do: [`reached_nodes_agree`], [`reached_nodes_answer_alike`].
 //!
-//! **Doesn't.** There is no time, and no promise that anything is ever published, that an allocation had to fail, or which
-//! deliveries of `deliver_all` an allocation failure lost.
+//! **Doesn't.** There is no time, and no promise that anything is ever published or that an allocation had to fail.
 #![tactic(auto)]
 
 mod answering;
-mod asking;
 mod cluster;
 mod delivering;
 mod event;
@@ -52,7 +51,6 @@ mod stepping;
 mod targets;
 mod tearing;
 
-pub use asking::catch_up;
 pub use delivering::{Pumped, deliver_all};
 pub use event::{Action, Event, Kept};
 pub use farm::Farm;
@@ -60,6 +58,6 @@ pub use fault::FarmFault;
 pub use law::{agreement, kept_promises, limits_are_as_defined, own_ballots, promised_majority};
 pub use leading::{
     a_step_leads_on, deliveries_lead_on, fresh_nodes_are_reached, leading_goes_on,
-    reached_nodes_agree, reached_nodes_answer_alike, reached_stays,
+    reached_nodes_agree, reached_nodes_answer_alike, reached_stays, reopened_nodes_are_reached,
 };
-pub use starting::open_fresh;
+pub use starting::{open_fresh, reopen};

@@ -4,7 +4,7 @@ ghost use Rattle.std.specs.Prelude.{◌≡◌, ◌<◌, ◌≤◌, length, IfOk,
 ghost use Rattle.wf_farm.specs.Agreement.{HistoriesGrow};
 ghost use Rattle.wf_farm.specs.Cluster.{AreMembers, KeepMembers};
 ghost use Rattle.wf_farm.specs.Farm.{size};
-ghost use Rattle.wf_farm.specs.Progress.{HasCome, IsEnd};
+ghost use Rattle.wf_farm.specs.Progress.{HasCome, IsEnd, MayEnd};
 ghost use Rattle.wf_farm.specs.Pump.{IsPumped, IsPumpedPart};
 
 use crate::cluster::Cluster;
@@ -24,8 +24,8 @@ impl Farm {
     /// Delivers each message not pumped yet, in order of number and including new ones, once to each named node, ascending; to
     /// every node if none is named. A delivery without effect counts too, even to a node that doesn't exist. A message counts as
     /// pumped from its first delivery on. Returns Ok(true) iff it stopped after 100,000 deliveries with some left. Err: F1 with
-    /// the number of deliveries done if an allocation fails; the farm is then the world after these. Each node's published list
-    /// before is a prefix of its list afterwards.
+    /// the number of deliveries done if an allocation fails; the farm is then the world after these, and the next delivery would
+    /// have an effect, unless none is done. Each node's published list before is a prefix of its list afterwards.
     pub fn pump(&mut self, alloc: Global, nodes: &[usize]) -> Result<bool, FarmFault>
         ensures done { IfOk result (IsPumped nodes.now self.old self.new) }
         ensures part { IfErr result (IsPumpedPart nodes.now self.old self.new) }
@@ -56,6 +56,7 @@ impl Cluster {
         requires within { first ≤ length self.old.sent.items }
         ensures come { HasCome targets.now first result.0 self.old.places.items self.old.sent.items self.new.places.items self.new.sent.items }
         ensures end { IsEnd first (length self.new.sent.items) result.0 result.1 }
+        ensures may { MayEnd targets.now first result.0 self.old.places.items self.old.sent.items result.1 }
         ensures members { KeepMembers self.old.places.items self.new.places.items }
     {
         let mut progress = Progress::start();

@@ -1,6 +1,7 @@
 //! A run of events.
 
 ghost use Rattle.std.specs.Prelude.{◌≡◌, ◌<◌, ◌≤◌, length, map, take, IfOk, IfErr};
+ghost use Rattle.wf_farm.specs.Allocating.{MayAllocateAt};
 ghost use Rattle.wf_farm.specs.Cluster.{AreMembers, HaveRun, KeepMembers, Moves};
 ghost use Rattle.wf_farm.specs.Event.{view};
 
@@ -10,7 +11,7 @@ use std::alloc::Global;
 
 impl Cluster {
     /// Applies the events in order, and returns the number of the last one's rejection, if it is rejected. Err: the number of
-    /// events that were applied before an allocation failed.
+    /// events that were applied before an allocation failed, at an event that would have an effect.
     #[tactic(auto, using(crate::proofs::Events::same_members))]
     pub(crate) fn run(&mut self, alloc: Global, events: &[Event]) -> Result<Option<u8>, usize>
         requires members { AreMembers self.old.places.items }
@@ -18,6 +19,7 @@ impl Cluster {
         ensures done { IfOk result (λ number. HaveRun (map view events.now) number self.old.places.items self.old.sent.items self.new.places.items self.new.sent.items) }
         ensures most { IfErr result (λ done. done < length events.now) }
         ensures part { IfErr result (λ done. Moves (take done (map view events.now)) self.old.places.items self.old.sent.items self.new.places.items self.new.sent.items) }
+        ensures may { IfErr result (λ done. MayAllocateAt done (map view events.now) self.old.places.items self.old.sent.items) }
         ensures members { KeepMembers self.old.places.items self.new.places.items }
         ensures grows { length self.old.sent.items ≤ length self.new.sent.items }
     {

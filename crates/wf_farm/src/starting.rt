@@ -1,10 +1,14 @@
-//! The initial nodes of a farm.
+//! The initial nodes of a farm, and a node that stops and restarts.
 
-ghost use Rattle.std.specs.Prelude.{◌≡◌, ◌<◌, ◌≤◌, ◌+◌, [], length, IfOk, OnOk};
+ghost use Rattle.std.specs.Prelude.{◌≡◌, ◌<◌, ◌≤◌, ◌+◌, false, [], length, IfOk, IfErr, OnOk};
 ghost use Rattle.wf_model.specs.World.{start};
+ghost use Rattle.wf_node.specs.Images.{AllStandFor};
+ghost use Rattle.wf_node.specs.Node.{stored_of};
+ghost use Rattle.wf_tape.specs.MemoryTape.{IsImageOf};
 ghost use Rattle.wf_farm.specs.Cluster.{AreMembers, Shows};
 ghost use Rattle.wf_farm.specs.Leading.{IsFresh};
 ghost use Rattle.wf_farm.specs.Place.{IsMember, IsNode};
+ghost use Rattle.wf_farm.specs.Reopening.{IsReopened};
 ghost use Rattle.wf_farm.specs.Start.{fresh_node, AreFresh};
 
 use crate::cluster::Cluster;
@@ -88,5 +92,25 @@ pub fn open_fresh(alloc: Global, id: NodeId, n: u8) -> Result<Node<MemoryTape>, 
             drop(tape);
             Err(AllocError)
         }
+    }
+}
+
+/// Closes a node in memory and opens it again from its tape, as the same one of n nodes: it stops and restarts. Err if an allocation
+/// fails: the tape is returned, and stands for what the node had stored.
+pub fn reopen(alloc: Global, node: Node<MemoryTape>, n: u8) -> Result<Node<MemoryTape>, MemoryTape>
+    requires most { n ≤ 64 }
+    requires member { node.id < n }
+    ensures again { IfOk result (IsReopened node.tape.bytes node) }
+    ensures id { IfOk result (λ again. again.id ≡ node.id) }
+    ensures n { IfOk result (λ again. again.n ≡ n) }
+    ensures kept { IfErr result (λ tape. node.halted ≡ false → AllStandFor (stored_of node) (IsImageOf tape)) }
+{
+    // Theorem of the tape: it stands for exactly one stored part.
+    records_are_read_one_way();
+    let id = node.id();
+    match Node::open(alloc, node.close(), id, n) {
+        Ok(again) => Ok(again),
+        // A tape in memory that a node left is rejected only for allocation failure.
+        Err((tape, _)) => Err(tape),
     }
 }

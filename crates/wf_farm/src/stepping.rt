@@ -4,6 +4,7 @@ ghost use Rattle.std.specs.Prelude.{◌<◌, ◌≤◌, length, map, OnOk, OnErr
 ghost use Rattle.wf_codec.specs.Message.{view as view_message};
 ghost use Rattle.wf_model.specs.Table.{most_told};
 ghost use Rattle.wf_node.specs.Input.{view};
+ghost use Rattle.wf_farm.specs.Allocating.{IsStopped};
 ghost use Rattle.wf_farm.specs.Place.{DeniesStep, IsMember, KeepsMember, Restarts, Stays, Steps, Stops};
 
 use crate::place::Place;
@@ -57,12 +58,13 @@ impl Place {
     }
 
     /// Restarts a stopped node from its tape, as node `id` of n. A running node is unchanged. An allocation failure leaves the
-    /// node stopped, with what it had stored.
+    /// node, which is stopped then, with what it had stored.
     pub(crate) fn restart(&mut self, alloc: Global, id: NodeId, n: u8) -> Result<(), AllocError>
         requires nodes { n ≤ 64 }
         requires member { id < n }
         ensures restarted { OnOk result (Restarts self.old self.new) }
         ensures err { OnErr result (Stays self.old self.new) }
+        ensures stopped { OnErr result (IsStopped self.old) }
         ensures member { IsMember n id self.old → IsMember n id self.new }
     {
         let before = replace(self, Place::blank(alloc));
@@ -79,12 +81,13 @@ impl Place {
     }
 
     /// The entry with its node restarted as node `id` of n; if an allocation fails, the entry with its tape returned.
-    #[tactic(auto, using(crate::proofs::Steps::opened, crate::proofs::Steps::not_opened, crate::proofs::Steps::still_running))]
+    #[tactic(auto, using(crate::proofs::Steps::opened, crate::proofs::Steps::not_opened, crate::proofs::Steps::still_running, crate::proofs::Allocating::stopped_there))]
     fn reopened(self, alloc: Global, id: NodeId, n: u8) -> Result<Place, Place>
         requires nodes { n ≤ 64 }
         requires member { id < n }
         ensures restarted { IfOk result (Restarts self) }
         ensures err { IfErr result (Stays self) }
+        ensures stopped { OnErr result (IsStopped self) }
         ensures member { IfOk result (λ after. IsMember n id self → IsMember n id after) }
         ensures err_member { IfErr result (λ after. IsMember n id self → IsMember n id after) }
     {

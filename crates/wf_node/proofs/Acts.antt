@@ -1,5 +1,5 @@
 -- The step of an input is made if its transition's effects are.
-use Rattle.std.proofs.Common.{◌≡◌, ℕ, Bool, true, false, List, Option, Some, None, option_map, Result, Ok, Err, IsSome, Vec, refl, sym, subst, ap, ◌∙◌}
+use Rattle.std.proofs.Common.{◌≡◌, ℕ, false, List, Option, Some, None, option_map, Result, Ok, Err, IsSome, Vec, refl, sym, subst, ap, ◌∙◌}
 use Rattle.wf_acceptor.specs.Answer as answered
 use Rattle.wf_acceptor.specs.declared.answer.Answer.{Answer}
 use Rattle.wf_ballot.specs.Ballot.{Ballot}
@@ -11,6 +11,7 @@ use Rattle.wf_model.specs.Message as model
 use Rattle.wf_model.specs.Stored.{Stored}
 use Rattle.wf_model.specs.Table.{Row, Input, Refusal, Propose, Retry, CatchUp, Deliver, row, refusal, refuse_proposal, refuse_retry, says, on_propose, on_retry, on_catch_up, on_prepare, on_accept, on_promise, on_accepted, on_nack, on_chosen, on_ask, on_message, told_from, most_told}
 use Rattle.wf_model.specs.Working.{Working}
+use Rattle.wf_proposer.specs.Next.{Sends}
 use Rattle.wf_proposer.specs.Proposer.{Proposer, working_of}
 use Rattle.wf_proposer.specs.Refusal.{refusal_of}
 use Rattle.wf_proposer.specs.declared.refusal.Refusal as held
@@ -23,7 +24,7 @@ use Rattle.wf_node.specs.Act.{IsAct, IsChange, IsRefusedOr, IsReply}
 use Rattle.wf_node.specs.Fault.{refused_by}
 use Rattle.wf_node.specs.Kept as keeping
 use Rattle.wf_node.specs.Kept.{Kept}
-use Rattle.wf_node.specs.Memory.{TakesMemory, ByEntry, ByHearing, hears_input}
+use Rattle.wf_node.specs.Memory.{TakesMemory, ByEntry, ByMessages}
 use Rattle.wf_node.specs.Proposed.{fault_of}
 use Rattle.wf_node.specs.Parts.{Parts, stored_of}
 use Rattle.wf_node.proofs.Replies.{change_as, change_from, memory_changes, says_changes}
@@ -43,12 +44,11 @@ module _ {T : Type 0} (honest : Type 0) (content : T → List ℕ) (images : T �
   -- an input that the table doesn't reject
   pub act_done : {A : Type 0} (input : Input Definition) (given : Row Definition) (journal journal_after : Journal T) (parts parts_after : Parts) (proposer proposer_after : Proposer)
       (result : Result (Vec Message A) NodeFault) → refusal (stored_of parts) (working_of proposer) input ≡ None → given ≡ row_at parts proposer input →
-      IsChange honest content images failures (hears_input proposer.nodes (working_of proposer) input) given journal parts proposer result journal_after parts_after proposer_after →
+      IsChange honest content images failures given journal parts proposer result journal_after parts_after proposer_after →
       IsAct honest content images failures input journal parts proposer result journal_after parts_after proposer_after
   act_done input given journal journal_after parts parts_after proposer proposer_after result none is change =
-      let hears = hears_input proposer.nodes (working_of proposer) input in
-      subst (λ why. IsRefusedOr honest content images failures why hears (row_at parts proposer input) journal parts proposer result journal_after parts_after proposer_after) (sym none)
-      (change_as honest content images failures hears given (row_at parts proposer input) journal journal_after parts parts_after proposer proposer_after result is change)
+      subst (λ why. IsRefusedOr honest content images failures why (row_at parts proposer input) journal parts proposer result journal_after parts_after proposer_after) (sym none)
+      (change_as honest content images failures given (row_at parts proposer input) journal journal_after parts parts_after proposer proposer_after result is change)
 
   -- an input that only sends messages
   pub act_says : {A : Type 0} (input : Input Definition) (messages : List (model.Message Definition)) (journal : Journal T) (parts : Parts) (proposer : Proposer)
@@ -56,28 +56,25 @@ module _ {T : Type 0} (honest : Type 0) (content : T → List ℕ) (images : T �
       row_at parts proposer input ≡ says (working_of proposer) messages → IsReply messages result →
       IsAct honest content images failures input journal parts proposer result journal parts proposer
   act_says input messages journal parts proposer result none running is reply =
-      let hears = hears_input proposer.nodes (working_of proposer) input in
-      subst (λ why. IsRefusedOr honest content images failures why hears (row_at parts proposer input) journal parts proposer result journal parts proposer) (sym none)
-      (says_changes honest content images failures hears (row_at parts proposer input) messages journal parts proposer result running is reply)
+      subst (λ why. IsRefusedOr honest content images failures why (row_at parts proposer input) journal parts proposer result journal parts proposer) (sym none)
+      (says_changes honest content images failures (row_at parts proposer input) messages journal parts proposer result running is reply)
 
   -- an input that the table rejects
   pub act_refused : {A : Type 0} (input : Input Definition) (why : Refusal) (journal : Journal T) (parts : Parts) (proposer : Proposer)
       (result : Result (Vec Message A) NodeFault) → refusal (stored_of parts) (working_of proposer) input ≡ Some why → refused_by result ≡ Some why →
       IsAct honest content images failures input journal parts proposer result journal parts proposer
   act_refused input why journal parts proposer result some answered =
-      let hears = hears_input proposer.nodes (working_of proposer) input in
-      subst (λ x. IsRefusedOr honest content images failures x hears (row_at parts proposer input) journal parts proposer result journal parts proposer) (sym some)
+      subst (λ x. IsRefusedOr honest content images failures x (row_at parts proposer input) journal parts proposer result journal parts proposer) (sym some)
       (answered, refl, record { parts = refl; proposer = refl })
 
   -- an input for which allocation failed
   pub act_short : {A : Type 0} (input : Input Definition) (journal : Journal T) (parts parts_after : Parts) (proposer : Proposer)
       (result : Result (Vec Message A) NodeFault) → refusal (stored_of parts) (working_of proposer) input ≡ None → journal.halted ≡ false → result ≡ Err Memory → parts_after ≡ parts →
-      TakesMemory (row_at parts proposer input) (hears_input proposer.nodes (working_of proposer) input) →
+      TakesMemory (row_at parts proposer input) →
       IsAct honest content images failures input journal parts proposer result journal parts_after proposer
   act_short input journal parts parts_after proposer result none running short same takes =
-      let hears = hears_input proposer.nodes (working_of proposer) input in
-      subst (λ why. IsRefusedOr honest content images failures why hears (row_at parts proposer input) journal parts proposer result journal parts_after proposer) (sym none)
-      (memory_changes honest content images failures hears (row_at parts proposer input) journal parts parts_after proposer result short running same takes)
+      subst (λ why. IsRefusedOr honest content images failures why (row_at parts proposer input) journal parts proposer result journal parts_after proposer) (sym none)
+      (memory_changes honest content images failures (row_at parts proposer input) journal parts parts_after proposer result short running same takes)
 
 -- a delivered message is never rejected, and its transition is the message's
 pub delivered : (stored : Stored Definition) (working : Working Definition) (message : model.Message Definition) → refusal stored working (Deliver message) ≡ None
@@ -110,26 +107,25 @@ answer_fits input given answer parts made proposer fit for_next is_row is same =
     (row_fits parts proposer input (answered.row_of answer (working_of proposer)) fit for_next (is_row (working_of proposer) ∙ is))
 
 -- a transition that stores a record may allocate
-pub stored_takes : (input : Input Definition) (given : Working Definition → Row Definition) (parts : Parts) (proposer : Proposer) (hears : Bool) →
-    keeping.Stores given → given (working_of proposer) ≡ row_at parts proposer input → TakesMemory (row_at parts proposer input) hears
-stored_takes input given parts proposer hears stores is =
+pub stored_takes : (input : Input Definition) (given : Working Definition → Row Definition) (parts : Parts) (proposer : Proposer) →
+    keeping.Stores given → given (working_of proposer) ≡ row_at parts proposer input → TakesMemory (row_at parts proposer input)
+stored_takes input given parts proposer stores is =
     ByEntry (subst (λ r. IsSome r.entry) is (stores (working_of proposer)))
 
 module _ {T : Type 0} (honest : Type 0) (content : T → List ℕ) (images : T → List ℕ → Type 0) (failures : T → ℕ) where
   -- the acceptor's answer is made
   pub act_given : {A : Type 0} (input : Input Definition) (given : Working Definition → Row Definition) (answer : Answer) (journal journal_after : Journal T) (parts made parts_after : Parts) (proposer proposer_after : Proposer)
       (result : Result (Vec Message A) NodeFault) → refusal (stored_of parts) (working_of proposer) input ≡ None → keeping.IsRow given answer → given (working_of proposer) ≡ row_at parts proposer input → made ≡ parts →
-      ((hears : Bool) → IsChange honest content images failures hears (answered.row_of answer (working_of proposer)) journal made proposer result journal_after parts_after proposer_after) →
+      IsChange honest content images failures (answered.row_of answer (working_of proposer)) journal made proposer result journal_after parts_after proposer_after →
       IsAct honest content images failures input journal parts proposer result journal_after parts_after proposer_after
   act_given input given answer journal journal_after parts made parts_after proposer proposer_after result none is_row is same change =
-      let hears = hears_input proposer.nodes (working_of proposer) input in
       let answered_row = answered.row_of answer (working_of proposer) in
       act_done honest content images failures input answered_row journal journal_after parts parts_after proposer proposer_after result none (is_row (working_of proposer) ∙ is)
-      (change_from honest content images failures hears answered_row journal journal_after parts made parts_after proposer proposer_after result same (change hears))
+      (change_from honest content images failures answered_row journal journal_after parts made parts_after proposer proposer_after result same change)
 
   proposer_refuses : (A : Type 0) (input : Input Definition) (why : held.Refusal) (journal : Journal T) (parts : Parts) (proposer : Proposer) →
       refusal_of why ≡ refusal (stored_of parts) (working_of proposer) input → journal.halted ≡ false →
-      (why ≡ held_case.Memory → TakesMemory (row_at parts proposer input) (hears_input proposer.nodes (working_of proposer) input)) →
+      (why ≡ held_case.Memory → TakesMemory (row_at parts proposer input)) →
       IsAct honest content images failures {A = A} input journal parts proposer (Err (fault_of why)) journal parts proposer
   proposer_refuses A input held_case.Busy journal parts proposer is running takes = act_refused honest content images failures input _ journal parts proposer _ (sym is) refl
   proposer_refuses A input held_case.Nothing journal parts proposer is running takes = act_refused honest content images failures input _ journal parts proposer _ (sym is) refl
@@ -140,7 +136,7 @@ module _ {T : Type 0} (honest : Type 0) (content : T → List ℕ) (images : T �
   -- the proposer's rejection is returned, or allocation failed
   pub act_proposer_refuses : (A : Type 0) (input : Input Definition) (why : held.Refusal) (fault : NodeFault) (journal : Journal T) (parts : Parts) (proposer : Proposer) →
       fault ≡ fault_of why → refusal_of why ≡ refusal (stored_of parts) (working_of proposer) input → journal.halted ≡ false →
-      (why ≡ held_case.Memory → TakesMemory (row_at parts proposer input) (hears_input proposer.nodes (working_of proposer) input)) →
+      (why ≡ held_case.Memory → TakesMemory (row_at parts proposer input)) →
       IsAct honest content images failures {A = A} input journal parts proposer (Err fault) journal parts proposer
   act_proposer_refuses A input why fault journal parts proposer same is running takes =
       subst (λ f. IsAct honest content images failures {A = A} input journal parts proposer (Err f) journal parts proposer) (sym same)
@@ -150,14 +146,14 @@ module _ {T : Type 0} (honest : Type 0) (content : T → List ℕ) (images : T �
   error_or e (Ok x) = e
   error_or e (Err given) = given
 
-  -- an answer was counted, and allocation failed for it
-  pub act_hears : (A B : Type 0) (input : Input Definition) (why : held.Refusal) (fault : NodeFault) (journal : Journal T) (parts : Parts) (proposer : Proposer) →
+  -- an answer makes the proposal send something, and allocation failed for that
+  pub act_sends : (A B : Type 0) (input : Input Definition) (why : held.Refusal) (fault : NodeFault) (journal : Journal T) (parts : Parts) (proposer : Proposer) →
       fault ≡ fault_of why → refusal (stored_of parts) (working_of proposer) input ≡ None → journal.halted ≡ false →
-      (hears_input proposer.nodes (working_of proposer) input ≡ true) × ◌≡◌ {A = Result B held.Refusal} (Err why) (Err held_case.Memory) →
+      Sends (row_at parts proposer input) × ◌≡◌ {A = Result B held.Refusal} (Err why) (Err held_case.Memory) →
       IsAct honest content images failures {A = A} input journal parts proposer (Err fault) journal parts proposer
-  act_hears A B input why fault journal parts proposer same none running heard =
+  act_sends A B input why fault journal parts proposer same none running short =
       act_short honest content images failures input journal parts parts proposer (Err fault) none running
-      (ap Err (same ∙ ap fault_of (ap (error_or held_case.Memory) heard.1))) refl (ByHearing heard.0)
+      (ap Err (same ∙ ap fault_of (ap (error_or held_case.Memory) short.1))) refl (ByMessages short.0)
 
 -- ---- transitions and rejections of the other inputs
 

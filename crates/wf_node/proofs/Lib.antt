@@ -3,7 +3,10 @@ mod Folded
 mod Folding
 mod Keeping
 mod Opened
+mod Pushed
 mod Replies
+mod Rewriting
 mod Rows
+mod Shortened
 mod Shown
 mod Steps

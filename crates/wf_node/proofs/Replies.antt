@@ -1,5 +1,5 @@
 -- An input that only sends messages, and a transition that stores its record.
-use Rattle.std.proofs.Common.{◌≡◌, ℕ, Bool, true, false, List, map, Option, Some, None, option_map, Result, Ok, Err, IsSome, Vec, refl, sym, subst, ap, ◌∙◌}
+use Rattle.std.proofs.Common.{◌≡◌, ℕ, true, false, List, map, append-nil, ◌++◌, Option, Some, None, option_map, Result, Ok, Err, IsSome, Vec, refl, sym, subst, ap, ◌∙◌}
 use Rattle.std.proofs.lemmas.Option.{none-some}
 use Rattle.wf_codec.specs.Message as message
 use Rattle.wf_codec.specs.declared.message.Message.{Message}
@@ -9,7 +9,7 @@ use Rattle.wf_model.specs.Message as model
 use Rattle.wf_model.specs.Table.{Row, says, store}
 use Rattle.wf_proposer.specs.Next.{Next}
 use Rattle.wf_proposer.specs.Proposer.{Proposer, row_of, working_of}
-use Rattle.wf_tape.specs.Journal.{Journal, Follows, ReadsOneMore, ReadsSameOrOneMore}
+use Rattle.wf_tape.specs.Journal.{Journal, Follows, IsAdded, ReadsOneMore, ReadsSameOrOneMore}
 use Rattle.wf_tape.specs.Record.{view}
 use Rattle.wf_tape.specs.declared.record.Record as tape
 use Rattle.wf_tape.specs.Tape.{IsUnchanged, HasRisen}
@@ -18,7 +18,7 @@ use Rattle.wf_node.specs.declared.fault.NodeFault.TheVariants.{Memory, Busy, Seq
 use Rattle.wf_node.specs.Act.{IsChange, IsReply}
 use Rattle.wf_node.specs.Memory.{TakesMemory, ByEntry, ByMessages}
 use Rattle.wf_node.specs.Parts.{Parts, stored_of}
-use Rattle.wf_node.specs.Storing.{IsWritten, IsSpared, IsBroken, IsStoredBy, IsWrite}
+use Rattle.wf_node.specs.Storing.{bytes_of, IsWritten, IsSpared, IsBroken, IsStoredBy, IsWrite}
 use Rattle.wf_node.proofs.Folding.{stored_none, stored_by, torn_at}
 
 pub unchanged : (content : List ℕ) (images : List ℕ → Type 0) → IsUnchanged content content images images
@@ -29,6 +29,7 @@ module _ {T : Type 0} (honest : Type 0) (content : T → List ℕ) (images : T �
   pub written_none : (entry : Option (Record Definition)) (journal : Journal T) → entry ≡ None → journal.halted ≡ false → IsWritten honest content images failures entry journal journal
   written_none entry journal none running = record {
     running = running;
+    grown = λ h. sym (ap (λ e. content journal.tape ++ bytes_of e) none ∙ append-nil (content journal.tape));
     stored = λ h. subst (λ e. IsStoredBy e (images journal.tape) (images journal.tape)) (sym none) (stored_none (images journal.tape));
   }
 
@@ -36,11 +37,11 @@ module _ {T : Type 0} (honest : Type 0) (content : T → List ℕ) (images : T �
   spared journal running = record { running = running; same = λ h. unchanged (content journal.tape) (images journal.tape) }
 
   -- The transition stores nothing and leaves the working part unchanged: it only sends messages.
-  pub reply_changes : {A : Type 0} (hears : Bool) (the_row : Row Definition) (journal : Journal T) (parts : Parts) (proposer : Proposer) (result : Result (Vec Message A) NodeFault) →
+  pub reply_changes : {A : Type 0} (the_row : Row Definition) (journal : Journal T) (parts : Parts) (proposer : Proposer) (result : Result (Vec Message A) NodeFault) →
       journal.halted ≡ false → the_row.entry ≡ None → the_row.working ≡ working_of proposer → IsReply the_row.messages result →
-      IsChange honest content images failures hears the_row journal parts proposer result journal parts proposer
+      IsChange honest content images failures the_row journal parts proposer result journal parts proposer
   unfolding store
-  reply_changes hears the_row journal parts proposer (Ok given) running entry working reply = (
+  reply_changes the_row journal parts proposer (Ok given) running entry working reply = (
     written_none the_row.entry journal entry running,
     record {
       stored = ap (store (stored_of parts)) (sym entry);
@@ -50,70 +51,72 @@ module _ {T : Type 0} (honest : Type 0) (content : T → List ℕ) (images : T �
       messages = reply;
     },
   )
-  reply_changes hears the_row journal parts proposer (Err Memory) running entry working reply =
+  reply_changes the_row journal parts proposer (Err Memory) running entry working reply =
       (spared journal running, record { parts = refl; proposer = refl }, ByMessages reply)
-  reply_changes hears the_row journal parts proposer (Err TapeFailed) running entry working reply = absurd reply
-  reply_changes hears the_row journal parts proposer (Err Busy) running entry working reply = absurd reply
-  reply_changes hears the_row journal parts proposer (Err SequenceFull) running entry working reply = absurd reply
-  reply_changes hears the_row journal parts proposer (Err RoundsFull) running entry working reply = absurd reply
-  reply_changes hears the_row journal parts proposer (Err Nothing) running entry working reply = absurd reply
-  reply_changes hears the_row journal parts proposer (Err Halted) running entry working reply = absurd reply
+  reply_changes the_row journal parts proposer (Err TapeFailed) running entry working reply = absurd reply
+  reply_changes the_row journal parts proposer (Err Busy) running entry working reply = absurd reply
+  reply_changes the_row journal parts proposer (Err SequenceFull) running entry working reply = absurd reply
+  reply_changes the_row journal parts proposer (Err RoundsFull) running entry working reply = absurd reply
+  reply_changes the_row journal parts proposer (Err Nothing) running entry working reply = absurd reply
+  reply_changes the_row journal parts proposer (Err Halted) running entry working reply = absurd reply
 
   -- a transition that sends these messages
-  pub says_changes : {A : Type 0} (hears : Bool) (the_row : Row Definition) (messages : List (model.Message Definition)) (journal : Journal T) (parts : Parts) (proposer : Proposer) (result : Result (Vec Message A) NodeFault) →
+  pub says_changes : {A : Type 0} (the_row : Row Definition) (messages : List (model.Message Definition)) (journal : Journal T) (parts : Parts) (proposer : Proposer) (result : Result (Vec Message A) NodeFault) →
       journal.halted ≡ false → the_row ≡ says (working_of proposer) messages → IsReply messages result →
-      IsChange honest content images failures hears the_row journal parts proposer result journal parts proposer
+      IsChange honest content images failures the_row journal parts proposer result journal parts proposer
   unfolding says
-  says_changes hears the_row messages journal parts proposer result running is reply =
-      subst (λ r. IsChange honest content images failures hears r journal parts proposer result journal parts proposer) (sym is)
-      (reply_changes hears (says (working_of proposer) messages) journal parts proposer result running refl refl reply)
+  says_changes the_row messages journal parts proposer result running is reply =
+      subst (λ r. IsChange honest content images failures r journal parts proposer result journal parts proposer) (sym is)
+      (reply_changes (says (working_of proposer) messages) journal parts proposer result running refl refl reply)
 
   -- Allocation failure leaves the parts unchanged.
-  pub memory_changes : {A : Type 0} (hears : Bool) (the_row : Row Definition) (journal : Journal T) (parts parts_after : Parts) (proposer : Proposer) (result : Result (Vec Message A) NodeFault) →
-      result ≡ Err Memory → journal.halted ≡ false → parts_after ≡ parts → TakesMemory the_row hears →
-      IsChange honest content images failures hears the_row journal parts proposer result journal parts_after proposer
-  memory_changes hears the_row journal parts parts_after proposer result short running same takes =
-      subst (λ r. IsChange honest content images failures hears the_row journal parts proposer r journal parts_after proposer) (sym short)
+  pub memory_changes : {A : Type 0} (the_row : Row Definition) (journal : Journal T) (parts parts_after : Parts) (proposer : Proposer) (result : Result (Vec Message A) NodeFault) →
+      result ≡ Err Memory → journal.halted ≡ false → parts_after ≡ parts → TakesMemory the_row →
+      IsChange honest content images failures the_row journal parts proposer result journal parts_after proposer
+  memory_changes the_row journal parts parts_after proposer result short running same takes =
+      subst (λ r. IsChange honest content images failures the_row journal parts proposer r journal parts_after proposer) (sym short)
       (spared journal running, record { parts = same; proposer = refl }, takes)
 
   -- A change by one transition is a change by an equal one.
-  pub change_as : {A : Type 0} (hears : Bool) (given wanted : Row Definition) (journal journal_after : Journal T) (parts parts_after : Parts) (proposer proposer_after : Proposer)
+  pub change_as : {A : Type 0} (given wanted : Row Definition) (journal journal_after : Journal T) (parts parts_after : Parts) (proposer proposer_after : Proposer)
       (result : Result (Vec Message A) NodeFault) → given ≡ wanted →
-      IsChange honest content images failures hears given journal parts proposer result journal_after parts_after proposer_after →
-      IsChange honest content images failures hears wanted journal parts proposer result journal_after parts_after proposer_after
-  change_as hears given wanted journal journal_after parts parts_after proposer proposer_after result is change =
-      subst (λ r. IsChange honest content images failures hears r journal parts proposer result journal_after parts_after proposer_after) is change
+      IsChange honest content images failures given journal parts proposer result journal_after parts_after proposer_after →
+      IsChange honest content images failures wanted journal parts proposer result journal_after parts_after proposer_after
+  change_as given wanted journal journal_after parts parts_after proposer proposer_after result is change =
+      subst (λ r. IsChange honest content images failures r journal parts proposer result journal_after parts_after proposer_after) is change
 
   -- A change from parts that are equal.
-  pub change_from : {A : Type 0} (hears : Bool) (the_row : Row Definition) (journal journal_after : Journal T) (parts same parts_after : Parts) (proposer proposer_after : Proposer)
+  pub change_from : {A : Type 0} (the_row : Row Definition) (journal journal_after : Journal T) (parts same parts_after : Parts) (proposer proposer_after : Proposer)
       (result : Result (Vec Message A) NodeFault) → same ≡ parts →
-      IsChange honest content images failures hears the_row journal same proposer result journal_after parts_after proposer_after →
-      IsChange honest content images failures hears the_row journal parts proposer result journal_after parts_after proposer_after
-  change_from hears the_row journal journal_after parts same parts_after proposer proposer_after result is change =
-      subst (λ p. IsChange honest content images failures hears the_row journal p proposer result journal_after parts_after proposer_after) is change
+      IsChange honest content images failures the_row journal same proposer result journal_after parts_after proposer_after →
+      IsChange honest content images failures the_row journal parts proposer result journal_after parts_after proposer_after
+  change_from the_row journal journal_after parts same parts_after proposer proposer_after result is change =
+      subst (λ p. IsChange honest content images failures the_row journal p proposer result journal_after parts_after proposer_after) is change
 
   entry_taken : (entry : Option (Record Definition)) → (entry ≡ None → ⊥) → IsSome entry
   entry_taken None some = absurd (some refl)
   entry_taken (Some r) some = refl
 
   -- If writing the record fails, the parts are unchanged.
-  pub write_fails : (A B : Type 0) (hears : Bool) (the_row : Row Definition) (journal journal_after : Journal T) (parts parts_after : Parts) (proposer : Proposer)
+  pub write_fails : (A B : Type 0) (the_row : Row Definition) (journal journal_after : Journal T) (parts parts_after : Parts) (proposer : Proposer)
       (fault : NodeFault) → parts_after ≡ parts → IsWrite honest content images failures {A = B} the_row.entry journal (Err fault) journal_after →
-      IsChange honest content images failures {A = A} hears the_row journal parts proposer (Err fault) journal_after parts_after proposer
-  write_fails A B hears the_row journal journal_after parts parts_after proposer Memory same write =
+      IsChange honest content images failures {A = A} the_row journal parts proposer (Err fault) journal_after parts_after proposer
+  write_fails A B the_row journal journal_after parts parts_after proposer Memory same write =
       (write.0, record { parts = same; proposer = refl }, ByEntry (entry_taken the_row.entry write.1))
-  write_fails A B hears the_row journal journal_after parts parts_after proposer TapeFailed same write = (write, record { parts = same; proposer = refl })
-  write_fails A B hears the_row journal journal_after parts parts_after proposer Busy same write = absurd write
-  write_fails A B hears the_row journal journal_after parts parts_after proposer SequenceFull same write = absurd write
-  write_fails A B hears the_row journal journal_after parts parts_after proposer RoundsFull same write = absurd write
-  write_fails A B hears the_row journal journal_after parts parts_after proposer Nothing same write = absurd write
-  write_fails A B hears the_row journal journal_after parts parts_after proposer Halted same write = absurd write
+  write_fails A B the_row journal journal_after parts parts_after proposer TapeFailed same write = (write, record { parts = same; proposer = refl })
+  write_fails A B the_row journal journal_after parts parts_after proposer Busy same write = absurd write
+  write_fails A B the_row journal journal_after parts parts_after proposer SequenceFull same write = absurd write
+  write_fails A B the_row journal journal_after parts parts_after proposer RoundsFull same write = absurd write
+  write_fails A B the_row journal journal_after parts parts_after proposer Nothing same write = absurd write
+  write_fails A B the_row journal journal_after parts parts_after proposer Halted same write = absurd write
 
   -- One more record is on the tape, or it is there or not.
   pub written : (r : Record Definition) (journal journal_after : Journal T) → journal_after.halted ≡ false →
+      (honest → IsAdded r (content journal.tape) (content journal_after.tape) (images journal_after.tape)) →
       (honest → Follows (ReadsOneMore r) (images journal.tape) (images journal_after.tape)) → IsWritten honest content images failures (Some r) journal journal_after
-  written r journal journal_after running more = record {
+  written r journal journal_after running added more = record {
     running = running;
+    grown = λ h. let is = added h in is.content ∙ ap (λ bytes. content journal.tape ++ bytes) is.spells.spelled;
     stored = λ h. stored_by r (images journal.tape) (images journal_after.tape) (more h);
   }
 
@@ -132,12 +135,12 @@ module _ {T : Type 0} (honest : Type 0) (content : T → List ℕ) (images : T �
   spared_some r journal journal_after running same = (record { running = running; same = same }, λ e. none-some r (sym e))
 
   -- the proposer's result is committed, and its record applied
-  pub performed : {A : Type 0} (hears : Bool) (next : Next) (journal journal_after : Journal T) (parts made parts_after : Parts) (proposer proposer_after : Proposer) (entry : Option tape.Record) (messages : Vec Message A) →
+  pub performed : {A : Type 0} (next : Next) (journal journal_after : Journal T) (parts made parts_after : Parts) (proposer proposer_after : Proposer) (entry : Option tape.Record) (messages : Vec Message A) →
       IsWritten honest content images failures (option_map view next.entry) journal journal_after → made ≡ parts → entry ≡ next.entry →
       stored_of parts_after ≡ store (stored_of made) (option_map view entry) →
       working_of proposer_after ≡ (row_of proposer next).working → proposer_after.node ≡ proposer.node → proposer_after.nodes ≡ proposer.nodes → messages.items ≡ next.messages →
-      IsChange honest content images failures hears (row_of proposer next) journal parts proposer (Ok messages) journal_after parts_after proposer_after
-  performed hears next journal journal_after parts made parts_after proposer proposer_after entry messages on_tape same given applied working node nodes sent = (
+      IsChange honest content images failures (row_of proposer next) journal parts proposer (Ok messages) journal_after parts_after proposer_after
+  performed next journal journal_after parts made parts_after proposer proposer_after entry messages on_tape same given applied working node nodes sent = (
     on_tape,
     record {
       stored = applied ∙ (ap (λ p. store (stored_of p) (option_map view entry)) same ∙ ap (λ e. store (stored_of parts) (option_map view e)) given);

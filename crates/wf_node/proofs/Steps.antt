@@ -1,5 +1,5 @@
 -- The step of a node's parts is the node's step.
-use Rattle.std.proofs.Common.{◌≡◌, ℕ, Bool, false, List, Some, None, Result, Ok, Err, IfOk, IfErr, OnOk, IsSome, Vec, refl, sym, subst, ap, ◌∙◌, arith}
+use Rattle.std.proofs.Common.{◌≡◌, ℕ, false, List, ◌++◌, Some, None, Result, Ok, Err, IfOk, IfErr, OnOk, IsSome, Vec, refl, sym, subst, ap, ◌∙◌, arith}
 use Rattle.std.proofs.lemmas.Bool.{false≢true}
 use Rattle.std.proofs.lemmas.Option.{none-some}
 use Rattle.wf_codec.specs.declared.message.Message.{Message}
@@ -18,6 +18,7 @@ use Rattle.wf_node.specs.Kept.{Kept}
 use Rattle.wf_node.specs.Memory as memory
 use Rattle.wf_node.specs.Node.{IsNode, view_of}
 use Rattle.wf_node.specs.Parts.{Parts, stored_of}
+use Rattle.wf_node.specs.Storing.{bytes_of}
 use Rattle.wf_node.specs.Step.{IsSameNode, IsStep, row_of, refusal_at, TakesMemory}
 use Rattle.wf_node.proofs.Shown.{working_shown}
 
@@ -37,11 +38,10 @@ module _ {T : Type 0} where
       ap (λ w. refusal (stored_of parts) w input) (sym (working_shown proposer.working))
 
   takes_shown : (journal : Journal T) (parts : Parts) (proposer : Proposer) (input : Input Definition) →
-      memory.TakesMemory (proposer_row proposer parts input) (memory.hears_input proposer.nodes (working_of proposer) input) →
+      memory.TakesMemory (proposer_row proposer parts input) →
       TakesMemory (view_of journal parts proposer) input
   takes_shown journal parts proposer input =
-      subst (λ w. memory.TakesMemory (row definition_eq proposer.nodes proposer.node (stored_of parts) w input) (memory.hears_input proposer.nodes w input))
-      (sym (working_shown proposer.working))
+      subst memory.TakesMemory (row_shown journal parts proposer input)
 
 module _ {T : Type 0} (honest : Type 0) (content : T → List ℕ) (images : T → List ℕ → Type 0) (failures : T → ℕ) where
   abbrev fault_number : {A : Type 0} → Result A NodeFault → ℕ
@@ -77,14 +77,13 @@ module _ {T : Type 0} (honest : Type 0) (content : T → List ℕ) (images : T �
   refused_is : {A : Type 0} (result : Result A NodeFault) (why : Refusal) (fault : NodeFault) → refused_by result ≡ Some why → refused_by {A = A} (Err fault) ≡ None → result ≡ Err fault → ⊥
   refused_is result why fault is none e = none-some why (sym none ∙ sym (ap refused_by e) ∙ is)
 
-  done_step : {A : Type 0} (journal journal_after : Journal T) (parts parts_after : Parts) (proposer proposer_after : Proposer) (input : Input Definition) (result : Result (Vec Message A) NodeFault) (hears : Bool) →
-      memory.hears_input proposer.nodes (working_of proposer) input ≡ hears →
+  done_step : {A : Type 0} (journal journal_after : Journal T) (parts parts_after : Parts) (proposer proposer_after : Proposer) (input : Input Definition) (result : Result (Vec Message A) NodeFault) →
       (honest → AllStandFor (stored_of parts) (images journal.tape)) →
       refusal (stored_of parts) (working_of proposer) input ≡ None →
       RowFits (stored_of parts) (proposer_row proposer parts input) →
-      IsChange honest content images failures hears (proposer_row proposer parts input) journal parts proposer result journal_after parts_after proposer_after →
+      IsChange honest content images failures (proposer_row proposer parts input) journal parts proposer result journal_after parts_after proposer_after →
       IsStep honest content images failures (view_of journal parts proposer) input result (view_of journal_after parts_after proposer_after)
-  done_step journal journal_after parts parts_after proposer proposer_after input (Ok messages) hears hearing stands none fits change = record {
+  done_step journal journal_after parts parts_after proposer proposer_after input (Ok messages) stands none fits change = record {
     running = differ _ _ (λ e. omega (arith, e));
     refused = sym (sym (refusal_shown journal parts proposer input) ∙ none);
     done = record {
@@ -106,7 +105,7 @@ module _ {T : Type 0} (honest : Type 0) (content : T → List ℕ) (images : T �
     halts = λ e. absurd (differ _ _ (λ n. omega (arith, n)) e);
     torn = λ h e. absurd (differ _ _ (λ n. omega (arith, n)) e);
   }
-  done_step journal journal_after parts parts_after proposer proposer_after input (Err Memory) hears hearing stands none fits change = record {
+  done_step journal journal_after parts parts_after proposer proposer_after input (Err Memory) stands none fits change = record {
     running = differ _ _ (λ e. omega (arith, e));
     refused = sym (sym (refusal_shown journal parts proposer input) ∙ none);
     done = tt;
@@ -115,13 +114,13 @@ module _ {T : Type 0} (honest : Type 0) (content : T → List ℕ) (images : T �
     same = same_view journal journal_after parts parts_after proposer proposer_after change.1;
     still_running = λ e. change.0.running;
     same_tape = λ h e. change.0.same h;
-    takes = λ e. takes_shown journal parts proposer input (subst (λ b. memory.TakesMemory (proposer_row proposer parts input) b) (sym hearing) change.2);
+    takes = λ e. takes_shown journal parts proposer input change.2;
     failed = λ e. absurd (differ _ _ (λ n. omega (arith, n)) e);
     writes = λ e. absurd (differ _ _ (λ n. omega (arith, n)) e);
     halts = λ e. absurd (differ _ _ (λ n. omega (arith, n)) e);
     torn = λ h e. absurd (differ _ _ (λ n. omega (arith, n)) e);
   }
-  done_step journal journal_after parts parts_after proposer proposer_after input (Err TapeFailed) hears hearing stands none fits change = record {
+  done_step journal journal_after parts parts_after proposer proposer_after input (Err TapeFailed) stands none fits change = record {
     running = differ _ _ (λ e. omega (arith, e));
     refused = sym (sym (refusal_shown journal parts proposer input) ∙ none);
     done = tt;
@@ -138,11 +137,11 @@ module _ {T : Type 0} (honest : Type 0) (content : T → List ℕ) (images : T �
         subst (λ r. EachStandsFor (stored_of parts) (store (stored_of parts) r.entry) (images journal_after.tape)) (row_shown journal parts proposer input)
         (change.0.torn h (stored_of parts) fits.fits (stands h));
   }
-  done_step journal journal_after parts parts_after proposer proposer_after input (Err Busy) hears hearing stands none fits change = absurd change
-  done_step journal journal_after parts parts_after proposer proposer_after input (Err SequenceFull) hears hearing stands none fits change = absurd change
-  done_step journal journal_after parts parts_after proposer proposer_after input (Err RoundsFull) hears hearing stands none fits change = absurd change
-  done_step journal journal_after parts parts_after proposer proposer_after input (Err Nothing) hears hearing stands none fits change = absurd change
-  done_step journal journal_after parts parts_after proposer proposer_after input (Err Halted) hears hearing stands none fits change = absurd change
+  done_step journal journal_after parts parts_after proposer proposer_after input (Err Busy) stands none fits change = absurd change
+  done_step journal journal_after parts parts_after proposer proposer_after input (Err SequenceFull) stands none fits change = absurd change
+  done_step journal journal_after parts parts_after proposer proposer_after input (Err RoundsFull) stands none fits change = absurd change
+  done_step journal journal_after parts parts_after proposer proposer_after input (Err Nothing) stands none fits change = absurd change
+  done_step journal journal_after parts parts_after proposer proposer_after input (Err Halted) stands none fits change = absurd change
 
   refused_step : {A : Type 0} (journal journal_after : Journal T) (parts parts_after : Parts) (proposer proposer_after : Proposer) (input : Input Definition) (result : Result (Vec Message A) NodeFault) (why : Refusal) →
       refusal (stored_of parts) (working_of proposer) input ≡ Some why → refused_by result ≡ Some why → journal_after ≡ journal → IsSame parts parts_after proposer proposer_after →
@@ -171,40 +170,58 @@ module _ {T : Type 0} (honest : Type 0) (content : T → List ℕ) (images : T �
   act_steps journal journal_after kept kept_after proposer proposer_after input result is running fit act =
       let fits : RowFits (stored_of kept.parts) (proposer_row proposer kept.parts input) =
       fit definition_eq proposer.nodes proposer.node (stored_of kept.parts) (working_of proposer) input is.for_next in
-      let hears = memory.hears_input proposer.nodes (working_of proposer) input in
       elim (refusal (stored_of kept.parts) (working_of proposer) input) as (λ why.
       refusal (stored_of kept.parts) (working_of proposer) input ≡ why →
-      IsRefusedOr honest content images failures why hears (proposer_row proposer kept.parts input) journal kept.parts proposer result journal_after kept_after.parts proposer_after →
+      IsRefusedOr honest content images failures why (proposer_row proposer kept.parts input) journal kept.parts proposer result journal_after kept_after.parts proposer_after →
       IsStep honest content images failures (view_of journal kept.parts proposer) input result (view_of journal_after kept_after.parts proposer_after)) [
-        | None ↦ λ none change. done_step journal journal_after kept.parts kept_after.parts proposer proposer_after input result hears refl (λ h. is.stands h running) none fits change
+        | None ↦ λ none change. done_step journal journal_after kept.parts kept_after.parts proposer proposer_after input result (λ h. is.stands h running) none fits change
         | Some why ↦ λ some refused. refused_step journal journal_after kept.parts kept_after.parts proposer proposer_after input result why some refused.0 refused.1 refused.2
       ] refl act
 
-  done_node : {A : Type 0} (journal journal_after : Journal T) (kept kept_after : Kept) (proposer proposer_after : Proposer) (input : Input Definition) (result : Result (Vec Message A) NodeFault) (hears : Bool) →
+  change_grows : {A : Type 0} (journal journal_after : Journal T) (parts parts_after : Parts) (proposer proposer_after : Proposer) (input : Input Definition) (result : Result (Vec Message A) NodeFault) →
+      IsChange honest content images failures (proposer_row proposer parts input) journal parts proposer result journal_after parts_after proposer_after →
+      honest → OnOk result (content journal_after.tape ≡ content journal.tape ++ bytes_of (row_of (view_of journal parts proposer) input).entry)
+  change_grows journal journal_after parts parts_after proposer proposer_after input (Ok messages) change h =
+      change.0.grown h ∙ ap (λ r. content journal.tape ++ bytes_of r.entry) (row_shown journal parts proposer input)
+  change_grows journal journal_after parts parts_after proposer proposer_after input (Err fault) change h = tt
+
+  -- If the step is made, the tape's content grows by exactly the bytes of its record.
+  pub act_grows : {A : Type 0} (journal journal_after : Journal T) (parts parts_after : Parts) (proposer proposer_after : Proposer) (input : Input Definition) (result : Result (Vec Message A) NodeFault) →
+      IsAct honest content images failures input journal parts proposer result journal_after parts_after proposer_after →
+      honest → OnOk result (content journal_after.tape ≡ content journal.tape ++ bytes_of (row_of (view_of journal parts proposer) input).entry)
+  act_grows journal journal_after parts parts_after proposer proposer_after input result act =
+      elim (refusal (stored_of parts) (working_of proposer) input) as (λ why.
+      IsRefusedOr honest content images failures why (proposer_row proposer parts input) journal parts proposer result journal_after parts_after proposer_after →
+      honest → OnOk result (content journal_after.tape ≡ content journal.tape ++ bytes_of (row_of (view_of journal parts proposer) input).entry)) [
+        | None ↦ λ change. change_grows journal journal_after parts parts_after proposer proposer_after input result change
+        | Some why ↦ λ refused h. refused_on_ok result why _ refused.0
+      ] act
+
+  done_node : {A : Type 0} (journal journal_after : Journal T) (kept kept_after : Kept) (proposer proposer_after : Proposer) (input : Input Definition) (result : Result (Vec Message A) NodeFault) →
       IsNode honest images journal kept proposer → journal.halted ≡ false →
       RowFits (stored_of kept.parts) (proposer_row proposer kept.parts input) → kept_after.id ≡ kept.id →
-      IsChange honest content images failures hears (proposer_row proposer kept.parts input) journal kept.parts proposer result journal_after kept_after.parts proposer_after →
+      IsChange honest content images failures (proposer_row proposer kept.parts input) journal kept.parts proposer result journal_after kept_after.parts proposer_after →
       IsNode honest images journal_after kept_after proposer_after
-  done_node journal journal_after kept kept_after proposer proposer_after input (Ok messages) hears is running fits id change = record {
+  done_node journal journal_after kept kept_after proposer proposer_after input (Ok messages) is running fits id change = record {
     same_node = id ∙ (is.same_node ∙ sym change.1.node);
     for_next = subst (λ s. IsForNext s (working_of proposer_after)) (sym change.1.stored) (subst (λ w. IsForNext (store (stored_of kept.parts) (proposer_row proposer kept.parts input).entry) w) (sym change.1.working) fits.for_next);
     stands = λ h _. subst (λ s. AllStandFor s (images journal_after.tape)) (sym change.1.stored) (change.0.stored h (stored_of kept.parts) fits.fits (is.stands h running));
   }
-  done_node journal journal_after kept kept_after proposer proposer_after input (Err Memory) hears is running fits id change = record {
+  done_node journal journal_after kept kept_after proposer proposer_after input (Err Memory) is running fits id change = record {
     same_node = id ∙ (is.same_node ∙ ap (λ (p : Proposer). p.node) (sym change.1.proposer));
     for_next = subst (λ parts. IsForNext (stored_of parts) (working_of proposer_after)) (sym change.1.parts) (subst (λ p. IsForNext (stored_of kept.parts) (working_of p)) (sym change.1.proposer) is.for_next);
     stands = λ h _ image left. subst (λ parts. StandsFor (stored_of parts) image) (sym change.1.parts) (is.stands h running image ((change.0.same h).no_other image left));
   }
-  done_node journal journal_after kept kept_after proposer proposer_after input (Err TapeFailed) hears is running fits id change = record {
+  done_node journal journal_after kept kept_after proposer proposer_after input (Err TapeFailed) is running fits id change = record {
     same_node = id ∙ (is.same_node ∙ ap (λ (p : Proposer). p.node) (sym change.1.proposer));
     for_next = subst (λ parts. IsForNext (stored_of parts) (working_of proposer_after)) (sym change.1.parts) (subst (λ p. IsForNext (stored_of kept.parts) (working_of p)) (sym change.1.proposer) is.for_next);
     stands = λ h runs. absurd (false≢true (sym runs ∙ change.0.halted));
   }
-  done_node journal journal_after kept kept_after proposer proposer_after input (Err Busy) hears is running fits id change = absurd change
-  done_node journal journal_after kept kept_after proposer proposer_after input (Err SequenceFull) hears is running fits id change = absurd change
-  done_node journal journal_after kept kept_after proposer proposer_after input (Err RoundsFull) hears is running fits id change = absurd change
-  done_node journal journal_after kept kept_after proposer proposer_after input (Err Nothing) hears is running fits id change = absurd change
-  done_node journal journal_after kept kept_after proposer proposer_after input (Err Halted) hears is running fits id change = absurd change
+  done_node journal journal_after kept kept_after proposer proposer_after input (Err Busy) is running fits id change = absurd change
+  done_node journal journal_after kept kept_after proposer proposer_after input (Err SequenceFull) is running fits id change = absurd change
+  done_node journal journal_after kept kept_after proposer proposer_after input (Err RoundsFull) is running fits id change = absurd change
+  done_node journal journal_after kept kept_after proposer proposer_after input (Err Nothing) is running fits id change = absurd change
+  done_node journal journal_after kept kept_after proposer proposer_after input (Err Halted) is running fits id change = absurd change
 
   refused_node : (journal journal_after : Journal T) (kept kept_after : Kept) (proposer proposer_after : Proposer) → IsNode honest images journal kept proposer →
       kept_after.id ≡ kept.id → journal_after ≡ journal → IsSame kept.parts kept_after.parts proposer proposer_after → IsNode honest images journal_after kept_after proposer_after
@@ -223,10 +240,9 @@ module _ {T : Type 0} (honest : Type 0) (content : T → List ℕ) (images : T �
   act_keeps journal journal_after kept kept_after proposer proposer_after input result is running fit id act =
       let fits : RowFits (stored_of kept.parts) (proposer_row proposer kept.parts input) =
       fit definition_eq proposer.nodes proposer.node (stored_of kept.parts) (working_of proposer) input is.for_next in
-      let hears = memory.hears_input proposer.nodes (working_of proposer) input in
       elim (refusal (stored_of kept.parts) (working_of proposer) input) as (λ why.
-      IsRefusedOr honest content images failures why hears (proposer_row proposer kept.parts input) journal kept.parts proposer result journal_after kept_after.parts proposer_after →
+      IsRefusedOr honest content images failures why (proposer_row proposer kept.parts input) journal kept.parts proposer result journal_after kept_after.parts proposer_after →
       IsNode honest images journal_after kept_after proposer_after) [
-        | None ↦ λ change. done_node journal journal_after kept kept_after proposer proposer_after input result hears is running fits id change
+        | None ↦ λ change. done_node journal journal_after kept kept_after proposer proposer_after input result is running fits id change
         | Some why ↦ λ refused. refused_node journal journal_after kept kept_after proposer proposer_after is id refused.1 refused.2
       ] act

@@ -20,7 +20,7 @@ use Rattle.wf_node.specs.Fault.{refused_by}
 use Rattle.wf_node.specs.Kept as keeping
 use Rattle.wf_node.specs.Kept.{Kept}
 use Rattle.wf_node.specs.Parts.{Parts, stored_of}
-use Rattle.wf_node.specs.Memory.{TakesMemory, hears_input}
+use Rattle.wf_node.specs.Memory.{TakesMemory}
 use Rattle.wf_node.specs.Storing.{IsWritten, IsSpared, IsBroken}
 
 -- The parts of a node that may act: its journal runs, its stored part and its proposer are of the same node, a running proposal
@@ -84,29 +84,29 @@ pub record IsSame (old new : Parts) (before after : Proposer) : Type 0 where
   pub proposer : after ≡ before
 
 module _ {T : Type 0} (honest : Type 0) (content : T → List ℕ) (images : T → List ℕ → Type 0) (failures : T → ℕ) where
-  -- The transition is made, or an error leaves the parts unchanged. `hears` says whether an answer is counted.
-  abbrev pub IsChange : {A : Type 0} → Bool → Row Definition → Journal T → Parts → Proposer → Result (Vec Message A) NodeFault → Journal T → Parts → Proposer → Type 0
-  IsChange hears the_row journal parts proposer (Ok messages) journal_after parts_after proposer_after =
+  -- the transition is made, or an error leaves the parts unchanged
+  abbrev pub IsChange : {A : Type 0} → Row Definition → Journal T → Parts → Proposer → Result (Vec Message A) NodeFault → Journal T → Parts → Proposer → Type 0
+  IsChange the_row journal parts proposer (Ok messages) journal_after parts_after proposer_after =
       IsWritten honest content images failures the_row.entry journal journal_after × IsRowOf the_row parts parts_after proposer proposer_after messages.items
-  IsChange hears the_row journal parts proposer (Err Memory) journal_after parts_after proposer_after =
-      IsSpared honest content images failures journal journal_after × IsSame parts parts_after proposer proposer_after × TakesMemory the_row hears
-  IsChange hears the_row journal parts proposer (Err TapeFailed) journal_after parts_after proposer_after =
+  IsChange the_row journal parts proposer (Err Memory) journal_after parts_after proposer_after =
+      IsSpared honest content images failures journal journal_after × IsSame parts parts_after proposer proposer_after × TakesMemory the_row
+  IsChange the_row journal parts proposer (Err TapeFailed) journal_after parts_after proposer_after =
       IsBroken honest content images failures the_row.entry journal journal_after × IsSame parts parts_after proposer proposer_after
-  IsChange hears the_row journal parts proposer (Err Busy) journal_after parts_after proposer_after = ⊥
-  IsChange hears the_row journal parts proposer (Err SequenceFull) journal_after parts_after proposer_after = ⊥
-  IsChange hears the_row journal parts proposer (Err RoundsFull) journal_after parts_after proposer_after = ⊥
-  IsChange hears the_row journal parts proposer (Err Nothing) journal_after parts_after proposer_after = ⊥
-  IsChange hears the_row journal parts proposer (Err Halted) journal_after parts_after proposer_after = ⊥
+  IsChange the_row journal parts proposer (Err Busy) journal_after parts_after proposer_after = ⊥
+  IsChange the_row journal parts proposer (Err SequenceFull) journal_after parts_after proposer_after = ⊥
+  IsChange the_row journal parts proposer (Err RoundsFull) journal_after parts_after proposer_after = ⊥
+  IsChange the_row journal parts proposer (Err Nothing) journal_after parts_after proposer_after = ⊥
+  IsChange the_row journal parts proposer (Err Halted) journal_after parts_after proposer_after = ⊥
 
   -- If the table rejects the input, that rejection is returned and the parts are unchanged; else the transition is made or fails.
-  abbrev pub IsRefusedOr : {A : Type 0} → Option Refusal → Bool → Row Definition → Journal T → Parts → Proposer → Result (Vec Message A) NodeFault → Journal T → Parts → Proposer → Type 0
-  IsRefusedOr None hears the_row journal parts proposer result journal_after parts_after proposer_after =
-      IsChange hears the_row journal parts proposer result journal_after parts_after proposer_after
-  IsRefusedOr (Some why) hears the_row journal parts proposer result journal_after parts_after proposer_after =
+  abbrev pub IsRefusedOr : {A : Type 0} → Option Refusal → Row Definition → Journal T → Parts → Proposer → Result (Vec Message A) NodeFault → Journal T → Parts → Proposer → Type 0
+  IsRefusedOr None the_row journal parts proposer result journal_after parts_after proposer_after =
+      IsChange the_row journal parts proposer result journal_after parts_after proposer_after
+  IsRefusedOr (Some why) the_row journal parts proposer result journal_after parts_after proposer_after =
       (refused_by result ≡ Some why) × (journal_after ≡ journal) × IsSame parts parts_after proposer proposer_after
 
   -- the input's step at these parts
   abbrev pub IsAct : {A : Type 0} → Input Definition → Journal T → Parts → Proposer → Result (Vec Message A) NodeFault → Journal T → Parts → Proposer → Type 0
   IsAct input journal parts proposer result journal_after parts_after proposer_after =
-      IsRefusedOr (refusal (stored_of parts) (working_of proposer) input) (hears_input proposer.nodes (working_of proposer) input)
+      IsRefusedOr (refusal (stored_of parts) (working_of proposer) input)
       (row definition_eq proposer.nodes proposer.node (stored_of parts) (working_of proposer) input) journal parts proposer result journal_after parts_after proposer_after

@@ -10,5 +10,6 @@ pub mod Storing
 pub mod Memory
 pub mod Act
 pub mod Step
+pub mod Shortening
 pub mod Opening
 pub mod Growth

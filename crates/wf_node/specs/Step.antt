@@ -34,9 +34,9 @@ pub record IsRow {T : Type 0} (before : Node T) (the_row : Row Definition) (sent
 abbrev pub IsSameNode : {T : Type 0} → Node T → Node T → Type 0
 IsSameNode before after = after ≡ record before { tape = after.tape; halted = after.halted }
 
--- the input may allocate at this node: its transition stores or sends something, or an answer is counted
+-- the input may allocate at this node: its transition stores or sends something
 abbrev pub TakesMemory : {T : Type 0} → Node T → Input Definition → Type 0
-TakesMemory node input = memory.TakesMemory (row_of node input) (memory.hears_input node.n (working_of node) input)
+TakesMemory node input = memory.TakesMemory (row_of node input)
 
 module _ {T : Type 0} (honest : Type 0) (content : T → List ℕ) (images : T → List ℕ → Type 0) (failures : T → ℕ) where
   -- The contract of a step of a node that isn't halted, clause by clause.

@@ -1,14 +1,20 @@
--- The effect of writing a record on the tape.
-use Rattle.std.specs.Prelude.{◌≡◌, ℕ, true, false, List, Option, None, Result, Ok, Err, IsSome}
+-- The effect of writing a record on the tape, and of replacing all of them.
+use Rattle.std.specs.Prelude.{◌≡◌, ℕ, true, false, List, [], ◌++◌, Option, Some, None, Result, Ok, Err, IsSome}
 use Rattle.wf_def.specs.Definition.{Definition}
 use Rattle.wf_model.specs.Fits.{Fits}
 use Rattle.wf_model.specs.Stored.{Stored, Record}
 use Rattle.wf_model.specs.Table.{store}
-use Rattle.wf_tape.specs.Journal.{Journal}
+use Rattle.wf_tape.specs.Journal.{Journal, Holds, Follows, IsSameOrReads}
+use Rattle.wf_tape.specs.Spelling.{spelling}
 use Rattle.wf_tape.specs.Tape.{IsUnchanged, HasRisen}
 use Rattle.wf_node.specs.declared.fault.NodeFault.{NodeFault}
 use Rattle.wf_node.specs.declared.fault.NodeFault.TheVariants.{Memory, Busy, SequenceFull, RoundsFull, Halted, TapeFailed, Nothing}
 use Rattle.wf_node.specs.Images.{AllStandFor, EachStandsFor}
+
+-- the bytes of a transition's record, none if it has no record
+abbrev pub bytes_of : Option (Record Definition) → List ℕ
+bytes_of None = []
+bytes_of (Some r) = spelling r
 
 -- If the old images stand for a stored part that the record fits, the new ones stand for that part with the record.
 abbrev pub IsStoredBy : Option (Record Definition) → (List ℕ → Type 0) → (List ℕ → Type 0) → Type 0
@@ -22,6 +28,7 @@ module _ {T : Type 0} (honest : Type 0) (content : T → List ℕ) (images : T �
   -- the record, if there is one, is on the tape
   pub record IsWritten (entry : Option (Record Definition)) (old new : Journal T) : Type 0 where
     pub running : new.halted ≡ false
+    pub grown : honest → content new.tape ≡ content old.tape ++ bytes_of entry
     pub stored : honest → IsStoredBy entry (images old.tape) (images new.tape)
 
   -- allocation failed: the tape is unchanged
@@ -46,3 +53,25 @@ module _ {T : Type 0} (honest : Type 0) (content : T → List ℕ) (images : T �
   IsWrite entry old (Err RoundsFull) new = ⊥
   IsWrite entry old (Err Halted) new = ⊥
   IsWrite entry old (Err Nothing) new = ⊥
+
+  -- the tape holds exactly these records
+  pub record IsReplaced (records : List (Record Definition)) (old new : Journal T) : Type 0 where
+    pub running : new.halted ≡ false
+    pub held : honest → Holds (content new.tape) (images new.tape) records
+    pub follows : honest → Follows (IsSameOrReads records) (images old.tape) (images new.tape)
+
+  -- the tape failed: a crash leaves what it held, or these records
+  pub record IsHalfReplaced (records : List (Record Definition)) (old new : Journal T) : Type 0 where
+    pub halted : new.halted ≡ true
+    pub risen : HasRisen (failures old.tape) (failures new.tape)
+    pub follows : honest → Follows (IsSameOrReads records) (images old.tape) (images new.tape)
+
+  abbrev pub IsReplacement : {A : Type 0} → List (Record Definition) → Journal T → Result A NodeFault → Journal T → Type 0
+  IsReplacement records old (Ok x) new = IsReplaced records old new
+  IsReplacement records old (Err Memory) new = IsSpared old new
+  IsReplacement records old (Err TapeFailed) new = IsHalfReplaced records old new
+  IsReplacement records old (Err Busy) new = ⊥
+  IsReplacement records old (Err SequenceFull) new = ⊥
+  IsReplacement records old (Err RoundsFull) new = ⊥
+  IsReplacement records old (Err Halted) new = ⊥
+  IsReplacement records old (Err Nothing) new = ⊥

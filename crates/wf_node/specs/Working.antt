@@ -1,13 +1,11 @@
--- The working part of a node as data: the nodes whose answers a proposal has counted are a finite set.
+-- The working part of a node as data: the nodes whose answers a proposal has counted are the bits of a number.
 use Rattle.std.specs.Prelude.{ℕ, Option}
-use Rattle.std.specs.Ordering.{nat_cmp}
-use Rattle.std.specs.FinSet as set
-use Rattle.std.specs.FinSet.{FinSet}
 use Rattle.wf_ballot.specs.Ballot.{Ballot}
 use Rattle.wf_codec.specs.Message.{view_vote}
 use Rattle.wf_def.specs.Definition.{Definition}
 use Rattle.wf_model.specs.Working as model
 use Rattle.wf_model.specs.Working.{Phase}
+use Rattle.wf_proposer.specs.Heard.{among}
 use Rattle.wf_proposer.specs.Proposal.{phase_of}
 use Rattle.wf_proposer.specs.declared.proposal.Proposal as proposer
 use Rattle.wf_proposer.specs.declared.working.Working as held
@@ -19,7 +17,7 @@ pub record Proposal : Type 0 where
   pub ballot : Ballot
   pub own : Definition
   pub phase : Phase
-  pub heard : FinSet nat_cmp
+  pub heard : ℕ
   pub best : Option (Ballot × Definition)
   pub seen : ℕ
 
@@ -38,7 +36,7 @@ proposal_of p =
       ballot = p.ballot;
       own = p.own;
       phase = p.phase;
-      heard = λ i. set.contains p.heard i;
+      heard = among p.heard;
       best = view_vote p.best;
       seen = p.seen;
     }
@@ -57,7 +55,7 @@ shown_proposal p =
       ballot = p.ballot;
       own = p.own;
       phase = phase_of p.phase;
-      heard = set.from_list p.heard;
+      heard = p.heard;
       best = p.best;
       seen = p.seen;
     }

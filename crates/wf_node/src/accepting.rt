@@ -1,6 +1,6 @@
 //! Inputs for the acceptor.
 
-ghost use Rattle.std.specs.Prelude.{◌≡◌, Bool, false, IfSome, option_map};
+ghost use Rattle.std.specs.Prelude.{◌≡◌, false, IfSome, option_map};
 ghost use Rattle.wf_acceptor.specs.Answer as answered;
 ghost use Rattle.wf_model.specs.Fits.{Fits};
 ghost use Rattle.wf_model.specs.Message as model;
@@ -69,7 +69,7 @@ impl<T: Tape> Machine<T> {
         requires running { self.old.journal.halted ≡ false }
         requires fits { Fits (stored_of self.old.kept) (option_map view_record answer.entry) }
         requires room { IfSome answer.entry (HasRoomFor self.old.kept) }
-        ensures change { (hears : Bool) → IsChange T.honest T.content T.images T.failed hears (answered.row_of answer (working_of self.old.proposer)) self.old.journal self.old.kept.parts self.old.proposer result self.new.journal self.new.kept.parts self.new.proposer }
+        ensures change { IsChange T.honest T.content T.images T.failed (answered.row_of answer (working_of self.old.proposer)) self.old.journal self.old.kept.parts self.old.proposer result self.new.journal self.new.kept.parts self.new.proposer }
         ensures id { self.new.kept.id ≡ self.old.kept.id }
     {
         let Answer {

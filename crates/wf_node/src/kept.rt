@@ -51,8 +51,9 @@ impl Kept {
     ghost use Rattle.std.specs.Prelude.{◌≡◌, ◌<◌, ℕ, length, true, nat_le, option_map, IfOk, OnOk, OnErr, IsOk, IfSome, None, ◌≢◌};
     ghost use Rattle.std.specs.Option.{option_copied};
     ghost use Rattle.wf_model.specs.Fits.{Fits};
-    ghost use Rattle.wf_model.specs.Stored.{fits, nothing_stored, with_record};
-    ghost use Rattle.wf_model.specs.Table.{on_accept as accept_row, on_prepare as prepare_row, store};
+    ghost use Rattle.wf_codec.specs.Message.{view_vote};
+    ghost use Rattle.wf_model.specs.Stored.{fits, nothing_stored, promise_at, with_record};
+    ghost use Rattle.wf_model.specs.Table.{on_accept as accept_row, on_prepare as prepare_row, store, votes_at};
     ghost use Rattle.wf_tape.specs.Record.{view};
     ghost use Rattle.wf_node.specs.Kept.{stored_of, HasRoomFor, HasRoomIfOwn, IsRow, Stores};
 
@@ -87,6 +88,27 @@ impl Kept {
         ensures { result ≡ nat_le slot (length self.now.parts.history) }
     {
         self.acceptor.is_published(slot)
+    }
+
+    /// The promise at the slot.
+    pub(crate) fn promise_at(&self, slot: Slot) -> Option<Ballot>
+        ensures { result ≡ promise_at (stored_of self.now) slot }
+    {
+        self.acceptor.promise_at(slot)
+    }
+
+    /// The vote at the slot: its ballot and its definition.
+    pub(crate) fn vote_at(&self, slot: Slot) -> Option<&(Ballot, Canon)>
+        ensures { view_vote (option_copied result) ≡ (stored_of self.now).votes slot }
+    {
+        self.acceptor.vote_at(slot)
+    }
+
+    /// Whether the vote at the slot is at this ballot.
+    pub(crate) fn voted_at(&self, slot: Slot, ballot: Ballot) -> bool
+        ensures { result ≡ votes_at ((stored_of self.now).votes slot) ballot }
+    {
+        self.acceptor.voted_at(slot, ballot)
     }
 
     /// Answers `Prepare(slot, ballot)` at a slot that isn't published. Allocation can fail only for a promise.

@@ -1,6 +1,6 @@
 //! Inputs for the learner.
 
-ghost use Rattle.std.specs.Prelude.{◌≡◌, ◌+◌, length, Bool, false};
+ghost use Rattle.std.specs.Prelude.{◌≡◌, ◌+◌, length, false};
 ghost use Rattle.wf_def.specs.Equality.{definition_eq};
 ghost use Rattle.wf_model.specs.Message as model;
 ghost use Rattle.wf_model.specs.Table as table;
@@ -95,7 +95,7 @@ impl<T: Tape> Machine<T> {
     ) -> Result<Vec<Message>, NodeFault>
         requires ready { IsReady self.old.journal self.old.kept self.old.proposer }
         requires next { slot ≡ length self.old.kept.parts.history + 1 }
-        ensures change { (hears : Bool) → IsChange T.honest T.content T.images T.failed hears (table.on_chosen definition_eq (stored_of self.old.kept) (working_of self.old.proposer) slot canon) self.old.journal self.old.kept.parts self.old.proposer result self.new.journal self.new.kept.parts self.new.proposer }
+        ensures change { IsChange T.honest T.content T.images T.failed (table.on_chosen definition_eq (stored_of self.old.kept) (working_of self.old.proposer) slot canon) self.old.journal self.old.kept.parts self.old.proposer result self.new.journal self.new.kept.parts self.new.proposer }
         ensures id { self.new.kept.id ≡ self.old.kept.id }
     {
         let entry = Record::Published(slot, canon);

@@ -7,8 +7,9 @@
 //! Promises, of an honest tape: a node opens as the fold of its records, with no proposal. A step is the transition of wf_model's
 //! step table at this node, and returns exactly its messages. Before it returns them, the transition's record is on the tape, and
 //! every image stands for the new stored part. If the tape fails, no message is returned, and each image stands for the old
-//! stored part or the new one. Of every tape: a step is rejected iff the table rejects it, and then changes nothing. Allocation
-//! failure changes nothing. A node whose tape failed is halted, and makes no more steps.
+//! stored part or the new one. When its tape is shortened, every image stands for the stored part, whatever happens. Of every tape:
+//! a step is rejected iff the table rejects it, and then changes nothing. Allocation failure changes nothing. A node whose tape
+//! failed is halted, and makes no more steps.
 //!
 //! Not here: sending messages, and other nodes. That a file is honest is an assumption.
 #![tactic(auto)]
@@ -23,6 +24,7 @@ mod node;
 mod opening;
 mod proposing;
 mod reply;
+mod shortening;
 mod step;
 mod storing;
 

@@ -1,6 +1,6 @@
 //! Inputs for the proposer.
 
-ghost use Rattle.std.specs.Prelude.{◌≡◌, Bool, false, length, nat_le};
+ghost use Rattle.std.specs.Prelude.{◌≡◌, false, length, nat_le};
 ghost use Rattle.wf_ballot.specs.Sequence.{last_sequence};
 ghost use Rattle.wf_codec.specs.Message.{view_vote};
 ghost use Rattle.wf_model.specs.Fits.{Fits};
@@ -136,7 +136,7 @@ impl<T: Tape> Machine<T> {
         requires running { self.old.journal.halted ≡ false }
         requires fits { Fits (stored_of self.old.kept) (row_of self.old.proposer next).entry }
         requires own { IsOwn (row_of self.old.proposer next).entry }
-        ensures change { (hears : Bool) → IsChange T.honest T.content T.images T.failed hears (row_of self.old.proposer next) self.old.journal self.old.kept.parts self.old.proposer result self.new.journal self.new.kept.parts self.new.proposer }
+        ensures change { IsChange T.honest T.content T.images T.failed (row_of self.old.proposer next) self.old.journal self.old.kept.parts self.old.proposer result self.new.journal self.new.kept.parts self.new.proposer }
         ensures id { self.new.kept.id ≡ self.old.kept.id }
     {
         if self.kept.make_room_for(next.entry()).is_err() {

@@ -10,26 +10,29 @@ use wf_model::records_fit;
 use wf_tape::Tape;
 
 impl<T: Tape> Node<T> {
-    ghost use Rattle.std.specs.Prelude.{◌≡◌, ◌≢◌, true, false, Err, IfOk, IfErr, IsSome, OnOk};
+    ghost use Rattle.std.specs.Prelude.{◌≡◌, ◌≢◌, ◌++◌, true, false, Err, IfOk, IfErr, IsSome, OnOk};
     ghost use Rattle.wf_node.specs.Fault.{refused_by};
     ghost use Rattle.wf_node.specs.Images.{AllStandFor, EachStandsFor};
     ghost use Rattle.wf_node.specs.Input.{view};
     ghost use Rattle.wf_node.specs.Node.{stored_of};
     ghost use Rattle.wf_node.specs.Step.{row_of, refusal_at, IsRow, IsSameNode, IsStep, TakesMemory};
+    ghost use Rattle.wf_node.specs.Storing.{bytes_of};
     ghost use Rattle.wf_model.specs.Table.{store as store_entry};
     ghost use Rattle.wf_tape.specs.Tape.{HasRisen, IsUnchanged};
 
-    /// One step: the step table's transition for the input, whose messages are returned once its record is on the tape. A halted
-    /// node returns N5. A step that the table rejects changes nothing: N2 if a proposal is requested while one is running, N7 if
-    /// a retry is while none is, then N3 if the last sequence is published, then N4 if there is no higher round. Then N1 if
-    /// allocation failed, which changes nothing either, and N6 if the tape failed, which halts the node: its record is on the
-    /// tape or not, and no message is returned.
+    /// One step: the step table's transition for the input, whose messages are returned once its record is on the tape, after
+    /// what was there. A halted node returns N5. A step that the table rejects changes nothing: N2 if a proposal is requested
+    /// while one is running, N7 if a retry is while none is, then N3 if the last sequence is published, then N4 if there is no
+    /// higher round. Then N1 if allocation failed, which changes nothing either; a transition that stores and sends nothing, as
+    /// that of an answer that leaves no majority, doesn't allocate. And N6 if the tape failed, which halts the node: its record
+    /// is on the tape or not, and no message is returned.
     pub fn step(&mut self, alloc: Global, input: Input) -> Result<Vec<Message>, NodeFault>
         ensures halted { self.old.halted ≡ true → result ≡ Err NodeFault.Halted }
         ensures running { result ≡ Err NodeFault.Halted → self.old.halted ≡ true }
         ensures refused { self.old.halted ≡ false → refused_by result ≡ refusal_at self.old (view input) }
         ensures row { IfOk result (λ messages. IsRow self.old (row_of self.old (view input)) messages.items self.new) }
         ensures on_tape { T.honest → OnOk result (AllStandFor (stored_of self.new) (T.images self.new.tape)) }
+        ensures content { T.honest → OnOk result (T.content self.new.tape ≡ T.content self.old.tape ++ bytes_of (row_of self.old (view input)).entry) }
         ensures unchanged { IfErr result (λ fault. fault ≢ NodeFault.Memory → fault ≢ NodeFault.TapeFailed → self.new ≡ self.old) }
         ensures same { IfErr result (λ fault. IsSameNode self.old self.new) }
         ensures memory { result ≡ Err NodeFault.Memory → self.new.halted ≡ false }
@@ -57,7 +60,8 @@ impl<T: Tape> Node<T> {
     /// A step of a node that isn't halted.
     fn advance(&mut self, alloc: Global, input: Input) -> Result<Vec<Message>, NodeFault>
         requires { self.old.halted ≡ false }
-        ensures { IsStep T.honest T.content T.images T.failed self.old (view input) result self.new }
+        ensures step { IsStep T.honest T.content T.images T.failed self.old (view input) result self.new }
+        ensures content { T.honest → OnOk result (T.content self.new.tape ≡ T.content self.old.tape ++ bytes_of (row_of self.old (view input)).entry) }
     {
         // The model's theorem: each transition's record fits the stored state.
         records_fit::<Canon>();

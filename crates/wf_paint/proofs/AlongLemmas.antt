@@ -1,5 +1,5 @@
 -- Which pixels of a row the line along a segment covers.
-use Rattle.std.proofs.Common.{◌≡◌, Bool, true, false, ℕ, ◌+◌, ◌*◌, ◌<◌, ◌||◌, List, [], take, length, get_or, ℤ, pos, negsuc, ◌+ℤ◌, ◌-ℤ◌, ◌*ℤ◌, ◌≤ℤ◌, neg_ℤ, refl, sym, ap, ◌∙◌, arith}
+use Rattle.std.proofs.Common.{◌≡◌, Bool, true, false, ℕ, ◌+◌, ◌*◌, ◌<◌, ◌||◌, ◌&&◌, List, [], take, length, get_or, ℤ, pos, negsuc, ◌+ℤ◌, ◌-ℤ◌, ◌*ℤ◌, ◌≤ℤ◌, neg_ℤ, refl, sym, ap, ◌∙◌, arith}
 use Rattle.std.proofs.lemmas.Int.{ints}
 use Rattle.std.proofs.Math.Nat.{mul_comm}
 use Rattle.std.proofs.lemmas.Bool.{and_left}
@@ -14,8 +14,6 @@ use Rattle.wf_def.specs.declared.color.Color.{Color}
 use Rattle.wf_paint.specs.Canvas.{CanvasValue}
 use Rattle.wf_paint.specs.Shown.{IsColored}
 use Rattle.wf_paint.specs.declared.segment.Segment.{Segment}
-use Rattle.wf_paint.specs.Span.{IsSpanOf}
-use Rattle.wf_paint.specs.declared.span.Span.{Span}
 use Rattle.wf_paint.proofs.ColoredLemmas.{IsColored-none, IsColored-either, IsColored-alike}
 use Rattle.wf_paint.proofs.LevelLemmas.{opposed}
 
@@ -29,7 +27,7 @@ times_sum a b c =
     omega (arith, ints)
 
 -- sixteen times one factor is sixteen times the other
-sixteen : (u e : ℤ) → (pos 16 *ℤ u) *ℤ e ≡ (pos 16 *ℤ e) *ℤ u
+pub sixteen : (u e : ℤ) → (pos 16 *ℤ u) *ℤ e ≡ (pos 16 *ℤ e) *ℤ u
 sixteen u e =
     let left = product_is (pos 16) u in
     let right = product_is (pos 16) e in
@@ -70,36 +68,31 @@ unfolding deviation run rise level plus difference product opposite
 deviation_upward u row a b =
     added _ (pos 16 *ℤ (b.x -ℤ a.x) *ℤ pos u) (((pos 16 *ℤ pos 0 +ℤ pos 8) -ℤ a.y) *ℤ (b.x -ℤ a.x)) _ (stepped (pos u) a.y (b.x -ℤ a.x))
 
--- ---- the columns of a row within the band
+-- ---- the deviations of a picture's pixels change by one step from column to column, and by another from row to row
+
+rise_back : (a b : PlaceValue) → opposite (product (pos 16) (rise a b)) ≡ product (pos 16) (rise b a)
+unfolding rise difference product opposite
+rise_back a b = omega (arith, ints)
+
+pub across_levels : (u v : ℕ) (a b : PlaceValue) →
+    level (level (deviation (centre (pos 0) (pos 0)) a b) (product (pos 16) (run a b)) (pos v)) (product (pos 16) (rise b a)) (pos u)
+    ≡ deviation (centre (pos u) (pos v)) a b
+across_levels u v a b =
+    sym (deviation_across u (pos v) a b
+    ∙ ap (λ (z : ℤ). level z (opposite (product (pos 16) (rise a b))) (pos u)) (deviation_upward v (pos 0) a b)
+    ∙ ap (λ (z : ℤ). level (level (deviation (centre (pos 0) (pos 0)) a b) (product (pos 16) (run a b)) (pos v)) z (pos u)) (rise_back a b))
+
+pub upward_levels : (u v : ℕ) (a b : PlaceValue) →
+    level (level (deviation (turned (centre (pos 0) (pos 0))) a b) (product (pos 16) (rise b a)) (pos v)) (product (pos 16) (run a b)) (pos u)
+    ≡ deviation (turned (centre (pos u) (pos v))) a b
+upward_levels u v a b =
+    sym (deviation_upward u (pos v) a b
+    ∙ ap (λ (z : ℤ). level z (product (pos 16) (run a b)) (pos u)) (deviation_across v (pos 0) a b)
+    ∙ ap (λ (z : ℤ). level (level (deviation (centre (pos 0) (pos 0)) a b) z (pos v)) (product (pos 16) (run a b)) (pos u)) (rise_back a b))
 
 pub band_level : (width : ℕ) (c a b : PlaceValue) → is_in_band width c a b ≡ is_in_margin (margin width a b) (deviation c a b)
 unfolding is_in_band is_in_margin
 band_level width c a b = refl
-
-pub band_across : (width row most : ℕ) (a b : PlaceValue) (span : Span) →
-    IsSpanOf (λ u. is_in_margin (margin width a b) (level (deviation (centre (pos 0) (pos row)) a b) (opposite (product (pos 16) (rise a b))) (pos u))) most span →
-    IsSpanOf (λ u. is_in_band width (centre (pos u) (pos row)) a b) most span
-band_across width row most a b span levels = record {
-  within = levels.within;
-  passed = λ u within. band_level width (centre (pos u) (pos row)) a b ∙ ap (is_in_margin (margin width a b)) (deviation_across u (pos row) a b) ∙ levels.passed u within;
-}
-
-pub band_upward : (width row most : ℕ) (a b : PlaceValue) (span : Span) →
-    IsSpanOf (λ u. is_in_margin (margin width a b) (level (deviation (turned (centre (pos 0) (pos row))) a b) (product (pos 16) (run a b)) (pos u))) most span →
-    IsSpanOf (λ u. is_in_band width (turned (centre (pos u) (pos row))) a b) most span
-band_upward width row most a b span levels = record {
-  within = levels.within;
-  passed = λ u within. band_level width (turned (centre (pos u) (pos row))) a b ∙ ap (is_in_margin (margin width a b)) (deviation_upward u (pos row) a b) ∙ levels.passed u within;
-}
-
--- with the axes exchanged, the band is as many columns wide as the line's width in pixels
-pub width_upward : (along : ℤ) (width : ℕ) → pos 1 ≤ℤ product (pos 16) along →
-    product (product (pos 16) along) (pos width) ≡ plus (product (pos (8 * width)) along) (product (pos (8 * width)) along)
-unfolding product plus
-width_upward (pos n) width some = ap pos (omega (arith, mul_comm n width))
-width_upward (negsuc n) width some = absurd (omega (arith, ints))
-
--- ---- a row
 
 -- outside its ends the line covers nothing
 pub across_left : (width : ℕ) (c a b : PlaceValue) → is_along c a b ≡ false → is_across width c a b ≡ false
@@ -110,13 +103,13 @@ pub across_along : (width : ℕ) (c a b : PlaceValue) → is_along c a b ≡ tru
 unfolding is_across
 across_along width c a b along = rw along refl
 
--- with the axes exchanged a row between the ends is covered where the band is
-pub upward_row : (width most row : ℕ) (a b : PlaceValue) (span : Span) → ((u : ℕ) → is_along (turned (centre (pos u) (pos row))) a b ≡ true) →
-    IsSpanOf (λ u. is_in_band width (turned (centre (pos u) (pos row))) a b) most span → IsSpanOf (λ u. is_across width (turned (centre (pos u) (pos row))) a b) most span
-upward_row width most row a b span along band = record {
-  within = band.within;
-  passed = λ u within. across_along width (turned (centre (pos u) (pos row))) a b (along u) ∙ band.passed u within;
-}
+-- between its ends it covers where the level lies within the margin
+pub across_level : (width : ℕ) (c a b : PlaceValue) (between : Bool) (m z : ℤ) → is_along c a b ≡ between → m ≡ margin width a b → z ≡ deviation c a b →
+    is_across width c a b ≡ (between && is_in_margin m z)
+unfolding is_across
+across_level width c a b between m z along half here =
+    ap (λ (t : Bool). t && is_in_band width c a b) along
+    ∙ ap (λ (t : Bool). between && t) (band_level width c a b ∙ ap (is_in_margin (margin width a b)) (sym here) ∙ ap (λ (w : ℤ). is_in_margin w z) (sym half))
 
 -- ---- segments
 

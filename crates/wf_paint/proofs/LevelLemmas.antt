@@ -7,7 +7,6 @@ use Rattle.wf_paint.specs.Level.{level, is_in_margin}
 use Rattle.wf_paint.specs.Span.{IsSpanOf}
 use Rattle.wf_paint.specs.declared.span.Span.{Span}
 use Rattle.wf_paint.proofs.SpanLemmas.{IsSpanOf-ends}
-use Rattle.wf_paint.proofs.StepsLemmas.{fewer_counted, counted_from}
 
 -- ---- one pixel
 
@@ -20,23 +19,10 @@ pub rising_level : (start step u bound : ℤ) → is_less (level start step u) b
 unfolding level
 rising_level start step u bound = less_above start (product step u) bound
 
-fallen : (start p q bound : ℤ) → q ≡ neg_ℤ p → is_less (plus start p) bound ≡ not (is_less q (plus (difference start bound) (pos 1)))
-unfolding is_less plus difference
-fallen start p q bound opposed = grind (arith, ints)
-
 pub opposed : (step : ℤ) (u : ℕ) → neg_ℤ step *ℤ pos u ≡ neg_ℤ (step *ℤ pos u)
 opposed (pos zero) u = zero-*ℤ (pos u) ∙ sym (ap neg_ℤ (zero-*ℤ (pos u)))
 opposed (pos (suc n)) u = negsuc-*ℤ-pos n u ∙ sym (ap neg_ℤ (pos-*ℤ-pos (suc n) u))
 opposed (negsuc n) u = pos-*ℤ-pos (suc n) u ∙ sym (neg_ℤ-neg_ℤ (pos (suc n * u))) ∙ sym (ap neg_ℤ (negsuc-*ℤ-pos n u))
-
-opposed_product : (step : ℤ) (u : ℕ) → product (opposite step) (pos u) ≡ neg_ℤ (product step (pos u))
-unfolding product opposite
-opposed_product step u = opposed step u
-
--- a level that falls
-pub falling_level : (start step bound : ℤ) (u : ℕ) → is_less (level start step (pos u)) bound ≡ not (is_less (product (opposite step) (pos u)) (plus (difference start bound) (pos 1)))
-unfolding level
-falling_level start step bound u = fallen start (product step (pos u)) (product (opposite step) (pos u)) bound (opposed_product step u)
 
 pub level_still : (start u : ℤ) → level start (pos 0) u ≡ start
 unfolding level plus product
@@ -61,28 +47,3 @@ rising_span start step margin most span within from to =
     (λ u below. rising_level start step (pos u) (opposite margin) ∙ from u below)
     (λ u below. rising_level start step (pos u) margin ∙ to u below)
     (λ u. refl)
-
--- ---- a margin of whole steps
-
-step_sum : (step : ℤ) (u across : ℕ) → step *ℤ pos (u + across) ≡ step *ℤ pos u +ℤ step *ℤ pos across
-step_sum step u across = omega (arith, ints)
-
-less_moved : (p q twice margin start : ℤ) → q ≡ p +ℤ twice → twice ≡ plus margin margin → is_less p (difference (opposite margin) start) ≡ is_less q (difference margin start)
-unfolding is_less difference opposite plus
-less_moved p q twice margin start moved double = grind (arith, ints)
-
--- `across` pixels further on, a level is twice the margin higher
-steps_moved : (start step margin : ℤ) (u across : ℕ) → product step (pos across) ≡ plus margin margin →
-    is_less (product step (pos u)) (difference (opposite margin) start) ≡ is_less (product step (pos (u + across))) (difference margin start)
-unfolding product
-steps_moved start step margin u across double =
-    less_moved (step *ℤ pos u) (step *ℤ pos (u + across)) (step *ℤ pos across) margin start (step_sum step u across) double
-
--- so the pixels within the margin start `across` before their end
-pub whole_span : (start step margin : ℤ) (most across end : ℕ) → product step (pos across) ≡ plus margin margin →
-    ((u : ℕ) → u < most + across → is_less (product step (pos u)) (difference margin start) ≡ nat_lt u end) →
-    IsSpanOf (λ u. is_in_margin margin (level start step (pos u))) most (record { from = end - across; to = min end most })
-whole_span start step margin most across end double counted =
-    rising_span start step margin most (record { from = end - across; to = min end most }) (omega arith)
-    (λ u below. steps_moved start step margin u across double ∙ counted (u + across) (omega arith) ∙ counted_from u end across)
-    (λ u below. counted u (omega arith) ∙ fewer_counted u end most below)

@@ -11,6 +11,7 @@ pub mod StylesLemmas
 pub mod SpanLemmas
 pub mod LevelLemmas
 pub mod AlongLemmas
+pub mod StripLemmas
 pub mod BandLemmas
 pub mod InsideLemmas
 pub mod WalkLemmas
@@ -18,3 +19,4 @@ pub mod SegmentsLemmas
 pub mod GridLemmas
 pub mod MovedLemmas
 pub mod DrawingLemmas
+pub mod DirectionLemmas

@@ -2,7 +2,7 @@
 use Rattle.std.proofs.Common.{◌≡◌, ℕ, ◌+◌, ◌*◌, ◌/◌, ◌<◌, ◌≤◌, ℤ, pos, negsuc, ◌+ℤ◌, ◌-ℤ◌, ◌*ℤ◌, ◌≤ℤ◌, ◌<ℤ◌, nat_abs, ap, arith}
 use Rattle.std.proofs.lemmas.Int.{ints}
 use Rattle.std.proofs.Math.Nat.{div-le_of_le-mul, div-lt_iff_lt-mul, le-div_iff_mul-le, mul-le-mul, mul_comm}
-use Rattle.std.specs.Int.{int_div_euclid}
+use Rattle.std.specs.Int.{int_div_euclid, int_rem_euclid}
 use Rattle.wf_def.specs.Limit.{most_millionths}
 use Rattle.wf_paint.specs.Exact.{plus, difference, product, quotient}
 use Rattle.wf_paint.specs.View.{most_scale}
@@ -14,6 +14,12 @@ quotient_bound (negsuc a) n m least h =
     let below : a < m * n = omega (arith, mul_comm m n) in
     let quotient : a / n < m = (div-lt_iff_lt-mul least).1 below in
     omega arith
+
+-- the quotient's multiple and the rest make up the number
+pub divided_again : (z : ℤ) (n : ℕ) → 0 < n → plus (product (quotient z (pos n)) (pos n)) (int_rem_euclid z (pos n)) ≡ z
+unfolding plus product quotient
+divided_again (pos a) n some = omega (arith, ints)
+divided_again (negsuc a) n some = omega (arith, ints)
 
 -- a distance of at most two limits, scaled as in a view, is at most `2 * most_scale * most_millionths` spans
 pub stretched : (d s n : ℕ) → d ≤ 2 * most_millionths → s ≤ most_scale * n → d * s ≤ n * (2 * most_scale * most_millionths)

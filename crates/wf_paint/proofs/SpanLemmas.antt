@@ -1,6 +1,6 @@
 -- Spans of pixels, and pictures coloured row by row.
 use Rattle.std.proofs.Common.{◌≡◌, Bool, true, false, ℕ, ◌+◌, ◌<◌, ◌≤◌, ◌==◌, ◌||◌, ◌&&◌, not, nat_lt, ⊎_elim, pos, sym, ap, ◌∙◌, arith}
-use Rattle.std.proofs.lemmas.Bool.{cases_lt}
+use Rattle.std.proofs.lemmas.Bool.{false≢true, cases_lt}
 use Rattle.std.proofs.lemmas.Bool.Decides.{nat_tests}
 use Rattle.wf_def.specs.declared.color.Color.{Color}
 use Rattle.wf_paint.specs.Place.{PlaceValue}
@@ -19,36 +19,27 @@ before_from from to u before = grind (arith, nat_tests)
 after_to : (from to u : ℕ) → to ≤ u → (not (nat_lt u from) && nat_lt u to) ≡ false
 after_to from to u after = grind (arith, nat_tests)
 
--- no number below or above the span passes the test
-pub span_before : (test : ℕ → Bool) (most : ℕ) (span : Span) (u : ℕ) → IsSpanOf test most span → u < most → u < span.from → test u ≡ false
-unfolding is_within
-span_before test most span u is within before = is.passed u within ∙ before_from span.from span.to u before
-
-pub span_after : (test : ℕ → Bool) (most : ℕ) (span : Span) (u : ℕ) → IsSpanOf test most span → u < most → span.to ≤ u → test u ≡ false
-unfolding is_within
-span_after test most span u is within after = is.passed u within ∙ after_to span.from span.to u after
-
 inside_both : (from to u : ℕ) → from ≤ u → u < to → (not (nat_lt u from) && nat_lt u to) ≡ true
 inside_both from to u after before = grind (arith, nat_tests)
 
--- each number in it passes
-pub span_inside : (test : ℕ → Bool) (most : ℕ) (span : Span) (u : ℕ) → IsSpanOf test most span → u < most → span.from ≤ u → u < span.to → test u ≡ true
-unfolding is_within
-span_inside test most span u is within from to = is.passed u within ∙ inside_both span.from span.to u from to
+module _ (span : Span) (u : ℕ) where
+  pub is_within-before : u < span.from → is_within span u ≡ false
+  unfolding is_within
+  is_within-before before = before_from span.from span.to u before
 
-none_between : (from to u : ℕ) → to ≤ from → (not (nat_lt u from) && nat_lt u to) ≡ false
-none_between from to u empty = grind (arith, nat_tests)
+  pub is_within-after : span.to ≤ u → is_within span u ≡ false
+  unfolding is_within
+  is_within-after after = after_to span.from span.to u after
 
--- where it ends before it starts, none passes
-pub span_empty : (test : ℕ → Bool) (most : ℕ) (span : Span) (u : ℕ) → IsSpanOf test most span → span.to ≤ span.from → u < most → test u ≡ false
-unfolding is_within
-span_empty test most span u is empty within = is.passed u within ∙ none_between span.from span.to u empty
+  pub is_within-inside : span.from ≤ u → u < span.to → is_within span u ≡ true
+  unfolding is_within
+  is_within-inside from to = inside_both span.from span.to u from to
 
--- nor where none passes outside such a span
-pub nowhere : (test : ℕ → Bool) (most : ℕ) (span : Span) (u : ℕ) →
-    ((u : ℕ) → u < most → u < span.from → test u ≡ false) → ((u : ℕ) → u < most → span.to ≤ u → test u ≡ false) →
-    span.to ≤ span.from → u < most → test u ≡ false
-nowhere test most span u below above empty within = ⊎_elim (λ before. below u within before) (λ after. above u within (omega arith)) (cases_lt u span.from)
+  -- where none before the span and none after it passes the test, none outside it does
+  pub outside_none : (test : ℕ → Bool) → (u < span.from → test u ≡ false) → (span.to ≤ u → test u ≡ false) → is_within span u ≡ false → test u ≡ false
+  outside_none test before after out = ⊎_elim before
+      (λ from. ⊎_elim (λ to. absurd (false≢true (sym out ∙ is_within-inside from to))) after (cases_lt u span.to))
+      (cases_lt u span.from)
 
 -- the tests that give the ends of a span
 pub IsSpanOf-ends : (low high test : ℕ → Bool) (most : ℕ) (span : Span) → span.to ≤ most →

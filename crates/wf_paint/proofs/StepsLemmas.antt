@@ -1,8 +1,10 @@
 -- Which multiples of a step lie below a bound: those up to a quotient.
-use Rattle.std.proofs.Common.{◌≡◌, ℕ, ◌+◌, ◌-◌, ◌*◌, ◌/◌, ◌<◌, ◌≤◌, min, nat_lt, ℤ, pos, negsuc, ◌-ℤ◌, ◌≤ℤ◌, ◌<ℤ◌, unsigned_abs, refl, arith}
+use Rattle.std.proofs.Common.{◌≡◌, ℕ, suc, ◌+◌, ◌-◌, ◌*◌, ◌/◌, ◌<◌, ◌≤◌, inl, inr, false, int_lt, nat_lt, ℤ, pos, negsuc, ◌+ℤ◌, ◌-ℤ◌, ◌*ℤ◌, ◌≤ℤ◌, ◌<ℤ◌, neg_ℤ, unsigned_abs, refl, sym, ◌∙◌, arith}
 use Rattle.std.proofs.lemmas.Bool.Decides.{same_from_decides, Decides-ltb, Decides-like}
 use Rattle.std.proofs.lemmas.Int.{ints}
-use Rattle.std.proofs.Math.Nat.{le-div_iff_mul-le, mul_comm}
+use Rattle.std.proofs.Math.Nat.{le-div_iff_mul-le, mul-le-mul, mul_comm}
+use Rattle.std.proofs.Math.IntN.{negsuc-*ℤ-pos}
+use Rattle.std.proofs.lemmas.Bool.{cases_lt}
 use Rattle.wf_paint.specs.Exact.{plus, product, is_less}
 use Rattle.wf_paint.specs.Place.{middle}
 
@@ -16,14 +18,6 @@ multiples_counted step bound u some positive =
     less_alike (step * u) bound u ((bound - 1) / step + 1)
     (λ below. let up : u ≤ (bound - 1) / step = (le-div_iff_mul-le least).1 (omega (arith, mul_comm step u)) in omega arith)
     (λ counted. let up : u * step ≤ bound - 1 = (le-div_iff_mul-le least).0 (omega arith) in omega (arith, mul_comm step u))
-
--- a bound has as many of the first numbers below it as of more of them
-pub fewer_counted : (u end most : ℕ) → u < most → nat_lt u end ≡ nat_lt u (min end most)
-fewer_counted u end most within = less_alike u end u (min end most) (λ below. omega arith) (λ below. omega arith)
-
--- after a shift, the numbers below the end are those below the end less the shift
-pub counted_from : (u end across : ℕ) → nat_lt (u + across) end ≡ nat_lt u (end - across)
-counted_from u end across = less_alike (u + across) end u (end - across) (λ below. omega arith) (λ below. omega arith)
 
 -- for a positive step and bound, the sizes are compared
 pub positive_multiples : (step bound : ℤ) (u : ℕ) → pos 1 ≤ℤ step → pos 0 <ℤ bound →
@@ -46,3 +40,22 @@ no_multiples (negsuc s) bound u some none = absurd (omega (arith, ints))
 pub centre_less : (u place : ℤ) → is_less (middle u) place ≡ is_less (product (pos 16) u) (place -ℤ pos 8)
 unfolding plus is_less
 centre_less u place = grind (arith, ints)
+
+-- the multiples of a divisor that aren't above a number are those up to its quotient
+pub multiples_to : (divisor rest u : ℕ) (whole : ℤ) → rest < divisor →
+    is_less (product (pos divisor) (pos u)) (plus (plus (product whole (pos divisor)) (pos rest)) (pos 1)) ≡ is_less (pos u) (plus whole (pos 1))
+unfolding product plus is_less
+multiples_to d r u (pos q) below = less_alike (d * u) (q * d + r + 1) u (q + 1)
+    (λ under. elim (cases_lt u (q + 1)) [
+      | inl before ↦ before
+      | inr after ↦
+          let more : (q + 1) * d ≤ u * d = mul-le-mul after (omega arith) in
+          absurd (omega (arith, mul_comm u d))
+    ])
+    (λ before. let most : u * d ≤ q * d = mul-le-mul (omega arith) (omega arith) in omega (arith, mul_comm u d))
+multiples_to d r u (negsuc q) below =
+    let more : 1 * d ≤ suc q * d = mul-le-mul (omega arith) (omega arith) in
+    let under : negsuc q *ℤ pos d ≡ neg_ℤ (pos (suc q * d)) = negsuc-*ℤ-pos q d in
+    let some : int_lt (pos (d * u)) ((negsuc q *ℤ pos d +ℤ pos r) +ℤ pos 1) ≡ false = grind (arith, ints) in
+    let none : int_lt (pos u) (negsuc q +ℤ pos 1) ≡ false = grind (arith, ints) in
+    some ∙ sym none

@@ -11,8 +11,11 @@ pub mod Pixmap
 pub mod Cells
 pub mod Canvas
 pub mod Shown
+pub mod Quotient
 pub mod Level
 pub mod Span
+pub mod Strip
 pub mod Grid
 pub mod Tile
 pub mod Drawing
+pub mod Direction

@@ -1,22 +1,24 @@
 //! Lines of a given width along segments, drawn row by row.
 ghost use Rattle.std.specs.Prelude.{◌≡◌, ℕ, ◌*◌, ◌≤◌, ◌<◌, ◌^◌, false, pos, nat_abs};
-ghost use Rattle.wf_paint.specs.Near.{IsNear};
+ghost use Rattle.wf_paint.specs.Near.{IsNear, IsReach, IsArea};
 ghost use Rattle.wf_paint.specs.Exact.{plus, difference, is_less};
+ghost use Rattle.wf_paint.specs.Level.{level_at};
 ghost use Rattle.wf_paint.specs.Place.{centre, turned};
-ghost use Rattle.wf_paint.specs.Coverage.{run, rise, is_along, is_in_band, is_across, is_on_flat, is_on, is_on_any};
+ghost use Rattle.wf_paint.specs.Coverage.{deviation, margin, is_along, is_across, is_on_flat, is_on, is_on_any};
 ghost use Rattle.wf_paint.specs.Operation.{in_color, LineOf};
 ghost use Rattle.wf_paint.specs.Shown.{IsShown, IsColored};
-ghost use Rattle.wf_paint.specs.Span.{IsSpanOf, shared};
-ghost use Rattle.wf_paint.specs.View.{most_pixels};
+ghost use Rattle.wf_paint.specs.Span.{IsSpanOf};
 
 use crate::canvas::Canvas;
 use crate::coverage::{deviation, is_steep, margin, rise, run};
-use crate::exact::{is_less, opposite, product};
-use crate::level::{centres_between, pixels_within, pixels_within_steps};
+use crate::exact::is_less;
+use crate::level::centres_between;
+use crate::levels::Levels;
 use crate::place::Place;
 use crate::segment::Segment;
 use crate::span::Span;
 use crate::steps::centres_below;
+use crate::strip::draw_strip;
 use wf_def::color::Color;
 
 /// Paints a line of `width` pixels along each segment; nothing if `color` is None.
@@ -66,21 +68,25 @@ fn draw_rightward(canvas: &mut Canvas, width: u8, left: Place, right: Place, col
     ensures { IsColored (λ column row. is_across width (centre (pos column) (pos row)) left right) color canvas.old canvas.new }
 {
     let columns = span_along(left, right, canvas.width());
-    if columns.from < columns.to {
-        draw_rows(canvas, width, left, right, columns, color);
-    }
+    let rows = rows_near(width, left, right, canvas.height());
+    draw_strip(canvas, deviations(width, left, right), rows, columns, color);
 }
 
-/// The same; `columns` are those between its ends.
-fn draw_rows(canvas: &mut Canvas, width: u8, left: Place, right: Place, columns: Span, color: Color)
-    requires { (v : ℕ) → IsSpanOf (λ u. is_along (centre (pos u) (pos v)) left right) canvas.old.width columns }
-    ensures { IsColored (λ column row. is_across width (centre (pos column) (pos row)) left right) color canvas.old canvas.new }
+/// How far each pixel's centre lies above the line from `left` to `right`, times the line's x length; the margin is half the width
+/// of the line in the same measure.
+fn deviations(width: u8, left: Place, right: Place) -> Levels
+    ensures origin { nat_abs result.origin ≤ 2 ^ 109 }
+    ensures across { IsReach result.across }
+    ensures up { IsReach result.up }
+    ensures margin { result.margin ≡ margin width left right }
+    ensures margin_within { IsArea result.margin }
+    ensures value { (u v : ℕ) → level_at result u v ≡ deviation (centre (pos u) (pos v)) left right }
 {
-    let most = canvas.width();
-    let rows = rows_near(width, left, right, canvas.height());
-    for row in rows.from..rows.to {
-        let span = columns_across(width, left, right, row, columns, most);
-        canvas.cover(row, span.from, span.to, color);
+    Levels {
+        origin: deviation(Place::centre(0, 0), left, right),
+        across: rise(right, left),
+        up: run(left, right),
+        margin: margin(width, left, right),
     }
 }
 
@@ -148,23 +154,6 @@ fn upper_border(width: u8, place: i64) -> i64
     place + 8 * i64::from(width)
 }
 
-/// The columns, of the first `most`, that the line from `left` to `right` covers in a row. `columns` are those between its ends.
-fn columns_across(width: u8, left: Place, right: Place, row: u32, columns: Span, most: u32) -> Span
-    requires { IsSpanOf (λ u. is_along (centre (pos u) (pos row)) left right) most columns }
-    ensures { IsSpanOf (λ u. is_across width (centre (pos u) (pos row)) left right) most result }
-{
-    both(columns, band_across(width, left, right, row, most))
-}
-
-/// The columns, of the first `most`, whose pixels in this row lie within half the width of the line.
-fn band_across(width: u8, left: Place, right: Place, row: u32, most: u32) -> Span
-    ensures { IsSpanOf (λ u. is_in_band width (centre (pos u) (pos row)) left right) most result }
-{
-    let start = deviation(Place::centre(0, row), left, right);
-    let step = opposite(product(16, rise(left, right)));
-    pixels_within(start, step, margin(width, left, right), most)
-}
-
 /// Paints the line between two positions, in either order. It is longer along y than along x; the positions have their axes
 /// exchanged.
 fn draw_steep(canvas: &mut Canvas, width: u8, from: Place, to: Place, color: Color)
@@ -181,42 +170,30 @@ fn draw_steep(canvas: &mut Canvas, width: u8, from: Place, to: Place, color: Col
 fn draw_upward(canvas: &mut Canvas, width: u8, low: Place, high: Place, color: Color)
     ensures { IsColored (λ column row. is_across width (turned (centre (pos column) (pos row))) low high) color canvas.old canvas.new }
 {
-    let columns = rows_near(width, low, high, canvas.width());
-    if columns.from < columns.to {
-        draw_rows_upward(canvas, width, low, high, color);
-    }
-}
-
-/// The same, where the line may be near some column.
-fn draw_rows_upward(canvas: &mut Canvas, width: u8, low: Place, high: Place, color: Color)
-    ensures { IsColored (λ column row. is_across width (turned (centre (pos column) (pos row))) low high) color canvas.old canvas.new }
-{
-    let most = canvas.width();
     let rows = span_along(low, high, canvas.height());
-    for row in rows.from..rows.to {
-        let span = band_upward(width, low, high, row, most);
-        canvas.cover(row, span.from, span.to, color);
-    }
+    let columns = rows_near(width, low, high, canvas.width());
+    draw_strip(
+        canvas,
+        turned_deviations(width, low, high),
+        rows,
+        columns,
+        color,
+    );
 }
 
-/// The columns, of the first `most`, whose pixels in this row lie within half the width of the line; the positions have their
-/// axes exchanged.
-fn band_upward(width: u8, low: Place, high: Place, row: u32, most: u32) -> Span
-    requires { most ≤ most_pixels }
-    ensures { IsSpanOf (λ u. is_in_band width (turned (centre (pos u) (pos row))) low high) most result }
+/// The same for each pixel's centre with its axes exchanged.
+fn turned_deviations(width: u8, low: Place, high: Place) -> Levels
+    ensures origin { nat_abs result.origin ≤ 2 ^ 109 }
+    ensures across { IsReach result.across }
+    ensures up { IsReach result.up }
+    ensures margin { result.margin ≡ margin width low high }
+    ensures margin_within { IsArea result.margin }
+    ensures value { (u v : ℕ) → level_at result u v ≡ deviation (turned (centre (pos u) (pos v))) low high }
 {
-    let start = deviation(Place::centre(0, row).turned(), low, high);
-    let step = product(16, run(low, high));
-    let margin = margin(width, low, high);
-    pixels_within_steps(start, step, margin, most, u32::from(width))
-}
-
-/// The intersection of two spans.
-fn both(a: Span, b: Span) -> Span
-    ensures { result ≡ shared a b }
-{
-    Span {
-        from: a.from.max(b.from),
-        to: a.to.min(b.to),
+    Levels {
+        origin: deviation(Place::centre(0, 0).turned(), low, high),
+        across: run(low, high),
+        up: rise(high, low),
+        margin: margin(width, low, high),
     }
 }

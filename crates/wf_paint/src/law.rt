@@ -1,8 +1,16 @@
-//! The theorem about tiles.
+//! Theorems about the definitions: of tiles, and of segments.
+ghost use Rattle.wf_paint.specs.Direction.{LinesHaveNoDirection, EdgesHaveNoDirection};
 ghost use Rattle.wf_paint.specs.Drawing.{IsPartOfTheDrawing};
 
 /// Each tile's view is a part of one drawing over the whole grid of its level. A pixel has the same colour whichever tile's view
 /// paints it, so fills and lines continue across neighbouring tiles. A theorem: the call does nothing.
 pub fn tiles_are_parts_of_one_drawing()
     ensures { IsPartOfTheDrawing }
+{}
+
+/// It makes no difference which end of a segment comes first: a line along it covers the same positions, and the rays that meet it
+/// as an edge are the same. A theorem: the call does nothing.
+pub fn segments_have_no_direction()
+    ensures lines { LinesHaveNoDirection }
+    ensures edges { EdgesHaveNoDirection }
 {}

@@ -1,7 +1,12 @@
-//! The number of multiples of a step below a bound. Every boundary of a shape in a row is computed by it.
-ghost use Rattle.std.specs.Prelude.{◌≡◌, ℕ, ◌*◌, ◌/◌, ◌<◌, ◌≤◌, nat_lt, pos, ◌≤ℤ◌};
-ghost use Rattle.wf_paint.specs.Exact.{product, is_less};
+//! The number of multiples of a step below a bound. Every boundary of a shape in a row is computed by it: by a division, or from the
+//! row before by a sum.
+ghost use Rattle.std.specs.Prelude.{◌≡◌, ℕ, ◌+◌, ◌*◌, ◌/◌, ◌^◌, ◌<◌, ◌≤◌, nat_lt, nat_abs, pos, ◌≤ℤ◌};
+ghost use Rattle.std.specs.Int.{int_rem_euclid};
+ghost use Rattle.wf_paint.specs.Exact.{plus, product, quotient, is_less};
 ghost use Rattle.wf_paint.specs.Place.{middle};
+ghost use Rattle.wf_paint.specs.Quotient.{number_of};
+
+use crate::quotient::Quotient;
 
 /// The number of the first `most` pixels of an axis whose centre lies below the position, in sixteenths of a pixel.
 pub(crate) fn centres_below(place: i64, most: u32) -> u32
@@ -39,14 +44,100 @@ fn multiples_below(step: u128, bound: u128, most: u32) -> u32
     }
 }
 
-/// The quotient, by the processor's division where both numbers fit 64 bits.
+/// The quotient, by the processor's division of the least width that both numbers fit: a wider one takes longer.
 fn divided(number: u128, divisor: u128) -> u128
     requires { 1 ≤ divisor }
     ensures { result ≡ number / divisor }
 {
-    if number <= u128::from(u64::MAX) && divisor <= u128::from(u64::MAX) {
+    if number <= u128::from(u32::MAX) && divisor <= u128::from(u32::MAX) {
+        u128::from(number as u32 / divisor as u32)
+    } else if number <= u128::from(u64::MAX) && divisor <= u128::from(u64::MAX) {
         u128::from(number as u64 / divisor as u64)
     } else {
         number / divisor
+    }
+}
+
+/// The number as a quotient by the divisor, rounded down, with its rest.
+#[tactic(auto, using(crate::proofs::QuotientLemmas::divided_again), unfolding(crate::specs::Quotient::number_of))]
+pub(crate) fn quotient(number: i128, divisor: u64) -> Quotient
+    requires divisor { 1 ≤ divisor }
+    requires number { nat_abs number ≤ 2 ^ 112 }
+    ensures value { number_of divisor result ≡ number }
+    ensures rest { result.rest < divisor }
+    ensures within { nat_abs result.whole ≤ 2 ^ 112 }
+{
+    Quotient {
+        whole: whole(number, divisor),
+        rest: rest(number, divisor),
+    }
+}
+
+/// How often the divisor goes into the number, rounded down.
+#[tactic(auto, using(crate::proofs::QuotientLemmas::quotient_bound), unfolding(crate::specs::Exact::quotient))]
+fn whole(number: i128, divisor: u64) -> i128
+    requires divisor { 1 ≤ divisor }
+    requires number { nat_abs number ≤ divisor * 2 ^ 112 }
+    ensures value { result ≡ quotient number (pos divisor) }
+    ensures within { nat_abs result ≤ 2 ^ 112 }
+{
+    number.div_euclid(i128::from(divisor))
+}
+
+/// What is left over.
+fn rest(number: i128, divisor: u64) -> u64
+    requires divisor { 1 ≤ divisor }
+    ensures value { pos result ≡ int_rem_euclid number (pos divisor) }
+    ensures below { result < divisor }
+{
+    number.rem_euclid(i128::from(divisor)).unsigned_abs() as u64
+}
+
+/// The sum of two numbers with the same divisor.
+#[inline(always)]
+pub(crate) fn sum(a: Quotient, b: Quotient, divisor: u64) -> Quotient
+    requires divisor { divisor ≤ 2 ^ 60 }
+    requires first { a.rest < divisor }
+    requires second { b.rest < divisor }
+    requires first_within { nat_abs a.whole ≤ 2 ^ 125 }
+    requires second_within { nat_abs b.whole ≤ 2 ^ 112 }
+    ensures value { number_of divisor result ≡ plus (number_of divisor a) (number_of divisor b) }
+    ensures rest { result.rest < divisor }
+    ensures within { nat_abs result.whole ≤ nat_abs a.whole + 2 ^ 113 }
+{
+    let whole = a.whole + b.whole;
+    let rest = a.rest + b.rest;
+    if rest < divisor {
+        Quotient { whole, rest }
+    } else {
+        Quotient {
+            whole: whole + 1,
+            rest: rest - divisor,
+        }
+    }
+}
+
+/// The number of the first `most` multiples of the divisor, from 0 on, that aren't greater than the number.
+#[inline(always)]
+pub(crate) fn multiples_up_to(number: Quotient, most: u32) -> u32
+    requires { nat_abs number.whole ≤ 2 ^ 125 }
+    ensures within { result ≤ most }
+    ensures below { (divisor u : ℕ) → number.rest < divisor → u < most → is_less (product (pos divisor) (pos u)) (plus (number_of divisor number) (pos 1)) ≡ nat_lt u result }
+{
+    integers_below(number.whole + 1, most)
+}
+
+/// The number of integers in 0..most below the bound.
+#[tactic(auto, unfolding(crate::specs::Exact::is_less))]
+fn integers_below(bound: i128, most: u32) -> u32
+    ensures within { result ≤ most }
+    ensures below { (u : ℕ) → u < most → is_less (pos u) bound ≡ nat_lt u result }
+{
+    if bound <= 0 {
+        0
+    } else if bound < i128::from(most) {
+        bound as u32
+    } else {
+        most
     }
 }

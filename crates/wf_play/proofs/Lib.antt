@@ -1,4 +1,5 @@
 mod Comparing
+mod Ending
 mod Faults
 mod Performing
 mod Playing

@@ -1,9 +1,9 @@
 -- What two nodes of a farm answer to one query, compared.
 use Rattle.std.specs.Prelude.{◌≡◌, ◌⊎◌, ◌&&◌, ℕ, Bool, true, List, bytes_eq, slice_get}
-use Rattle.wf_wms.specs.Answer.{AnswerValue}
+use Rattle.wf_wms.specs.Answer.{AnswerValue, AsksForMap}
 use Rattle.wf_wms.specs.declared.kind.Kind.{Kind}
 use Rattle.wf_wms.specs.contracts.kind.KindPartialEq.TheImpl as kinds
-use Rattle.wf_farm.specs.Answering.{Answers, AsksForMap, IsNoAnswer, sequence_at}
+use Rattle.wf_farm.specs.Answering.{Answers, IsNoAnswer, sequence_at}
 use Rattle.wf_farm.specs.Farm.{Farm, running_in}
 use Rattle.wf_farm.specs.declared.fault.FarmFault.{FarmFault}
 

@@ -5,3 +5,4 @@ pub mod Performing
 pub mod Comparison
 pub mod Telling
 pub mod Law
+pub mod Ending

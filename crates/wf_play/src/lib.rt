@@ -20,6 +20,8 @@
 //! [`run_script`]:
 //! - It returns a read error only where a read failed, and a write error exactly where a write failed.
 //! - Where it returns an error of the script other than allocation failure, nothing is written, and the error is the input's own.
+//! - Where an allocation fails at an order, the error names its line, and what the orders before it write is written; where a write
+//!   fails, that is written, and a beginning of what one order more writes (`WritesBeginning` of `specs/Ending.antt`).
 //! - After Ok the whole input is a script, each of its orders was performed in turn on a new farm, and exactly their output was
 //!   written (`PlaysInput` of `specs/Running.antt`).
 #![tactic(auto)]

@@ -4,6 +4,7 @@ ghost use Rattle.std.specs.Prelude.{◌≡◌, ◌+◌, ◌<◌, IfErr, IfOk, If
 ghost use Rattle.std.specs.Io.KnownBytes.{IsAtEnd};
 ghost use Rattle.wf_stream.specs.Reading.{TakesUpTo};
 ghost use Rattle.wf_script.specs.Lines.{judged, most_script_bytes};
+ghost use Rattle.wf_play.specs.Ending.{IsEnded, MayBeBegun, WritesBeginning};
 ghost use Rattle.wf_play.specs.Fault.{CountsReads, CountsWrites, IsInputFault, IsPlayingFault, KeepsQuiet};
 ghost use Rattle.wf_script.specs.Fault.{IsMemory};
 ghost use Rattle.wf_play.specs.Running.{HavePlayed, IsRefusalOf, IsScriptText, PlaysInput, ReadsWhole, WritesPlay};
@@ -18,7 +19,8 @@ use wf_stream::{Sink, Source, read_up_to, write_all};
 
 /// Reads a script to its end, or to the byte that makes it too long, and plays it on a new farm. The output of each order is
 /// written once the order is performed. Where the script has an error, nothing is written. Where S1 comes at an
-/// order, the output of the orders before it is written.
+/// order, it is at that order's line, and exactly the output of the orders before it is written. Where a write fails, exactly the
+/// output of the orders before and a beginning of the output of one order is.
 #[tactic(auto, using(crate::proofs::Faults::no_writes_yet, crate::proofs::WholeInput::ends_whole, crate::proofs::WholeInput::no_script_ends))]
 pub fn run_script<S: Source, K: Sink>(
     alloc: Global,
@@ -28,6 +30,7 @@ pub fn run_script<S: Source, K: Sink>(
     ensures whole { ReadsWhole (S.left source.old) (S.left source.new) result }
     ensures plays { OnOk result (PlaysInput (S.left source.old) (K.written sink.old) (K.written sink.new)) }
     ensures quiet { IfErr result (KeepsQuiet (K.written sink.old) (K.written sink.new)) }
+    ensures begun { IfErr result (WritesBeginning (S.left source.old) (K.written sink.old) (K.written sink.new)) }
     ensures most { TakesUpTo (most_script_bytes + 1) (S.left source.old) (S.left source.new) }
     ensures reads { CountsReads result (S.failures source.old) (S.failures source.new) }
     ensures writes { CountsWrites result (K.failures sink.old) (K.failures sink.new) }
@@ -82,6 +85,7 @@ fn script<S: Source>(alloc: Global, source: &mut S) -> Result<Script, PlayFault>
 /// Plays a script on a new farm.
 fn play<K: Sink>(alloc: Global, script: &Script, sink: &mut K) -> Result<(), PlayFault>
     ensures plays { OnOk result (WritesPlay script.now (K.written sink.old) (K.written sink.new)) }
+    ensures begun { IfErr result (MayBeBegun script.now (K.written sink.old) (K.written sink.new)) }
     ensures err { IfErr result IsPlayingFault }
     ensures writes { CountsWrites result (K.failures sink.old) (K.failures sink.new) }
 {
@@ -104,6 +108,7 @@ fn perform_all<K: Sink>(
     sink: &mut K,
 ) -> Result<(), PlayFault>
     ensures plays { OnOk result (HavePlayed count session.old.script session.old.farm session.new.farm (K.written sink.old) (K.written sink.new)) }
+    ensures ended { IfErr result (IsEnded session.old.script session.old.farm (K.written sink.old) (K.written sink.new)) }
     ensures err { IfErr result IsPlayingFault }
     ensures writes { CountsWrites result (K.failures sink.old) (K.failures sink.new) }
 {

@@ -1,11 +1,13 @@
 -- The beginning of a proposal is the table's, for a first attempt and for a retry.
-use Rattle.std.proofs.Common.{◌≡◌, ℕ, ◌+◌, max, Result, Ok, Err, IfOk, ap, sym, subst, ◌∙◌}
+use Rattle.std.proofs.Common.{◌≡◌, ℕ, ◌+◌, max, Bool, None, Result, Ok, Err, IfOk, ap, sym, subst, ◌∙◌}
+use Rattle.wf_ballot.specs.Ballot.{Ballot}
 use Rattle.wf_def.specs.Definition.{Definition}
 use Rattle.wf_model.specs.Fits.{IsForNext}
 use Rattle.wf_model.specs.Stored.{HasStored, Stored, next_sequence}
-use Rattle.wf_model.specs.Table.{begin_at, stores, on_propose, on_retry, round_known}
+use Rattle.wf_model.specs.Message.{Prepare}
+use Rattle.wf_model.specs.Stored as stored_part
+use Rattle.wf_model.specs.Table.{Row, begin_at, stores, on_propose, on_retry, round_known}
 use Rattle.wf_model.specs.Working as model
-use Rattle.wf_model.specs.Working.{nobody}
 use Rattle.wf_proposer.specs.Next.{Next, begun, row_at}
 use Rattle.wf_proposer.specs.Proposal.{proposal_of}
 use Rattle.wf_proposer.specs.Working.{working_of}
@@ -13,11 +15,28 @@ use Rattle.wf_proposer.specs.declared.proposal.Proposal.{Proposal}
 use Rattle.wf_proposer.specs.declared.refusal.Refusal.{Refusal}
 use Rattle.wf_proposer.specs.declared.working.Working.{Working}
 use Rattle.wf_proposer.specs.declared.working.Working.TheVariants.{Running}
+use Rattle.wf_proposer.proofs.HeardSets.{among-nobody}
+
+-- the beginning of a proposal, with these nodes as those whose answers are counted
+abbrev begun_with : ℕ → Definition → Ballot → (ℕ → Bool) → Row Definition
+begun_with s own ballot heard =
+    stores (model.Running (record {
+      sequence = s;
+      ballot = ballot;
+      own = own;
+      phase = model.Preparing;
+      heard = heard;
+      best = None;
+      seen = 0;
+    }))
+    (stored_part.Tried ballot.round) (Prepare s ballot)
 
 begun-row : (w : Working) (me slot round : ℕ) (own : Definition) (stored : Stored Definition) → slot ≡ next_sequence stored →
     row_at w (begun slot own (record { round = round; node = me })) ≡ begin_at me stored own round
-unfolding begin_at stores nobody
-begun-row w me slot round own stored for_next = ap (λ s. row_at w (begun s own (record { round = round; node = me }))) for_next
+unfolding begin_at stores
+begun-row w me slot round own stored for_next =
+    let ballot : Ballot = record { round = round; node = me } in
+    ap (λ s. row_at w (begun s own ballot)) for_next ∙ ap (begun_with (next_sequence stored) own ballot) among-nobody
 
 -- the first attempt is for the sequence after the published ones, in the round after the one tried
 first-row : (next : Next) (w : Working) (me slot tried sequence : ℕ) (own : Definition) (stored : Stored Definition) →

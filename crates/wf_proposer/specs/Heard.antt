@@ -1,7 +1,7 @@
--- The nodes whose answers are counted, as a set.
-use Rattle.std.specs.Prelude.{ℕ, Bool, List, ◌==◌}
-use Rattle.std.specs.List.{list_any}
+-- The nodes whose answers are counted, as a set: a number, of which each bit is a node.
+use Rattle.std.specs.Prelude.{ℕ, Bool, ◌==◌}
+use Rattle.std.specs.Int.{bit_at}
 
--- whether node i is in the list
-abbrev pub among : List ℕ → ℕ → Bool
-among nodes i = list_any (λ node. node == i) nodes
+-- whether node i is among the nodes of the mask: bit i, counted from the lowest, is 1
+unfoldable pub among : ℕ → ℕ → Bool
+among mask i = bit_at mask i == 1

@@ -1,5 +1,5 @@
 -- A proposer's result, as a transition of the step table.
-use Rattle.std.specs.Prelude.{ℕ, List, [], ◌∷◌, map, Option, Some, None, option_map}
+use Rattle.std.specs.Prelude.{◌≡◌, ℕ, List, [], ◌∷◌, map, Option, Some, None, option_map}
 use Rattle.wf_ballot.specs.Ballot.{Ballot}
 use Rattle.wf_def.specs.Definition.{Definition}
 use Rattle.wf_tape.specs.declared.record.Record.{Record}
@@ -38,5 +38,9 @@ begun slot own ballot =
     record {
       entry = Some (Tried ballot.round);
       messages = Prepare slot ballot ∷ [];
-      change = Becomes (Running (record { slot = slot; ballot = ballot; own = own; phase = Preparing; heard = []; best = None; seen = 0 }));
+      change = Becomes (Running (record { slot = slot; ballot = ballot; own = own; phase = Preparing; heard = 0; best = None; seen = 0 }));
     }
+
+-- the transition sends something
+abbrev pub Sends : Row Definition → Type 0
+Sends row = row.messages ≡ [] → ⊥

@@ -13,7 +13,7 @@ abbrev pub phase_of : Phase → model.Phase
 phase_of Preparing = model.Preparing
 phase_of Accepting = model.Accepting
 
--- the running proposal, its list of counted nodes as a set
+-- the running proposal, its mask of counted nodes as a set
 abbrev pub proposal_of : Proposal → model.Proposal Definition
 proposal_of p =
     record {

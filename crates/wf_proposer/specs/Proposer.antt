@@ -1,9 +1,8 @@
 -- The model of a node's proposer, and its working part as in wf_model.
 use Rattle.std.specs.Prelude.{◌==◌, ℕ, Bool, false}
-use Rattle.wf_ballot.specs.Ballot.{Ballot}
 use Rattle.wf_def.specs.Definition.{Definition}
 use Rattle.wf_model.specs.Working as model
-use Rattle.wf_model.specs.Table.{Row, hears}
+use Rattle.wf_model.specs.Table.{Row}
 use Rattle.wf_proposer.specs.Working as shown
 use Rattle.wf_proposer.specs.Next.{Next, row_at}
 use Rattle.wf_proposer.specs.declared.working.Working.{Working}
@@ -28,10 +27,3 @@ runs_for s model.Idle = false
 runs_for s (model.Running p) = p.sequence == s
 runs_for s (model.Won t) = false
 runs_for s (model.Overtaken t) = false
-
--- whether a running proposal counts the answer: it is of its phase, sequence and ballot, from a sender not counted yet
-abbrev pub is_heard : ℕ → model.Working Definition → model.Phase → ℕ → ℕ → Ballot → Bool
-is_heard n model.Idle phase sender s b = false
-is_heard n (model.Running p) phase sender s b = hears n p phase sender s b
-is_heard n (model.Won t) phase sender s b = false
-is_heard n (model.Overtaken t) phase sender s b = false

@@ -1,4 +1,4 @@
-ghost use Rattle.std.specs.Prelude.{◌≡◌, ◌+◌, ◌<◌, true, if◌then◌else◌, Err, IfOk, IsErr};
+ghost use Rattle.std.specs.Prelude.{◌≡◌, ◌+◌, ◌<◌, if◌then◌else◌, Err, IfOk, IsErr};
 ghost use Rattle.wf_ballot.specs.Sequence.{last_sequence};
 ghost use Rattle.wf_codec.specs.Message.{view_vote};
 ghost use Rattle.wf_def.specs.Definition.{Definition};
@@ -7,7 +7,8 @@ ghost use Rattle.wf_model.specs.Fits.{IsForNext};
 ghost use Rattle.wf_model.specs.Stored.{HasStored, Stored};
 ghost use Rattle.wf_model.specs.Table as table;
 ghost use Rattle.wf_model.specs.Working as model;
-ghost use Rattle.wf_proposer.specs.Proposer.{is_heard, row_of, runs_for, working_of};
+ghost use Rattle.wf_proposer.specs.Next.{Sends};
+ghost use Rattle.wf_proposer.specs.Proposer.{row_of, runs_for, working_of};
 ghost use Rattle.wf_proposer.specs.Refusal.{refused_by, IsWhyNot};
 ghost use Rattle.wf_proposer.specs.Standing.{standing_of};
 
@@ -129,7 +130,8 @@ impl Proposer {
         }
     }
 
-    /// A Promise of `from` arrived. The only error is allocation failure, and only if the answer is counted.
+    /// A Promise of `from` arrived. The only error is allocation failure, and only if the transition sends something: an answer
+    /// that leaves no majority doesn't allocate.
     #[tactic(auto, unfolding(wf_model::specs::Table::on_promise, wf_model::specs::Table::quiet))]
     pub fn on_promise(
         &self,
@@ -139,7 +141,7 @@ impl Proposer {
         ballot: Ballot,
         vote: Option<(Ballot, Canon)>,
     ) -> Result<Next, Refusal>
-        ensures memory { IsErr result → (is_heard self.now.nodes (working_of self.now) model.Preparing from slot ballot ≡ true) × (result ≡ Err Refusal.Memory) }
+        ensures memory { IsErr result → Sends (table.on_promise self.now.nodes (working_of self.now) from slot ballot (view_vote vote)) × (result ≡ Err Refusal.Memory) }
         ensures row { IfOk result (λ next. row_of self.now next ≡ table.on_promise self.now.nodes (working_of self.now) from slot ballot (view_vote vote)) }
     {
         match &self.working {
@@ -153,7 +155,8 @@ impl Proposer {
         }
     }
 
-    /// An Accepted of `from` arrived. The only error is allocation failure, and only if the answer is counted.
+    /// An Accepted of `from` arrived. The only error is allocation failure, and only if the transition sends something: an answer
+    /// that leaves no majority doesn't allocate.
     #[tactic(auto, unfolding(wf_model::specs::Table::on_accepted, wf_model::specs::Table::quiet))]
     pub fn on_accepted(
         &self,
@@ -162,7 +165,7 @@ impl Proposer {
         slot: Slot,
         ballot: Ballot,
     ) -> Result<Next, Refusal>
-        ensures memory { IsErr result → (is_heard self.now.nodes (working_of self.now) model.Accepting from slot ballot ≡ true) × (result ≡ Err Refusal.Memory) }
+        ensures memory { IsErr result → Sends (table.on_accepted definition_eq self.now.nodes (working_of self.now) from slot ballot) × (result ≡ Err Refusal.Memory) }
         ensures row { IfOk result (λ next. row_of self.now next ≡ table.on_accepted definition_eq self.now.nodes (working_of self.now) from slot ballot) }
     {
         match &self.working {

@@ -1,69 +1,73 @@
-ghost use Rattle.std.specs.Prelude.{◌≡◌, [], ◌∷◌, ◌++◌, IfOk};
+ghost use Rattle.std.specs.Prelude.{◌≡◌, ◌<◌, ◌%◌, ◌^◌, ℕ, bit_and};
 ghost use Rattle.wf_ballot.specs.Majority.{count_nodes, is_majority_of};
+ghost use Rattle.wf_model.specs.Working.{and_node};
 ghost use Rattle.wf_proposer.specs.Heard.{among};
 
-use std::alloc::{AllocError, Global};
 use std::marker::Model;
-use wf_ballot::{NodeId, is_majority};
+use wf_ballot::{NODES, NodeId, is_majority};
 
-/// The nodes whose answers are counted, in order of arrival.
-#[derive(Drop)]
+/// The nodes whose answers are counted: one bit for each of the 64 nodes that a farm may have, node 0's the lowest. No call
+/// allocates.
+#[derive(Clone, Copy)]
 pub struct Heard {
-    nodes: Vec<NodeId>,
+    mask: u64,
 }
 
 impl Model for Heard {
-    ghost use Rattle.std.specs.Prelude.{ℕ, List};
+    ghost use Rattle.std.specs.Prelude.{ℕ};
 
-    ghost Value = { List ℕ };
+    ghost Value = { ℕ };
 
-    ghost view = { λ h. h.nodes.items };
+    ghost view = { λ h. h.mask };
+
+    ghost inverse = { λ bits. record { mask = bits } };
 }
 
 impl Heard {
     /// No nodes.
-    pub fn nobody(alloc: Global) -> Heard
-        ensures { result ≡ [] }
+    pub fn nobody() -> Heard
+        ensures { result ≡ 0 }
+    {
+        Heard { mask: 0 }
+    }
+
+    /// Whether the node's answer is counted.
+    #[tactic(auto, using(crate::proofs::HeardSets::bit_is_read))]
+    pub fn contains(self, node: NodeId) -> bool
+        ensures { result ≡ among self node }
+    {
+        (self.mask >> node.number()) & 1 == 1
+    }
+
+    /// These nodes and this one. A node that is among them already isn't counted again.
+    #[tactic(auto, using(crate::proofs::HeardSets::bit_is_set))]
+    pub fn with(self, node: NodeId) -> Heard
+        ensures { among result ≡ and_node (among self) node }
     {
         Heard {
-            nodes: Vec::new(alloc),
+            mask: self.mask | (1 << node.number()),
         }
-    }
-
-    /// Whether the answer of the node of this number is counted.
-    pub fn contains(&self, number: u8) -> bool
-        ensures { result ≡ among self.now number }
-    {
-        self.nodes.iter().any(|node| node.number() == number)
-    }
-
-    /// These nodes and one more.
-    pub fn with(&self, node: NodeId) -> Result<Heard, AllocError>
-        ensures { IfOk result (λ h. h ≡ self.now ++ node ∷ []) }
-    {
-        let mut nodes = self.nodes.clone()?;
-        nodes.push(node)?;
-        Ok(Heard { nodes })
     }
 
     /// The number of nodes 0 to n - 1 whose answers are counted.
-    #[tactic(auto, unfolding(wf_ballot::specs::Majority::count_nodes))]
-    pub fn count(&self, n: u8) -> usize
-        ensures { result ≡ count_nodes n (among self.now) }
+    pub fn count(self, n: u8) -> usize
+        ensures { result ≡ count_nodes n (among self) }
     {
-        let mut count = 0;
-        for number in 0..n {
-            if self.contains(number) {
-                count += 1;
-            }
-        }
-        count
+        (self.mask & first_nodes(n)).count_ones() as usize
     }
 
     /// Whether these are a majority of the nodes 0 to n - 1.
-    pub fn is_majority(&self, n: u8) -> bool
-        ensures { result ≡ is_majority_of (count_nodes n (among self.now)) n }
+    pub fn is_majority(self, n: u8) -> bool
+        ensures { result ≡ is_majority_of (count_nodes n (among self)) n }
     {
         is_majority(self.count(n), n as usize)
     }
+}
+
+/// The bits of nodes 0 to n - 1: all 64 if n is more.
+#[tactic(auto, using(crate::proofs::HeardSets::shifted_one, crate::proofs::HeardSets::low_bits, crate::proofs::HeardSets::all_bits))]
+fn first_nodes(n: u8) -> u64
+    ensures { (mask : ℕ) → mask < 2 ^ 64 → bit_and mask result ≡ mask % 2 ^ n }
+{
+    if n < NODES { (1 << n) - 1 } else { u64::MAX }
 }

@@ -1,12 +1,12 @@
 //! The proposer of a node: at most one proposal, from its first Prepare until a definition is published.
 //!
 //! Model: a `Proposer` is its node, the farm's number of nodes and its working part; `working_of` (`specs/Proposer.antt`) maps
-//! that to wf_model's, with the list of nodes whose answers are counted as a set. A `Next` is the record to store, if there is
+//! that to wf_model's, with the mask of the nodes whose answers are counted as a set. A `Next` is the record to store, if there is
 //! one, the messages to send and the change of the working part; `row_of` maps it to a transition of wf_model's step table.
 //!
 //! Promises: each call returns the step table's transition, as a function of the working part and the input, and rejects exactly
 //! if the table does, or if allocation fails. A call that returns a `Next` changes nothing until `commit` makes its working part
-//! the node's; `commit` doesn't allocate. Nor does an answer that the proposal doesn't wait for, or a Nack.
+//! the node's; `commit` doesn't allocate. Nor does a Nack, or an answer that leaves no majority, whether it is counted or not.
 //!
 //! Not here: the stored state. The caller passes the tried round and the published sequence, stores a `Next`'s record before it
 //! commits, and sends the messages after that.

@@ -1,4 +1,4 @@
-ghost use Rattle.std.specs.Prelude.{max, [], ◌∷◌, ◌≡◌, ℕ, ◌+◌, ◌↔◌, true, None, Err, IfOk, IsErr, IsErrOf};
+ghost use Rattle.std.specs.Prelude.{max, [], ◌∷◌, ◌≡◌, ◌+◌, None, Err, IfOk, IsErr};
 ghost use Rattle.wf_ballot.specs.Ballot.{last_round};
 ghost use Rattle.wf_codec.specs.Message.{view_vote};
 ghost use Rattle.wf_def.specs.Definition.{Definition};
@@ -8,7 +8,7 @@ ghost use Rattle.wf_model.specs.Stored as stored_part;
 ghost use Rattle.wf_model.specs.Working as model;
 ghost use Rattle.wf_model.specs.Table as table;
 ghost use Rattle.wf_proposer.specs.Change.{advanced, best_now, changed, with_progress, with_seen};
-ghost use Rattle.wf_proposer.specs.Next.{begun, row_at};
+ghost use Rattle.wf_proposer.specs.Next.{begun, row_at, Sends};
 ghost use Rattle.wf_proposer.specs.Proposal.{is_improved_by, phase_of, proposal_of};
 ghost use Rattle.wf_proposer.specs.Refusal.{refused_by};
 ghost use Rattle.wf_proposer.specs.Working.{working_of};
@@ -38,7 +38,7 @@ impl Proposal {
             ballot,
             own,
             phase: Phase::Preparing,
-            heard: Heard::nobody(alloc),
+            heard: Heard::nobody(),
             best: None,
             seen: 0,
         };
@@ -97,7 +97,7 @@ impl Proposal {
             heard,
             better,
         } = progress;
-        drop(replace(&mut self.heard, heard));
+        self.heard = heard;
         self.phase = phase;
         match better {
             None => {}
@@ -133,7 +133,7 @@ impl Proposal {
         self.is_in(phase)
             && self.is_at(slot, ballot)
             && from.number() < n
-            && !self.heard.contains(from.number())
+            && !self.heard.contains(from)
     }
 
     /// Whether a vote at the ballot is better than the best so far.
@@ -191,8 +191,8 @@ impl Proposal {
     }
 
     /// A Promise arrived: it is counted, and its vote replaces the best if it is better. Once a majority has promised, votes are
-    /// asked for. An answer that the proposal doesn't wait for has no effect and doesn't allocate.
-    #[tactic(auto, using(crate::proofs::HeardSets::heard_rules), unfolding(wf_model::specs::Table::on_promise, wf_model::specs::Table::with_promise, wf_model::specs::Table::quiet))]
+    /// asked for; only that allocates. An answer that the proposal doesn't wait for has no effect.
+    #[tactic(auto, unfolding(wf_model::specs::Table::on_promise, wf_model::specs::Table::quiet))]
     pub fn on_promise(
         &self,
         alloc: Global,
@@ -202,7 +202,7 @@ impl Proposal {
         ballot: Ballot,
         vote: Option<(Ballot, Canon)>,
     ) -> Result<Next, Refusal>
-        ensures memory { IsErr result → (table.hears n (proposal_of self.now) model.Preparing from slot ballot ≡ true) × (result ≡ Err Refusal.Memory) }
+        ensures memory { IsErr result → Sends (table.on_promise n (model.Running (proposal_of self.now)) from slot ballot (view_vote vote)) × (result ≡ Err Refusal.Memory) }
         ensures row { IfOk result (λ next. row_at (Running self.now) next ≡ table.on_promise n (model.Running (proposal_of self.now)) from slot ballot (view_vote vote)) }
     {
         if !self.hears(Phase::Preparing, n, from, slot, ballot) {
@@ -213,7 +213,7 @@ impl Proposal {
     }
 
     /// The transition of a promise that the proposal waits for.
-    #[tactic(auto, using(crate::proofs::HeardSets::heard_rules), unfolding(wf_model::specs::Table::with_promise))]
+    #[tactic(auto, unfolding(wf_model::specs::Table::with_promise))]
     fn with_promise(
         &self,
         alloc: Global,
@@ -221,19 +221,16 @@ impl Proposal {
         from: NodeId,
         vote: Option<(Ballot, Canon)>,
     ) -> Result<Next, AllocError>
-        ensures { IfOk result (λ next. row_at (Running self.now) next ≡ table.promised n (table.with_promise (proposal_of self.now) from (view_vote vote))) }
+        ensures memory { IsErr result → Sends (table.promised n (table.with_promise (proposal_of self.now) from (view_vote vote))) }
+        ensures row { IfOk result (λ next. row_at (Running self.now) next ≡ table.promised n (table.with_promise (proposal_of self.now) from (view_vote vote))) }
     {
-        match self.heard.with(from) {
-            Ok(heard) => self.promised(alloc, n, heard, self.improvement(vote)),
-            Err(fault) => {
-                drop(vote);
-                Err(fault)
-            }
-        }
+        let heard = self.heard.with(from);
+        let better = self.improvement(vote);
+        self.promised(alloc, n, heard, better)
     }
 
     /// The transition after these nodes promised, with this vote, if any, as the best.
-    #[tactic(auto, unfolding(wf_model::specs::Table::promised, wf_model::specs::Table::asking_votes, wf_model::specs::Table::says, wf_model::specs::Table::quiet, wf_model::specs::Working::nobody))]
+    #[tactic(auto, using(crate::proofs::HeardSets::nobody_rules), unfolding(wf_model::specs::Table::promised, wf_model::specs::Table::asking_votes, wf_model::specs::Table::says, wf_model::specs::Table::quiet))]
     fn promised(
         &self,
         alloc: Global,
@@ -241,14 +238,13 @@ impl Proposal {
         heard: Heard,
         better: Option<(Ballot, Canon)>,
     ) -> Result<Next, AllocError>
-        ensures { IfOk result (λ next. row_at (Running self.now) next ≡ table.promised n (proposal_of (record self.now { heard = heard; best = best_now better self.now.best }))) }
+        ensures memory { IsErr result → Sends (table.promised n (proposal_of (record self.now { heard = heard; best = best_now better self.now.best }))) }
+        ensures row { IfOk result (λ next. row_at (Running self.now) next ≡ table.promised n (proposal_of (record self.now { heard = heard; best = best_now better self.now.best }))) }
     {
         if !heard.is_majority(n) {
             return Ok(Next::quiet(alloc, self.hearing(heard, better)));
         }
-        drop(heard);
-        let next = self.asks_votes(alloc, better)?;
-        Ok(next)
+        self.asks_votes(alloc, better)
     }
 
     /// These nodes are counted, and this vote, if any, is the best.
@@ -267,7 +263,7 @@ impl Proposal {
         ensures { IfOk result (λ next. next ≡ record {
           entry = None;
           messages = Message.Accept self.now.slot self.now.ballot (model.carried (view_vote (best_now better self.now.best)) self.now.own) ∷ [];
-          change = Change.Advances (record { phase = Accepting; heard = []; better = better });
+          change = Change.Advances (record { phase = Accepting; heard = 0; better = better });
         }) }
     {
         match self.carried(&better).copy() {
@@ -275,7 +271,7 @@ impl Proposal {
                 let message = Message::Accept(self.slot, self.ballot, canon);
                 let progress = Progress {
                     phase: Phase::Accepting,
-                    heard: Heard::nobody(alloc),
+                    heard: Heard::nobody(),
                     better,
                 };
                 Next::says(alloc, None, message, Change::Advances(progress))
@@ -287,9 +283,9 @@ impl Proposal {
         }
     }
 
-    /// An Accepted arrived: it is counted. Once a majority has voted, the definition is published and the proposal ends. An
-    /// answer that the proposal doesn't wait for has no effect and doesn't allocate.
-    #[tactic(auto, using(crate::proofs::HeardSets::heard_rules), unfolding(wf_model::specs::Table::on_accepted, wf_model::specs::Table::with_vote, wf_model::specs::Table::quiet))]
+    /// An Accepted arrived: it is counted. Once a majority has voted, the definition is published and the proposal ends; only that
+    /// allocates. An answer that the proposal doesn't wait for has no effect.
+    #[tactic(auto, unfolding(wf_model::specs::Table::on_accepted, wf_model::specs::Table::with_vote, wf_model::specs::Table::quiet))]
     pub fn on_accepted(
         &self,
         alloc: Global,
@@ -298,25 +294,25 @@ impl Proposal {
         slot: Slot,
         ballot: Ballot,
     ) -> Result<Next, Refusal>
-        ensures memory { IsErr result → (table.hears n (proposal_of self.now) model.Accepting from slot ballot ≡ true) × (result ≡ Err Refusal.Memory) }
+        ensures memory { IsErr result → Sends (table.on_accepted definition_eq n (model.Running (proposal_of self.now)) from slot ballot) × (result ≡ Err Refusal.Memory) }
         ensures row { IfOk result (λ next. row_at (Running self.now) next ≡ table.on_accepted definition_eq n (model.Running (proposal_of self.now)) from slot ballot) }
     {
         if !self.hears(Phase::Accepting, n, from, slot, ballot) {
             return Ok(Next::quiet(alloc, Change::Nothing));
         }
-        let heard = self.heard.with(from)?;
+        let heard = self.heard.with(from);
         Ok(self.voted(alloc, n, heard)?)
     }
 
     /// The transition after these nodes voted.
     #[tactic(auto, unfolding(wf_model::specs::Table::voted, wf_model::specs::Table::ended, wf_model::specs::Table::stores, wf_model::specs::Table::quiet))]
     fn voted(&self, alloc: Global, n: u8, heard: Heard) -> Result<Next, AllocError>
-        ensures { IfOk result (λ next. row_at (Running self.now) next ≡ table.voted definition_eq n (proposal_of (record self.now { heard = heard }))) }
+        ensures memory { IsErr result → Sends (table.voted definition_eq n (proposal_of (record self.now { heard = heard }))) }
+        ensures row { IfOk result (λ next. row_at (Running self.now) next ≡ table.voted definition_eq n (proposal_of (record self.now { heard = heard }))) }
     {
         if !heard.is_majority(n) {
             return Ok(Next::quiet(alloc, self.hearing(heard, None)));
         }
-        drop(heard);
         self.publishes(alloc, self.carried(&None))
     }
 

@@ -5,7 +5,7 @@ use Rattle.std.specs.Net.Addr.{ipv4_octets}
 use Rattle.std.specs.Net.Socket.{v4_ip, v4_port}
 use Rattle.std.specs.declared.net.socket_addr.SocketAddr.{SocketAddr}
 use Rattle.std.specs.declared.net.socket_addr.SocketAddr.TheVariants.{V4, V6}
-use Rattle.wf_serve.specs.Service.{last_port}
+use Rattle.wf_service.specs.Service.{last_port}
 use Rattle.wf_serve.specs.declared.fault.ServeFault.{ServeFault}
 use Rattle.wf_serve.specs.declared.fault.ServeFault.TheVariants as faults
 

@@ -31,12 +31,13 @@ RestsAt {T} place nodes = (node : Node T) × (slice_get nodes place ≡ Some nod
 module _ {T : Type 0} (honest : Type 0) (images : T → List ℕ → Type 0) where
   -- These messages were delivered to the nodes, and so were the messages that they sent in reply.
   pub record AreHeard (nodes : List (Node T)) (said : Vec Message Global) (nodes_after : List (Node T)) : Type 0 where
-    -- the number of deliveries made
+    -- the number of deliveries made, and how many of them an allocation failure lost
     pub deliveries : ℕ
+    pub lost : ℕ
     pub delivered : IsDelivered honest images nodes said.items deliveries nodes_after
     -- each message was delivered to each node, until none was left, or the deliveries stopped early
     pub stopped : Bool
-    pub handed : 0 < length nodes → AreHandedOut honest images nodes said.items deliveries stopped nodes_after
+    pub handed : 0 < length nodes → AreHandedOut honest images nodes said.items deliveries lost stopped nodes_after
 
 module _ {T : Type 0} (honest : Type 0) (content : T → List ℕ) (images : T → List ℕ → Type 0) (failures : T → ℕ) where
   -- The node at index `place` served the request that was received, and sent these messages.

@@ -25,9 +25,9 @@
 //!   under one sequence, whatever the connections sent (`led`, `reached` and `agree` of [`serve_nodes`], [`serve_connections`]
 //!   and [`serve_connection`]).
 //!
-//! **Doesn't.** It doesn't state which deliveries an allocation failure loses, what a socket receives or sends, that a connection
-//! is accepted, which port the system chooses, how long a client is waited for, nor that a proposal is published: sockets and
-//! clocks have no model. Tests cover these, as do runs of the built program that aren't in CI.
+//! **Doesn't.** It doesn't state that memory suffices for a delivery, what a socket receives or sends, that a connection is
+//! accepted, which port the system chooses, how long a client is waited for, nor that a proposal is published: sockets and clocks
+//! have no model. Tests cover these, as do runs of the built program that aren't in CI.
 #![tactic(auto)]
 
 mod caching;
@@ -39,12 +39,11 @@ mod listening;
 mod opening;
 mod parting;
 mod port;
-mod service;
 mod serving;
 
 pub use connections::serve_connections;
 pub use fault::ServeFault;
 pub use listening::{serve, serve_at, serve_nodes};
 pub use port::listen;
-pub use service::Service;
 pub use serving::{catch_up, serve_connection};
+pub use wf_service::Service;

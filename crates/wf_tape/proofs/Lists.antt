@@ -1,10 +1,11 @@
 -- The records of bytes: there is exactly one longest list of them, an appended record is one more, and part of a record is none.
-use Rattle.std.proofs.Common.{◌≡◌, ◌⊎◌, ℕ, ◌+◌, ◌^◌, ◌<◌, ◌≤◌, List, [], ◌∷◌, ◌++◌, ◌-◌, length, take, drop, refl, sym, ap, subst, ◌∙◌, append_assoc, length-append, length-drop, arith, inl, inr}
-use Rattle.std.proofs.lemmas.List.{append-nil, take_at, drop_at, take-append-drop}
+use Rattle.std.proofs.Common.{◌≡◌, ◌⊎◌, ℕ, ◌+◌, ◌^◌, ◌<◌, ◌≤◌, List, [], ◌∷◌, ◌++◌, ◌-◌, length, map, take, drop, get_or, refl, sym, ap, subst, ◌∙◌, append_assoc, length-append, length-drop, arith, inl, inr}
+use Rattle.std.proofs.lemmas.List.{append-nil, map-append, take_at, drop_at, take_more, take-append-drop}
 use Rattle.wf_def.specs.Definition.{Definition}
 use Rattle.wf_canon.specs.Saying.{OneTextOneMap}
 use Rattle.wf_model.specs.Stored.{Record}
-use Rattle.wf_tape.specs.Spelling.{Spells}
+use Rattle.wf_tape.specs.Record.{IsRecord}
+use Rattle.wf_tape.specs.Spelling.{spelling, Spells}
 use Rattle.wf_tape.specs.Records.{Splits, BeginsWithNone, ReadsAs, AreRecords, IsCleanOrTorn, IsTapeOf, IsBad, length_of}
 use Rattle.wf_tape.specs.Front.{TakesOne, HasRead}
 use Rattle.wf_tape.specs.Journal.{IsBadAt}
@@ -74,6 +75,16 @@ cut_begins_none one_map r front byte after spells q spelled behind spells_q e =
 pub one_more : (content : List ℕ) (records : List (Record Definition)) (r : Record Definition) (spelled : List ℕ) → AreRecords content records → Spells r spelled →
     AreRecords (content ++ spelled) (records ++ r ∷ [])
 one_more content records r spelled are spells = splits_push (content ++ spelled) records spelled r spelled [] (splits_on content records [] spelled are) spells (sym (append-nil spelled))
+
+-- One more element of a list is a record that was appended.
+pub one_more_taken : {X : Type 0} (view : X → Record Definition) (content new : List ℕ) (xs : List X) (i : ℕ) (x : X) → i < length xs → x ≡ get_or xs i x →
+    AreRecords content (map view (take i xs)) → IsRecord (view x) → new ≡ content ++ spelling (view x) → AreRecords new (map view (take (i + 1) xs))
+one_more_taken {X} view content new xs i x within is are is_record spelled =
+    let next : take (i + 1) xs ≡ take i xs ++ x ∷ [] = take_more xs i x within ∙ ap (λ (y : X). take i xs ++ y ∷ []) (sym is) in
+    let records : map view (take (i + 1) xs) ≡ map view (take i xs) ++ view x ∷ [] = ap (map view) next ∙ map-append view (take i xs) (x ∷ []) in
+    let appended = one_more content (map view (take i xs)) (view x) (spelling (view x)) are (record { is_record = is_record; spelled = refl }) in
+    subst (λ (t : List ℕ). AreRecords t (map view (take (i + 1) xs))) (sym spelled)
+    (subst (λ (rs : List (Record Definition)). AreRecords (content ++ spelling (view x)) rs) (sym records) appended)
 
 -- Whole records followed by a prefix of one more read as the same records, or as one more if the prefix is the whole record.
 pub cut_reads : OneTextOneMap → (content : List ℕ) (records : List (Record Definition)) (r : Record Definition) (front after : List ℕ) → AreRecords content records → Spells r (front ++ after) →

@@ -1,5 +1,5 @@
 -- What a crash may leave while a journal is opened, and while a record is added.
-use Rattle.std.proofs.Common.{◌≡◌, ◌⊎◌, ℕ, ◌≤◌, arith, List, [], ◌∷◌, ◌++◌, take, drop, sym, ap, subst, ◌∙◌, append_assoc, inl, inr}
+use Rattle.std.proofs.Common.{◌≡◌, ◌⊎◌, ℕ, ◌≤◌, arith, List, [], ◌∷◌, ◌++◌, take, drop, refl, sym, ap, subst, ◌∙◌, append_assoc, inl, inr}
 use Rattle.std.proofs.lemmas.List.{append_cancel_left}
 use Rattle.std.proofs.lemmas.Bool.{cases_lt}
 use Rattle.wf_def.specs.Definition.{Definition}
@@ -11,7 +11,7 @@ use Rattle.wf_tape.specs.Tape.{IsBeginning, IsOnlyImage, IsUnchanged, LeavesNoOt
 use Rattle.wf_tape.specs.Spelling.{Spells}
 use Rattle.wf_tape.specs.Records.{ReadsAs, AreRecords}
 use Rattle.wf_tape.specs.Front.{HasRead}
-use Rattle.wf_tape.specs.Journal.{IsContent, Holds, IsSettled, AllReadAs, Follows, ReadsSame, ReadsOneMore, ReadsSameOrOneMore, IsWhereBad, IsNotBad, IsWhyFailed}
+use Rattle.wf_tape.specs.Journal.{IsContent, Holds, IsSettled, AllReadAs, Follows, ReadsSame, ReadsOneMore, ReadsSameOrOneMore, IsSameOrRecords, IsSameOrReads, IsWhereBad, IsNotBad, IsWhyFailed}
 use Rattle.wf_tape.proofs.Lists.{one_more, cut_reads, whole_reads, reads_only, one_reading, first_are_records}
 
 -- ---- appending
@@ -152,3 +152,60 @@ settled_same content new_content old new settled same =
         };
       },
     )
+
+-- ---- replacing
+
+-- The tape holds the records whose encodings were written.
+pub holds_written : (content bytes : List ℕ) (records : List (Record Definition)) (images : List ℕ → Type 0) → AreRecords bytes records → content ≡ bytes → IsOnlyImage bytes images →
+    Holds content images records
+holds_written content bytes records images are is only = record {
+  are_records = subst (λ (t : List ℕ). AreRecords t records) (sym is) are;
+  only = subst (λ (t : List ℕ). IsOnlyImage t images) (sym is) only;
+}
+
+pub settled_written : (content bytes : List ℕ) (records : List (Record Definition)) (images : List ℕ → Type 0) → AreRecords bytes records → content ≡ bytes → IsOnlyImage bytes images →
+    IsSettled content images
+settled_written content bytes records images are is only = (records, holds_written content bytes records images are is only)
+
+-- Each image then reads as them.
+pub follows_replaced : (content bytes : List ℕ) (records : List (Record Definition)) (old new : List ℕ → Type 0) → IsSettled content old → AreRecords bytes records → IsOnlyImage bytes new →
+    Follows (IsSameOrReads records) old new
+follows_replaced content bytes records old new settled are only image left =
+    (content, settled.1.only.is_image, inr (subst (λ (t : List ℕ). ReadsAs t records) (sym (only.no_other image left)) (whole_reads bytes records are)))
+
+-- If the tape failed, each image is one from before or exactly the records.
+pub failed_images : (content bytes : List ℕ) (records : List (Record Definition)) (old new : List ℕ → Type 0) → IsSettled content old → AreRecords bytes records → LeavesOldOr bytes old new →
+    Follows (IsSameOrRecords records) old new
+failed_images content bytes records old new settled are leaves image left =
+    elim (leaves image left) [
+      | inl was ↦ (image, was, inl refl)
+      | inr is ↦ (content, settled.1.only.is_image, inr (subst (λ (t : List ℕ). AreRecords t records) (sym is) are))
+    ]
+
+reads_same_or : (records : List (Record Definition)) (earlier image : List ℕ) → IsSameOrRecords records earlier image → IsSameOrReads records earlier image
+reads_same_or records earlier image same_or =
+    elim same_or [
+      | inl same ↦ inl same
+      | inr are ↦ inr (whole_reads image records are)
+    ]
+
+pub follows_failed : (content bytes : List ℕ) (records : List (Record Definition)) (old new : List ℕ → Type 0) → IsSettled content old → AreRecords bytes records → LeavesOldOr bytes old new →
+    Follows (IsSameOrReads records) old new
+follows_failed content bytes records old new settled are leaves image left =
+    let earlier = failed_images content bytes records old new settled are leaves image left in
+    (earlier.0, earlier.1, reads_same_or records earlier.0 image earlier.2)
+
+-- So is the content.
+pub failed_content : (old new bytes : List ℕ) (records : List (Record Definition)) → AreRecords bytes records → (new ≡ old) ⊎ (new ≡ bytes) → IsSameOrRecords records old new
+failed_content old new bytes records are old_or =
+    elim old_or [
+      | inl same ↦ inl same
+      | inr is ↦ inr (subst (λ (t : List ℕ). AreRecords t records) (sym is) are)
+    ]
+
+-- Nothing changed: each image is one from before.
+pub unchanged_images : (records : List (Record Definition)) (old new : List ℕ → Type 0) → LeavesNoOther old new → Follows (IsSameOrRecords records) old new
+unchanged_images records old new no_other image left = (image, no_other image left, inl refl)
+
+pub follows_unchanged : (records : List (Record Definition)) (old new : List ℕ → Type 0) → LeavesNoOther old new → Follows (IsSameOrReads records) old new
+follows_unchanged records old new no_other image left = (image, no_other image left, inl refl)

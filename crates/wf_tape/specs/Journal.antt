@@ -53,6 +53,14 @@ ReadsOneMore r old new = (records : List (Record Definition)) → ReadsAs old re
 abbrev pub ReadsSameOrOneMore : Record Definition → List ℕ → List ℕ → Type 0
 ReadsSameOrOneMore r old new = (records : List (Record Definition)) → ReadsAs old records → ReadsAs new records ⊎ ReadsAs new (records ++ r ∷ [])
 
+-- the second bytes are the first, or exactly these records
+abbrev pub IsSameOrRecords : List (Record Definition) → List ℕ → List ℕ → Type 0
+IsSameOrRecords records old new = (new ≡ old) ⊎ AreRecords new records
+
+-- the second bytes are the first, or read as these records
+abbrev pub IsSameOrReads : List (Record Definition) → List ℕ → List ℕ → Type 0
+IsSameOrReads records old new = (new ≡ old) ⊎ ReadsAs new records
+
 -- the new content is the old one followed by the record's bytes, and that is its only image
 pub record IsAdded (r : Record Definition) (old new : List ℕ) (images : List ℕ → Type 0) : Type 0 where
   pub spelled : List ℕ

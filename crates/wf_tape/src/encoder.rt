@@ -1,6 +1,7 @@
-ghost use Rattle.std.specs.Prelude.{◌≡◌, ◌≤◌, ◌++◌, length, OnOk, IfOk};
+ghost use Rattle.std.specs.Prelude.{◌≡◌, ◌≤◌, ◌++◌, length, map, OnOk, IfOk};
 ghost use Rattle.wf_tape.specs.Record.{view, texts, HasText, IsRecord};
-ghost use Rattle.wf_tape.specs.Spelling.{kind_of, body, Spells};
+ghost use Rattle.wf_tape.specs.Records.{AreRecords};
+ghost use Rattle.wf_tape.specs.Spelling.{kind_of, body, spelling, Spells};
 ghost use Rattle.wf_canon.specs.Canon.{canon};
 
 use crate::decoder::{HEADER_BYTES, VERSION};
@@ -10,16 +11,36 @@ use std::alloc::{AllocError, Global};
 use wf_canon::Canon;
 
 /// The record's encoding.
-#[tactic(auto, using(crate::proofs::Written::written))]
 pub fn encode(alloc: Global, entry: &Record) -> Result<Vec<u8>, AllocError>
     ensures { IfOk result (λ bytes. Spells (view entry.now) bytes.items) }
 {
-    let length = body_length(entry);
     let mut bytes = Vec::new(alloc);
-    bytes.extend_from_slice(&[VERSION, kind_of(entry).byte()])?;
-    bytes.extend_from_slice(&(length as u32).to_be_bytes())?;
-    push_body(&mut bytes, entry)?;
+    push(&mut bytes, entry)?;
     Ok(bytes)
+}
+
+/// The encodings of the records, one after the other.
+pub fn encode_all(alloc: Global, records: &[Record]) -> Result<Vec<u8>, AllocError>
+    ensures { IfOk result (λ bytes. AreRecords bytes.items (map view records.now)) }
+{
+    let mut bytes = Vec::new(alloc);
+    for entry in records {
+        push(&mut bytes, entry)?;
+    }
+    Ok(bytes)
+}
+
+/// Appends the record's encoding.
+#[tactic(auto, using(crate::proofs::Written::written))]
+fn push(out: &mut Vec<u8>, entry: &Record) -> Result<(), AllocError>
+    ensures is_record { IsRecord (view entry.now) }
+    ensures spelled { OnOk result (out.new.items ≡ out.old.items ++ spelling (view entry.now)) }
+{
+    let length = body_length(entry);
+    out.extend_from_slice(&[VERSION, kind_of(entry).byte()])?;
+    out.extend_from_slice(&(length as u32).to_be_bytes())?;
+    push_body(out, entry)?;
+    Ok(())
 }
 
 impl Record {

@@ -21,8 +21,8 @@ use wf_canon::one_text_one_map;
 /// whole records, all of them synced.
 #[derive(Drop)]
 pub struct Journal<T: Tape> {
-    tape: T,
-    halted: bool,
+    pub(crate) tape: T,
+    pub(crate) halted: bool,
 }
 
 impl<T: Tape> Model for Journal<T> {
@@ -102,7 +102,7 @@ impl<T: Tape> Journal<T> {
         }
     }
 
-    /// Whether the tape failed. Then no record can be added until the journal is opened again.
+    /// Whether the tape failed. Then no record can be written until the journal is opened again.
     pub fn is_halted(&self) -> bool
         ensures value { result ≡ self.now.halted }
         ensures settled { T.honest → self.now.halted ≡ false → IsSettled (T.content self.now.tape) (T.images self.now.tape) }

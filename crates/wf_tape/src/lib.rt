@@ -7,8 +7,9 @@
 //!
 //! Promises, of an honest tape: a journal opens with the records of the content, and then the only image is their bytes. After a
 //! record is added, the only image is the bytes from before followed by the record's. Whatever a call returns, each image reads
-//! as the records from before, or with the new one. Of every tape: a failure is returned only if the tape counted one. A
-//! `MemoryTape` is proved to be honest.
+//! as the records from before, or with the new one. After the records are rewritten, the only image is the bytes of the new ones;
+//! if the tape fails at that, each image is one from before or those bytes. Of every tape: a failure is returned only if the tape
+//! counted one. A `MemoryTape` is proved to be honest.
 //!
 //! Not here: what a file holds (a `FileTape` declares itself not honest), what the records mean, and which record may follow
 //! which.
@@ -26,6 +27,7 @@ mod memory;
 mod opening;
 mod reading;
 mod record;
+mod rewriting;
 mod tape;
 
 pub use fault::TapeFault;

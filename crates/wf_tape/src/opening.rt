@@ -14,7 +14,7 @@ pub enum OpenFault {
     Memory,
 }
 
-/// Why a record isn't added.
+/// Why a record isn't added, or the records aren't rewritten.
 #[derive(Clone, Copy, Debug, PartialEq, Eq, Error)]
 pub enum AddFault {
     /// P1: the tape's device failed, and the journal is halted.

@@ -14,6 +14,7 @@ use wf_tape::MemoryTape;
 /// Each message is delivered to each node: the Prepare, three Promises, the Accept, three Accepted and the Chosen.
 const FIRST_PUBLISH: Pumped = Pumped {
     deliveries: 27,
+    lost: 0,
     stopped: false,
 };
 

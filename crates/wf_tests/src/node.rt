@@ -175,3 +175,32 @@ fn a_node_whose_tape_fails_is_halted(rt: HostRuntime) {
     );
     assert_eq!(&rt; failures_of(node), 1);
 }
+
+/// The error of shortening a node's tape, None if it is done.
+fn fault_of_shortening(alloc: Global, node: &mut Node<Unsynced>) -> Option<NodeFault> {
+    match node.shorten(alloc) {
+        Err(NodeFault::Memory) => node.shorten(alloc).err(),
+        shortened => shortened.err(),
+    }
+}
+
+#[test]
+fn a_node_whose_tape_cannot_be_shortened_is_halted(rt: HostRuntime) {
+    let bytes = Vec::new(rt.alloc());
+    // Only the sync of the opening succeeds.
+    let tape = Unsynced {
+        bytes,
+        sound: 1,
+        failures: 0,
+    };
+    let mut node = opened(&rt, rt.alloc(), tape);
+    assert_eq!(&rt;
+        fault_of_shortening(rt.alloc(), &mut node),
+        Some(NodeFault::TapeFailed)
+    );
+    assert_eq!(&rt;
+        fault_of_shortening(rt.alloc(), &mut node),
+        Some(NodeFault::Halted)
+    );
+    assert_eq!(&rt; failures_of(node), 1);
+}

@@ -1,7 +1,7 @@
 //! Nodes that are served at a listener, on one thread: the clients send their requests before the server accepts. If an
 //! allocation failed, everything is repeated once, in another folder.
 ghost use Rattle.std.specs.Prelude.{◌≤◌};
-ghost use Rattle.wf_serve.specs.Service.{IsService};
+ghost use Rattle.wf_service.specs.Service.{IsService};
 
 use crate::tape::{TORN, holds, new_folder};
 use std::io::{Read, Write};

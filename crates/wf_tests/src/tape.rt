@@ -139,7 +139,7 @@ fn a_replacement_that_fails_is_counted(rt: HostRuntime) {
     assert!(rt; holds(&rt, "stuck/tape", TORN));
 }
 
-/// A tape in memory whose syncs fail after this many that succeed.
+/// A tape in memory whose syncs fail after this many that succeed. To replace its content is one of them.
 #[derive(Drop)]
 pub struct Unsynced {
     pub bytes: Vec<u8>,
@@ -177,8 +177,17 @@ impl Tape for Unsynced {
     }
 
     fn replace(&mut self, bytes: &[u8]) -> Result<(), TapeFault> {
-        self.bytes = bytes.to_vec(*self.bytes.allocator())?;
-        Ok(())
+        let copy = bytes.to_vec(*self.bytes.allocator())?;
+        match self.sync() {
+            Ok(()) => {
+                self.bytes = copy;
+                Ok(())
+            }
+            Err(fault) => {
+                drop(copy);
+                Err(fault)
+            }
+        }
     }
 
     fn failures(&self) -> u64 {

@@ -143,6 +143,11 @@ EachQueryHasOneAnswer = (s : ℕ) (history other : List Definition) (query : Lis
     map_at history (subject s query) ≡ map_at other (subject s query) →
     IsAnswerOf s history query answer → IsAnswerOf s other query another → another ≡ answer
 
+-- The query is a GetMap request (7.3), and at a server whose last sequence is s it asks for the map of sequence m.
+pub record AsksForMap (m s : ℕ) (query : List ℕ) : Type 0 where
+  pub request : parameter (codes "REQUEST") (pairs_of query) ≡ Some (codes "GetMap")
+  pub sequence : map_sequence s (pairs_of query) ≡ Ok m
+
 -- apart from GetMap, the answer of a server is the description of the map of its sequence
 abbrev pub AnswersAreDescriptions : Type 0
 AnswersAreDescriptions = (s : ℕ) (history : List Definition) (query : List ℕ) (d : Definition) (answer : AnswerValue) →

@@ -3,7 +3,8 @@ use Rattle.std.proofs.Common.{◌≡◌, ◌++◌, length, slice_get, slice_set,
 use Rattle.std.proofs.lemmas.Option.{slice_get_read}
 use Rattle.wf_codec.specs.Message.{view}
 use Rattle.wf_model.specs.Table as table
-use Rattle.wf_farm.specs.Delivering.{IsOne, Takes}
+use Rattle.wf_farm.specs.Delivering.{IsOne}
+use Rattle.wf_farm.specs.Giving.{Takes}
 use Rattle.wf_farm.proofs.Deliveries.{no_delivery, one_delivery}
 use Rattle.wf_farm.proofs.delivering.deliver_one.Goals as goal
 
@@ -17,22 +18,22 @@ returns-clause-one g c =
     let node_at = slice_get_read c.args.nodes.now (length c.args.nodes.now) c.args.node c.index-nodes-node.result refl c.requires.node c.index-nodes-node.is in
     let message_there = slice_get_read c.reserve.new.self.items (length c.args.sent.now.items) c.args.number c.index.result.now (sym (ap length c.reserve.ensures.items)) c.requires.number c.index.ensures in
     let message_at = subst (λ ms. slice_get ms c.args.number ≡ Some c.index.result.now) c.reserve.ensures.items message_there in
-    let takes = subst (λ n. Takes g.T.Tape.honest g.T.Tape.images (table.Deliver (view c.index.result.now)) n c.hand-said.new.node c.hand-said.result.items) (sym c.index-nodes-node.is) c.hand-said.ensures.takes in
-    subst (λ ms. IsOne g.T.Tape.honest g.T.Tape.images c.args.nodes.now c.args.sent.now.items (slice_set c.args.nodes.now c.args.node c.hand-said.new.node) ms) (sym (c.send.ensures ∙ ap (λ ms. ms ++ c.hand-said.result.items) c.reserve.ensures.items))
-    (one_delivery g.T.Tape.honest g.T.Tape.images c.args.nodes.now c.args.sent.now.items c.args.node c.args.number c.index-nodes-node.result c.hand-said.new.node c.index.result.now c.hand-said.result.items
-    node_at message_at c.requires.in_turn takes)
+    let takes = subst (λ n. Takes g.T.Tape.honest g.T.Tape.images c.hand-messages.result.lost (table.Deliver (view c.index.result.now)) n c.hand-messages.new.node c.hand-messages.result.messages.items) (sym c.index-nodes-node.is) c.hand-messages.ensures.takes in
+    subst (λ ms. IsOne g.T.Tape.honest g.T.Tape.images c.args.nodes.now c.args.sent.now.items (slice_set c.args.nodes.now c.args.node c.hand-messages.new.node) ms) (sym (c.send.ensures ∙ ap (λ ms. ms ++ c.hand-messages.result.messages.items) c.reserve.ensures.items))
+    (one_delivery g.T.Tape.honest g.T.Tape.images c.args.nodes.now c.args.sent.now.items c.args.node c.args.number c.index-nodes-node.result c.hand-messages.new.node c.index.result.now c.hand-messages.result.messages.items
+    node_at message_at c.requires.in_turn c.hand-messages.result.lost takes)
 
 pub returns-clause-handed : goal.returns-clause-handed
 returns-clause-handed g c =
     let message_there = slice_get_read c.reserve.new.self.items (length c.args.sent.now.items) c.args.number c.index.result.now (sym (ap length c.reserve.ensures.items)) c.requires.number c.index.ensures in
     record {
       node = c.index-nodes-node.result;
-      after = c.hand-said.new.node;
+      after = c.hand-messages.new.node;
       handed = c.index.result.now;
-      said = c.hand-said.result.items;
+      said = c.hand-messages.result.messages.items;
       at = slice_get_read c.args.nodes.now (length c.args.nodes.now) c.args.node c.index-nodes-node.result refl c.requires.node c.index-nodes-node.is;
       there = subst (λ ms. slice_get ms c.args.number ≡ Some c.index.result.now) c.reserve.ensures.items message_there;
-      takes = subst (λ n. Takes g.T.Tape.honest g.T.Tape.images (table.Deliver (view c.index.result.now)) n c.hand-said.new.node c.hand-said.result.items) (sym c.index-nodes-node.is) c.hand-said.ensures.takes;
+      takes = subst (λ n. Takes g.T.Tape.honest g.T.Tape.images c.hand-messages.result.lost (table.Deliver (view c.index.result.now)) n c.hand-messages.new.node c.hand-messages.result.messages.items) (sym c.index-nodes-node.is) c.hand-messages.ensures.takes;
       nodes_are = refl;
-      sent_are = c.send.ensures ∙ ap (λ ms. ms ++ c.hand-said.result.items) c.reserve.ensures.items;
+      sent_are = c.send.ensures ∙ ap (λ ms. ms ++ c.hand-messages.result.messages.items) c.reserve.ensures.items;
     }

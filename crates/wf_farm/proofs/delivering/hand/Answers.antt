@@ -1,14 +1,27 @@
--- The copy is the message; without one it is lost.
-use Rattle.std.proofs.Common.{subst}
+-- The copy is the message; without one it is lost. A halted node loses nothing.
+use Rattle.std.proofs.Common.{subst, sym, ◌∙◌}
 use Rattle.wf_codec.specs.Message.{view}
 use Rattle.wf_model.specs.Table as table
-use Rattle.wf_farm.specs.Delivering.{Takes}
-use Rattle.wf_farm.proofs.Deliveries.{lost_by}
+use Rattle.wf_farm.specs.Giving.{Takes}
+use Rattle.wf_farm.proofs.Deliveries.{halted_takes, none_few, unheard_takes}
 use Rattle.wf_farm.proofs.delivering.hand.Goals as goal
+
+pub returns-then-is_halted-clause-takes : goal.returns-then-is_halted-clause-takes
+returns-then-is_halted-clause-takes g c =
+    halted_takes g.T.Tape.honest g.T.Tape.images (table.Deliver (view c.args.message.now)) c.args.node.now c.quiet.result.messages.items c.quiet.ensures.none c.quiet.result.lost c.quiet.ensures.lost
+    (sym c.is_halted.ensures ∙ c.if-is_halted.true)
+
+pub returns-then-is_halted-clause-few : goal.returns-then-is_halted-clause-few
+returns-then-is_halted-clause-few g c = none_few c.quiet.result.messages.items c.quiet.ensures.none
 
 pub returns-in-Ok-clause-takes : goal.returns-in-Ok-clause-takes
 returns-in-Ok-clause-takes g c =
-    subst (λ m. Takes g.T.Tape.honest g.T.Tape.images (table.Deliver (view m)) c.args.node.now c.hear.new.node c.hear.result.items) c.in-Ok.ensures.copy c.hear.ensures.takes
+    subst (λ m. Takes g.T.Tape.honest g.T.Tape.images c.hear.result.lost (table.Deliver (view m)) c.args.node.now c.hear.new.node c.hear.result.messages.items) c.in-Ok.ensures.copy c.hear.ensures.takes
 
 pub returns-in-Err-clause-takes : goal.returns-in-Err-clause-takes
-returns-in-Err-clause-takes g c = lost_by g.T.Tape.honest g.T.Tape.images (table.Deliver (view c.args.message.now)) c.args.node.now c.new.result.items c.new.ensures.items
+returns-in-Err-clause-takes g c =
+    unheard_takes g.T.Tape.honest g.T.Tape.images (table.Deliver (view c.args.message.now)) c.args.node.now c.quiet-in-Err.result.messages.items c.quiet-in-Err.ensures.none c.quiet-in-Err.result.lost c.quiet-in-Err.ensures.lost
+    (sym c.is_halted.ensures ∙ c.if-is_halted.false)
+
+pub returns-in-Err-clause-few : goal.returns-in-Err-clause-few
+returns-in-Err-clause-few g c = none_few c.quiet-in-Err.result.messages.items c.quiet-in-Err.ensures.none

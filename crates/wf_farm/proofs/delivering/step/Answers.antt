@@ -1,25 +1,16 @@
--- A completed step sends few messages; after an error the node is unchanged, or halted.
+-- A completed step sends few messages; after an error the node is unchanged, or halted, or the input is lost.
 use Rattle.wf_node.specs.Input.{view}
-use Rattle.wf_farm.proofs.Deliveries.{any_answered, any_lost, any_rejected, any_short, any_taken}
+use Rattle.wf_farm.proofs.Deliveries.{any_answered, any_rejected, any_short}
 use Rattle.wf_farm.proofs.delivering.step.Goals as goal
-
-pub returns-clause-taken : goal.returns-clause-taken
-returns-clause-taken g c =
-    any_taken g.T.Tape.honest g.T.Tape.images c.args.node.now c.step.new.self (view c.args.input) c.step.result c.step.ensures.halted c.step.ensures.refused c.step.ensures.row
-
-pub returns-clause-lost : goal.returns-clause-lost
-returns-clause-lost g c =
-    any_lost g.T.Tape.honest g.T.Tape.images c.args.node.now c.step.new.self (view c.args.input) c.step.result c.step.ensures.halted c.step.ensures.refused c.step.ensures.unchanged c.step.ensures.same c.step.ensures.memory
-    c.step.ensures.halts c.step.ensures.torn
 
 pub returns-clause-answers : goal.returns-clause-answers
 returns-clause-answers g c =
     any_answered g.T.Tape.honest g.T.Tape.images c.args.node.now c.step.new.self (view c.args.input) c.step.result c.step.ensures.halted c.step.ensures.refused c.step.ensures.row
 
-pub returns-clause-rejects : goal.returns-clause-rejects
-returns-clause-rejects g c =
+pub returns-clause-takes : goal.returns-clause-takes
+returns-clause-takes g c =
     any_rejected g.T.Tape.honest g.T.Tape.images c.args.node.now c.step.new.self (view c.args.input) c.step.result c.step.ensures.halted c.step.ensures.running c.step.ensures.refused c.step.ensures.unchanged c.step.ensures.same
-    c.step.ensures.halts c.step.ensures.torn
+    c.step.ensures.memory c.step.ensures.halts c.step.ensures.torn
 
 pub returns-clause-few : goal.returns-clause-few
 returns-clause-few g c = any_short c.args.node.now c.step.new.self (view c.args.input) c.rows_are_short.ensures c.step.result c.step.ensures.row

@@ -6,7 +6,7 @@ use Rattle.wf_node.proofs.storing.add.Goals as goal
 pub returns-in-Ok : goal.returns-in-Ok
 returns-in-Ok g c =
     written g.T.Tape.honest g.T.Tape.content g.T.Tape.images g.T.Tape.failed (view c.args.entry.now) c.args.journal.now c.add.new.self
-    c.in-Ok.ensures.running c.in-Ok.ensures.one_more
+    c.in-Ok.ensures.running c.in-Ok.ensures.ok c.in-Ok.ensures.one_more
 
 pub returns-in-Err-TapeFailed : goal.returns-in-Err-TapeFailed
 returns-in-Err-TapeFailed g c =

@@ -1,6 +1,7 @@
 -- Each order is performed on the farm that the ones before left, and its text is written after theirs.
 use Rattle.std.proofs.Common.{◌∙◌, refl}
 use Rattle.std.specs.String.{string_bytes}
+use Rattle.wf_play.proofs.Ending.{breaks_there, stops_there}
 use Rattle.wf_play.proofs.Running.{none_played, one_played}
 use Rattle.wf_play.proofs.run.perform_all.Goals as goal
 
@@ -23,3 +24,16 @@ loop-number-preserved g c = record {
   empty = c.clear.ensures.bytes;
   writes = c.in-Ok.ensures.calm ∙ c.loop-number.invariant.writes;
 }
+
+-- an allocation failed at the order
+pub returns-in-Err-clause-ended : goal.returns-in-Err-clause-ended
+returns-in-Err-clause-ended g c =
+    stops_there c.loop-number.number c.args.session.now.script c.loop-number.session.script c.args.session.now.farm c.loop-number.session.farm (g.K.Sink.written c.args.sink.now) (g.K.Sink.written c.loop-number.sink) c.loop-number.invariant.script c.loop-number.invariant.plays
+    c.in-Err.fault c.in-Err.ensures.memory
+
+-- the write of its text failed
+pub returns-in-Err-write_all-clause-ended : goal.returns-in-Err-write_all-clause-ended
+returns-in-Err-write_all-clause-ended g c =
+    breaks_there c.loop-number.number c.args.session.now.script c.loop-number.session.script c.args.session.now.farm c.loop-number.session.farm (g.K.Sink.written c.args.sink.now) (g.K.Sink.written c.loop-number.sink) c.loop-number.invariant.script c.loop-number.invariant.plays
+    c.perform.new.self.farm (g.K.Sink.written c.write_all.new.sink) (string_bytes c.loop-number.out) (string_bytes c.perform.new.out) c.in-Err-write_all.field-0 c.in_default.ensures.does c.loop-number.invariant.empty
+    c.in_default.ensures.tells (rw c.as_bytes.ensures.value at c.in-Err-write_all.ensures.part.1)

@@ -7,6 +7,7 @@ deliver_all-requires g c = record { in_turn = c.requires }
 pub returns-clause-heard : goal.returns-clause-heard
 returns-clause-heard g c = record {
   deliveries = c.deliver_all.result.deliveries;
+  lost = c.deliver_all.result.lost;
   delivered = record {
     any = c.deliver_all.ensures.delivered;
     on_tape = c.deliver_all.ensures.on_tape;

@@ -1,11 +1,13 @@
 -- The message of that number is delivered to the node; if it wasn't sent, or no node runs there, nothing happens.
-use Rattle.std.proofs.Common.{◌≡◌, length, map, Some, refl, sym, subst, arith}
+use Rattle.std.proofs.Common.{◌≡◌, length, map, Some, refl, sym, subst, arith, ◌∙◌}
 use Rattle.std.proofs.lemmas.Option.{slice_get_past, slice_get_read}
 use Rattle.wf_codec.specs.Message.{view}
 use Rattle.wf_model.specs.Table as table
 use Rattle.wf_model.specs.World.{input_of}
-use Rattle.wf_farm.proofs.Events.{nothing_stays, sent_message, unsent_acts, unsent_message}
+use Rattle.wf_farm.proofs.Events.{nothing_stays, on_err, sent_message, unsent_acts, unsent_message}
 use Rattle.wf_farm.proofs.Idle.{idle_acts}
+use Rattle.wf_farm.proofs.Allocating.{taken_anyway}
+use Rattle.wf_farm.proofs.Steps.{tells_no_delivery}
 use Rattle.wf_farm.proofs.cluster.Cluster.deliver.Goals as goal
 
 pub returns-then-not-runs-clause-done : goal.returns-then-not-runs-clause-done
@@ -25,3 +27,16 @@ returns-in-Ok-clause-done c =
 
 pub returns-in-Err-clause-err : goal.returns-in-Err-clause-err
 returns-in-Err-clause-err c = nothing_stays c.args.self.now.places.items c.args.self.now.sent.items c.args.node
+
+-- its node would take the message
+pub returns-in-Ok-clause-taken : goal.returns-in-Ok-clause-taken
+returns-in-Ok-clause-taken c =
+    let at = slice_get_read c.args.self.now.sent.items (length c.args.self.now.sent.items) c.args.number c.index.result.now refl (omega (arith, c.if-number-len.false, c.len.ensures)) c.index.ensures in
+    on_err c.step.result (taken_anyway c.args.self.now.places.items c.args.self.now.sent.items c.args.node (table.Deliver c.args.number) (table.Deliver (view c.index.result.now)) (sym c.runs.ensures.value ∙ c.if-not-runs.false) c.requires.members
+    (sent_message c.args.self.now.sent.items c.args.number c.index.result.now at) (λ place. tells_no_delivery place c.args.number))
+
+pub returns-in-Err-clause-taken : goal.returns-in-Err-clause-taken
+returns-in-Err-clause-taken c =
+    let at = slice_get_read c.args.self.now.sent.items (length c.args.self.now.sent.items) c.args.number c.index.result.now refl (omega (arith, c.if-number-len.false, c.len.ensures)) c.index.ensures in
+    taken_anyway c.args.self.now.places.items c.args.self.now.sent.items c.args.node (table.Deliver c.args.number) (table.Deliver (view c.index.result.now)) (sym c.runs.ensures.value ∙ c.if-not-runs.false) c.requires.members
+    (sent_message c.args.self.now.sent.items c.args.number c.index.result.now at) (λ place. tells_no_delivery place c.args.number)

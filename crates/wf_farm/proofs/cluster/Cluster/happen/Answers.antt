@@ -1,10 +1,13 @@
 -- Each event is the step, the stop, the restart or the crash within a step that it names.
-use Rattle.std.proofs.Common.{IfOk, sym, subst}
+use Rattle.std.proofs.Common.{IfOk, sym, subst, OnErr}
 use Rattle.wf_model.specs.Table as table
 use Rattle.wf_model.specs.World as world
 use Rattle.wf_farm.specs.Cluster.{Happens, IsActed, IsTorn}
 use Rattle.wf_farm.specs.Event.{view, view_action, view_kept}
 use Rattle.wf_farm.proofs.Events.{catches_up, delivers, is_torn, ok_map, proposes, question_given, retries}
+use Rattle.wf_farm.proofs.Allocating.{delivery_may, err_map, proposal_may, question_may, retry_may, taken_anyway}
+use Rattle.wf_farm.proofs.Steps.{tells_no_question}
+use Rattle.wf_farm.specs.Allocating.{MayAllocate}
 use Rattle.wf_farm.proofs.cluster.Cluster.happen.Goals as goal
 
 pub returns-in-Propose-clause-done : goal.returns-in-Propose-clause-done
@@ -41,3 +44,37 @@ returns-in-Torn-clause-done c =
     (ok_map (λ number. IsTorn c.in-Torn.node (view_action c.in-Torn.action) (view_kept c.in-Torn.kept) number c.args.self.now.places.items c.args.self.now.sent.items c.tear.new.self.places.items c.tear.new.self.sent.items) (λ number. Happens (world.Torn c.in-Torn.node (view_action c.in-Torn.action) (view_kept c.in-Torn.kept)) number c.args.self.now.places.items c.args.self.now.sent.items c.tear.new.self.places.items c.tear.new.self.sent.items) c.tear.result
     (λ number done. is_torn c.in-Torn.node number c.args.self.now.places.items c.tear.new.self.places.items c.args.self.now.sent.items c.tear.new.self.sent.items (view_action c.in-Torn.action) (view_kept c.in-Torn.kept) done)
     (c.tear.ensures.done))
+
+-- an allocation fails only at an event that has an effect
+pub returns-in-Propose-clause-may : goal.returns-in-Propose-clause-may
+returns-in-Propose-clause-may c =
+    subst (λ e. OnErr c.propose.result (MayAllocate (view e) c.args.self.now.places.items c.args.self.now.sent.items)) (sym c.in-Propose.is)
+    (err_map c.propose.result (proposal_may c.args.self.now.places.items c.args.self.now.sent.items c.in-Propose.node c.in-Propose.canon) c.propose.ensures.taken)
+
+pub returns-in-Retry-clause-may : goal.returns-in-Retry-clause-may
+returns-in-Retry-clause-may c =
+    subst (λ e. OnErr c.retry.result (MayAllocate (view e) c.args.self.now.places.items c.args.self.now.sent.items)) (sym c.in-Retry.is)
+    (err_map c.retry.result (retry_may c.args.self.now.places.items c.args.self.now.sent.items c.in-Retry.node) c.retry.ensures.taken)
+
+pub returns-in-CatchUp-clause-may : goal.returns-in-CatchUp-clause-may
+returns-in-CatchUp-clause-may c =
+    subst (λ e. OnErr c.step.result (MayAllocate (view e) c.args.self.now.places.items c.args.self.now.sent.items)) (sym c.in-CatchUp.is)
+    (err_map c.step.result
+    (λ runs. question_may c.args.self.now.places.items c.args.self.now.sent.items c.in-CatchUp.node
+    (taken_anyway c.args.self.now.places.items c.args.self.now.sent.items c.in-CatchUp.node table.CatchUp table.CatchUp runs c.requires.members (question_given c.args.self.now.sent.items) tells_no_question))
+    c.step.ensures.runs)
+
+pub returns-in-Deliver-clause-may : goal.returns-in-Deliver-clause-may
+returns-in-Deliver-clause-may c =
+    subst (λ e. OnErr c.deliver.result (MayAllocate (view e) c.args.self.now.places.items c.args.self.now.sent.items)) (sym c.in-Deliver.is)
+    (err_map c.deliver.result (delivery_may c.args.self.now.places.items c.args.self.now.sent.items c.in-Deliver.node c.in-Deliver.number) c.deliver.ensures.taken)
+
+pub returns-in-Restart-clause-may : goal.returns-in-Restart-clause-may
+returns-in-Restart-clause-may c =
+    subst (λ e. OnErr c.restart.result (MayAllocate (view e) c.args.self.now.places.items c.args.self.now.sent.items)) (sym c.in-Restart.is)
+    (c.restart.ensures.may)
+
+pub returns-in-Torn-clause-may : goal.returns-in-Torn-clause-may
+returns-in-Torn-clause-may c =
+    subst (λ e. OnErr c.tear.result (MayAllocate (view e) c.args.self.now.places.items c.args.self.now.sent.items)) (sym c.in-Torn.is)
+    (c.tear.ensures.may)

@@ -43,3 +43,10 @@ pub returns-in-Err-clause-members : goal.returns-in-Err-clause-members
 returns-in-Err-clause-members c =
     let at = slice_get_read c.args.self.now.places.items (length c.args.self.now.places.items) c.args.node c.index_mut.result.now refl (c.runs.ensures.within c.if-not-runs.false) c.index_mut.ensures.value in
     place_keeps c.args.self.now.places.items c.args.node c.index_mut.result.now c.step.new.self at c.step.ensures.member
+
+-- a node runs there
+pub returns-then-is_err-clause-runs : goal.returns-then-is_err-clause-runs
+returns-then-is_err-clause-runs c = sym c.runs.ensures.value ∙ c.if-not-runs.false
+
+pub returns-in-Err-clause-runs : goal.returns-in-Err-clause-runs
+returns-in-Err-clause-runs c = on_err c.answer.result (sym c.runs.ensures.value ∙ c.if-not-runs.false)

@@ -39,7 +39,7 @@ pub returns-clause-part : goal.returns-clause-part
 returns-clause-part c =
     subst (λ (farm : Farm). IfErr c.told.result (IsPumpedPart c.args.nodes.now farm (after c))) c.self.view_is
     (pump_part c.args.nodes.now (before c) (after c) c.len.result c.deref.result.now c.in-Ok.targets.items c.pump-end.result.0 (omega (arith, c.len.ensures)) c.deref.ensures.value c.in-Ok.ensures.targets
-    c.pump-end.ensures.come c.pumped-self-inside.ensures c.pump-end.result.1 c.pump-end.ensures.end c.told.result c.told.ensures)
+    c.pump-end.ensures.come c.pumped-self-inside.ensures c.pump-end.result.1 c.pump-end.ensures.end c.told.result c.told.ensures c.pump-end.ensures.may)
 
 pub returns-clause-grows : goal.returns-clause-grows
 unfolding HistoriesGrow

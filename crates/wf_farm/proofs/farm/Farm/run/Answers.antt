@@ -4,6 +4,7 @@ use Rattle.wf_def.specs.Definition.{Definition}
 use Rattle.wf_law.specs.Laws.{IsBeginning}
 use Rattle.wf_model.specs.Stored.{Stored}
 use Rattle.wf_farm.specs.Agreement.{HasStored, HistoriesGrow}
+use Rattle.wf_farm.specs.Allocating.{MayAllocateAt}
 use Rattle.wf_farm.specs.Event.{view}
 use Rattle.wf_farm.specs.Farm.{Farm}
 use Rattle.wf_farm.proofs.Worlds.{farm_moved, grown}
@@ -32,3 +33,6 @@ returns-in-Err-clause-grows c =
     subst (λ (farm : Farm). (i : ℕ) (old new : Stored Definition) → HasStored (slice_get farm.places i) old → HasStored (slice_get c.run.new.self.places.items i) new → IsBeginning old.history new.history) c.self.view_is
     (grown c.agreement.ensures c.records_are_read_one_way.ensures.one c.steps_in_turn.ensures c.self.inside.cluster.places.items c.run.new.self.places.items c.self.inside.cluster.sent.items c.run.new.self.sent.items
     (take c.in-Err.done (map view c.args.events.now)) c.run.ensures.members.as_many c.self.invariant.reached c.in-Err.ensures.part)
+
+pub returns-in-Err-clause-may : goal.returns-in-Err-clause-may
+returns-in-Err-clause-may c = subst (λ (farm : Farm). MayAllocateAt c.in-Err.done (map view c.args.events.now) farm.places farm.sent) c.self.view_is c.in-Err.ensures.may

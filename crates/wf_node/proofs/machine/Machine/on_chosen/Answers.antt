@@ -24,7 +24,7 @@ returns-in_default-clause-act g c =
 pub returns-then-number-clause-act : goal.returns-then-number-clause-act
 returns-then-number-clause-act g c =
     act_done g.T.Tape.honest g.T.Tape.content g.T.Tape.images g.T.Tape.failed (Deliver (model.Chosen c.args.slot c.args.canon)) (on_chosen definition_eq (stored_of c.args.self.now.kept.parts) (working_of c.args.self.now.proposer) c.args.slot c.args.canon) c.args.self.now.journal c.publish.new.self.journal c.args.self.now.kept.parts c.publish.new.self.kept.parts c.args.self.now.proposer c.publish.new.self.proposer c.publish.result
-    (delivered _ _ _) (row_chosen c.args.self.now.kept.parts c.args.self.now.proposer c.args.slot c.args.canon) (c.publish.ensures.change _)
+    (delivered _ _ _) (row_chosen c.args.self.now.kept.parts c.args.self.now.proposer c.args.slot c.args.canon) c.publish.ensures.change
 
 pub returns-then-number-2-clause-act : goal.returns-then-number-2-clause-act
 returns-then-number-2-clause-act g c =

@@ -31,4 +31,4 @@ pub returns-in-Err-clause-act : goal.returns-in-Err-clause-act
 returns-in-Err-clause-act g c =
     act_short g.T.Tape.honest g.T.Tape.content g.T.Tape.images g.T.Tape.failed (Deliver (model.Prepare c.args.slot c.args.ballot)) c.args.self.now.journal c.args.self.now.kept.parts c.on_prepare.new.self.parts c.args.self.now.proposer (Err Memory)
     (delivered _ _ _) c.requires.running refl c.on_prepare.ensures.parts
-    (stored_takes (Deliver (model.Prepare c.args.slot c.args.ballot)) (λ working. on_prepare c.args.self.now.kept.id (stored_of c.args.self.now.kept.parts) working c.args.slot c.args.ballot) c.args.self.now.kept.parts c.args.self.now.proposer _ c.in-Err.ensures.memory (prepare_row c.args.self.now.kept.id c.args.self.now.kept.parts c.args.self.now.proposer c.args.slot c.args.ballot c.requires.same_node))
+    (stored_takes (Deliver (model.Prepare c.args.slot c.args.ballot)) (λ working. on_prepare c.args.self.now.kept.id (stored_of c.args.self.now.kept.parts) working c.args.slot c.args.ballot) c.args.self.now.kept.parts c.args.self.now.proposer c.in-Err.ensures.memory (prepare_row c.args.self.now.kept.id c.args.self.now.kept.parts c.args.self.now.proposer c.args.slot c.args.ballot c.requires.same_node))

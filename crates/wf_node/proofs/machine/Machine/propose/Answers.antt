@@ -33,7 +33,7 @@ perform-requires-clause-own g c =
 pub returns-in-Ok-clause-act : goal.returns-in-Ok-clause-act
 returns-in-Ok-clause-act g c =
     act_done g.T.Tape.honest g.T.Tape.content g.T.Tape.images g.T.Tape.failed (Propose c.args.own) (row_of c.args.self.now.proposer c.in-Ok.next) c.args.self.now.journal c.perform.new.self.journal c.args.self.now.kept.parts c.perform.new.self.kept.parts c.args.self.now.proposer c.perform.new.self.proposer c.perform.result
-    (refusal_propose (stored_of c.args.self.now.kept.parts) (working_of c.args.self.now.proposer) c.args.own ∙ sym (c.in-Ok.ensures.refused (stored_of c.args.self.now.kept.parts) (has_stored (stored_of c.args.self.now.kept.parts) c.tried-tried.result c.published-published.result c.tried-tried.ensures (c.published-published.ensures.value ∙ ap length c.history.ensures)))) (c.in-Ok.ensures.row (stored_of c.args.self.now.kept.parts) (has_stored (stored_of c.args.self.now.kept.parts) c.tried-tried.result c.published-published.result c.tried-tried.ensures (c.published-published.ensures.value ∙ ap length c.history.ensures)) ∙ row_propose c.args.self.now.kept.parts c.args.self.now.proposer c.args.own) (c.perform.ensures.change _)
+    (refusal_propose (stored_of c.args.self.now.kept.parts) (working_of c.args.self.now.proposer) c.args.own ∙ sym (c.in-Ok.ensures.refused (stored_of c.args.self.now.kept.parts) (has_stored (stored_of c.args.self.now.kept.parts) c.tried-tried.result c.published-published.result c.tried-tried.ensures (c.published-published.ensures.value ∙ ap length c.history.ensures)))) (c.in-Ok.ensures.row (stored_of c.args.self.now.kept.parts) (has_stored (stored_of c.args.self.now.kept.parts) c.tried-tried.result c.published-published.result c.tried-tried.ensures (c.published-published.ensures.value ∙ ap length c.history.ensures)) ∙ row_propose c.args.self.now.kept.parts c.args.self.now.proposer c.args.own) c.perform.ensures.change
 
 pub returns-in-Err-clause-act : goal.returns-in-Err-clause-act
 returns-in-Err-clause-act g c =

@@ -1,0 +1,57 @@
+-- What a node does with an input that a caller gives it, over any kind of tape.
+use Rattle.std.specs.Prelude.{◌≡◌, ℕ, Bool, true, false, List, [], Option, Some, None}
+use Rattle.wf_codec.specs.declared.message.Message.{Message}
+use Rattle.wf_def.specs.Definition.{Definition}
+use Rattle.wf_model.specs.Table.{Input, Refusal, store}
+use Rattle.wf_node.specs.Images.{EachStandsFor}
+use Rattle.wf_node.specs.Node.{Node, stored_of}
+use Rattle.wf_node.specs.Step.{row_of, refusal_at, IsRow, IsSameNode}
+use Rattle.wf_node.specs.declared.fault.NodeFault.{NodeFault}
+use Rattle.wf_node.specs.declared.fault.NodeFault.TheVariants as fault
+
+-- whether a node's error is allocation failure, and whether it is that of a halted node
+abbrev pub is_memory : NodeFault → Bool
+is_memory fault.Memory = true
+is_memory fault.Busy = false
+is_memory fault.SequenceFull = false
+is_memory fault.RoundsFull = false
+is_memory fault.Halted = false
+is_memory fault.TapeFailed = false
+is_memory fault.Nothing = false
+
+abbrev pub is_halt : NodeFault → Bool
+is_halt fault.Memory = false
+is_halt fault.Busy = false
+is_halt fault.SequenceFull = false
+is_halt fault.RoundsFull = false
+is_halt fault.Halted = true
+is_halt fault.TapeFailed = false
+is_halt fault.Nothing = false
+
+abbrev pub tells_halt : Option NodeFault → Bool
+tells_halt None = false
+tells_halt (Some f) = is_halt f
+
+-- An allocation failed before the node had done anything, so the input is lost: the node, which isn't halted, is unchanged but for
+-- its tape, and sends nothing.
+pub record IsLost {T : Type 0} (before after : Node T) (said : List Message) : Type 0 where
+  pub runs : before.halted ≡ false
+  pub still : after.halted ≡ false
+  pub same : IsSameNode before after
+  pub quiet : said ≡ []
+
+module _ {T : Type 0} (honest : Type 0) (images : T → List ℕ → Type 0) where
+  -- What a node does with an input that isn't lost. A halted node rejects it, and so does one whose step table rejects it: either
+  -- is unchanged. Otherwise the node steps; or its tape fails within the step, nothing is sent, and each image stands for what was
+  -- stored before or after.
+  pub data Answers (input : Input Definition) (before after : Node T) (said : List Message) : Type 0 where
+    Halts : before.halted ≡ true → after ≡ before → said ≡ [] → Answers input before after said
+    Rejects : (why : Refusal) → before.halted ≡ false → refusal_at before input ≡ Some why → after ≡ before → said ≡ [] → Answers input before after said
+    Steps : before.halted ≡ false → refusal_at before input ≡ None → IsRow before (row_of before input) said after → Answers input before after said
+    Fails : before.halted ≡ false → refusal_at before input ≡ None → after.halted ≡ true → IsSameNode before after
+        → (honest → EachStandsFor (stored_of before) (store (stored_of before) (row_of before input).entry) (images after.tape)) → said ≡ [] → Answers input before after said
+
+  -- What it does with an input, by whether that is lost.
+  abbrev pub Takes : Bool → Input Definition → Node T → Node T → List Message → Type 0
+  Takes false input before after said = Answers input before after said
+  Takes true input before after said = IsLost before after said

@@ -1,0 +1,198 @@
+-- What the arguments of a command line ask for, by the rules of `clap`.
+use Rattle.std.specs.Prelude.{◌≡◌, ◌⊎◌, ℕ, option_map, ◌==◌, not, Bool, List, [], ◌∷◌, Option, Some, None, false, true, codes, pos}
+use Rattle.clap.specs.Faults.{fault_of}
+use Rattle.clap.specs.Kinds.{IsAmong}
+use Rattle.clap.specs.Walk.{Row, Rule, Text, first_of}
+use Rattle.clap.specs.Simple.{App, Shape, new_rule, new_shape, subcommand_of}
+use Rattle.clap.specs.Takes.{takes}
+use Rattle.clap.specs.declared.error.kind.ErrorKind.{ErrorKind}
+use Rattle.clap.specs.declared.error.kind.ErrorKind.TheVariants.{OutOfMemory, ValueValidation}
+use Rattle.clap.specs.declared.builder.value_parser.ValueParser.TheVariants.{Signed}
+use Rattle.wf_ballot.specs.Sequence.{last_sequence}
+use Rattle.wf_line.specs.Line.{IsNumber, IsSequence}
+use Rattle.wf_line.specs.declared.line.Line.{Line}
+use Rattle.wf_service.specs.Service.{last_port, most_nodes, most_requests}
+use Rattle.wf_service.specs.declared.service.Service.{Service}
+use Rattle.wf_line.specs.declared.line.Line.TheVariants as lines
+use Rattle.wf_service.specs.Service.{most_kept}
+
+-- ---- the arguments that the program takes
+
+-- SEQ: a required number from 0 to the last update sequence
+abbrev pub sequence_rule : Rule
+sequence_rule = record (new_rule (codes "SEQ")) {
+  value_names = 1;
+  parser = Some (Signed (pos 0) (pos last_sequence));
+  required = true;
+}
+
+-- QUERY: a required text
+abbrev pub query_rule : Rule
+query_rule = record (new_rule (codes "QUERY")) { required = true }
+
+-- `caps SEQ QUERY`
+abbrev pub caps_shape : Shape
+caps_shape = record (new_shape (codes "caps")) { rules = sequence_rule ∷ query_rule ∷ [] }
+
+-- `draw QUERY`
+abbrev pub draw_shape : Shape
+draw_shape = record (new_shape (codes "draw")) { rules = query_rule ∷ [] }
+
+-- `canon`
+abbrev pub canon_shape : Shape
+canon_shape = new_shape (codes "canon")
+
+-- `run`
+abbrev pub run_shape : Shape
+run_shape = new_shape (codes "run")
+
+-- `--nodes N`, `--port P`, `--requests K`: required numbers within their ranges
+abbrev pub nodes_rule : Rule
+nodes_rule = record (new_rule (codes "nodes")) {
+  long = Some (codes "nodes");
+  value_names = 1;
+  parser = Some (Signed (pos 1) (pos most_nodes));
+  required = true;
+}
+
+abbrev pub port_rule : Rule
+port_rule = record (new_rule (codes "port")) {
+  long = Some (codes "port");
+  value_names = 1;
+  parser = Some (Signed (pos 0) (pos last_port));
+  required = true;
+}
+
+abbrev pub requests_rule : Rule
+requests_rule = record (new_rule (codes "requests")) {
+  long = Some (codes "requests");
+  value_names = 1;
+  parser = Some (Signed (pos 0) (pos most_requests));
+  required = true;
+}
+
+-- `--cache C`: a number within its range
+abbrev pub cache_rule : Rule
+cache_rule = record (new_rule (codes "cache")) { long = Some (codes "cache"); value_names = 1; parser = Some (Signed (pos 1) (pos most_kept)) }
+
+-- `--state DIR`: a text
+abbrev pub state_rule : Rule
+state_rule = record (new_rule (codes "state")) { long = Some (codes "state"); value_names = 1 }
+
+-- `serve`
+abbrev pub serve_shape : Shape
+serve_shape = record (new_shape (codes "serve")) { rules = nodes_rule ∷ port_rule ∷ requests_rule ∷ cache_rule ∷ state_rule ∷ [] }
+
+-- The program's command, as data for the parser: it takes one of five commands, or asks for the version or help.
+abbrev pub program : App
+program = record {
+  top = record (new_shape (codes "wfarm")) {
+    is_leaf = false;
+    no_binary_name = true;
+    has_version = true;
+    subcommand_required = true;
+  };
+  subs = caps_shape ∷ draw_shape ∷ canon_shape ∷ run_shape ∷ serve_shape ∷ [];
+}
+
+-- ---- the line that is asked for
+
+-- The line is `caps` with the number that an argument spells, and this query.
+abbrev pub IsCapsLine : Text → Text → Line → Type 0
+IsCapsLine word query (lines.Caps seq asked) = IsSequence word seq × (asked.now ≡ query)
+IsCapsLine word query (lines.Draw asked) = ⊥
+IsCapsLine word query lines.Canon = ⊥
+IsCapsLine word query lines.Run = ⊥
+IsCapsLine word query (lines.Serve service) = ⊥
+
+-- The line is `caps` with the arguments parsed for SEQ and QUERY.
+abbrev pub IsCapsOf : List Row → Line → Type 0
+IsCapsOf rows line = (word query : Text) × (first_of (codes "SEQ") rows ≡ Some word) × (first_of (codes "QUERY") rows ≡ Some query)
+    × IsCapsLine word query line
+
+-- The line is `draw` with this query.
+abbrev pub IsDrawLine : Text → Line → Type 0
+IsDrawLine query (lines.Caps seq asked) = ⊥
+IsDrawLine query (lines.Draw asked) = asked.now ≡ query
+IsDrawLine query lines.Canon = ⊥
+IsDrawLine query lines.Run = ⊥
+IsDrawLine query (lines.Serve service) = ⊥
+
+-- The line is `draw` with the argument parsed for QUERY.
+abbrev pub IsDrawOf : List Row → Line → Type 0
+IsDrawOf rows line = (query : Text) × (first_of (codes "QUERY") rows ≡ Some query) × IsDrawLine query line
+
+-- the argument parsed for a number spells it
+abbrev pub IsNumberOf : List Row → Text → ℕ → ℕ → ℕ → Type 0
+IsNumberOf rows id least most number = (word : Text) × (first_of id rows ≡ Some word) × IsNumber word least most number
+
+-- the number of pictures that each node keeps by default
+abbrev pub default_cache : ℕ
+default_cache = 16
+
+-- the number of pictures to keep, by the parsed argument if there is one
+abbrev pub IsCacheOf : Option Text → ℕ → Type 0
+IsCacheOf None kept = kept ≡ default_cache
+IsCacheOf (Some word) kept = IsNumber word 1 most_kept kept
+
+-- The service is that of the parsed arguments.
+pub record IsServiceOf (rows : List Row) (service : Service) : Type 0 where
+  pub nodes : IsNumberOf rows (codes "nodes") 1 most_nodes service.nodes
+  pub port : IsNumberOf rows (codes "port") 0 last_port service.port
+  pub requests : IsNumberOf rows (codes "requests") 0 most_requests service.requests
+  pub cache : IsCacheOf (first_of (codes "cache") rows) service.cache
+  pub state : option_map (λ s. s.now) service.state ≡ first_of (codes "state") rows
+
+-- The line is `serve` with the service of the parsed arguments.
+abbrev pub IsServeOf : List Row → Line → Type 0
+IsServeOf rows (lines.Caps seq query) = ⊥
+IsServeOf rows (lines.Draw query) = ⊥
+IsServeOf rows lines.Canon = ⊥
+IsServeOf rows lines.Run = ⊥
+IsServeOf rows (lines.Serve service) = IsServiceOf rows service
+
+-- the named command with its arguments asks for the line
+abbrev pub Asks : Option (Text × List Row) → Line → Type 0
+Asks None line = ⊥
+Asks (Some named) (lines.Caps seq query) = (named.0 ≡ codes "caps") × IsCapsOf named.1 (lines.Caps seq query)
+Asks (Some named) (lines.Draw query) = (named.0 ≡ codes "draw") × IsDrawOf named.1 (lines.Draw query)
+Asks (Some named) lines.Canon = named.0 ≡ codes "canon"
+Asks (Some named) lines.Run = named.0 ≡ codes "run"
+Asks (Some named) (lines.Serve service) = (named.0 ≡ codes "serve") × IsServeOf named.1 (lines.Serve service)
+
+-- why arguments are rejected: if the parser accepts them and they ask for a line, an allocation failed
+abbrev pub IsWhyRejected : List Text → ErrorKind → Type 0
+IsWhyRejected words kind = takes program words ≡ true → (line : Line) → Asks (subcommand_of program words) line → kind ≡ OutOfMemory
+
+-- The kinds of error by which the parser rejects arguments, of which one comes: help and the version are among them. None if it
+-- accepts them.
+unfoldable pub rejections : List Text → List ErrorKind
+rejections words = fault_of program words
+
+-- the kind of a rejection: an allocation failed; the parser's; or a value out of range, if the parser accepts the arguments
+abbrev pub IsRejection : List Text → ErrorKind → Type 0
+IsRejection words kind = (kind ≡ OutOfMemory) ⊎ (IsAmong kind (rejections words) ⊎ ((rejections words ≡ []) × (kind ≡ ValueValidation)))
+
+-- the argument doesn't begin with a hyphen, so it isn't an option
+abbrev pub is_plain : Text → Bool
+is_plain [] = true
+is_plain (first ∷ rest) = not (first == 45)
+
+-- The parser accepts `caps`, an argument that spells an update sequence and any argument as the query, neither with a leading
+-- hyphen. They ask for exactly the line of that number and that query.
+abbrev pub PlainCapsIsAsked : Type 0
+PlainCapsIsAsked = (word query : Text) (line : Line) → is_plain word ≡ true → is_plain query ≡ true → IsCapsLine word query line
+    → (takes program (codes "caps" ∷ word ∷ query ∷ []) ≡ true) × Asks (subcommand_of program (codes "caps" ∷ word ∷ query ∷ [])) line
+
+-- The parser accepts `draw` and any argument without a leading hyphen as the query. They ask for exactly the line of that query.
+abbrev pub PlainDrawIsAsked : Type 0
+PlainDrawIsAsked = (query : Text) (line : Line) → is_plain query ≡ true → IsDrawLine query line
+    → (takes program (codes "draw" ∷ query ∷ []) ≡ true) × Asks (subcommand_of program (codes "draw" ∷ query ∷ [])) line
+
+-- The parser accepts `canon` alone; it asks for the canonical text.
+abbrev pub PlainCanonIsAsked : Type 0
+PlainCanonIsAsked = (takes program (codes "canon" ∷ []) ≡ true) × Asks (subcommand_of program (codes "canon" ∷ [])) lines.Canon
+
+-- The parser accepts `run` alone; it asks to play a script.
+abbrev pub PlainRunIsAsked : Type 0
+PlainRunIsAsked = (takes program (codes "run" ∷ []) ≡ true) × Asks (subcommand_of program (codes "run" ∷ [])) lines.Run

@@ -1,0 +1,405 @@
+//! Parses the command line.
+ghost use Rattle.std.specs.Prelude.{◌≡◌, ◌∷◌, [], ℕ, IfErr, IfNone, IfOk, IfSome, codes, false, map};
+ghost use Rattle.clap.specs.Matches.{found_of};
+ghost use Rattle.clap.specs.Simple.{app_of, shape_of, subcommand_of, subcommand_rows_of};
+ghost use Rattle.clap.specs.Values.{kind_of};
+ghost use Rattle.clap.specs.Walk.{first_of, rows_of, rule_of};
+ghost use Rattle.clap.specs.declared.builder.command.Command.TheViews.{out-Command};
+ghost use Rattle.wf_line.specs.CommandLine.{Asks, IsCacheOf, IsCapsOf, IsDrawOf, IsNumberOf, IsRejection, IsServeOf, IsServiceOf, IsWhyRejected, PlainCanonIsAsked, PlainCapsIsAsked, PlainDrawIsAsked, PlainRunIsAsked, program, caps_shape, draw_shape, canon_shape, run_shape, serve_shape, sequence_rule, query_rule, nodes_rule, port_rule, requests_rule, cache_rule, state_rule};
+ghost use Rattle.wf_line.specs.Line.{IsInRange, IsNumber, IsSequence};
+ghost use Rattle.wf_line.specs.declared.line.Line.{Line};
+ghost use Rattle.wf_service.specs.declared.service.Service.{Service};
+
+use crate::line::Line;
+use clap::error::ErrorKind;
+use clap::{Arg, ArgMatches, Command, Error};
+use std::alloc::{AllocError, Global};
+use std::convert::AsStr;
+use wf_ballot::SEQUENCES;
+use wf_service::Service;
+
+const VERSION: &str = "0.1.0";
+
+const CAPS_HELP: &str =
+    "caps answers GetCapabilities; it does not support GetMap, which draw answers.
+A service exception is an answer: the status is 0.
+
+Limits: a mapfile has at most 65,536 bytes
+Errors (status 1): map fault M1 to M12, read fault";
+
+const DRAW_HELP: &str =
+    "draw answers as a server that has published this map alone, as sequence 1: GetMap gets a pixmap (PPM, P6).
+A service exception is an answer: the status is 0.
+
+Limits: a mapfile has at most 65,536 bytes, a picture 1,024 by 1,024 pixels
+Errors (status 1): map fault M1 to M12, read fault";
+
+const CANON_HELP: &str =
+    "The canonical text is the one spelling of a map that nodes compare and store.
+
+Limits: a mapfile has at most 65,536 bytes, a canonical text 32,768
+Errors (status 1): map fault M1 to M12, canon fault K1 and K3, read fault";
+
+const RUN_HELP: &str = "The first line is nodes N; each later line is an order or a question.
+Orders: map NAME, the lines of a mapfile, endmap; propose I NAME, retry I, catchup I, deliver I K ..,
+  stop I, restart I, torn I before E, torn I after E, pump, pump I .., skip
+Questions: published, sent, proposal I, definition I S, same, get I QUERY, equal I J QUERY
+I and J are nodes, K is a message, S an update sequence, E an event without its node
+
+Limits: a script has at most 1,048,576 bytes, 10,000 lines and 64 maps
+Errors (status 1): script fault S1 to S4 with the line number, read fault";
+
+/// The most pictures that a node may keep.
+const MOST_CACHE: i64 = 64;
+
+/// The number of pictures that each node keeps by default.
+const DEFAULT_CACHE: u32 = 16;
+
+const SERVE_HELP: &str =
+    "GET /wms?QUERY answers a WMS request, POST /publish proposes the mapfile in its body, GET /status reports a node.
+Node c mod N serves connection c, counted from 0.
+A kept picture takes 3 MB.
+With --state the nodes' tapes are the files node-0.tape, node-1.tape and so on of the folder DIR, which must
+exist; without it the tapes are lost when the program ends.
+
+Errors (status 1): serve fault";
+
+static NO_WORDS: [&str; 0] = [];
+
+// One function for each part, called one after another: only clap drops what is built.
+fn seq_argument<'a>(alloc: Global) -> Arg<'a>
+    ensures rule { rule_of result ≡ sequence_rule }
+    ensures local { result.global ≡ false }
+{
+    Arg::new(alloc, "SEQ")
+        .value_name("SEQ")
+        .required(true)
+        .value_parser(clap::value_parser!(u16).range(..=4_096))
+        .help("The update sequence of the map, 0 to 4096")
+}
+
+fn query_argument<'a>(alloc: Global) -> Arg<'a>
+    ensures rule { rule_of result ≡ query_rule }
+    ensures local { result.global ≡ false }
+{
+    Arg::new(alloc, "QUERY").required(true).help(
+        "The query string of a WMS request, such as SERVICE=WMS&REQUEST=GetCapabilities",
+    )
+}
+
+// `caps SEQ QUERY`.
+fn caps_command<'a>(alloc: Global) -> Result<Command<'a>, AllocError>
+    ensures { IfOk result (λ command. (shape_of command ≡ caps_shape) × ((out-Command command).has_globals ≡ false)) }
+{
+    Command::new(alloc, "caps")
+        .about("Answers a WMS request about the mapfile on standard input")
+        .after_help(CAPS_HELP)
+        .arg(seq_argument(alloc))?
+        .arg(query_argument(alloc))
+}
+
+// `draw QUERY`.
+fn draw_command<'a>(alloc: Global) -> Result<Command<'a>, AllocError>
+    ensures { IfOk result (λ command. (shape_of command ≡ draw_shape) × ((out-Command command).has_globals ≡ false)) }
+{
+    Command::new(alloc, "draw")
+        .about("Previews the mapfile on standard input: answers a WMS request, GetMap included")
+        .after_help(DRAW_HELP)
+        .arg(query_argument(alloc))
+}
+
+// `canon`.
+fn canon_command<'a>(alloc: Global) -> Command<'a>
+    ensures shape { shape_of result ≡ canon_shape }
+    ensures local { (out-Command result).has_globals ≡ false }
+{
+    Command::new(alloc, "canon")
+        .about("Writes the canonical text of the mapfile on standard input")
+        .after_help(CANON_HELP)
+}
+
+// `run`.
+fn run_command<'a>(alloc: Global) -> Command<'a>
+    ensures shape { shape_of result ≡ run_shape }
+    ensures local { (out-Command result).has_globals ≡ false }
+{
+    Command::new(alloc, "run")
+        .about("Plays the script on standard input on a farm in memory")
+        .after_help(RUN_HELP)
+}
+
+// `--nodes N`.
+fn nodes_argument<'a>(alloc: Global) -> Arg<'a>
+    ensures rule { rule_of result ≡ nodes_rule }
+    ensures local { result.global ≡ false }
+{
+    Arg::new(alloc, "nodes")
+        .long("nodes")
+        .value_name("N")
+        .required(true)
+        .value_parser(clap::value_parser!(u8).range(1..=64))
+        .help("The number of nodes, 1 to 64")
+}
+
+// `--port P`.
+fn port_argument<'a>(alloc: Global) -> Arg<'a>
+    ensures rule { rule_of result ≡ port_rule }
+    ensures local { result.global ≡ false }
+{
+    Arg::new(alloc, "port")
+        .long("port")
+        .value_name("P")
+        .required(true)
+        .value_parser(clap::value_parser!(u16))
+        .help("The port at 127.0.0.1, 0 to 65535; 0 takes any free port")
+}
+
+// `--requests K`.
+fn requests_argument<'a>(alloc: Global) -> Arg<'a>
+    ensures rule { rule_of result ≡ requests_rule }
+    ensures local { result.global ≡ false }
+{
+    Arg::new(alloc, "requests")
+        .long("requests")
+        .value_name("K")
+        .required(true)
+        .value_parser(clap::value_parser!(u32).range(..=1_000_000))
+        .help("The number of connections after which the program ends, 0 to 1000000")
+}
+
+// `--cache C`.
+fn cache_argument<'a>(alloc: Global) -> Arg<'a>
+    ensures rule { rule_of result ≡ cache_rule }
+    ensures local { result.global ≡ false }
+{
+    Arg::new(alloc, "cache")
+        .long("cache")
+        .value_name("C")
+        .value_parser(clap::value_parser!(u8).range(1..=MOST_CACHE))
+        .help("The number of pictures that each node keeps, 1 to 64; 16 where it is absent")
+}
+
+// `--state DIR`.
+fn state_argument<'a>(alloc: Global) -> Arg<'a>
+    ensures rule { rule_of result ≡ state_rule }
+    ensures local { result.global ≡ false }
+{
+    Arg::new(alloc, "state")
+        .long("state")
+        .value_name("DIR")
+        .help("The folder of the nodes' tapes")
+}
+
+// `serve`, without its optional arguments.
+fn farm_command<'a>(alloc: Global) -> Result<Command<'a>, AllocError>
+    ensures { IfOk result (λ command. (shape_of command ≡ record serve_shape { rules = nodes_rule ∷ port_rule ∷ requests_rule ∷ [] }) × ((out-Command command).has_globals ≡ false)) }
+{
+    Command::new(alloc, "serve")
+        .about("Serves a farm over HTTP, one connection after the other")
+        .after_help(SERVE_HELP)
+        .arg(nodes_argument(alloc))?
+        .arg(port_argument(alloc))?
+        .arg(requests_argument(alloc))
+}
+
+// `serve --nodes N --port P --requests K --cache C --state DIR`.
+fn serve_command<'a>(alloc: Global) -> Result<Command<'a>, AllocError>
+    ensures { IfOk result (λ command. (shape_of command ≡ serve_shape) × ((out-Command command).has_globals ≡ false)) }
+{
+    farm_command(alloc)?
+        .arg(cache_argument(alloc))?
+        .arg(state_argument(alloc))
+}
+
+// The program with its first command only.
+fn first_command<'a>(alloc: Global) -> Result<Command<'a>, AllocError>
+    ensures { IfOk result (λ command. app_of command ≡ record program { subs = caps_shape ∷ [] }) }
+{
+    let caps = caps_command(alloc)?;
+    Command::new(alloc, "wfarm")
+        .version(VERSION)
+        .about("Runs a farm of Web Map Service servers that publish one history of maps")
+        .no_binary_name(true)
+        .subcommand_required(true)
+        .subcommand(caps)
+}
+
+// The commands about a mapfile.
+fn mapfile_commands<'a>(alloc: Global) -> Result<Command<'a>, AllocError>
+    ensures { IfOk result (λ command. app_of command ≡ record program { subs = caps_shape ∷ draw_shape ∷ canon_shape ∷ [] }) }
+{
+    let draw = draw_command(alloc)?;
+    first_command(alloc)?
+        .subcommand(draw)?
+        .subcommand(canon_command(alloc))
+}
+
+// The commands about an input.
+fn input_commands<'a>(alloc: Global) -> Result<Command<'a>, AllocError>
+    ensures { IfOk result (λ command. app_of command ≡ record program { subs = caps_shape ∷ draw_shape ∷ canon_shape ∷ run_shape ∷ [] }) }
+{
+    mapfile_commands(alloc)?.subcommand(run_command(alloc))
+}
+
+// The program with all its commands.
+fn command<'a>(alloc: Global) -> Result<Command<'a>, AllocError>
+    ensures { IfOk result (λ command. app_of command ≡ program) }
+{
+    let serve = serve_command(alloc)?;
+    input_commands(alloc)?.subcommand(serve)?.bin_name("wfarm")
+}
+
+// The error for a missing command or a value out of range, with the usage.
+fn rejection(alloc: Global) -> Result<Error, AllocError>
+    ensures { IfOk result (λ error. kind_of error ≡ ErrorKind.ValueValidation) }
+{
+    let mut command = command(alloc)?;
+    let rejection = command.error(
+        ErrorKind::ValueValidation,
+        "a command is missing, or a value is out of range",
+    );
+    // Parsing no arguments drops the command. A drop here would need a proof for all of its parts again.
+    let _ = command.try_get_matches_from(NO_WORDS.as_slice());
+    rejection
+}
+
+// The update sequence that an argument spells.
+fn sequence(word: &str) -> Option<u16>
+    ensures some { IfSome result (IsSequence word.now) }
+    ensures none { IfNone result ((seq : ℕ) → ¬ (IsSequence word.now seq)) }
+{
+    match word.parse::<u16>() {
+        Ok(seq) if seq <= SEQUENCES => Some(seq),
+        _ => None,
+    }
+}
+
+// The `caps` line of the parsed arguments.
+#[tactic(auto, using(crate::proofs::Named::word_in_row))]
+fn caps<'a>(found: &ArgMatches<'a>) -> Option<Line<'a>>
+    ensures some { IfSome result (IsCapsOf (rows_of (found_of found.now))) }
+    ensures none { IfNone result ((line : Line) → ¬ (IsCapsOf (rows_of (found_of found.now)) line)) }
+{
+    let word = found.get_str("SEQ")?;
+    let query = found.get_str("QUERY")?;
+    let seq = sequence(word)?;
+    Some(Line::Caps { seq, query })
+}
+
+// The `draw` line of the parsed arguments.
+#[tactic(auto, using(crate::proofs::Named::word_in_row))]
+fn draw<'a>(found: &ArgMatches<'a>) -> Option<Line<'a>>
+    ensures some { IfSome result (IsDrawOf (rows_of (found_of found.now))) }
+    ensures none { IfNone result ((line : Line) → ¬ (IsDrawOf (rows_of (found_of found.now)) line)) }
+{
+    let word = found.get_str("QUERY")?;
+    Some(Line::Draw { query: word })
+}
+
+// The number in least..=most that an argument spells.
+fn number(word: &str, least: u32, most: u32) -> Option<u32>
+    ensures some { IfSome result (IsNumber word.now least most) }
+    ensures none { IfNone result ((number : ℕ) → ¬ (IsNumber word.now least most number)) }
+{
+    match word.parse::<u32>() {
+        Ok(number) if least <= number && number <= most => Some(number),
+        _ => None,
+    }
+}
+
+// The number parsed for an option.
+#[tactic(auto, using(crate::proofs::Named::word_in_row))]
+fn number_of<'a>(found: &ArgMatches<'a>, id: &str, least: u32, most: u32) -> Option<u32>
+    ensures some { IfSome result (IsNumberOf (rows_of (found_of found.now)) id.now least most) }
+    ensures none { IfNone result ((number : ℕ) → ¬ (IsNumberOf (rows_of (found_of found.now)) id.now least most number)) }
+{
+    let word = found.get_str(id)?;
+    number(word, least, most)
+}
+
+// The number of pictures to keep, by the parsed arguments.
+#[tactic(auto, using(crate::proofs::Named::word_in_row))]
+fn cache<'a>(found: &ArgMatches<'a>) -> Option<u32>
+    ensures some { IfSome result (IsCacheOf (first_of (codes "cache") (rows_of (found_of found.now)))) }
+    ensures none { IfNone result ((kept : ℕ) → ¬ (IsCacheOf (first_of (codes "cache") (rows_of (found_of found.now))) kept)) }
+{
+    match found.get_str("cache") {
+        Some(word) => number(word, 1, 64),
+        None => Some(DEFAULT_CACHE),
+    }
+}
+
+// What to serve, by the parsed arguments.
+#[tactic(auto, using(crate::proofs::Named::word_in_row))]
+fn service<'a>(found: &ArgMatches<'a>) -> Option<Service<'a>>
+    ensures some { IfSome result (IsServiceOf (rows_of (found_of found.now))) }
+    ensures none { IfNone result ((service : Service) → ¬ (IsServiceOf (rows_of (found_of found.now)) service)) }
+{
+    let nodes = number_of(found, "nodes", 1, 64)?;
+    let port = number_of(found, "port", 0, 65_535)?;
+    let requests = number_of(found, "requests", 0, 1_000_000)?;
+    let cache = cache(found)?;
+    Some(Service {
+        nodes: nodes as u8,
+        port: port as u16,
+        requests,
+        cache: cache as u8,
+        state: found.get_str("state"),
+    })
+}
+
+// The `serve` line of the parsed arguments.
+fn serve<'a>(found: &ArgMatches<'a>) -> Option<Line<'a>>
+    ensures some { IfSome result (IsServeOf (rows_of (found_of found.now))) }
+    ensures none { IfNone result ((line : Line) → ¬ (IsServeOf (rows_of (found_of found.now)) line)) }
+{
+    let service = service(found)?;
+    Some(Line::Serve(service))
+}
+
+// The line that the parsed arguments ask for.
+fn asked<'a>(matches: &ArgMatches<'a>) -> Option<Line<'a>>
+    ensures some { IfSome result (Asks (subcommand_rows_of matches.now)) }
+    ensures none { IfNone result ((line : Line) → ¬ (Asks (subcommand_rows_of matches.now) line)) }
+{
+    match matches.subcommand() {
+        Some(("caps", found)) => caps(found),
+        Some(("draw", found)) => draw(found),
+        Some(("canon", _)) => Some(Line::Canon),
+        Some(("run", _)) => Some(Line::Run),
+        Some(("serve", found)) => serve(found),
+        _ => None,
+    }
+}
+
+/// Parses the arguments of a command line, without the program's name. An error's text is for the user.
+///
+/// The line that is asked for is defined by `clap`'s rules for the program's command. [`plain_words_are_taken`], about arguments
+/// without a leading hyphen, follows from them.
+#[tactic(auto, using(crate::proofs::Named::asked_in_range))]
+pub fn line<'a, S: AsStr>(alloc: Global, words: &'a [S]) -> Result<Line<'a>, Error>
+    ensures range { IfOk result IsInRange }
+    ensures asked { IfOk result (Asks (subcommand_of program (map S.text words.entry.now))) }
+    // Arguments that ask for a line are rejected only if an allocation fails.
+    ensures rejected { IfErr result (λ error. IsWhyRejected (map S.text words.entry.now) (kind_of error)) }
+    // The error's kind is the parser's.
+    ensures kind { IfErr result (λ error. IsRejection (map S.text words.entry.now) (kind_of error)) }
+{
+    let matches = command(alloc)?.try_get_matches_from(words)?;
+    let asked = asked(&matches);
+    drop(matches);
+    // The parser has checked that there is a line, but clap's contract doesn't cover a subcommand's values.
+    match asked {
+        Some(line) => Ok(line),
+        None => Err(rejection(alloc)?),
+    }
+}
+
+/// `caps` with an update sequence and a query, `draw` with a query, `canon` alone and `run` alone ask for these lines, if no
+/// argument begins with a hyphen. A theorem: the call does nothing.
+pub fn plain_words_are_taken()
+    ensures caps { PlainCapsIsAsked }
+    ensures draw { PlainDrawIsAsked }
+    ensures canon { PlainCanonIsAsked }
+    ensures run { PlainRunIsAsked }
+{}

@@ -1,0 +1,18 @@
+//! The program's commands.
+
+pub use wf_service::Service;
+
+/// A parsed command line.
+#[derive(Clone, Copy)]
+pub enum Line<'a> {
+    /// Answer a request about the mapfile on standard input, at an update sequence.
+    Caps { seq: u16, query: &'a str },
+    /// Answer a request about the mapfile on standard input, as a server that has published only this map.
+    Draw { query: &'a str },
+    /// Write the canonical text of the mapfile on standard input.
+    Canon,
+    /// Play the script on standard input.
+    Run,
+    /// Serve nodes over HTTP.
+    Serve(Service<'a>),
+}

@@ -1,0 +1,87 @@
+-- The records that are pushed are those of a shortened tape.
+use Rattle.std.proofs.Common.{◌≡◌, ℕ, zero, suc, ◌+◌, ◌≤◌, true, false, List, [], ◌∷◌, ◌++◌, map, Option, Some, None, Result, Ok, Err, OnOk, add-one, refl, sym, ap, ◌∙◌, append_assoc, append-nil, arith}
+use Rattle.std.proofs.lemmas.List.{map-append}
+use Rattle.wf_ballot.specs.Ballot.{Ballot, last_round}
+use Rattle.wf_ballot.specs.Round.{IsRound}
+use Rattle.wf_def.specs.Definition.{Definition}
+use Rattle.wf_model.specs.Message.{Vote}
+use Rattle.wf_model.specs.Stored.{Stored, Record, Tried, Promised, Accepted, Published, definition_at, promise_at}
+use Rattle.wf_model.specs.Table.{votes_at}
+use Rattle.wf_tape.specs.Record.{view}
+use Rattle.wf_tape.specs.declared.record.Record as code
+use Rattle.wf_node.specs.Shortening.{tried_records, vote_records, promise_records, open_records, records_by, records_at, records_from}
+
+pub one_more : (before after : List code.Record) (r : code.Record) → after ≡ before ++ r ∷ [] → map view after ≡ map view before ++ view r ∷ []
+one_more before after r is = ap (map view) is ∙ map-append view before (r ∷ [])
+
+-- ---- what is appended, if nothing fails
+
+pub appends_as : {A E : Type 0} (result : Result A E) (old new xs ys : List (Record Definition)) → OnOk result (new ≡ old ++ xs) → xs ≡ ys → OnOk result (new ≡ old ++ ys)
+appends_as (Ok x) old new xs ys appended same = appended ∙ ap (λ (t : List (Record Definition)). old ++ t) same
+appends_as (Err e) old new xs ys appended same = tt
+
+pub appends_none : (old ys : List (Record Definition)) → ys ≡ [] → old ≡ old ++ ys
+appends_none old ys none = sym (ap (λ (t : List (Record Definition)). old ++ t) none ∙ append-nil old)
+
+pub appends_both : {A E : Type 0} (result : Result A E) (old mid new xs ys : List (Record Definition)) → mid ≡ old ++ xs → OnOk result (new ≡ mid ++ ys) → OnOk result (new ≡ old ++ (xs ++ ys))
+appends_both (Ok x) old mid new xs ys first second = second ∙ ap (λ (t : List (Record Definition)). t ++ ys) first ∙ append_assoc old xs ys
+appends_both (Err e) old mid new xs ys first second = tt
+
+-- ---- the last round tried
+
+pub tried_one : (tried round : ℕ) → 1 ≤ tried → round ≡ tried → Tried round ∷ [] ≡ tried_records tried
+tried_one zero round from_one is = absurd (omega arith)
+tried_one (suc r) round from_one is = ap (λ (t : ℕ). Tried t ∷ []) is
+
+pub none_tried : (tried : ℕ) → tried ≤ last_round → (IsRound tried → ⊥) → tried_records tried ≡ []
+none_tried zero short none = refl
+none_tried (suc r) short none = absurd (none (record { from_one = omega arith; to_last = short }))
+
+-- ---- a sequence
+
+module _ (stored : Stored Definition) (s : ℕ) where
+  pub published_here : (d : Definition) → definition_at stored.history s ≡ Some d → Published s d ∷ [] ≡ records_at stored s
+  unfolding records_at
+  published_here d is = sym (ap (records_by stored s) is)
+
+  pub open_here : definition_at stored.history s ≡ None → open_records stored s ≡ records_at stored s
+  unfolding records_at
+  open_here none = sym (ap (records_by stored s) none)
+
+  pub open_is : vote_records s (stored.votes s) ++ promise_records s (stored.votes s) (promise_at stored s) ≡ open_records stored s
+  unfolding open_records
+  open_is = refl
+
+pub voted_here : (s : ℕ) (vote : Option (Vote Definition)) (b : Ballot) (d : Definition) → Some (record { ballot = b; definition = d }) ≡ vote → Accepted s b d ∷ [] ≡ vote_records s vote
+voted_here s vote b d is = ap (vote_records s) is
+
+pub none_voted : (s : ℕ) (vote : Option (Vote Definition)) → None ≡ vote → vote_records s vote ≡ []
+none_voted s vote none = sym (ap (vote_records s) none)
+
+module _ (s : ℕ) (vote : Option (Vote Definition)) (promise : Option Ballot) where
+  pub promised_here : (b : Ballot) → promise ≡ Some b → votes_at vote b ≡ false → Promised s b ∷ [] ≡ promise_records s vote promise
+  promised_here b is other = sym (ap (promise_records s vote) is ∙ rw other refl)
+
+  -- The vote implies the promise.
+  pub implied_here : (b : Ballot) → promise ≡ Some b → votes_at vote b ≡ true → promise_records s vote promise ≡ []
+  implied_here b is same = ap (promise_records s vote) is ∙ rw same refl
+
+  pub none_promised : promise ≡ None → promise_records s vote promise ≡ []
+  none_promised none = ap (promise_records s vote) none
+
+-- ---- sequence by sequence: the records so far, and those still to come
+
+pub none_yet : (stored : Stored Definition) (records : List (Record Definition)) (number left last : ℕ) → number ≡ 1 → number + left ≡ 1 + last →
+    records ++ records_from stored number left ≡ records ++ records_from stored 1 last
+none_yet stored records number left last first sum =
+    let all_left : left ≡ last = omega arith in ap (λ (k : ℕ). records ++ records_from stored k left) first ∙ ap (λ (k : ℕ). records ++ records_from stored 1 k) all_left
+
+pub next_one : (stored : Stored Definition) (before after : List (Record Definition)) (s slot left : ℕ) (whole : List (Record Definition)) → after ≡ before ++ records_at stored slot → slot ≡ s →
+    before ++ records_from stored s (suc left) ≡ whole → after ++ records_from stored (s + 1) left ≡ whole
+unfolding records_from
+next_one stored before after s slot left whole more same so_far =
+    rw (more, same, add-one) (append_assoc before (records_at stored s) (records_from stored (suc s) left) ∙ so_far)
+
+pub all_there : (stored : Stored Definition) (records : List (Record Definition)) (s : ℕ) (whole : List (Record Definition)) → records ++ records_from stored s 0 ≡ whole → records ≡ whole
+unfolding records_from
+all_there stored records s whole so_far = sym (append-nil records) ∙ so_far

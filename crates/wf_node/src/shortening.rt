@@ -1,0 +1,191 @@
+//! A node rewrites its tape with as few records as its stored part needs.
+
+ghost use Rattle.std.specs.Prelude.{◌≡◌, ◌++◌, ◌∷◌, [], false, map, IfOk, OnOk};
+ghost use Rattle.wf_ballot.specs.Sequence.{last_sequence};
+ghost use Rattle.wf_ballot.specs.Slot.{IsSlot};
+ghost use Rattle.wf_model.specs.Stored.{promise_at};
+ghost use Rattle.wf_node.specs.Kept.{stored_of as stored_in};
+ghost use Rattle.wf_node.specs.Shortening.{tried_records, vote_records, promise_records, open_records, records_at, records_from, shortened};
+ghost use Rattle.wf_node.specs.Storing.{IsReplacement};
+ghost use Rattle.wf_tape.specs.Record.{view};
+
+use crate::fault::NodeFault;
+use crate::kept::Kept;
+use crate::machine::Machine;
+use crate::node::Node;
+use std::alloc::{AllocError, Global};
+use wf_ballot::{Round, SEQUENCES, Slot};
+use wf_canon::Canon;
+use wf_model::{folds_are_open, votes_are_promised};
+use wf_tape::{AddFault, Journal, Record, Tape};
+
+impl<T: Tape> Node<T> {
+    ghost use Rattle.std.specs.Prelude.{◌≡◌, true, false, None, Err, OnOk};
+    ghost use Rattle.wf_node.specs.Fault.{refused_by};
+    ghost use Rattle.wf_node.specs.Images.{AllStandFor};
+    ghost use Rattle.wf_node.specs.Node.{stored_of};
+    ghost use Rattle.wf_node.specs.Shortening.{shortened, IsShortening};
+    ghost use Rattle.wf_node.specs.Step.{IsSameNode};
+    ghost use Rattle.wf_tape.specs.Journal.{Holds};
+    ghost use Rattle.wf_tape.specs.Tape.{HasRisen, IsUnchanged};
+
+    /// Rewrites the node's tape, in one call of it: after Ok it holds the last round tried, the published definitions, and the
+    /// votes and promises above them, each once, and no promise that a vote implies. The node itself is unchanged, and
+    /// whatever is returned, every image of an honest tape stands for its stored part. A halted node returns N5; then N1 if
+    /// allocation failed, which changes nothing; N6 if the tape failed, which halts the node. It takes time in proportion to what
+    /// is stored, and copies it.
+    pub fn shorten(&mut self, alloc: Global) -> Result<(), NodeFault>
+        ensures halted { self.old.halted ≡ true → result ≡ Err NodeFault.Halted }
+        ensures running { result ≡ Err NodeFault.Halted → self.old.halted ≡ true }
+        ensures refused { refused_by result ≡ None }
+        ensures unchanged { result ≡ Err NodeFault.Halted → self.new ≡ self.old }
+        ensures same { IsSameNode self.old self.new }
+        ensures done { OnOk result (self.new.halted ≡ false) }
+        ensures held { T.honest → OnOk result (Holds (T.content self.new.tape) (T.images self.new.tape) (shortened (stored_of self.old))) }
+        ensures stands { T.honest → self.old.halted ≡ false → AllStandFor (stored_of self.old) (T.images self.new.tape) }
+        ensures memory { result ≡ Err NodeFault.Memory → self.new.halted ≡ false }
+        ensures same_tape { T.honest → result ≡ Err NodeFault.Memory → IsUnchanged (T.content self.old.tape) (T.content self.new.tape) (T.images self.old.tape) (T.images self.new.tape) }
+        ensures failed { result ≡ Err NodeFault.TapeFailed → HasRisen (T.failed self.old.tape) (T.failed self.new.tape) }
+        ensures halts { result ≡ Err NodeFault.TapeFailed → self.new.halted ≡ true }
+    {
+        if self.machine.journal.is_halted() {
+            return Err(NodeFault::Halted);
+        }
+        self.rewrite(alloc)
+    }
+
+    /// Shortens the tape of a node that isn't halted.
+    fn rewrite(&mut self, alloc: Global) -> Result<(), NodeFault>
+        requires { self.old.halted ≡ false }
+        ensures { IsShortening T.honest T.content T.images T.failed self.old result self.new }
+    {
+        // The model's theorems: what records fold to has votes and promises of sequences that aren't published, and no vote
+        // without a promise.
+        folds_are_open::<Canon>();
+        votes_are_promised::<Canon>();
+        self.machine.rewrite(alloc)
+    }
+}
+
+impl<T: Tape> Machine<T> {
+    /// Replaces the records on the tape by those of the stored part.
+    fn rewrite(&mut self, alloc: Global) -> Result<(), NodeFault>
+        requires { self.old.journal.halted ≡ false }
+        ensures replacement { IsReplacement T.honest T.content T.images T.failed (shortened (stored_in self.old.kept)) self.old.journal result self.new.journal }
+        ensures kept { self.new.kept ≡ self.old.kept }
+        ensures proposer { self.new.proposer ≡ self.old.proposer }
+    {
+        match shortened(alloc, &self.kept) {
+            Ok(records) => {
+                let replaced = replace(&mut self.journal, alloc, &records);
+                drop(records);
+                replaced
+            }
+            Err(_) => Err(NodeFault::Memory),
+        }
+    }
+}
+
+/// Replaces all records of the journal by these.
+fn replace<T: Tape>(
+    journal: &mut Journal<T>,
+    alloc: Global,
+    records: &[Record],
+) -> Result<(), NodeFault>
+    requires { journal.old.halted ≡ false }
+    ensures { IsReplacement T.honest T.content T.images T.failed (map view records.now) journal.old result journal.new }
+{
+    match journal.rewrite(alloc, records) {
+        Ok(()) => Ok(()),
+        Err(AddFault::TapeFailed) => Err(NodeFault::TapeFailed),
+        Err(AddFault::Memory) => Err(NodeFault::Memory),
+    }
+}
+
+/// The records of a shortened tape.
+fn shortened(alloc: Global, kept: &Kept) -> Result<Vec<Record>, AllocError>
+    ensures { IfOk result (λ records. map view records.items ≡ shortened (stored_in kept.now)) }
+{
+    let mut records = Vec::new(alloc);
+    push_tried(&mut records, kept.tried())?;
+    push_sequences(&mut records, kept)?;
+    Ok(records)
+}
+
+/// Appends the record of the last round tried, if one was.
+fn push_tried(records: &mut Vec<Record>, tried: u32) -> Result<(), AllocError>
+    ensures { OnOk result (map view records.new.items ≡ map view records.old.items ++ tried_records tried) }
+{
+    match Round::new(tried) {
+        Some(round) => push(records, Record::Tried(round)),
+        None => Ok(()),
+    }
+}
+
+/// Appends the records of each sequence.
+fn push_sequences(records: &mut Vec<Record>, kept: &Kept) -> Result<(), AllocError>
+    ensures { OnOk result (map view records.new.items ≡ map view records.old.items ++ records_from (stored_in kept.now) 1 last_sequence) }
+{
+    for number in 1..SEQUENCES + 1 {
+        push_sequence(records, kept, slot_of(number))?;
+    }
+    Ok(())
+}
+
+/// The slot of this number.
+fn slot_of(number: u16) -> Slot
+    requires { IsSlot number }
+    ensures { result ≡ number }
+{
+    Slot::new(number).unwrap()
+}
+
+/// Appends the records of a slot.
+fn push_sequence(records: &mut Vec<Record>, kept: &Kept, slot: Slot) -> Result<(), AllocError>
+    ensures { OnOk result (map view records.new.items ≡ map view records.old.items ++ records_at (stored_in kept.now) slot) }
+{
+    match kept.history().canon(slot) {
+        Some(canon) => push(records, Record::Published(slot, canon.copy()?)),
+        None => push_open(records, kept, slot),
+    }
+}
+
+/// Appends the records of a slot that isn't published.
+fn push_open(records: &mut Vec<Record>, kept: &Kept, slot: Slot) -> Result<(), AllocError>
+    ensures { OnOk result (map view records.new.items ≡ map view records.old.items ++ open_records (stored_in kept.now) slot) }
+{
+    push_vote(records, kept, slot)?;
+    push_promise(records, kept, slot)
+}
+
+/// Appends the record of the slot's vote, if there is one.
+fn push_vote(records: &mut Vec<Record>, kept: &Kept, slot: Slot) -> Result<(), AllocError>
+    ensures { OnOk result (map view records.new.items ≡ map view records.old.items ++ vote_records slot ((stored_in kept.now).votes slot)) }
+{
+    match kept.vote_at(slot) {
+        Some((ballot, canon)) => push(records, Record::Accepted(slot, *ballot, canon.copy()?)),
+        None => Ok(()),
+    }
+}
+
+/// Appends the record of the slot's promise, unless the slot's vote implies it.
+fn push_promise(records: &mut Vec<Record>, kept: &Kept, slot: Slot) -> Result<(), AllocError>
+    ensures { OnOk result (map view records.new.items ≡ map view records.old.items ++ promise_records slot ((stored_in kept.now).votes slot) (promise_at (stored_in kept.now) slot)) }
+{
+    let Some(promise) = kept.promise_at(slot) else {
+        return Ok(());
+    };
+    if kept.voted_at(slot, promise) {
+        return Ok(());
+    }
+    push(records, Record::Promised(slot, promise))
+}
+
+/// Appends a record.
+#[tactic(auto, using(crate::proofs::Pushed::one_more))]
+fn push(records: &mut Vec<Record>, entry: Record) -> Result<(), AllocError>
+    ensures { OnOk result (map view records.new.items ≡ map view records.old.items ++ view entry ∷ []) }
+{
+    records.push(entry)?;
+    Ok(())
+}

@@ -1,0 +1,185 @@
+//! Strips: the pixels whose level lies within a margin, painted row by row. The ends of a row's pixels are those of the row before,
+//! moved by a constant, so no row but the first takes a division.
+ghost use Rattle.std.specs.Prelude.{◌≡◌, ℕ, ◌*◌, ◌^◌, ◌<◌, ◌≤◌, nat_abs, pos, ◌≤ℤ◌};
+ghost use Rattle.wf_paint.specs.Near.{IsReach, IsArea};
+ghost use Rattle.wf_paint.specs.Exact.{difference, product, opposite};
+ghost use Rattle.wf_paint.specs.Level.{level_at, row_level};
+ghost use Rattle.wf_paint.specs.Shown.{IsColored};
+ghost use Rattle.wf_paint.specs.Span.{shared};
+ghost use Rattle.wf_paint.specs.Strip.{is_in_strip};
+ghost use Rattle.wf_paint.specs.View.{most_pixels};
+
+use crate::canvas::Canvas;
+use crate::exact::{opposite, product};
+use crate::level::level_within;
+use crate::levels::Levels;
+use crate::span::Span;
+use crate::steps::{multiples_up_to, quotient, sum};
+use wf_def::color::Color;
+
+/// Paints the pixels of these rows and columns whose level lies within the margin about 0.
+pub(crate) fn draw_strip(
+    canvas: &mut Canvas,
+    levels: Levels,
+    rows: Span,
+    columns: Span,
+    color: Color,
+)
+    requires origin { nat_abs levels.origin ≤ 2 ^ 109 }
+    requires across { IsReach levels.across }
+    requires up { IsReach levels.up }
+    requires margin { IsArea levels.margin }
+    requires rows { rows.to ≤ canvas.old.height }
+    requires columns { columns.to ≤ canvas.old.width }
+    ensures { IsColored (is_in_strip levels rows columns) color canvas.old canvas.new }
+{
+    let _ = canvas.height();
+    if rows.from < rows.to {
+        if columns.from < columns.to {
+            draw_rows(canvas, levels, rows, columns, color);
+        }
+    }
+}
+
+/// The same for at least one row.
+fn draw_rows(canvas: &mut Canvas, levels: Levels, rows: Span, columns: Span, color: Color)
+    requires origin { nat_abs levels.origin ≤ 2 ^ 109 }
+    requires across { IsReach levels.across }
+    requires up { IsReach levels.up }
+    requires margin { IsArea levels.margin }
+    requires order { rows.from ≤ rows.to }
+    requires rows { rows.to ≤ canvas.old.height }
+    requires most_rows { rows.to ≤ most_pixels }
+    requires columns { columns.to ≤ canvas.old.width }
+    ensures { IsColored (is_in_strip levels rows columns) color canvas.old canvas.new }
+{
+    if levels.across > 0 {
+        draw_rising(canvas, levels, rows, columns, color);
+    } else if levels.across < 0 {
+        draw_rising(canvas, mirrored(levels), rows, columns, color);
+    } else {
+        draw_level(canvas, levels, rows, columns, color);
+    }
+}
+
+/// Levels that lie within a margin exactly where these do, and fall where these rise.
+fn mirrored(levels: Levels) -> Levels
+    requires origin { nat_abs levels.origin ≤ 2 ^ 109 }
+    requires across { IsReach levels.across }
+    requires up { IsReach levels.up }
+    ensures origin { nat_abs result.origin ≤ 2 ^ 110 }
+    ensures across { result.across ≡ opposite levels.across }
+    ensures up { IsReach result.up }
+    ensures margin { result.margin ≡ levels.margin }
+    ensures value { (u v : ℕ) → level_at result u v ≡ difference (opposite (level_at levels u v)) (pos 1) }
+{
+    Levels {
+        origin: -levels.origin - 1,
+        across: -levels.across,
+        up: -levels.up,
+        margin: levels.margin,
+    }
+}
+
+/// The same for levels that rise from column to column.
+fn draw_rising(canvas: &mut Canvas, levels: Levels, rows: Span, columns: Span, color: Color)
+    requires origin { nat_abs levels.origin ≤ 2 ^ 110 }
+    requires across { IsReach levels.across }
+    requires rising { pos 1 ≤ℤ levels.across }
+    requires up { IsReach levels.up }
+    requires margin { IsArea levels.margin }
+    requires order { rows.from ≤ rows.to }
+    requires rows { rows.to ≤ canvas.old.height }
+    requires most_rows { rows.to ≤ most_pixels }
+    requires columns { columns.to ≤ canvas.old.width }
+    ensures { IsColored (is_in_strip levels rows columns) color canvas.old canvas.new }
+{
+    let step = step(levels.across);
+    let change = quotient(opposite(product(16, levels.up)), step);
+    let start = row_level(levels, rows.from);
+    let mut low = quotient(room(opposite(levels.margin), start), step);
+    let mut high = quotient(room(levels.margin, start), step);
+    for row in rows.from..rows.to {
+        let within = Span {
+            from: multiples_up_to(low, columns.to),
+            to: multiples_up_to(high, columns.to),
+        };
+        let span = both(columns, within);
+        canvas.cover(row, span.from, span.to, color);
+        low = sum(low, change, step);
+        high = sum(high, change, step);
+    }
+}
+
+/// The change of a level from one column to the next.
+#[tactic(auto, unfolding(crate::specs::Exact::product))]
+fn step(across: i64) -> u64
+    requires reach { IsReach across }
+    requires rising { pos 1 ≤ℤ across }
+    ensures value { pos result ≡ product (pos 16) across }
+    ensures least { 1 ≤ result }
+    ensures most { result ≤ 2 ^ 60 }
+{
+    16 * across.unsigned_abs()
+}
+
+/// The level in the first column of a row.
+fn row_level(levels: Levels, row: u32) -> i128
+    requires origin { nat_abs levels.origin ≤ 2 ^ 110 }
+    requires up { IsReach levels.up }
+    requires row { row ≤ most_pixels }
+    ensures value { result ≡ row_level levels row }
+    ensures within { nat_abs result ≤ 2 ^ 111 }
+{
+    levels.origin + product(sixteenths(row), levels.up)
+}
+
+/// A number of pixels in sixteenths of a pixel.
+fn sixteenths(pixels: u32) -> i64
+    requires { pixels ≤ most_pixels }
+    ensures value { result ≡ pos (16 * pixels) }
+    ensures within { IsReach result }
+{
+    16 * i64::from(pixels)
+}
+
+/// The greatest number that, added to the level, is below the bound.
+#[tactic(auto, unfolding(crate::specs::Exact::difference))]
+fn room(bound: i128, level: i128) -> i128
+    requires bound { IsArea bound }
+    requires level { nat_abs level ≤ 2 ^ 111 }
+    ensures value { result ≡ difference (difference bound level) (pos 1) }
+    ensures within { nat_abs result ≤ 2 ^ 112 }
+{
+    bound - level - 1
+}
+
+/// The same for levels that don't change from column to column.
+fn draw_level(canvas: &mut Canvas, levels: Levels, rows: Span, columns: Span, color: Color)
+    requires origin { nat_abs levels.origin ≤ 2 ^ 110 }
+    requires across { levels.across ≡ pos 0 }
+    requires up { IsReach levels.up }
+    requires margin { IsArea levels.margin }
+    requires order { rows.from ≤ rows.to }
+    requires rows { rows.to ≤ canvas.old.height }
+    requires most_rows { rows.to ≤ most_pixels }
+    requires columns { columns.to ≤ canvas.old.width }
+    ensures { IsColored (is_in_strip levels rows columns) color canvas.old canvas.new }
+{
+    for row in rows.from..rows.to {
+        let within = level_within(row_level(levels, row), levels.margin, columns.to);
+        let span = both(columns, within);
+        canvas.cover(row, span.from, span.to, color);
+    }
+}
+
+/// The intersection of two spans.
+#[inline(always)]
+fn both(a: Span, b: Span) -> Span
+    ensures { result ≡ shared a b }
+{
+    Span {
+        from: a.from.max(b.from),
+        to: a.to.min(b.to),
+    }
+}
