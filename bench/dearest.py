@@ -62,7 +62,7 @@ scattered.draw = random.Random(1)
 
 
 def distinct(_):
-    """Up and down over the whole height, each end at one of 90 places: hardly any two edges are equal."""
+    """Up and down over the whole height, each end at one of 90 positions: hardly any two edges are equal."""
     distinct.side = 9 - distinct.side
     return (distinct.draw.randrange(90) / 10, distinct.side)
 
@@ -72,7 +72,7 @@ distinct.draw = random.Random(2)
 
 
 def oblique(k):
-    """To and fro over the whole width, just flatter than 1 to 1, each end at one of 10 places."""
+    """To and fro over the whole width, just flatter than 1 to 1, each end at one of 10 positions."""
     return (9 * (k % 2), oblique.draw.randrange(10) / 10 + 8 * (k % 2))
 
 

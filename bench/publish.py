@@ -50,7 +50,7 @@ def timed(call, *words):
 
 
 def texts_of(program, mapfile, count):
-    """The canonical text of a map under so many titles of one length."""
+    """The canonical text of a map under n titles of one length."""
     done = subprocess.run([program, "canon"], input=pathlib.Path(mapfile).read_bytes(), capture_output=True)
     if done.returncode != 0:
         sys.exit(f"{mapfile}: {done.stderr.decode()}")
@@ -79,7 +79,7 @@ class Tapes:
 
 
 def records(piece):
-    """The records of a piece of a tape: a version, a kind, a length in four bytes, and so many bytes."""
+    """The records of a piece of a tape: a version, a kind, a length in four bytes, and n bytes."""
     while piece:
         end = 6 + int.from_bytes(piece[2:6], "big")
         yield piece[:end]
@@ -208,7 +208,7 @@ def line(name, times, note):
 
 
 def judged(name, times, others, most):
-    """Whether the median is below so many times the other one."""
+    """Whether the median is below n times the other one."""
     ratio = statistics.median(times) / statistics.median(others)
     print(f"{name:<42} {ratio:7.2f}      (wanted: {'at most' if most > 1 else 'below'} {most})")
     return ratio <= most if most > 1 else ratio < most

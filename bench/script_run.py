@@ -20,7 +20,7 @@ RUNS = 5
 
 
 def script(lines, deliveries):
-    """A script of so many lines and deliveries, and the last line that it writes."""
+    """A script of n lines and deliveries, and the last line that it writes."""
     rounds = deliveries // (MESSAGES * NODES)
     more = deliveries - rounds * MESSAGES * NODES
     text = HEAD + ROUND * rounds

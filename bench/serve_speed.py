@@ -89,7 +89,7 @@ def publishes(program, text):
 
 
 def syncs(program, text, count):
-    """How many syncs a run with so many publishes makes."""
+    """How many syncs a run with n publishes makes."""
     with tempfile.TemporaryDirectory() as folder:
         log, traced, state = (os.path.join(folder, name) for name in ("log", "traced", "state"))
         os.mkdir(state)

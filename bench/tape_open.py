@@ -16,7 +16,7 @@ RUNS = 10
 
 
 def table(records, case):
-    """A table that asks for a tape of so many records, of 172 bytes each."""
+    """A table that asks for a tape of n records, of 172 bytes each."""
     return case.replace(str(4096 * 172), str(records * 172)).replace("4096", str(records)).encode()
 
 

@@ -1,12 +1,12 @@
 #!/usr/bin/env python3
-"""Checks what was committed since a commit, and everything that stands on it, as the gate would.
+"""Checks what was committed since a commit, and everything that depends on it, as CI would.
 
-    python3 tools/check_changed.py BASE        BASE is a commit that passed the gate, as origin/main
+    python3 tools/check_changed.py BASE        BASE is a commit that passed CI, as origin/main
 
 In a clean clone of the last commit it proves each crate that differs from BASE and each crate above one that does, proves
 and runs their tests, runs their programs as both compilers build them, and tries their mutants right in must-fail/. All
 that is the code of `rt ci` itself, which this calls. What it leaves out: the proofs, tests, programs and mutants of crates
-that don't differ and stand on nothing that does. The libraries of those are taken from a checkout on this machine that
+that don't differ and depend on nothing that does. The libraries of those are taken from a checkout on this machine that
 proved exactly the same files (the stamps are compared); one that no checkout has is proved here.
 
 The last line is `N passed, M failed`, the status 0 where nothing failed; libraries that were taken count as passed. Uncommitted
@@ -27,7 +27,7 @@ PARTS = ("src", "specs", "proofs", "must-fail", "stdin", "stdout", "args", "stat
 
 
 def is_read(path):
-    """Whether the gate reads the file: of must-fail/ only the mutants right there, and one that went asks for no check."""
+    """Whether CI reads the file: of must-fail/ only the mutants right there, and a removed one needs no check."""
     return "/must-fail/" not in path or path.endswith(".edit") and (TOP / path).exists()
 
 
@@ -50,7 +50,7 @@ def differing(base):
 
 
 def leave_out(rt, chosen):
-    """Has the gate take the library of each crate that isn't chosen from a checkout that proved the same, and try none of its mutants."""
+    """Has CI's code take the library of each crate that isn't chosen from a checkout that proved the same, and try none of its mutants."""
     give, edits_of = rt.Kept.give, rt.edits_of
 
     def give_or_take(kept, crate, tests, key):
@@ -62,14 +62,14 @@ def leave_out(rt, chosen):
         made(kept, crates, anew)
         kept.is_full = True
 
-    # (the gate keeps only what it proved over libraries of its own)
+    # (CI keeps only what it proved over libraries of its own)
     made, rt.Kept.__init__, rt.Kept.tell = rt.Kept.__init__, nothing_kept, lambda kept: None
     rt.Kept.give = give_or_take
     rt.edits_of = lambda crate: edits_of(crate) if crate.name in chosen else ([], [])
 
 
 def check(rt, clone, chosen):
-    """Runs the gate's own code over the chosen crates of the clone, and returns its status."""
+    """Runs CI's own code over the chosen crates of the clone, and returns its status."""
     os.chdir(clone)
     with tempfile.TemporaryDirectory(prefix="check-aside-") as aside, rt.ending():
         return rt.ci_over(aside, False, sorted(chosen))

@@ -109,7 +109,7 @@ def print_all(part):
 
 
 def in_order():
-    """The crates, each after those that it stands on."""
+    """The crates, each after those that it depends on."""
     every, found = dependencies(), []
 
     def put(name):

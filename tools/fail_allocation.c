@@ -1,4 +1,4 @@
-// Loaded before the C library: the allocation whose number FAIL_ALLOCATION gives, counted from 1, finds no memory.
+// Loaded before the C library: the allocation whose number FAIL_ALLOCATION gives, counted from 1, fails.
 // Where COUNT_ALLOCATIONS is set, the number of all allocations is written to standard error at the end.
 #define _GNU_SOURCE
 #include <dlfcn.h>

@@ -4,7 +4,7 @@
     (cd crates/wf_tests && rt test)
     python3 tools/fail_allocations.py crates/wf_tests
 
-A test that repeats a call after want of memory passes whichever allocation fails, if the failed call
+A test that repeats a call after an allocation failure passes whichever allocation fails, if the failed call
 changed nothing. Each test's line says how many allocations it makes, and with how many of them failing
 it did not pass. Wants cc and a C library that is linked dynamically.
 """

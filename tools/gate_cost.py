@@ -1,10 +1,10 @@
 #!/usr/bin/env python3
-"""Runs the gate, `rt ci`, and says what each crate cost it.
+"""Runs CI, `rt ci`, and prints what each crate cost.
 
     python3 tools/gate_cost.py [LOG]
 
-Everything that the gate prints goes to LOG (`gate.log` beside the repository if left out). Then a table of processor
-minutes comes, a line a crate: its proof, its tests and its wrong edits, the longest first; and the whole: minutes on the
+Everything that CI prints goes to LOG (`gate.log` beside the repository if left out). Then a table of processor
+minutes comes, a line a crate: its proof, its tests and its mutants, the longest first; and the whole: minutes on the
 clock, processor minutes, processors. The figures are read from the processes as they run, twice a second, so a line can
 miss a second here and there; the whole is the system's own count. Run it on a clean clone, with nothing beside it.
 """
@@ -30,7 +30,7 @@ def read(path):
 
 
 def task_of(pid):
-    """The crate and the part of its cost that a process of the gate works on, by its words and its folder."""
+    """The crate and the part of its cost that a process of CI works on, by its words and its folder."""
     words = read(f"/proc/{pid}/cmdline").split(b"\0")
     if b"--crate-name" not in words:
         return None
@@ -45,7 +45,7 @@ def task_of(pid):
 
 
 def processes():
-    """What the system says of each process: its number, and the fields that follow its name."""
+    """What the system reports of each process: its number, and the fields that follow its name."""
     for name in os.listdir("/proc"):
         stat = read(f"/proc/{name}/stat").rpartition(b") ")[2].split() if name.isdigit() else ()
         if len(stat) >= 20:
@@ -53,7 +53,7 @@ def processes():
 
 
 def descendants(running, gate):
-    """The processes that the gate began, and those that they began: nothing else that runs on the machine counts."""
+    """The processes that CI began, and those that they began: nothing else that runs on the machine counts."""
     children = collections.defaultdict(list)
     for number, stat in running.items():
         children[int(stat[1])].append(number)
@@ -64,7 +64,7 @@ def descendants(running, gate):
 
 
 def look(seen, gate):
-    """Notes the task of each process of the gate and the processor time that it has used so far."""
+    """Notes the task of each process of CI and the processor time that it has used so far."""
     running = dict(processes())
     for name in descendants(running, gate):
         stat = running.get(name)

@@ -5,7 +5,7 @@
         --layer roads.geojson --layer-title "Roads" --items class,number --label number --color 90,130,220 --width 3 \\
         --layer towns.geojson --items name --label name --size 6 > county.map
 
-Each --layer begins a layer; the options behind it, up to the next --layer, are that layer's. Layers are drawn in the
+Each --layer begins a layer; the options after it, up to the next --layer, are that layer's. Layers are drawn in the
 order in which a request lists them. A file with more than one kind of geometry becomes a layer for each kind
 (`roads_line`, `roads_point`). Coordinates are longitude and latitude in degrees, as GeoJSON has them (RFC 7946);
 --crs 3857 writes metres of the spherical Mercator projection instead. The extent is that of the data unless --extent
@@ -14,7 +14,7 @@ gives one.
 What is written is the map's canonical text: `wfarm canon` gives the same bytes, and MapServer draws it too. A map that
 is over a limit of wfarm isn't written: a line says which limit, how far over, and what to do. The status is then 1.
 
---query FILE also writes the query of a picture of the whole map, to be sent behind the address and a question mark.
+--query FILE also writes the query of a picture of the whole map, to be sent after the address and a question mark.
 
 A shapefile, or any other format, becomes GeoJSON by `ogr2ogr -f GeoJSON -t_srs EPSG:4326 roads.geojson roads.shp`.
 """
@@ -124,7 +124,7 @@ def whole(least, most):
 def arguments():
     parser = argparse.ArgumentParser(
         description="Makes a self-contained mapfile for wfarm from GeoJSON files.",
-        epilog="The options behind --layer, up to the next one, are that layer's.",
+        epilog="The options after --layer, up to the next one, are that layer's.",
     )
     parser.add_argument("--name", required=True, help="the map's name")
     parser.add_argument("--title", help="its title (the name)")
@@ -132,7 +132,7 @@ def arguments():
     parser.add_argument("--address", default="http://localhost/wms?", help="the address that clients will use")
     parser.add_argument("--crs", choices=["4326", "3857"], default="4326", help="degrees, or metres of the Mercator projection")
     parser.add_argument("--extent", nargs=4, type=Decimal, metavar=("MINX", "MINY", "MAXX", "MAXY"), help="in the map's units (that of the data)")
-    parser.add_argument("--digits", type=whole(0, 6), default=6, help="digits behind the point of a coordinate (6)")
+    parser.add_argument("--digits", type=whole(0, 6), default=6, help="digits after the point of a coordinate (6)")
     parser.add_argument("--simplify", type=float, default=0.0, metavar="DISTANCE", help="leave out points nearer than this to the line without them, in the map's units")
     parser.add_argument("--query", type=pathlib.Path, metavar="FILE", help="where to write the query of a picture of the whole map")
     parser.add_argument("--side", type=whole(1, MOST_PIXELS), default=400, metavar="PIXELS", help="the longer side of that picture (400)")
@@ -203,7 +203,7 @@ def parts_of(geometry):
 
 
 def number(value, digits):
-    """The coordinate with so many digits behind the point at most, and no zeros at its end."""
+    """The coordinate with n digits after the point at most, and no zeros at its end."""
     rounded = Decimal(repr(value) if isinstance(value, float) else value).quantize(Decimal(1).scaleb(-digits), rounding="ROUND_HALF_EVEN")
     text = format(rounded, "f")
     if "." in text:

@@ -13,7 +13,7 @@ TOP = pathlib.Path(__file__).resolve().parent.parent
 
 
 def load_rt():
-    """The kit's command `rt` as a module: what it does to a crate or to a mutant is the gate's own code."""
+    """The kit's command `rt` as a module: what it does to a crate or to a mutant is CI's own code."""
     path = os.path.realpath(shutil.which("rt"))
     sys.path.insert(0, os.path.dirname(path))
     sys.dont_write_bytecode = True

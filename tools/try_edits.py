@@ -1,17 +1,17 @@
 #!/usr/bin/env python3
-"""Tries a crate's wrong edits, those of the gate and those kept to be tried by hand, side by side.
+"""Tries a crate's mutants, those of CI and those outside CI, side by side.
 
-    python3 tools/try_edits.py wf_ballot                    every edit of the crate
-    python3 tools/try_edits.py wf_ballot half_is_a_majority one edit, or several by their names
-    python3 tools/try_edits.py --changed origin/main        every edit of each crate whose code or specs differ from a commit
-    python3 tools/try_edits.py --applies                    only whether each edit of every crate still applies
+    python3 tools/try_edits.py wf_ballot                    every mutant of the crate
+    python3 tools/try_edits.py wf_ballot half_is_a_majority one mutant, or several by their names
+    python3 tools/try_edits.py --changed origin/main        every mutant of each crate whose code or specs differ from a commit
+    python3 tools/try_edits.py --applies                    only whether each mutant of every crate still applies
 
-An edit in `must-fail/NAME.edit` is tried by the gate, one in `must-fail/by-hand/NAME.edit.md` only here. Each is applied
-to a copy of the crate, and the prover has to refuse the copy: the test is the gate's own. A crate that was checked before
-(`rt check`) lends its kept work, so an edit costs what it changes. Run it over a crate whenever a clause or a definition
-of that crate changes. The last line counts; the status is 0 where every edit was refused.
+CI tries a mutant in `must-fail/NAME.edit`; one in `must-fail/by-hand/NAME.edit.md` is tried only here. Each is applied
+to a copy of the crate, and the prover has to reject the copy: the test is CI's own. A crate that was checked before
+(`rt check`) lends its kept work, so a mutant costs what it changes. Run it over a crate whenever a clause or a definition
+of that crate changes. The last line counts; the status is 0 where every mutant was rejected.
 
-Options: --lanes N (how many side by side; 2 if left out), --by-hand (leave out those that the gate tries), --record (write
+Options: --lanes N (how many side by side; 2 if left out), --by-hand (leave out those that CI tries), --record (write
 each crate's result, with the commit, into docs/EDITS.md; only where nothing of the crate is uncommitted).
 """
 
@@ -36,13 +36,13 @@ def name_of(edit):
 
 
 def edits_of(folder, only_by_hand=False):
-    """The edits of a crate: the gate's first, then those to be tried by hand."""
+    """The mutants of a crate: CI's first, then those outside CI."""
     tried_by_gate = [] if only_by_hand else sorted((folder / "must-fail").glob("*.edit"))
     return [*tried_by_gate, *sorted((folder / "must-fail" / "by-hand").glob("*.edit.md"))]
 
 
 def fault_of(rt, edit, folder):
-    """Says why an edit can't be applied to the code as it is, or None. The gate reads lines alone and passes over what it can't read."""
+    """Why a mutant can't be applied to the code as it is, or None. CI reads lines alone and skips what it can't read."""
     unread = [it for it in edit.read_text().splitlines() if it.strip() and not re.match(r"file: |old: |new:|#|--|//", it)]
     if unread:
         return f"it can't be applied, since a text of it has several lines, and only the first of them is read: {unread[0].strip()[:60]}"
@@ -50,7 +50,7 @@ def fault_of(rt, edit, folder):
 
 
 def look(rt):
-    """Says which edits can't be applied to the code as it is."""
+    """Prints which mutants can't be applied to the code as it is."""
     count = bad = 0
     for folder in sorted((TOP / "crates").iterdir()):
         for edit in edits_of(folder):
@@ -59,12 +59,12 @@ def look(rt):
             if why:
                 bad += 1
                 print(f"{edit.relative_to(TOP)}: {why}")
-    print(f"{count} edits, {bad} do not apply")
+    print(f"{count} mutants, {bad} do not apply")
     return bad
 
 
 def try_all(rt, crate, edits, lanes):
-    """Tries the edits, each lane over its own copy of what the crate's last check kept."""
+    """Tries the mutants, each lane over its own copy of what the crate's last check kept."""
     kept = pathlib.Path(crate.folder) / "out" / "incremental"
     refused = 0
     with tempfile.TemporaryDirectory(prefix="try-edits-") as room:
@@ -91,12 +91,12 @@ def try_all(rt, crate, edits, lanes):
             for is_refused, text in pool.map(try_one, edits):
                 print(text, flush=True)
                 refused += is_refused
-    print(f"{crate.name}: {len(edits)} edits, {refused} refused", flush=True)
+    print(f"{crate.name}: {len(edits)} mutants, {refused} rejected", flush=True)
     return refused
 
 
 def record(name, tried, refused):
-    """Writes a crate's result into the table of the document, in place of its last one."""
+    """Writes a crate's result into the table of the document; it replaces the last one."""
     row = f"| `{name}` | {tried} | {refused} | {git('rev-parse', '--short', 'HEAD').strip()} | {datetime.date.today()} |"
     lines = RESULTS.read_text().splitlines()
     at = next((i for i, it in enumerate(lines) if it.startswith(f"| `{name}` |")), None)
@@ -108,7 +108,7 @@ def record(name, tried, refused):
 
 
 def try_crate(rt, name, given):
-    """Tries a crate's edits, and returns how many were not refused."""
+    """Tries a crate's mutants, and returns how many were not rejected."""
     crate = next(it for it in rt.rtlib.crates_below(str(TOP)) if it.name == name)
     edits = edits_of(TOP / "crates" / name, given.by_hand)
     edits = [it for it in edits if not given.names or name_of(it) in given.names]
@@ -147,7 +147,7 @@ def main():
         parser.error("crates.txt lists no such crate")
     lost = {*given.names} - {name_of(it) for name in chosen for it in edits_of(TOP / "crates" / name, given.by_hand)}
     if lost:
-        parser.error(f"no edit is named {', '.join(sorted(lost))}")
+        parser.error(f"no mutant is named {', '.join(sorted(lost))}")
     return 1 if sum(try_crate(rt, it, given) for it in chosen) else 0
 
 

@@ -3,7 +3,7 @@
 
     python3 tools/try_geojson.py [PROGRAM]
 
-Compares each map with the one that is kept beside the data, the query of its picture, and each refusal with its line.
+Compares each map with the one that is kept beside the data, the query of its picture, and each rejection with its line.
 PROGRAM, the built wfarm (crates/wfarm/out/wfarm), is asked for the canonical text of each map besides: that has to be
 the map itself.
 """
@@ -40,7 +40,7 @@ def line(points):
     return [[i / 1000, (i * i % 7) / 1000] for i in range(points)]
 
 
-# Made data, the options behind it, and a beginning of the line that refuses it.
+# Made data, the options after it, and a beginning of the line that rejects it.
 REFUSED = {
     "too many features": ([feature("Point", [i, 0]) for i in range(2001)], [], "2001 features, over the limit of 2000"),
     "too many points": ([feature("LineString", line(20001))], [], "20001 points, over the limit of 20000"),

@@ -26,7 +26,7 @@ CAPABILITIES = "SERVICE=WMS&REQUEST=GetCapabilities"
 
 
 class Farm:
-    """A farm that serves so many connections, and then ends."""
+    """A farm that serves n connections, and then ends."""
 
     def __init__(self, program, requests, folder, nodes=3):
         words = [program, "serve", "--nodes", str(nodes), "--port", "0", "--requests", str(requests)]
@@ -50,7 +50,7 @@ class Farm:
             return None, repr(broken)
 
     def ask_with_more(self, path, more):
-        """What comes back to a GET with so many bytes behind its head, whole or up to where the connection breaks."""
+        """What comes back to a GET with n bytes after its head, whole or up to where the connection breaks."""
         came = b""
         with socket.create_connection(("127.0.0.1", self.port), timeout=20) as client:
             client.sendall(b"GET %s HTTP/1.1\r\n\r\n" % path.encode() + b"x" * more)
@@ -106,7 +106,7 @@ def tapes(folder):
 
 
 def starts_again(program, folder, port):
-    """What becomes of a second start at a port and on a folder: its status, what it prints and what it says of the fault."""
+    """What becomes of a second start at a port and on a folder: its status, what it prints and its error line."""
     words = [program, "serve", "--nodes", "3", "--port", str(port), "--requests", "1", "--state", folder]
     second = subprocess.run(words, capture_output=True, text=True, timeout=20)
     return second.returncode, second.stdout, second.stderr
@@ -146,13 +146,13 @@ def three_nodes(program, folder):
     yield same("one far over it", farm.ask("/publish", b" " * 100_000)[0], 413)
     large = "/wms?" + QUERY.replace("WIDTH=4&HEIGHT=4", "WIDTH=200&HEIGHT=200")
     for more in (0, 20_000):
-        yield same("a picture, %d bytes behind the head" % more, len(farm.ask_with_more(large, more).partition(b"\r\n\r\n")[2]), 120_015)
+        yield same("a picture, %d bytes after the head" % more, len(farm.ask_with_more(large, more).partition(b"\r\n\r\n")[2]), 120_015)
     yield from second_start(program, folder, farm)
     waited = farm.trickle(15)
     yield same("a client that sends byte by byte is given up", 9 < waited < 12, True)
     for name, request, most in (
         ("a client that was answered and stays", b"GET /status HTTP/1.1\r\n\r\n", 0.5),
-        ("one that was refused and stays", b"POST /publish HTTP/1.1\r\nContent-Length: 100000\r\n\r\n", 2),
+        ("one that was rejected and stays", b"POST /publish HTTP/1.1\r\nContent-Length: 100000\r\n\r\n", 2),
     ):
         client = farm.keep_open(request)
         before = time.monotonic()

@@ -179,7 +179,7 @@ class Look:
         self(f"{what} ({time.time() - begun:.1f} s)" if held else what, held)
 
 
-# the tiles of a map on the page: place, path, pixels, and the words of the tint
+# the tiles of a map on the page: position, path, pixels, and the words of the tint
 READ = """
 const [id, done] = arguments;
 (async () => {
@@ -363,7 +363,7 @@ def try_publishing(page, relay, look, folder, nginx):
     page.shoot("error")
     (folder / "cut.map").write_text('MAP\n  NAME "é"\n  EXTENT 0 0 4 x4\n', encoding="utf-8")
     page.publish(folder / "cut.map")
-    look.within(8, "an offset in bytes behind letters of two bytes", lambda: "line 3" in page.text("answer")
+    look.within(8, "an offset in bytes after letters of two bytes", lambda: "line 3" in page.text("answer")
                 and page.run("return document.querySelector('#where mark').textContent") == "x4")
     (folder / "long.map").write_bytes(b"#" * 70_000)
     page.publish(folder / "long.map")

@@ -8,10 +8,10 @@ use Rattle.std.proofs.lemmas.Bool.{cases_lt, cases_eq}
 use Rattle.std.proofs.lemmas.Bool.Decides.{nat_tests}
 use Rattle.wf_def.specs.declared.color.Color.{Color}
 use Rattle.wf_paint.specs.Pixmap.{column_of, row_of}
-use Rattle.wf_paint.specs.Cells.{IsRangePainted, IsFilled, AreAlike, is_free, painted_in}
+use Rattle.wf_paint.specs.Cells.{IsCells, IsRangePainted, IsFilled, is_free, painted_in}
 use Rattle.wf_paint.specs.Canvas.{CanvasValue, IsCanvas, IsBlank, IsFull, HasFree, IsAlike, IsFinished, painted_at}
 use Rattle.wf_paint.specs.Shown.{IsColored, is_in_run, color_where}
-use Rattle.wf_paint.proofs.CellsLemmas.{is_free-none, painted_in-free, painted_in-painted, painted_in-same}
+use Rattle.wf_paint.proofs.CellsLemmas.{range_keeps, is_free-none, painted_in-free, painted_in-painted, painted_in-same}
 
 -- ---- the index of a pixel
 
@@ -70,7 +70,7 @@ or_none (Some color) = refl
 
 -- the same canvas with other pixels
 abbrev pub with_cells : CanvasValue → List ℕ → List ℕ → CanvasValue
-with_cells c skip bytes = record { width = c.width; height = c.height; bytes = bytes; skip = skip }
+with_cells c skip bytes = record { width = c.width; height = c.height; bytes = bytes; skip = skip; known = c.known }
 
 module _ (c : CanvasValue) (row from to : ℕ) (color : Color) (skip bytes : List ℕ) where
   -- how many pixels lie in the rows above
@@ -116,6 +116,19 @@ module _ (c : CanvasValue) (row from to : ℕ) (color : Color) (skip bytes : Lis
             ];
       }
 
+  -- what was painted stays painted
+  pub canvas_covered : (start end : ℕ) → IsCanvas c → IsRangePainted start end color c.skip c.bytes skip bytes → IsCells skip bytes → IsCanvas (with_cells c skip bytes)
+  canvas_covered start end is range cells = record {
+    width_least = is.width_least;
+    width_most = is.width_most;
+    height_least = is.height_least;
+    height_most = is.height_most;
+    size = range.skip_size ∙ is.size;
+    cells = cells;
+    known_within = omega (arith, is.known_within, range.skip_size);
+    known_painted = λ i before. range_keeps start end color c.skip c.bytes skip bytes range i (is.known_painted i before);
+  }
+
   -- no column lies between two in the wrong order
   pub run_empty : to ≤ from → IsColored (is_in_run row from to) color c c
   run_empty none = record {
@@ -133,7 +146,7 @@ module _ (c : CanvasValue) (row from to : ℕ) (color : Color) (skip bytes : Lis
 
 -- ---- the whole canvas
 
-pub blank_pixels : (width height : ℕ) (bytes : List ℕ) → IsBlank width height (record { width = width; height = height; bytes = bytes; skip = replicate (width * height) 0 })
+pub blank_pixels : (width height : ℕ) (bytes : List ℕ) → IsBlank width height (record { width = width; height = height; bytes = bytes; skip = replicate (width * height) 0; known = 0 })
 unfolding painted_at
 blank_pixels width height bytes =
     let skip : List ℕ = replicate (width * height) 0 in
@@ -143,39 +156,37 @@ blank_pixels width height bytes =
       pixels = λ i area. painted_in-free skip bytes i (is_free-none skip i (get_or-replicate (width * height) i 0 0 area));
     }
 
-module _ (c : CanvasValue) (skip : List ℕ) (alike : AreAlike c.skip skip) where
-  -- other jumps change no pixel
-  pub canvas_alike : IsAlike c (with_cells c skip c.bytes)
-  unfolding painted_at
-  canvas_alike = record {
-    width = refl;
-    height = refl;
-    pixels = λ i area. painted_in-same c.skip c.bytes skip c.bytes i (alike.free i) refl;
-  }
+-- the same canvas, of whose first pixels so many are known to be painted
+abbrev pub with_known : CanvasValue → ℕ → CanvasValue
+with_known c known = record { width = c.width; height = c.height; bytes = c.bytes; skip = c.skip; known = known }
 
-  pub canvas_rejumped : IsCanvas c → IsCanvas (with_cells c skip c.bytes)
-  canvas_rejumped is = record {
+module _ (c : CanvasValue) (known : ℕ) where
+  -- to know more changes no pixel
+  pub canvas_alike : IsAlike c (with_known c known)
+  unfolding painted_at
+  canvas_alike = record { width = refl; height = refl; pixels = λ i area. refl }
+
+  pub canvas_known : IsCanvas c → known ≤ length c.skip → ((i : ℕ) → i < known → is_free c.skip i ≡ false) → IsCanvas (with_known c known)
+  canvas_known is within painted = record {
     width_least = is.width_least;
     width_most = is.width_most;
     height_least = is.height_least;
     height_most = is.height_most;
-    size = alike.size ∙ is.size;
-    cells = record {
-      most = omega (arith, is.cells.most, alike.size);
-      sized = omega (arith, is.cells.sized, alike.size);
-      jumps = alike.jumps;
-    };
+    size = is.size;
+    cells = is.cells;
+    known_within = within;
+    known_painted = painted;
   }
 
-  pub canvas_full : ((i : ℕ) → i < c.width * c.height → is_free skip i ≡ false) → IsFull (with_cells c skip c.bytes)
+  pub canvas_full : ((i : ℕ) → i < c.width * c.height → is_free c.skip i ≡ false) → IsFull (with_known c known)
   unfolding painted_at
   canvas_full painted = record {
-    pixels = λ i area. ap (λ (o : Option Color). is_some o) (painted_in-painted skip c.bytes i (painted i area));
+    pixels = λ i area. ap (λ (o : Option Color). is_some o) (painted_in-painted c.skip c.bytes i (painted i area));
   }
 
-  pub canvas_free : (i : ℕ) → i < c.width * c.height → is_free skip i ≡ true → HasFree (with_cells c skip c.bytes)
+  pub canvas_free : (i : ℕ) → i < c.width * c.height → is_free c.skip i ≡ true → HasFree (with_known c known)
   unfolding painted_at
-  canvas_free i area free = record { free = i; within = area; unpainted = painted_in-free skip c.bytes i free }
+  canvas_free i area free = record { free = i; within = area; unpainted = painted_in-free c.skip c.bytes i free }
 
 -- the background in the free pixels
 pub canvas_finished : (background : Color) (c : CanvasValue) (bytes : List ℕ) → IsCanvas c → IsFilled (length c.skip) background c.skip c.bytes bytes →

@@ -6,7 +6,7 @@ use Rattle.std.proofs.lemmas.Bool.{cases_lt, cases_eq}
 use Rattle.std.proofs.lemmas.Bool.Decides.{nat_tests}
 use Rattle.wf_def.specs.declared.color.Color.{Color}
 use Rattle.wf_paint.specs.Pixmap.{pixel_at}
-use Rattle.wf_paint.specs.Cells.{IsCells, IsJump, AreJumps, AreAlike, IsWritten, IsRangePainted, IsStep, IsFilled, is_free, painted_in}
+use Rattle.wf_paint.specs.Cells.{IsCells, IsJump, AreJumps, IsWritten, IsRangePainted, IsStep, IsFilled, is_free, painted_in}
 
 -- ---- free and painted pixels
 
@@ -286,51 +286,3 @@ module _ (skip : List ℕ) (here : ℕ) (free : is_free skip here ≡ true) wher
 
 pub filled_none : (background : Color) (skip bytes : List ℕ) → IsFilled 0 background skip bytes bytes
 filled_none background skip bytes = record { size = refl; filled = λ i before. absurd (omega arith); left = λ i later. refl }
-
--- ---- a longer jump from the first pixel
-
-module _ (skip : List ℕ) (first : ℕ) (some : 0 < first) (within : first ≤ length skip) (jumps : AreJumps skip) (passed : (i : ℕ) → i < first → is_free skip i ≡ false) where
-  longer : List ℕ
-  longer = set skip 0 first
-
-  longer_here : slice_index longer 0 ≡ first
-  unfolding longer
-  longer_here = get_or-set_same skip 0 first 0 (omega arith)
-
-  longer_there : (i : ℕ) → i ≢ 0 → slice_index longer i ≡ slice_index skip i
-  unfolding longer
-  longer_there i apart = get_or-set_other skip 0 i first 0 apart
-
-  longer_size : length longer ≡ length skip
-  unfolding longer
-  longer_size = length-set skip 0 first
-
-  longer_free : (i : ℕ) → is_free longer i ≡ is_free skip i
-  longer_free i =
-      elim (cases_eq i 0) [
-        | inl at ↦ rw at (is_free-some longer 0 (omega (arith, longer_here)) ∙ sym (passed 0 some))
-        | inr apart ↦ is_free-same skip longer i (longer_there i apart)
-      ]
-
-  longer_jump : (i : ℕ) → i < length skip → IsJump longer i
-  longer_jump i inside =
-      elim (cases_eq i 0) [
-        | inl at ↦ rw at (record {
-          within = omega (arith, longer_here, longer_size);
-          painted = λ k before. longer_free (0 + k) ∙ passed (0 + k) (omega (arith, longer_here));
-        })
-        | inr apart ↦
-            let same : slice_index longer i ≡ slice_index skip i = longer_there i apart in
-            record {
-              within = rw (same, longer_size) ((jumps.each i inside).within);
-              painted = λ k before. longer_free (i + k) ∙ (jumps.each i inside).painted k (omega arith);
-            }
-      ]
-
-  pub AreAlike-longer : AreAlike skip (set skip 0 first)
-  unfolding longer
-  AreAlike-longer = record {
-    size = longer_size;
-    free = longer_free;
-    jumps = record { each = λ i inside. longer_jump i (omega (arith, longer_size)) };
-  }

@@ -20,12 +20,6 @@ pub record IsJump (skip : List ℕ) (index : ℕ) : Type 0 where
 pub record AreJumps (skip : List ℕ) : Type 0 where
   pub each : (i : ℕ) → i < length skip → IsJump skip i
 
--- other jumps for as many pixels, with the same pixels free
-pub record AreAlike (old new : List ℕ) : Type 0 where
-  pub size : length new ≡ length old
-  pub free : (i : ℕ) → is_free new i ≡ is_free old i
-  pub jumps : AreJumps new
-
 -- a picture's pixels, at most 2^20
 pub record IsCells (skip bytes : List ℕ) : Type 0 where
   pub most : length skip ≤ 2 ^ 20

@@ -1,7 +1,7 @@
 //! A picture while it is painted, from the last operation to the first.
 ghost use Rattle.std.specs.Prelude.{◌≡◌, ◌≤◌, ◌<◌, ◌*◌, ◌+◌, ◌^◌, ◌↔◌, ℕ, true, false, length, slice_index, IfOk};
 ghost use Rattle.wf_paint.specs.View.{most_pixels};
-ghost use Rattle.wf_paint.specs.Cells.{IsCells, IsJump, AreJumps, AreAlike, IsStep, IsRangePainted, IsWritten, IsFilled, is_free};
+ghost use Rattle.wf_paint.specs.Cells.{IsCells, IsJump, AreJumps, IsStep, IsRangePainted, IsWritten, IsFilled, is_free};
 ghost use Rattle.wf_paint.specs.Canvas.{IsCanvas, IsBlank, IsFull, HasFree, IsAlike, IsFinished};
 ghost use Rattle.wf_paint.specs.Shown.{IsColored, is_in_run};
 
@@ -16,8 +16,11 @@ pub(crate) struct Canvas {
     width: u32,
     height: u32,
     bytes: Vec<u8>,
-    /// For each pixel, the length of a jump from it over painted pixels only; 0 where the pixel is free.
-    skip: Vec<u32>,
+    /// For each pixel, the length of a jump from it over painted pixels of its row; 0 where the pixel is free. Lines that go over
+    /// painted pixels read little else, so it is as small as a row's length allows.
+    skip: Vec<u16>,
+    /// So many of the first pixels are known to be painted.
+    known: u32,
 }
 
 impl Model for Canvas {
@@ -25,9 +28,9 @@ impl Model for Canvas {
 
     ghost Value = { CanvasValue };
 
-    ghost view = { λ c. record { width = c.width; height = c.height; bytes = c.bytes.items; skip = c.skip.items } };
+    ghost view = { λ c. record { width = c.width; height = c.height; bytes = c.bytes.items; skip = c.skip.items; known = c.known } };
 
-    ghost invariant = { λ c. IsCanvas (record { width = c.width; height = c.height; bytes = c.bytes.items; skip = c.skip.items }) };
+    ghost invariant = { λ c. IsCanvas (record { width = c.width; height = c.height; bytes = c.bytes.items; skip = c.skip.items; known = c.known }) };
 }
 
 impl Canvas {
@@ -45,6 +48,7 @@ impl Canvas {
             height,
             bytes: vec![in alloc; 0; 3 * area]?,
             skip: vec![in alloc; 0; area]?,
+            known: 0,
         })
     }
 
@@ -88,7 +92,8 @@ impl Canvas {
         ensures full { result ≡ true → IsFull self.new }
         ensures free { result ≡ false → HasFree self.new }
     {
-        find_free(&mut self.skip) == self.width * self.height
+        self.known = first_free(&self.skip, self.known);
+        self.known == self.width * self.height
     }
 
     /// The picture; free pixels get the background.
@@ -100,6 +105,7 @@ impl Canvas {
             height,
             bytes,
             skip,
+            known: _,
         } = self;
         let mut bytes = bytes;
         fill_free(&mut bytes, &skip, background);
@@ -118,10 +124,11 @@ fn write(bytes: &mut Vec<u8>, index: u32, color: Color)
     bytes[start + 2] = color.b;
 }
 
-/// Writes the colour to the free pixels in start..end.
-fn paint_range(bytes: &mut Vec<u8>, skip: &mut Vec<u32>, start: u32, end: u32, color: Color)
+/// Writes the colour to the free pixels in start..end, which are at most a row's.
+fn paint_range(bytes: &mut Vec<u8>, skip: &mut Vec<u16>, start: u32, end: u32, color: Color)
     requires cells { IsCells skip.old.items bytes.old.items }
     requires order { start ≤ end }
+    requires short { end ≤ start + most_pixels }
     requires within { end ≤ length skip.old.items }
     ensures range { IsRangePainted start end color skip.old.items bytes.old.items skip.new.items bytes.new.items }
     ensures cells { IsCells skip.new.items bytes.new.items }
@@ -134,57 +141,43 @@ fn paint_range(bytes: &mut Vec<u8>, skip: &mut Vec<u32>, start: u32, end: u32, c
 
 /// Paints this pixel if it is free, else jumps over the painted pixels that start here, at most to `end`. A later jump from here
 /// goes at least to `end`. Returns the next index.
-fn paint_next(bytes: &mut Vec<u8>, skip: &mut Vec<u32>, here: u32, end: u32, color: Color) -> u32
+fn paint_next(bytes: &mut Vec<u8>, skip: &mut Vec<u16>, here: u32, end: u32, color: Color) -> u32
     requires order { here < end }
+    requires short { end ≤ here + most_pixels }
     requires within { end ≤ length skip.old.items }
     requires most { length skip.old.items ≤ 2 ^ 20 }
     requires bytes { length bytes.old.items ≡ 3 * length skip.old.items }
     requires jump { IsJump skip.old.items here }
     ensures { IsStep here result end color skip.old.items bytes.old.items skip.new.items bytes.new.items }
 {
-    let jump = skip[here as usize];
+    let jump = skip[here as usize] as u32;
     let rest = end - here;
     if jump == 0 {
         write(bytes, here, color);
-        skip[here as usize] = rest;
+        skip[here as usize] = rest as u16;
         return here + 1;
     }
     if jump < rest {
-        skip[here as usize] = rest;
+        skip[here as usize] = rest as u16;
         return here + jump;
     }
     end
 }
 
-/// The index of the first free pixel, or the number of pixels if none is free. The jump from the first pixel now goes there.
-fn find_free(skip: &mut Vec<u32>) -> u32
-    requires most { length skip.old.items ≤ 2 ^ 20 }
-    requires jumps { AreJumps skip.old.items }
-    ensures within { result ≤ length skip.new.items }
-    ensures painted { (i : ℕ) → i < result → is_free skip.new.items i ≡ false }
-    ensures free { result < length skip.new.items → is_free skip.new.items result ≡ true }
-    ensures alike { AreAlike skip.old.items skip.new.items }
-{
-    let first = first_free(skip);
-    if first == 0 {
-        return 0;
-    }
-    skip[0] = first;
-    first
-}
-
-/// The index of the first free pixel, or the number of pixels if none is free.
-fn first_free(skip: &Vec<u32>) -> u32
+/// The index of the first free pixel, or the number of pixels if none is free. The first `known` pixels are painted.
+fn first_free(skip: &Vec<u16>, known: u32) -> u32
     requires most { length skip.now.items ≤ 2 ^ 20 }
     requires jumps { AreJumps skip.now.items }
+    requires within { known ≤ length skip.now.items }
+    requires known { (i : ℕ) → i < known → is_free skip.now.items i ≡ false }
     ensures within { result ≤ length skip.now.items }
     ensures painted { (i : ℕ) → i < result → is_free skip.now.items i ≡ false }
     ensures free { result < length skip.now.items → is_free skip.now.items result ≡ true }
 {
     let end = skip.len() as u32;
-    let mut here = 0;
+    let mut here = known;
     while here < end {
-        let jump = skip[here as usize];
+        let jump = skip[here as usize] as u32;
         if jump == 0 {
             return here;
         }
@@ -194,14 +187,14 @@ fn first_free(skip: &Vec<u32>) -> u32
 }
 
 /// Writes the background to the free pixels.
-fn fill_free(bytes: &mut Vec<u8>, skip: &Vec<u32>, background: Color)
+fn fill_free(bytes: &mut Vec<u8>, skip: &Vec<u16>, background: Color)
     requires cells { IsCells skip.now.items bytes.old.items }
     ensures { IsFilled (length skip.now.items) background skip.now.items bytes.old.items bytes.new.items }
 {
     let end = skip.len() as u32;
     let mut here = 0;
     while here < end {
-        let jump = skip[here as usize];
+        let jump = skip[here as usize] as u32;
         if jump == 0 {
             write(bytes, here, background);
             here += 1;

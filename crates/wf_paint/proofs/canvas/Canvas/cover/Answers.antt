@@ -1,11 +1,16 @@
 use Rattle.std.proofs.Common.{◌≡◌, arith}
 use Rattle.wf_paint.specs.Canvas.{CanvasValue}
-use Rattle.wf_paint.proofs.CanvasLemmas.{run_colored, run_empty}
+use Rattle.wf_paint.proofs.CanvasLemmas.{canvas_covered, run_colored, run_empty}
 use Rattle.wf_paint.proofs.canvas.Canvas.cover.Goals as goal
+
+pub invariant_of-self : goal.invariant_of-self
+invariant_of-self c =
+    let here : CanvasValue = record { width = c.self.inside.width; height = c.self.inside.height; bytes = c.self.inside.bytes.items; skip = c.self.inside.skip.items; known = c.self.inside.known } in
+    canvas_covered here c.args.row c.args.from c.args.to c.args.color c.paint_range.new.skip.items c.paint_range.new.bytes.items _ _ c.self.invariant c.paint_range.ensures.range c.paint_range.ensures.cells
 
 pub returns-then-from-to : goal.returns-then-from-to
 returns-then-from-to c =
-    let here : CanvasValue = record { width = c.self.inside.width; height = c.self.inside.height; bytes = c.self.inside.bytes.items; skip = c.self.inside.skip.items } in
+    let here : CanvasValue = record { width = c.self.inside.width; height = c.self.inside.height; bytes = c.self.inside.bytes.items; skip = c.self.inside.skip.items; known = c.self.inside.known } in
     let same : c.args.self.now ≡ here = cc in
     let within = rw same at c.requires.row_within in
     let inside = rw same at c.requires.to_within in
