@@ -1,23 +1,26 @@
 #!/usr/bin/env python3
-"""Looks for the dearest request: maps as full as their limits allow, asked for as often as LAYERS allows, at the largest size.
+"""Looks for the dearest requests: maps as full as their limits allow, asked for as often as LAYERS allows, at the largest size.
 
 Usage: bench/dearest.py [--program PROGRAM] [--only WORD] [--print-map NAME]
 
-Each map is published to a farm of one node and asked for once, 1,024 by 1,024 pixels, its layer named 1 and 64 times. Printed
-are the seconds of each answer and the longest of all. Canonical texts are bounded by 32,768 bytes and mapfiles by 65,536, which
-bounds the points: one of two digits takes four bytes.
+Each map is published to a farm of one node in memory, whose capabilities and picture are then asked for once: 1,024 by 1,024 pixels,
+its layer named 1 and 64 times. Printed are the milliseconds and bytes of each answer, the most bytes that were resident in the program
+by then, and last the dearest of each kind. A publish is timed until the answer to a /status right after it, since the nodes agree before
+the next connection. Canonical texts are bounded by 32,768 bytes and mapfiles by 65,536, which bounds the points: one of two digits
+takes four bytes. It takes half a minute, with nothing else on the machine.
 """
 
 import argparse
 import pathlib
 import random
+import re
 import sys
 
 HERE = pathlib.Path(__file__).resolve().parent
 sys.path.insert(0, str(HERE))
 sys.path.insert(0, str(HERE.parent / "tools"))
 from tiles import ask  # noqa: E402
-from try_serve import Farm  # noqa: E402
+from farm import CAPABILITIES, Farm  # noqa: E402
 
 SIDE = 1_024
 MOST_CANONICAL = 32_600
@@ -110,18 +113,41 @@ def cases():
     yield "labels of 40 letters, forced", mapfile("POINT", "", names, label.format("TRUE"))
     short = fitting(lambda k: feature([(k % 10, k // 10 % 10)], 'TEXT "N"\n'), 45)
     yield "many labels of one letter", mapfile("POINT", "", short, label.format("FALSE").replace("GIANT", "TINY"))
+    yield "64 layers whose names and titles are quotes alone, each six bytes in a document", quotes()
 
 
-def seconds(program, text, times):
-    farm = Farm(program, 2, None, nodes=1)
+def quotes():
+    """A map whose texts are nearly all quotes: the map's title is written twice in its capabilities, its address three times."""
+    quote = "'"
+    head = "".join(f'"{key}" "{quote * 1_000}"\n' for key in ("wms_title", "wms_abstract", "wms_onlineresource"))
+    layers = "".join(f'LAYER NAME "{quote * 181}{k}" TYPE POINT METADATA wms_title "{quote * 181}" END END\n' for k in range(63))
+    return (f'MAP NAME "dearest" EXTENT 0 0 9 9 PROJECTION "init=epsg:3857" END\nWEB METADATA\n{head}END END\n'
+            f"LAYER NAME a TYPE POINT END\n{layers}END\n")
+
+
+def most_resident(process):
+    """The most bytes that were resident in a process so far."""
+    status = pathlib.Path(f"/proc/{process.pid}/status").read_text()
+    return 1_024 * int(re.search(r"VmHWM:\s+(\d+) kB", status)[1])
+
+
+def costs(program, text):
+    """Of each kind of request: its milliseconds, the bytes of its answer, and the most bytes resident after it."""
+    farm = Farm(program, 6, None, nodes=1)
+    query = ("/wms?VERSION=1.3.0&REQUEST=GetMap&LAYERS={}&STYLES=&CRS=EPSG:3857&BBOX=-0.1,-0.1,9.1,9.1"
+             f"&WIDTH={SIDE}&HEIGHT={SIDE}&FORMAT=image/x-portable-pixmap")
     try:
-        ask(farm.port, "/publish", text.encode())
-        query = (f"VERSION=1.3.0&REQUEST=GetMap&LAYERS={','.join(['a'] * times)}&STYLES=&CRS=EPSG:3857&BBOX=-0.1,-0.1,9.1,9.1"
-                 f"&WIDTH={SIDE}&HEIGHT={SIDE}&FORMAT=image/x-portable-pixmap")
-        return ask(farm.port, "/wms?" + query)[1] / 1000
+        taken = ask(farm.port, "/publish", text.encode())[1]
+        status, asked = ask(farm.port, "/status")
+        if not status.startswith(b"node 0 published 1 "):
+            sys.exit(f"the map wasn't published: {status!r}")
+        yield "publish", taken + asked, len(text), most_resident(farm.process)
+        for kind, path in (("capabilities", CAPABILITIES), ("picture", query.format("a")),
+                           ("picture of 64 layers", query.format(",".join(["a"] * 64)))):
+            body, taken = ask(farm.port, path)
+            yield kind, taken, len(body), most_resident(farm.process)
     finally:
-        farm.process.kill()
-        farm.process.wait()
+        farm.kill()
 
 
 def main():
@@ -134,12 +160,14 @@ def main():
     if given.print_map:
         print(next(text for name, text in chosen if given.print_map in name), end="")
         return
-    found = []
+    dearest = {}
     for name, text in chosen:
-        once, often = seconds(str(given.program), text, 1), seconds(str(given.program), text, 64)
-        print(f"{once:8.3f} s once, {often:8.3f} s with the layer named 64 times: {name} ({len(text)} bytes)", flush=True)
-        found += [(once, name), (often, name + ", 64 times")]
-    print("the dearest: %.3f s, %s" % max(found))
+        print(f"{name} ({len(text)} bytes)")
+        for kind, taken, count, resident in costs(str(given.program), text):
+            print(f"  {taken:8.1f} ms  {count:9,} bytes  {resident / 1e6:6.1f} MB resident  {kind}", flush=True)
+            dearest[kind] = max(dearest.get(kind, (0, "")), (taken, name))
+    for kind, (taken, name) in dearest.items():
+        print(f"the dearest {kind}: {taken:.1f} ms, {name}")
 
 
 if __name__ == "__main__":

@@ -34,7 +34,7 @@ import time
 HERE = pathlib.Path(__file__).resolve().parent
 sys.path.insert(0, str(HERE.parent / "tools"))
 from serve_speed import ask, port_of, syncs  # noqa: E402
-from try_serve import Farm  # noqa: E402
+from farm import Farm  # noqa: E402
 
 NODES = 3
 STATUSES = 30

@@ -17,7 +17,7 @@ import time
 
 HERE = os.path.dirname(os.path.abspath(__file__))
 sys.path.insert(0, os.path.join(HERE, "..", "tools"))
-from try_serve import Farm  # noqa: E402
+from farm import Farm  # noqa: E402
 
 REQUESTS = 600
 PUBLISHES = 30

@@ -28,7 +28,7 @@ import time
 
 HERE = pathlib.Path(__file__).resolve().parent
 sys.path.insert(0, str(HERE.parent / "tools"))
-from try_serve import Farm  # noqa: E402
+from farm import Farm  # noqa: E402
 
 PIXMAP = "image/x-portable-pixmap"
 SPARE = 1_000_000

@@ -8,84 +8,18 @@ Usage: tools/try_serve.py [PROGRAM]    (default crates/wfarm/out/wfarm)
 """
 
 import pathlib
-import re
-import socket
 import subprocess
 import sys
 import tempfile
 import time
-import urllib.error
-import urllib.request
+
+from farm import CAPABILITIES, Farm, serve_words
 
 MAP = """MAP NAME "sq" EXTENT 0 0 4 4 PROJECTION "init=epsg:3857" END
 LAYER NAME sq TYPE POLYGON CLASS STYLE COLOR %s END END
 FEATURE POINTS 1 1 3 1 3 3 1 3 END END END END"""
 QUERY = ("VERSION=1.3.0&REQUEST=GetMap&LAYERS=sq&STYLES=&CRS=EPSG:3857&BBOX=0,0,4,4&WIDTH=4&HEIGHT=4"
          "&FORMAT=image/x-portable-pixmap")
-CAPABILITIES = "SERVICE=WMS&REQUEST=GetCapabilities"
-
-
-class Farm:
-    """A farm that serves n connections, and then ends."""
-
-    def __init__(self, program, requests, folder, nodes=3):
-        words = [program, "serve", "--nodes", str(nodes), "--port", "0", "--requests", str(requests)]
-        if folder is not None:
-            words += ["--state", folder]
-        self.process = subprocess.Popen(words, stdout=subprocess.PIPE, text=True)
-        told = self.process.stdout.readline()
-        port = re.fullmatch(r"listening ([0-9]+)\n", told)
-        assert port, told
-        self.port = int(port.group(1))
-        self.address = "http://127.0.0.1:%d" % self.port
-
-    def ask(self, path, body=None):
-        """The status and the body of an answer."""
-        try:
-            with urllib.request.urlopen(self.address + path, data=body, timeout=20) as answer:
-                return answer.status, answer.read()
-        except urllib.error.HTTPError as refused:
-            return refused.code, refused.read()
-        except OSError as broken:
-            return None, repr(broken)
-
-    def ask_with_more(self, path, more):
-        """What comes back to a GET with n bytes after its head, whole or up to where the connection breaks."""
-        came = b""
-        with socket.create_connection(("127.0.0.1", self.port), timeout=20) as client:
-            client.sendall(b"GET %s HTTP/1.1\r\n\r\n" % path.encode() + b"x" * more)
-            time.sleep(0.2)
-            try:
-                while piece := client.recv(1 << 16):
-                    came += piece
-            except OSError:
-                pass
-        return came
-
-    def trickle(self, most):
-        """Sends a head byte by byte, two a second, and never ends it: after how many seconds the connection is closed, `most` at most."""
-        begun = time.monotonic()
-        with socket.create_connection(("127.0.0.1", self.port), timeout=20) as client:
-            client.settimeout(0.5)
-            while time.monotonic() - begun < most:
-                try:
-                    client.sendall(b"G")
-                    if client.recv(1) == b"":
-                        break
-                except TimeoutError:
-                    continue
-                except OSError:
-                    break
-        return time.monotonic() - begun
-
-    def keep_open(self, request):
-        """A client that sends a request, reads nothing and doesn't close."""
-        client = socket.create_connection(("127.0.0.1", self.port), timeout=20)
-        client.sendall(request)
-        return client
-
-    def end(self):
-        assert self.process.wait(timeout=20) == 0
 
 
 def square(size, inside):
@@ -107,8 +41,7 @@ def tapes(folder):
 
 def starts_again(program, folder, port):
     """What becomes of a second start at a port and on a folder: its status, what it prints and its error line."""
-    words = [program, "serve", "--nodes", "3", "--port", str(port), "--requests", "1", "--state", folder]
-    second = subprocess.run(words, capture_output=True, text=True, timeout=20)
+    second = subprocess.run(serve_words(program, 1, folder, port=port), capture_output=True, text=True, timeout=20)
     return second.returncode, second.stdout, second.stderr
 
 
@@ -131,7 +64,7 @@ def three_nodes(program, folder):
     for node, proposal in ((1, "none"), (2, "none"), (0, "published 1")):
         wanted = "node %d published 1 proposal %s\n" % (node, proposal)
         yield same("node %d" % node, farm.ask("/status"), (200, wanted.encode()))
-    documents = [farm.ask("/wms?" + CAPABILITIES) for _ in range(3)]
+    documents = [farm.ask(CAPABILITIES) for _ in range(3)]
     yield same("equal capabilities", documents.count(documents[0]), 3)
     yield same("the sequence in them", b'updateSequence="1"' in documents[0][1], True)
     pictures = [farm.ask("/wms?" + QUERY) for _ in range(3)]

@@ -34,7 +34,7 @@ from selenium.webdriver.common.keys import Keys
 
 HERE = pathlib.Path(__file__).resolve().parent
 sys.path.insert(0, str(HERE))
-from try_serve import Farm  # noqa: E402
+from farm import Farm  # noqa: E402
 
 EXAMPLES = HERE.parent / "examples"
 NODES = 3

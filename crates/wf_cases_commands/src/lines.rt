@@ -33,6 +33,11 @@ fn tell_line(asked_for: Line<'_>, answer: &mut Answer) {
     match asked_for {
         Line::Canon => answer.line("canon"),
         Line::Run => answer.line("run"),
+        Line::Tape { file } => {
+            answer.text("tape");
+            tell_bracketed(file, answer);
+            answer.line("");
+        }
         Line::Serve(service) => tell_service(service, answer),
         Line::Caps { seq, query } => {
             answer.text("caps ");
@@ -116,7 +121,10 @@ fn tell_ending(ending: Ending, answer: &mut Answer) {
 fn tell_run(asked: Asked<'_>, words: &[&str], answer: &mut Answer) {
     let mut source = Stream::new(asked.input);
     let mut sink = Stream::new(answer.target());
-    let server = Recorder { alloc: asked.alloc };
+    let server = Recorder {
+        alloc: asked.alloc,
+        tape: asked.input,
+    };
     let outcome = run_words(asked.alloc, words, &mut source, &mut sink, &server);
     drop(sink);
     match outcome {
@@ -126,7 +134,7 @@ fn tell_run(asked: Asked<'_>, words: &[&str], answer: &mut Answer) {
 }
 
 /// `run WORDS`: what the program writes about the input, its error line, and the exit status if that isn't 0. WORDS are the
-/// command line's, spelled with escapes, with `\n` between.
+/// command line's, spelled with escapes, with `\n` between. The input is also the file `node-0.tape`, the only one that there is.
 pub(crate) fn run(asked: Asked<'_>, answer: &mut Answer) -> Answered {
     let mut text = Answer::new(asked.alloc);
     let told = match unescape(asked.words.rest(), &mut text) {

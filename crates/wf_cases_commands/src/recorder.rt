@@ -1,21 +1,42 @@
-//! A server that tells what it is asked to serve.
+//! A server that tells what it is asked to serve, and the files that it has.
+ghost use Rattle.std.specs.Prelude.{None};
 ghost use Rattle.wf_serve.specs.Fault.{CountsWrites};
 
 use std::alloc::Global;
 use wf_commands::server::{ServeFault, Server};
+use wf_commands::tapes::Tapes;
 use wf_line::line::Service;
+use wf_listing::TapeReadFault;
 use wf_stream::{Sink, write_all};
 
 /// The port that this server never gets.
 const TAKEN_PORT: u16 = 1;
 
-/// Writes a line with the service in place of serving nodes. Port 1 is taken.
+/// The path of the one file that can be read.
+const TAPE_PATH: &str = "node-0.tape";
+
+/// Writes a line with the service in place of serving nodes. Port 1 is taken. The only file is `node-0.tape`.
 #[derive(Drop)]
-pub(crate) struct Recorder {
+pub(crate) struct Recorder<'a> {
     pub(crate) alloc: Global,
+    pub(crate) tape: &'a [u8],
 }
 
-impl Server for Recorder {
+impl<'a> Tapes for Recorder<'a> {
+    ghost content = { λ _ _. None };
+
+    fn read(&self, alloc: Global, path: &str) -> Result<Vec<u8>, TapeReadFault> {
+        if path != TAPE_PATH {
+            return Err(TapeReadFault::Failed);
+        }
+        match self.tape.to_vec(alloc) {
+            Ok(bytes) => Ok(bytes),
+            Err(_) => Err(TapeReadFault::Memory),
+        }
+    }
+}
+
+impl<'a> Server for Recorder<'a> {
     ghost serves = { λ _ _ _ _ _. Unit {0} };
 
     fn serve<K: Sink>(&self, service: Service<'_>, sink: &mut K) -> Result<(), ServeFault> {

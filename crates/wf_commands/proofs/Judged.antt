@@ -45,6 +45,7 @@ pub fault_known : (known : Option (List ℕ)) (bytes : List ℕ) (fault : RunFau
 fault_known known bytes (faults.Map fault) is why = λ not_memory. nothing_known known bytes is (why not_memory)
 fault_known known bytes (faults.Canon fault) is why = absurd why
 fault_known known bytes (faults.Script fault) is why = absurd why
+fault_known known bytes (faults.Tape fault) is why = absurd why
 fault_known known bytes faults.Read is why = absurd why
 fault_known known bytes faults.Write is why = absurd why
 fault_known known bytes faults.Serve is why = absurd why

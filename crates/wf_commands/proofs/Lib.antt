@@ -1,3 +1,4 @@
 mod Ended
 mod Judged
+mod Listed
 mod Outcome

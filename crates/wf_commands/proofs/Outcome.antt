@@ -21,12 +21,14 @@ module _ (HasOutput : Definition → List ℕ → Type 0) (rejects : CanonFault 
       (λ other. let clash : true ≡ false = sym writes.0 ∙ other in cc, writes.1)
   written_outcome (Err faults.Read) d bytes means within has writes = absurd writes
   written_outcome (Err (faults.Script fault)) d bytes means within has writes = absurd writes
+  written_outcome (Err (faults.Tape fault)) d bytes means within has writes = absurd writes
   written_outcome (Err faults.Serve) d bytes means within has writes = absurd writes
 
   pub fault_outcome : (fault : RunFault) → IsReadingFault input fault → IsOutcome HasOutput rejects input old old (Err fault)
   fault_outcome (faults.Map fault) why = (why, keeps_same old)
   fault_outcome (faults.Canon fault) why = absurd why
   fault_outcome (faults.Script fault) why = absurd why
+  fault_outcome (faults.Tape fault) why = absurd why
   fault_outcome faults.Read why = keeps_same old
   fault_outcome faults.Write why = absurd why
   fault_outcome faults.Serve why = absurd why
@@ -41,6 +43,7 @@ one_written_outcome HasOutput input old new (Err (faults.Map fault)) d means wit
     (λ other. let clash : true ≡ false = sym writes.0 ∙ other in cc, writes.1)
 one_written_outcome HasOutput input old new (Err faults.Read) d means within writes = absurd writes
 one_written_outcome HasOutput input old new (Err (faults.Script fault)) d means within writes = absurd writes
+one_written_outcome HasOutput input old new (Err (faults.Tape fault)) d means within writes = absurd writes
 one_written_outcome HasOutput input old new (Err faults.Serve) d means within writes = absurd writes
 
 -- what is written of an output is written of one of them
@@ -52,6 +55,7 @@ one_written IsOutput bytes old new (Err (faults.Canon fault)) is writes = absurd
 one_written IsOutput bytes old new (Err (faults.Map fault)) is writes = writes
 one_written IsOutput bytes old new (Err faults.Read) is writes = absurd writes
 one_written IsOutput bytes old new (Err (faults.Script fault)) is writes = absurd writes
+one_written IsOutput bytes old new (Err (faults.Tape fault)) is writes = absurd writes
 one_written IsOutput bytes old new (Err faults.Serve) is writes = absurd writes
 
 -- after the input was read no read fails
@@ -63,6 +67,7 @@ no_more_reads bytes rejects old new (Err (faults.Canon fault)) before after writ
 no_more_reads bytes rejects old new (Err (faults.Map fault)) before after writes same = λ other. same
 no_more_reads bytes rejects old new (Err faults.Read) before after writes same = absurd writes
 no_more_reads bytes rejects old new (Err (faults.Script fault)) before after writes same = absurd writes
+no_more_reads bytes rejects old new (Err (faults.Tape fault)) before after writes same = absurd writes
 no_more_reads bytes rejects old new (Err faults.Serve) before after writes same = absurd writes
 
 pub no_more_reads_of_one : (IsOutput : List ℕ → Type 0) (old new : Option (List ℕ)) (result : Result (Unit {0}) RunFault) (before after : ℕ)
@@ -73,6 +78,7 @@ no_more_reads_of_one IsOutput old new (Err (faults.Canon fault)) before after wr
 no_more_reads_of_one IsOutput old new (Err (faults.Map fault)) before after writes same = λ other. same
 no_more_reads_of_one IsOutput old new (Err faults.Read) before after writes same = absurd writes
 no_more_reads_of_one IsOutput old new (Err (faults.Script fault)) before after writes same = absurd writes
+no_more_reads_of_one IsOutput old new (Err (faults.Tape fault)) before after writes same = absurd writes
 no_more_reads_of_one IsOutput old new (Err faults.Serve) before after writes same = absurd writes
 
 -- before the input was read no write fails
@@ -81,6 +87,7 @@ pub no_writes_yet : (input : Option (List ℕ)) (fault : RunFault) (count : ℕ)
 no_writes_yet input (faults.Map fault) count why = refl
 no_writes_yet input (faults.Canon fault) count why = refl
 no_writes_yet input (faults.Script fault) count why = refl
+no_writes_yet input (faults.Tape fault) count why = refl
 no_writes_yet input faults.Read count why = refl
 no_writes_yet input faults.Write count why = absurd why
 no_writes_yet input faults.Serve count why = absurd why

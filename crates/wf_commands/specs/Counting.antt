@@ -13,6 +13,7 @@ CountsReads (Err faults.Read) old new = Rises old new
 CountsReads (Err (faults.Map fault)) old new = is_memory fault ≡ false → new ≡ old
 CountsReads (Err (faults.Canon fault)) old new = new ≡ old
 CountsReads (Err (faults.Script fault)) old new = script.is_memory fault ≡ false → new ≡ old
+CountsReads (Err (faults.Tape fault)) old new = new ≡ old
 CountsReads (Err faults.Write) old new = new ≡ old
 CountsReads (Err faults.Serve) old new = new ≡ old
 

@@ -9,7 +9,7 @@ use Rattle.wf_stream.specs.Reading.{TakesUpTo}
 use Rattle.wf_line.specs.CommandLine.{Asks, program}
 use Rattle.wf_commands.specs.Counting.{CountsReads, CountsWrites}
 use Rattle.wf_commands.specs.Ending.{reported, run_status}
-use Rattle.wf_commands.specs.Run.{IsOutcomeOf, most_read}
+use Rattle.wf_commands.specs.Run.{IsListed, IsOutcomeOf, most_read}
 use Rattle.wf_commands.specs.Serving.{IsServing}
 use Rattle.wf_commands.specs.declared.ending.Ending.{Ending}
 use Rattle.wf_commands.specs.declared.fault.RunFault.{RunFault}
@@ -20,21 +20,26 @@ use Rattle.wf_line.specs.declared.line.Line.TheVariants as lines
 abbrev pub Serves : Type 1
 Serves = Service → Option (List ℕ) → Option (List ℕ) → Result (Unit {0}) ServeFault → Type 0
 
--- The command of the line was run, with this result: a command about an input reads and writes as such, and `serve` serves the
--- line's service.
-abbrev pub IsDone : Serves → Line → Option (List ℕ) → Option (List ℕ) → Option (List ℕ) → Result (Unit {0}) RunFault → Type 0
-IsDone serves (lines.Caps seq query) input old new result = IsOutcomeOf (lines.Caps seq query) input old new result
-IsDone serves (lines.Draw query) input old new result = IsOutcomeOf (lines.Draw query) input old new result
-IsDone serves lines.Canon input old new result = IsOutcomeOf lines.Canon input old new result
-IsDone serves lines.Run input old new result = IsOutcomeOf lines.Run input old new result
-IsDone serves (lines.Serve service) input old new result = IsServing (serves service) old new result
+-- The files that tapes are read from: the content of the one at each path, if that is known.
+abbrev pub Contents : Type 0
+Contents = List ℕ → Option (List ℕ)
+
+-- The command of the line was run, with this result: a command about standard input reads and writes as such, `tape` lists the tape
+-- in the line's file, and `serve` serves the line's service.
+abbrev pub IsDone : Serves → Contents → Line → Option (List ℕ) → Option (List ℕ) → Option (List ℕ) → Result (Unit {0}) RunFault → Type 0
+IsDone serves contents (lines.Caps seq query) input old new result = IsOutcomeOf (lines.Caps seq query) input old new result
+IsDone serves contents (lines.Draw query) input old new result = IsOutcomeOf (lines.Draw query) input old new result
+IsDone serves contents lines.Canon input old new result = IsOutcomeOf lines.Canon input old new result
+IsDone serves contents lines.Run input old new result = IsOutcomeOf lines.Run input old new result
+IsDone serves contents (lines.Tape file) input old new result = IsListed (contents file.now) old new result
+IsDone serves contents (lines.Serve service) input old new result = IsServing (serves service) old new result
 
 -- The run of a line: by the input before and after, the output before and after, the counts of failed reads before and after, and
 -- those of failed writes.
-pub record IsRunOf (serves : Serves) (line : Line) (input left old new : Option (List ℕ)) (reads reads_after writes writes_after : ℕ) (ending : Ending) : Type 0 where
+pub record IsRunOf (serves : Serves) (contents : Contents) (line : Line) (input left old new : Option (List ℕ)) (reads reads_after writes writes_after : ℕ) (ending : Ending) : Type 0 where
   -- the result of its command
   pub result : Result (Unit {0}) RunFault
-  pub done : IsDone serves line input old new result
+  pub done : IsDone serves contents line input old new result
   pub most : TakesUpTo (most_read line) input left
   pub read : CountsReads result reads reads_after
   pub written : CountsWrites result writes writes_after
@@ -43,6 +48,6 @@ pub record IsRunOf (serves : Serves) (line : Line) (input left old new : Option 
   pub status : ending.status ≡ run_status result
 
 -- The run of a command line's words: that of the line that they ask for.
-abbrev pub IsRun : Serves → List Text → (input left old new : Option (List ℕ)) → (reads reads_after writes writes_after : ℕ) → Ending → Type 0
-IsRun serves words input left old new reads reads_after writes writes_after ending =
-    (line : Line) × Asks (subcommand_of program words) line × IsRunOf serves line input left old new reads reads_after writes writes_after ending
+abbrev pub IsRun : Serves → Contents → List Text → (input left old new : Option (List ℕ)) → (reads reads_after writes writes_after : ℕ) → Ending → Type 0
+IsRun serves contents words input left old new reads reads_after writes writes_after ending =
+    (line : Line) × Asks (subcommand_of program words) line × IsRunOf serves contents line input left old new reads reads_after writes writes_after ending

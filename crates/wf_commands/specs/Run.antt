@@ -1,5 +1,5 @@
 -- What a run of a command reads and writes, and its errors.
-use Rattle.std.specs.Prelude.{◌≡◌, ◌+◌, ℕ, List, [], ◌∷◌, Option, Result, Ok, Err, false, true, take, IfSome}
+use Rattle.std.specs.Prelude.{◌≡◌, ◌+◌, ◌<◌, ℕ, List, [], ◌∷◌, length, Option, Result, Ok, Err, false, true, take, IfSome}
 use Rattle.std.specs.Io.KnownBytes.{Appends, Keeps}
 use Rattle.wf_def.specs.Definition.{Definition}
 use Rattle.wf_def.specs.Limits.{IsWithinLimits}
@@ -12,6 +12,10 @@ use Rattle.wf_wms.specs.Answer.{AnswerValue, IsAnswerOf, description}
 use Rattle.wf_script.specs.Fault as script
 use Rattle.wf_script.specs.Lines.{most_script_bytes}
 use Rattle.wf_play.specs.Running.{IsFaultOf, IsScriptText, PlaysInput}
+use Rattle.wf_listing.specs.Listing.{IsListing}
+use Rattle.wf_listing.specs.Reading.{most_tape_bytes}
+use Rattle.wf_listing.specs.declared.fault.TapeReadFault.{TapeReadFault}
+use Rattle.wf_listing.specs.declared.fault.TapeReadFault.TheVariants as tapes
 use Rattle.wf_line.specs.declared.line.Line.{Line}
 use Rattle.wf_line.specs.declared.line.Line.TheVariants as lines
 use Rattle.wf_commands.specs.declared.fault.RunFault.{RunFault}
@@ -21,12 +25,14 @@ use Rattle.wf_commands.specs.declared.fault.RunFault.TheVariants as faults
 abbrev pub most_input_bytes : ℕ
 most_input_bytes = 65537
 
--- the most bytes that each command reads: of a script, the longest script's length plus one; none for `serve`
+-- the most bytes of standard input that each command reads: of a script, the longest script's length plus one; none for `tape` and
+-- `serve`
 abbrev pub most_read : Line → ℕ
 most_read (lines.Caps seq query) = most_input_bytes
 most_read (lines.Draw query) = most_input_bytes
 most_read lines.Canon = most_input_bytes
 most_read lines.Run = most_script_bytes + 1
+most_read (lines.Tape file) = 0
 most_read (lines.Serve service) = 0
 
 -- the prefix of an input that is checked
@@ -45,6 +51,7 @@ IsInputFault (faults.Map fault) = is_memory fault ≡ true
 IsInputFault faults.Read = Unit {0}
 IsInputFault (faults.Canon fault) = ⊥
 IsInputFault (faults.Script fault) = ⊥
+IsInputFault (faults.Tape fault) = ⊥
 IsInputFault faults.Write = ⊥
 IsInputFault faults.Serve = ⊥
 
@@ -54,6 +61,7 @@ IsMapFault bytes (faults.Map fault) = is_memory fault ≡ false → MeansNothing
 IsMapFault bytes faults.Read = ⊥
 IsMapFault bytes (faults.Canon fault) = ⊥
 IsMapFault bytes (faults.Script fault) = ⊥
+IsMapFault bytes (faults.Tape fault) = ⊥
 IsMapFault bytes faults.Write = ⊥
 IsMapFault bytes faults.Serve = ⊥
 
@@ -63,6 +71,7 @@ IsReadingFault input (faults.Map fault) = is_memory fault ≡ false → IfSome i
 IsReadingFault input faults.Read = Unit {0}
 IsReadingFault input (faults.Canon fault) = ⊥
 IsReadingFault input (faults.Script fault) = ⊥
+IsReadingFault input (faults.Tape fault) = ⊥
 IsReadingFault input faults.Write = ⊥
 IsReadingFault input faults.Serve = ⊥
 
@@ -78,6 +87,7 @@ IsWriting bytes rejects old new (Err (faults.Canon fault)) = rejects fault × Ke
 IsWriting bytes rejects old new (Err (faults.Map fault)) = (is_memory fault ≡ true) × Keeps old new
 IsWriting bytes rejects old new (Err faults.Read) = ⊥
 IsWriting bytes rejects old new (Err (faults.Script fault)) = ⊥
+IsWriting bytes rejects old new (Err (faults.Tape fault)) = ⊥
 IsWriting bytes rejects old new (Err faults.Serve) = ⊥
 
 -- What is written of one of these outputs: all of it; a prefix if the writer failed; nothing if an allocation failed before.
@@ -87,6 +97,7 @@ IsWritingOf IsOutput old new (Err faults.Write) = (bytes : List ℕ) × IsOutput
 IsWritingOf IsOutput old new (Err (faults.Map fault)) = (is_memory fault ≡ true) × Keeps old new
 IsWritingOf IsOutput old new (Err (faults.Canon fault)) = ⊥
 IsWritingOf IsOutput old new (Err faults.Read) = ⊥
+IsWritingOf IsOutput old new (Err (faults.Tape fault)) = ⊥
 IsWritingOf IsOutput old new (Err (faults.Script fault)) = ⊥
 IsWritingOf IsOutput old new (Err faults.Serve) = ⊥
 
@@ -100,6 +111,7 @@ IsOutcome HasOutput rejects input old new (Err (faults.Canon fault)) = MeansOne 
 IsOutcome HasOutput rejects input old new (Err (faults.Map fault)) = (is_memory fault ≡ false → IfSome input MeansNothing) × Keeps old new
 IsOutcome HasOutput rejects input old new (Err faults.Read) = Keeps old new
 IsOutcome HasOutput rejects input old new (Err (faults.Script fault)) = ⊥
+IsOutcome HasOutput rejects input old new (Err (faults.Tape fault)) = ⊥
 IsOutcome HasOutput rejects input old new (Err faults.Serve) = ⊥
 
 -- ---- the outputs about a definition
@@ -127,12 +139,35 @@ IsPlayed input old new (Err (faults.Script fault)) = IsFaultOf input fault × (s
 IsPlayed input old new (Err faults.Read) = Keeps old new
 IsPlayed input old new (Err (faults.Map fault)) = ⊥
 IsPlayed input old new (Err (faults.Canon fault)) = ⊥
+IsPlayed input old new (Err (faults.Tape fault)) = ⊥
 IsPlayed input old new (Err faults.Serve) = ⊥
 
--- the outcome of a command over a reader and a writer; never of `serve`
+-- P holds of the listing of some bytes, those of the file if they are known
+abbrev pub HasListing : Option (List ℕ) → (List ℕ → Type 0) → Type 0
+HasListing content P = (bytes text : List ℕ) × IfSome content (λ known. bytes ≡ known) × IsListing bytes text × P text
+
+-- why a tape isn't listed: its file can't be read, if its content is known only since it is too long; or an allocation failed
+abbrev pub IsWhyUnlisted : Option (List ℕ) → TapeReadFault → Type 0
+IsWhyUnlisted content tapes.Failed = IfSome content (λ known. most_tape_bytes < length known)
+IsWhyUnlisted content tapes.Memory = Unit {0}
+
+-- What is written of a tape in a file: the listing of its bytes, or a prefix of it if the writer failed; nothing if it can't be read
+-- or an allocation failed. The bytes are the file's content, if that is known.
+abbrev pub IsListed : Option (List ℕ) → Option (List ℕ) → Option (List ℕ) → Result (Unit {0}) RunFault → Type 0
+IsListed content old new (Ok done) = HasListing content (λ text. Appends old new text)
+IsListed content old new (Err faults.Write) = HasListing content (λ text. AppendsPart old new text)
+IsListed content old new (Err (faults.Tape fault)) = IsWhyUnlisted content fault × Keeps old new
+IsListed content old new (Err (faults.Map fault)) = ⊥
+IsListed content old new (Err (faults.Canon fault)) = ⊥
+IsListed content old new (Err (faults.Script fault)) = ⊥
+IsListed content old new (Err faults.Read) = ⊥
+IsListed content old new (Err faults.Serve) = ⊥
+
+-- the outcome of a command over a reader and a writer; never of `tape` and `serve`
 abbrev pub IsOutcomeOf : Line → Option (List ℕ) → Option (List ℕ) → Option (List ℕ) → Result (Unit {0}) RunFault → Type 0
 IsOutcomeOf (lines.Caps seq query) input old new result = IsOutcome (IsDescription seq query.now) (λ _ _. ⊥) input old new result
 IsOutcomeOf (lines.Draw query) input old new result = IsOutcome (IsPreview query.now) (λ _ _. ⊥) input old new result
 IsOutcomeOf lines.Canon input old new result = IsOutcome IsCanonical IsCauseOf input old new result
 IsOutcomeOf lines.Run input old new result = IsPlayed input old new result
+IsOutcomeOf (lines.Tape file) input old new result = ⊥
 IsOutcomeOf (lines.Serve service) input old new result = ⊥

@@ -15,4 +15,5 @@ IsServing serves old new (Err faults.Serve) = serves old new (Err serving.Start)
 IsServing serves old new (Err (faults.Map fault)) = ⊥
 IsServing serves old new (Err (faults.Canon fault)) = ⊥
 IsServing serves old new (Err (faults.Script fault)) = ⊥
+IsServing serves old new (Err (faults.Tape fault)) = ⊥
 IsServing serves old new (Err faults.Read) = ⊥

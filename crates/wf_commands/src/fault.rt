@@ -1,6 +1,7 @@
 //! Errors of a run.
 use thiserror::Error;
 use wf_canon::CanonFault;
+use wf_listing::TapeReadFault;
 use wf_mapfile::fault::MapFault;
 use wf_script::ScriptFault;
 
@@ -16,6 +17,9 @@ pub enum RunFault {
     /// The input isn't a script, or an allocation failed while it was read or played.
     #[error("script fault {0}")]
     Script(ScriptFault),
+    /// The file of a tape can't be read or is too long, or an allocation failed.
+    #[error("tape fault {0}")]
+    Tape(TapeReadFault),
     /// The reader failed; the input wasn't parsed.
     #[error("read fault")]
     Read,

@@ -1,8 +1,9 @@
 //! The commands of the program `wfarm`. They answer a Web Map Service request about a mapfile, write its canonical text, play a
-//! script of a farm of servers, and serve a farm's nodes over HTTP.
+//! script of a farm of servers, list what a node's tape holds, and serve a farm's nodes over HTTP.
 //!
 //! The crate is thin. [`wf_line::arguments::line`] parses the command line's arguments to a [`wf_line::line::Line`]; [`run::run_line`] runs the
-//! commands about an input, over any reader and writer; a [`server::Server`] serves nodes, by [`server::Host`] over HTTP.
+//! commands about standard input, over any reader and writer; [`tapes::run_tape`] lists the tape in a file, which a [`tapes::Tapes`] reads;
+//! a [`server::Server`] serves nodes. [`server::Host`] is both: the machine's files, and its nodes over HTTP.
 //! [`program::run_words`] is the program over any words, reader, writer and server, and [`program::program`] connects it to the
 //! process. A [`fault::RunFault`] is the error of a run, an [`ending::Ending`] what is left to print, with the exit status. Readers
 //! and writers are [`wf_stream::Source`] and [`wf_stream::Sink`], which count failed calls; [`wf_stream::Stream`] makes them of
@@ -21,7 +22,11 @@
 //! - if it is played to its end, the whole input is within the limits of scripts
 //! - at most 1,048,577 bytes are read
 //!
-//! About both: a read error is returned only if a read has failed, a write error iff a write has.
+//! Of these: a read error is returned only if a read has failed, a write error iff a write has.
+//!
+//! [`tapes::run_tape`] promises: after Ok exactly the listing of the file's bytes is written (wf_listing defines it), before a write
+//! error a prefix of it, before any other error nothing. A file with known content is listed unless it is too long or an allocation
+//! fails.
 //!
 //! [`program::run_words`] promises that exactly the command of that line was run, or none: for `serve`, that the server was called
 //! with the line's numbers of nodes, connections and pictures, its port and its folder, or none if it has none. The error of the
@@ -37,3 +42,4 @@ pub mod fault;
 pub mod program;
 pub mod run;
 pub mod server;
+pub mod tapes;

@@ -17,6 +17,7 @@ use crate::ending::Ending;
 use crate::fault::RunFault;
 use crate::run::run_line;
 use crate::server::{Host, ServeFault, Server};
+use crate::tapes::{Tapes, run_tape};
 use clap::Error;
 use clap::error::ErrorKind;
 use std::alloc::Global;
@@ -53,8 +54,8 @@ fn serve<K: Sink, V: Server>(service: Service<'_>, sink: &mut K, server: &V) -> 
 }
 
 // Runs the command of a line.
-#[tactic(auto, using(crate::proofs::Ended::nothing_read, crate::proofs::Ended::serving_reads_nothing))]
-fn run<I: Source, K: Sink, V: Server>(
+#[tactic(auto, using(crate::proofs::Ended::nothing_read, crate::proofs::Ended::serving_reads_nothing, crate::proofs::Ended::listing_reads_nothing))]
+fn run<I: Source, K: Sink, V: Server + Tapes>(
     alloc: Global,
     line: Line<'_>,
     source: &mut I,
@@ -62,13 +63,14 @@ fn run<I: Source, K: Sink, V: Server>(
     server: &V,
 ) -> Result<(), RunFault>
     requires { IsInRange line }
-    ensures done { IsDone (V.serves server.now) line.entry (I.left source.old) (K.written sink.old) (K.written sink.new) result }
+    ensures done { IsDone (V.serves server.now) (V.content server.now) line.entry (I.left source.old) (K.written sink.old) (K.written sink.new) result }
     ensures most { TakesUpTo (most_read line.entry) (I.left source.old) (I.left source.new) }
     ensures reads { CountsReads result (I.failures source.old) (I.failures source.new) }
     ensures writes { CountsWrites result (K.failures sink.old) (K.failures sink.new) }
 {
     match line {
         Line::Serve(service) => serve(service, sink, server),
+        Line::Tape { file } => run_tape(alloc, file, sink, server),
         Line::Caps { .. } | Line::Draw { .. } | Line::Canon | Line::Run => {
             run_line(alloc, line, source, sink)
         }
@@ -97,10 +99,10 @@ fn ending_of(outcome: Result<(), RunFault>) -> Ending
     }
 }
 
-/// Runs the command of a line: a command about an input between the reader and the writer, `serve` by the server, whose line goes
-/// to the writer. Returns the error whose text is the line on standard error, and the exit status.
+/// Runs the command of a line: a command about standard input between the reader and the writer; `tape` by the server, which reads
+/// the file, and `serve` by the server, whose line goes to the writer. Returns the error whose text is the line on standard error, and the exit status.
 #[tactic(auto, using(crate::proofs::Ended::run_ended))]
-pub fn run_command<I: Source, K: Sink, V: Server>(
+pub fn run_command<I: Source, K: Sink, V: Server + Tapes>(
     alloc: Global,
     line: Line<'_>,
     source: &mut I,
@@ -108,7 +110,7 @@ pub fn run_command<I: Source, K: Sink, V: Server>(
     server: &V,
 ) -> Ending
     requires { IsInRange line }
-    ensures run { IsRunOf (V.serves server.now) line.entry (I.left source.old) (I.left source.new) (K.written sink.old) (K.written sink.new)
+    ensures run { IsRunOf (V.serves server.now) (V.content server.now) line.entry (I.left source.old) (I.left source.new) (K.written sink.old) (K.written sink.new)
         (I.failures source.old) (I.failures source.new) (K.failures sink.old) (K.failures sink.new) result }
     ensures low { result.status ≤ 1 }
 {
@@ -119,14 +121,14 @@ pub fn run_command<I: Source, K: Sink, V: Server>(
 ///
 /// Err: no command was run, and nothing was read or written. The error's text is for the user: it is help or the version, if the
 /// words ask for these.
-pub fn run_words<'a, S: AsStr, I: Source, K: Sink, V: Server>(
+pub fn run_words<'a, S: AsStr, I: Source, K: Sink, V: Server + Tapes>(
     alloc: Global,
     words: &'a [S],
     source: &mut I,
     sink: &mut K,
     server: &V,
 ) -> Result<Ending, Error>
-    ensures run { IfOk result (IsRun (V.serves server.now) (map S.text words.entry.now) (I.left source.old) (I.left source.new) (K.written sink.old) (K.written sink.new)
+    ensures run { IfOk result (IsRun (V.serves server.now) (V.content server.now) (map S.text words.entry.now) (I.left source.old) (I.left source.new) (K.written sink.old) (K.written sink.new)
         (I.failures source.old) (I.failures source.new) (K.failures sink.old) (K.failures sink.new)) }
     ensures low { IfOk result (λ ending. ending.status ≤ 1) }
     // Words that ask for a line are rejected only if an allocation fails.

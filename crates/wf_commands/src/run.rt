@@ -1,4 +1,4 @@
-//! The commands about an input, over any reader and writer.
+//! The commands about standard input, over any reader and writer.
 ghost use Rattle.std.specs.Prelude.{◌≡◌, ◌+◌, ◌≤◌, IfOk, IfErr, IfSome, OnOk};
 ghost use Rattle.std.specs.Io.KnownBytes.{IsAtEnd};
 ghost use Rattle.wf_def.specs.Limits.{IsWithinLimits};
@@ -239,7 +239,7 @@ pub fn run_script<S: Source, K: Sink>(
     }
 }
 
-/// Runs a command about an input. [`crate::program::run_command`] runs any.
+/// Runs a command about standard input. [`crate::program::run_command`] runs any.
 pub fn run_line<S: Source, K: Sink>(
     alloc: Global,
     line: Line<'_>,
@@ -259,6 +259,6 @@ pub fn run_line<S: Source, K: Sink>(
         Line::Draw { query } => run_draw(alloc, source, sink, query.as_bytes()),
         Line::Canon => run_canon(alloc, source, sink),
         Line::Run => run_script(alloc, source, sink),
-        Line::Serve(_) => unreachable!(),
+        Line::Tape { .. } | Line::Serve(_) => unreachable!(),
     }
 }

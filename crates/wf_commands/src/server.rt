@@ -34,7 +34,11 @@ pub struct Host<'a, R>(pub &'a R);
 /// system.
 impl<
     'a,
-    R: Files<File = File> + Clock + Net<Listener = TcpListener, Stream = TcpStream> + AllocGlobal,
+    R: Files<File = File>
+        + Eprint
+        + Clock
+        + Net<Listener = TcpListener, Stream = TcpStream>
+        + AllocGlobal,
 > Server for Host<'a, R> {
     ghost serves = { λ _ service old new result. IsTold service.port old new result };
 

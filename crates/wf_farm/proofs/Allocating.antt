@@ -1,5 +1,5 @@
 -- An allocation fails only at an event that has an effect.
-use Rattle.std.proofs.Common.{◌≡◌, ◌∙◌, ℕ, ◌+◌, true, false, is_some, is_none, List, map, take, get_or, length, slice_get, Option, Some, None, option_map, Result, Ok, Err, OnErr, refl, sym, ap, subst}
+use Rattle.std.proofs.Common.{◌≡◌, ◌∙◌, ℕ, ◌+◌, true, is_some, is_none, List, map, take, get_or, length, slice_get, Option, Some, None, option_map, Result, Ok, Err, OnErr, refl, sym, ap, subst}
 use Rattle.std.proofs.lemmas.Bool.{false≢true}
 use Rattle.std.proofs.lemmas.Option.{slice_get-map}
 use Rattle.wf_codec.specs.Message as message
@@ -16,7 +16,7 @@ use Rattle.wf_farm.specs.declared.event.Event as declared
 use Rattle.wf_farm.specs.declared.place.Place.{Place}
 use Rattle.wf_farm.specs.declared.place.Place.TheVariants.{Running, Stopped}
 use Rattle.wf_farm.specs.Allocating.{IsStopped, MayAllocate, MayAllocateAt, MayAllocateIn, TakesStep, is_stopped, may_allocate}
-use Rattle.wf_farm.specs.Cluster.{AreMembers, Moves, Shows}
+use Rattle.wf_farm.specs.Cluster.{AreMembers, Moves}
 use Rattle.wf_farm.specs.Event.{view}
 use Rattle.wf_farm.specs.Farm.{running_in}
 use Rattle.wf_farm.specs.Place.{IsNode, TellsWhyNot}

@@ -1,8 +1,8 @@
 -- A step of one of the nodes that a caller holds is an event of the world that they are; so is a delivery, and so are many.
-use Rattle.std.proofs.Common.{◌≡◌, ◌≢◌, ◌⊎◌, ℕ, zero, suc, ◌+◌, ◌<◌, ◌≤◌, nat_lt, Bool, true, false, List, [], ◌∷◌, ◌++◌, map, length, slice_get, slice_set, Option, Some, None, Result, Ok, Err, IfOk, IfErr, refl, sym, ap, subst, ◌∙◌, inl, inr, arith, length-append, length-set, if◌then◌else◌, ◌==◌, Vec}
-use Rattle.std.proofs.lemmas.Bool.{both_ways, cases_eq, false≢true, ltb-false, ltb-true}
-use Rattle.std.proofs.lemmas.List.{append-nil, length-map, map-append}
-use Rattle.std.proofs.lemmas.Option.{same_Some, slice_get_within}
+use Rattle.std.proofs.Common.{◌≡◌, ◌≢◌, ◌⊎◌, ℕ, ◌+◌, ◌≤◌, nat_lt, Bool, true, false, List, [], ◌∷◌, ◌++◌, map, length, slice_get, slice_set, Option, Some, None, Result, Ok, Err, IfOk, IfErr, refl, sym, ap, subst, ◌∙◌, inl, inr, arith, length-append, length-set, Vec}
+use Rattle.std.proofs.lemmas.Bool.{both_ways, cases_eq, false≢true}
+use Rattle.std.proofs.lemmas.List.{append-nil, get_or_past, length-map, map-append}
+use Rattle.std.proofs.lemmas.Option.{same_Some}
 use Rattle.wf_ballot.specs.Ballot.{Ballot}
 use Rattle.wf_codec.specs.Message as message
 use Rattle.wf_codec.specs.declared.message.Message.{Message}
@@ -24,15 +24,20 @@ use Rattle.wf_node.specs.Node.{Node, stored_of, working_of}
 use Rattle.wf_node.specs.Step.{row_of, refusal_at, IsRow, IsSameNode}
 use Rattle.wf_node.specs.declared.fault.NodeFault.{NodeFault}
 use Rattle.wf_node.specs.declared.fault.NodeFault.TheVariants as fault_case
+use Rattle.wf_farm.specs.declared.progress.End.{End}
+use Rattle.wf_farm.specs.declared.progress.End.TheVariants.{Done, Stopped, NoMemory}
 use Rattle.wf_farm.specs.declared.progress.Progress.{Progress}
 use Rattle.wf_farm.specs.Giving as giving
 use Rattle.wf_farm.specs.Giving.{Answers, Takes, is_halt, is_memory, tells_halt}
-use Rattle.wf_farm.specs.Delivering.{AnyPart, StandFor, IsNodeBy, IsNode, AreNodes, Shows, StandAmong, StandInTurn, MayLeave, IsDelivery, AreDeliveries, IsLed, Lead, AreDelivered, TakeOne, KeepHalted, KeepTurn, IsOne, IsEnd, IsHanded, AreHanded, First, Next, AreHandedOut, counted, HaveCome, IsDelivered}
+use Rattle.wf_farm.specs.Delivering.{AnyPart, StandFor, IsNodeBy, IsNode, AreNodes, Shows, StandAmong, StandInTurn, MayLeave, IsDelivery, AreDeliveries, IsLed, Lead, TakeOne, KeepHalted, IsOne, IsEnd, IsHanded, First, Next, AreHandedOut, AreKept, IsGiven, counted, is_early, HaveCome, IsDelivered}
+use Rattle.wf_farm.specs.Progress as goes
 use Rattle.wf_farm.specs.Progress.{next}
-use Rattle.wf_farm.specs.Pump.{begun, most_deliveries}
+use Rattle.wf_farm.specs.Pump.{most_deliveries}
+use Rattle.wf_farm.specs.Round.{Begin, Go, HaveEnded, HaveGone, IsLeft}
 use Rattle.wf_farm.specs.Turn.{node_after, messages_of, node_torn}
 use Rattle.wf_farm.specs.DeliveringLaws.{halted_itself, halted_twice, keeps_turn, keeps_turn_itself, keeps_turn_twice}
 use Rattle.wf_farm.specs.PlaceLaws.{get_set_same, get_set_other, set_there}
+use Rattle.wf_farm.proofs.Counting.{done_on}
 use Rattle.wf_farm.proofs.Events.{sent_message}
 use Rattle.wf_farm.proofs.Runs.{steps_more}
 use Rattle.wf_farm.proofs.Turns.{turn_goes, turn_is, turn_sets, torn_sets}
@@ -449,82 +454,36 @@ pub left_before : {T : Type 0} (images : T → List ℕ → Type 0) (nodes after
 unfolding MayLeave KeepHalted
 left_before images nodes after left keeps may = λ i node at halted. may i node (keeps i node at halted) halted
 
--- ---- the order
+-- ---- the rounds
 
--- If no message is left, each was delivered to each node.
-pub none_left : (p : Progress) (sent : List Message) → p.whole + begun p.some ≤ length sent → length sent ≤ p.whole → IsEnd false p sent
-none_left p sent within all = none_left_by p.some refl
-  where
-    none_left_by : (some : ℕ) → p.some ≡ some → IsEnd false p sent
-    none_left_by zero is = (is, omega (arith, all, subst (λ k. p.whole + begun k ≤ length sent) is within))
-    none_left_by (suc k) is = absurd (omega (arith, all, subst (λ j. p.whole + begun j ≤ length sent) is within))
+-- Whether or not the last delivery was made, the nodes are as the others left them.
+kept_left : {T : Type 0} (end : End) (node number : ℕ) (middle after : List (Node T)) (said more : List Message) → IsLeft AreKept end node number middle said after more → after ≡ middle
+kept_left Done node number middle after said more left = left.0
+kept_left Stopped node number middle after said more left = left.0
+kept_left NoMemory node number middle after said more left = left.1
 
-pub whether_left : (p : Progress) (sent : List Message) → p.whole + begun p.some ≤ length sent → IsEnd (nat_lt p.whole (length sent)) p sent
-whether_left p sent within = whether_by (nat_lt p.whole (length sent)) refl
-  where
-    whether_by : (left : Bool) → nat_lt p.whole (length sent) ≡ left → IsEnd left p sent
-    whether_by true is = ltb-true p.whole (length sent) is
-    whether_by false is = none_left p sent within (ltb-false p.whole (length sent) is)
-
--- the progress after one more delivery, whether or not it completes a round
-abbrev next_by : Bool → Progress → Progress
-next_by whole p = if whole then record { whole = p.whole + 1; some = 0; done = p.done + 1 } else record { whole = p.whole; some = p.some + 1; done = p.done + 1 }
-
-part_by : (count : ℕ) (p : Progress) (whole : Bool) → (p.some + 1 == count) ≡ whole → p.some < count → (next_by whole p).some < count
-part_by count p true all part = omega (arith, part)
-part_by count p false some part = grind (arith, some, part)
-
-part_on : (count : ℕ) (p : Progress) → p.some < count → (next count p).some < count
-part_on count p part = part_by count p (p.some + 1 == count) refl part
-
-begun_most : (some : ℕ) → begun some ≤ 1
-begun_most zero = omega arith
-begun_most (suc some) = omega arith
-
-within_by : (p : Progress) (whole : Bool) (count : ℕ) → p.whole < count → (next_by whole p).whole + begun (next_by whole p).some ≤ count
-within_by p true count there = omega (arith, there)
-within_by p false count there = omega (arith, there, begun_most (p.some + 1))
-
-within_on : (round : ℕ) (p : Progress) (count : ℕ) → p.whole < count → (next round p).whole + begun (next round p).some ≤ count
-within_on round p count there = within_by p (p.some + 1 == round) count there
-
-done_by : (p : Progress) (whole : Bool) → (next_by whole p).done ≡ p.done + 1
-done_by p true = refl
-done_by p false = refl
-
-done_on : (count : ℕ) (p : Progress) → (next count p).done ≡ p.done + 1
-done_on count p = done_by p (p.some + 1 == count)
-
--- a delivery adds at most one to the count of those lost
-counted_most : (lost : ℕ) (loses : Bool) → counted lost loses ≤ lost + 1
-counted_most lost true = omega arith
-counted_most lost false = omega arith
+-- How the rounds ended is how the deliveries did.
+ended_early : {T : Type 0} (p : Progress) (end : End) (node : ℕ) (middle after : List (Node T)) (said more : List Message) → IsLeft AreKept end node (0 + p.whole) middle said after more → goes.IsEnd 0 (length more) p end → IsEnd (is_early end) p said
+ended_early p Done node middle after said more left ended = (ended.0, omega (arith, ended.1, ap length left.1))
+ended_early p Stopped node middle after said more left ended = omega (arith, ended.1, ap length left.1)
+ended_early p NoMemory node middle after said more left ended = omega (arith, left.0)
 
 module _ {T : Type 0} (honest : Type 0) (images : T → List ℕ → Type 0) (nodes : List (Node T)) (messages : List Message) where
-  -- a message that was sent is there afterwards
-  one_more_there : (middle after : List (Node T)) (i k : ℕ) (loses : Bool) (said more : List Message) → IsHanded honest images i k loses middle said after more → k < length more
-  one_more_there middle after i k loses said more handed =
-      omega (arith, slice_get_within said k handed.handed handed.there, ap length handed.sent_are, length-append said handed.said)
-
   -- Nothing is delivered yet.
-  pub come_start : 0 < length nodes → HaveCome honest images nodes messages (record { whole = 0; some = 0; done = 0 }) 0 nodes messages
-  come_start some = record {
+  come_start : HaveCome honest images nodes messages (record { whole = 0; some = 0; done = 0 }) 0 nodes messages
+  come_start = record {
     any = leads_nowhere AnyPart nodes messages;
     on_tape = λ h left may. leads_nowhere (StandFor left) nodes messages;
     halted = halted_itself nodes;
     turn = keeps_turn_itself nodes;
     order = First;
-    part = some;
-    within = omega arith;
-    most = omega arith;
-    fewer = omega arith;
   }
 
   module _ (p : Progress) (lost : ℕ) (loses : Bool) (middle after : List (Node T)) (said more : List Message) where
     -- One more delivery.
-    pub come_on : HaveCome honest images nodes messages p lost middle said → p.done < most_deliveries → IsOne honest images middle said after more → IsHanded honest images p.some p.whole loses middle said after more →
+    come_on : HaveCome honest images nodes messages p lost middle said → IsOne honest images middle said after more → IsHanded honest images p.some p.whole loses middle said after more →
         HaveCome honest images nodes messages (next (length nodes) p) (counted lost loses) after more
-    come_on come may one handed = record {
+    come_on come one handed = record {
       any = subst (λ d. Lead AnyPart d nodes messages after more) (sym (done_on (length nodes) p)) (leads_on AnyPart p.done nodes middle after messages said more come.any one.any);
       on_tape = λ h left left_after.
           subst (λ d. Lead (StandFor left) d nodes messages after more) (sym (done_on (length nodes) p))
@@ -532,22 +491,31 @@ module _ {T : Type 0} (honest : Type 0) (images : T → List ℕ → Type 0) (no
       halted = halted_twice nodes middle after come.halted one.halted;
       turn = keeps_turn_twice nodes middle after come.turn one.turn;
       order = Next p lost loses middle after said more come.order handed;
-      part = part_on (length nodes) p come.part;
-      within = within_on (length nodes) p (length more) (one_more_there middle after p.some p.whole loses said more handed);
-      most = omega (arith, done_on (length nodes) p, may);
-      fewer = omega (arith, done_on (length nodes) p, come.fewer, counted_most lost loses);
     }
 
-  -- The progress is what was delivered.
-  pub come_done : (p : Progress) (lost : ℕ) (after : List (Node T)) (more : List Message) → HaveCome honest images nodes messages p lost after more → IsDelivered honest images nodes messages p.done after
-  come_done p lost after more come = record {
-    any = record { sent = more; lead = come.any };
-    on_tape = λ h left may. record { sent = more; lead = come.on_tape h left may };
-    halted = come.halted;
-    turn = come.turn;
-    most = come.most;
-  }
+  -- What the rounds delivered, as the world and the nodes see it.
+  come_along : (p : Progress) (lost : ℕ) (after : List (Node T)) (more : List Message) → HaveGone (IsGiven honest images) [] (length nodes) 0 nodes messages p lost after more →
+      HaveCome honest images nodes messages p lost after more
+  come_along _ _ _ _ Begin = come_start
+  come_along _ _ _ _ (Go p lost loses middle after said more gone left one) = come_on p lost loses middle after said more (come_along p lost middle said gone) one.0
+      (subst (λ k. IsHanded honest images p.some k loses middle said after more) (omega arith)
+      (subst (λ i. IsHanded honest images i (0 + p.whole) loses middle said after more) (get_or_past [] p.some p.some (omega arith)) one.1))
 
-  pub handed_out : (p : Progress) (lost : ℕ) (after : List (Node T)) (more : List Message) → HaveCome honest images nodes messages p lost after more → (stopped : Bool) → IsEnd stopped p more →
-      AreHandedOut honest images nodes messages p.done lost stopped after
-  handed_out p lost after more come stopped ended = record { come = p; sent = more; handed = come.order; count = refl; ended = ended }
+  module _ (p : Progress) (lost : ℕ) (end : End) (after : List (Node T)) (more : List Message) (ended : HaveEnded (IsGiven honest images) AreKept [] (length nodes) 0 nodes messages p lost end after more) where
+    come_to : HaveCome honest images nodes messages p lost after ended.said
+    come_to =
+        subst (λ ns. HaveCome honest images nodes messages p lost ns ended.said) (sym (kept_left end _ _ ended.middle after ended.said more ended.left)) (come_along p lost ended.middle ended.said ended.gone)
+
+    -- The rounds lead to what they left.
+    pub come_done : p.done ≤ most_deliveries → IsDelivered honest images nodes messages p.done after
+    come_done most = record {
+      any = record { sent = ended.said; lead = come_to.any };
+      on_tape = λ h left may. record { sent = ended.said; lead = come_to.on_tape h left may };
+      halted = come_to.halted;
+      turn = come_to.turn;
+      most = most;
+    }
+
+    -- The deliveries were those of the rounds.
+    pub handed_out : goes.IsEnd 0 (length more) p end → AreHandedOut honest images nodes messages p.done lost (is_early end) after
+    handed_out is = record { come = p; sent = ended.said; handed = come_to.order; count = refl; ended = ended_early p end _ ended.middle after ended.said more ended.left is }

@@ -6,6 +6,7 @@ mod Allocating
 mod Runs
 mod Worlds
 mod Listed
+mod Counting
 mod Rounds
 mod Pumping
 mod Answered

@@ -1,16 +1,23 @@
 -- The deliveries of a pump: one more delivery, and a complete round.
-use Rattle.std.proofs.Common.{◌≡◌, ℕ, zero, suc, ◌+◌, ◌<◌, ◌≤◌, Bool, true, false, Option, List, [], ◌∷◌, ◌++◌, length, take, get_or, refl, sym, ap, subst, ◌∙◌, arith, length-append, if◌then◌else◌, ◌==◌}
-use Rattle.std.proofs.lemmas.List.{append-nil, append_assoc, take_all, take_more}
+use Rattle.std.proofs.Common.{◌≡◌, ℕ, zero, suc, ◌+◌, ◌<◌, ◌≤◌, Bool, true, false, Option, List, [], ◌∷◌, ◌++◌, length, take, drop, get_or, refl, sym, ap, subst, ◌∙◌, arith, length-append, if◌then◌else◌, ◌==◌}
+use Rattle.std.proofs.lemmas.List.{get_or_default, append-nil, drop_all, append_assoc, take_all, take_more}
 use Rattle.wf_codec.specs.declared.message.Message.{Message}
 use Rattle.wf_def.specs.Equality.{definition_eq}
 use Rattle.wf_model.specs.Table as table
 use Rattle.wf_model.specs.World.{Deliver, happens, steps}
 use Rattle.wf_farm.specs.declared.place.Place.{Place}
+use Rattle.wf_farm.specs.declared.progress.End.{End}
+use Rattle.wf_farm.specs.declared.progress.End.TheVariants.{Done, Stopped, NoMemory}
 use Rattle.wf_farm.specs.declared.progress.Progress.{Progress}
-use Rattle.wf_farm.specs.Cluster.{Shows, Moves, IsActed, StayShown}
-use Rattle.wf_farm.specs.Progress.{HasCome, next}
+use Rattle.wf_farm.specs.Allocating.{TakesStep}
+use Rattle.wf_farm.specs.Cluster.{Shows, Moves, IsActed, KeepMembers, StayShown}
+use Rattle.wf_farm.specs.Progress.{HasCome, IsGiven, IsWithheld, MayEnd, next}
 use Rattle.wf_farm.specs.Pump.{begun, deliveries, most_deliveries, rounds, to_each}
-use Rattle.wf_farm.proofs.Runs.{steps_more}
+use Rattle.wf_farm.specs.Round.{Begin, Go, HaveEnded, HaveGone, IsLeft}
+use Rattle.wf_farm.proofs.Allocating.{next_delivery_may}
+use Rattle.wf_farm.proofs.Counting.{done_on}
+use Rattle.wf_farm.proofs.Events.{same_members}
+use Rattle.wf_farm.proofs.Runs.{keep_twice, steps_more}
 
 -- ---- the deliveries
 
@@ -50,6 +57,13 @@ no_deliveries targets first = refl
 begun_most : (some : ℕ) → begun some ≤ 1
 begun_most zero = omega arith
 begun_most (suc some) = omega arith
+
+-- ---- the entries lent
+
+-- Entries that were lent are those that came back, if there are as many.
+pub lent_back : (places after : List Place) (n : ℕ) → n ≡ length places → length after ≡ length places → take n (after ++ drop (length after) places) ≡ after
+lent_back places after n all same =
+    ap (λ rest. take n (after ++ rest)) (drop_all (length after) places (omega (arith, same))) ∙ ap (take n) (append-nil after) ∙ take_all n after (omega (arith, all, same))
 
 -- ---- the progress of a pump
 
@@ -111,3 +125,39 @@ module _ (targets : List ℕ) (first : ℕ) (places : List Place) (sent : List M
       -- One more delivery.
       pub come_on : HasCome targets first (next (length targets) p) places sent after more
       come_on = come_by (p.some + 1 == length targets) refl
+
+  -- The rounds that were made are these deliveries.
+  come_along : (p : Progress) (lost : ℕ) (after : List Place) (more : List Message) → HaveGone IsGiven targets (length targets) first places sent p lost after more → 0 < length targets → first ≤ length sent →
+      p.done ≤ most_deliveries → HasCome targets first p places sent after more × KeepMembers places after
+  come_along _ _ _ _ Begin some within most = (come_start some within, same_members places)
+  come_along _ _ _ _ (Go p lost loses middle after said more gone left one) some within most =
+      let may : p.done < most_deliveries = omega (arith, done_on (length targets) p, most) in
+      let come : HasCome targets first p places sent middle said × KeepMembers places middle = come_along p lost middle said gone some within (omega (arith, may)) in (
+        come_on p middle after said more one.number come.0 left may
+            (subst (λ i. IsActed i (table.Deliver (first + p.whole)) one.number middle said after more) (get_or_default targets p.some p.some 0 come.0.part) one.acted) one.grows,
+        keep_twice places middle after come.1 one.members,
+      )
+
+  module _ (p : Progress) (middle after : List Place) (said more : List Message) (come : HasCome targets first p places sent middle said × KeepMembers places middle) where
+    left_come : (end : End) → IsLeft IsWithheld end (get_or targets p.some p.some) (first + p.whole) middle said after more → HasCome targets first p places sent after more × KeepMembers places after
+    left_come Done left =
+        subst (λ ps. HasCome targets first p places sent ps more × KeepMembers places ps) (sym left.0) (subst (λ ms. HasCome targets first p places sent middle ms × KeepMembers places middle) (sym left.1) come)
+    left_come Stopped left =
+        subst (λ ps. HasCome targets first p places sent ps more × KeepMembers places ps) (sym left.0) (subst (λ ms. HasCome targets first p places sent middle ms × KeepMembers places middle) (sym left.1) come)
+    left_come NoMemory left = (come_still p middle after said more come.0 left.1.stays left.1.grows, keep_twice places middle after come.1 left.1.members)
+
+    left_may : (end : End) → IsLeft IsWithheld end (get_or targets p.some p.some) (first + p.whole) middle said after more → MayEnd targets first p places sent end
+    left_may Done left = tt
+    left_may Stopped left = tt
+    left_may NoMemory left =
+        next_delivery_may places middle sent said targets first p.whole p.some come.0.moves (subst (λ i. TakesStep i (table.Deliver (first + p.whole)) middle said) (get_or_default targets p.some p.some 0 come.0.part) left.1.taken)
+
+  module _ (p : Progress) (lost : ℕ) (end : End) (after : List Place) (more : List Message) (ended : HaveEnded IsGiven IsWithheld targets (length targets) first places sent p lost end after more)
+      (some : 0 < length targets) (within : first ≤ length sent) (most : p.done ≤ most_deliveries) where
+    -- What the rounds left is what these deliveries lead to.
+    pub come_ended : HasCome targets first p places sent after more × KeepMembers places after
+    come_ended = left_come p ended.middle after ended.said more (come_along p lost ended.middle ended.said ended.gone some within most) end ended.left
+
+    -- If an allocation failed, the next delivery has an effect.
+    pub may_ended : MayEnd targets first p places sent end
+    may_ended = left_may p ended.middle after ended.said more (come_along p lost ended.middle ended.said ended.gone some within most) end ended.left

@@ -14,10 +14,12 @@ use Rattle.wf_model.specs.World.{World, Event, happens, steps}
 use Rattle.wf_node.specs.Growth.{IsGrown}
 use Rattle.wf_node.specs.Images.{StandsFor}
 use Rattle.wf_node.specs.Node.{Node, stored_of, working_of}
+use Rattle.wf_farm.specs.declared.progress.End.{End}
+use Rattle.wf_farm.specs.declared.progress.End.TheVariants.{Done, Stopped, NoMemory}
 use Rattle.wf_farm.specs.declared.progress.Progress.{Progress}
 use Rattle.wf_farm.specs.Giving.{Takes}
 use Rattle.wf_farm.specs.Progress.{next}
-use Rattle.wf_farm.specs.Pump.{begun, most_deliveries}
+use Rattle.wf_farm.specs.Pump.{most_deliveries}
 
 -- ---- nodes and a world
 
@@ -105,6 +107,12 @@ abbrev pub IsEnd : Bool → Progress → List Message → Type 0
 IsEnd false p sent = (p.some ≡ 0) × (p.whole ≡ length sent)
 IsEnd true p sent = p.whole < length sent
 
+-- whether the deliveries ended before each message was delivered to each node
+abbrev pub is_early : End → Bool
+is_early Done = false
+is_early Stopped = true
+is_early NoMemory = true
+
 -- the count of lost deliveries after one more delivery, by whether that is lost
 abbrev pub counted : ℕ → Bool → ℕ
 counted lost true = lost + 1
@@ -160,6 +168,14 @@ pub record KeepTurn {T : Type 0} (before after : List (Node T)) : Type 0 where
   pub in_turn : StandInTurn before → StandInTurn after
   pub lists : EachGrows before after
 
+-- for the crate's own contracts: a delivery that wasn't made
+abbrev pub AreKept : {T : Type 0} → ℕ → ℕ → List (Node T) → List Message → List (Node T) → List Message → Type 0
+AreKept i k nodes sent nodes_after sent_after = nodes_after ≡ nodes
+
+-- for the crate's own contracts: a message can be delivered to node i
+abbrev pub CanTake : {T : Type 0} → List (Node T) → ℕ → Type 0
+CanTake nodes i = StandInTurn nodes × (i < length nodes)
+
 module _ {T : Type 0} (honest : Type 0) (images : T → List ℕ → Type 0) where
   -- for the crate's own contracts: one delivery to one of the nodes, or none
   pub record IsOne (nodes : List (Node T)) (sent : List Message) (nodes_after : List (Node T)) (sent_after : List Message) : Type 0 where
@@ -168,6 +184,10 @@ module _ {T : Type 0} (honest : Type 0) (images : T → List ℕ → Type 0) whe
     pub halted : KeepHalted nodes nodes_after
     pub turn : KeepTurn nodes nodes_after
 
+  -- for the crate's own contracts: one delivery, as the world and the node see it
+  abbrev pub IsGiven : ℕ → ℕ → Bool → List (Node T) → List Message → List (Node T) → List Message → Type 0
+  IsGiven i k lost nodes sent nodes_after sent_after = IsOne nodes sent nodes_after sent_after × IsHanded honest images i k lost nodes sent nodes_after sent_after
+
   -- for the crate's own contracts: the deliveries have come this far
   pub record HaveCome (nodes : List (Node T)) (messages : List Message) (p : Progress) (lost : ℕ) (nodes_after : List (Node T)) (sent : List Message) : Type 0 where
     pub any : Lead AnyPart p.done nodes messages nodes_after sent
@@ -175,10 +195,6 @@ module _ {T : Type 0} (honest : Type 0) (images : T → List ℕ → Type 0) whe
     pub halted : KeepHalted nodes nodes_after
     pub turn : KeepTurn nodes nodes_after
     pub order : AreHanded honest images nodes messages p lost nodes_after sent
-    pub part : p.some < length nodes
-    pub within : p.whole + begun p.some ≤ length sent
-    pub most : p.done ≤ most_deliveries
-    pub fewer : lost ≤ p.done
 
   -- the result of the deliveries: `done` were made
   pub record IsDelivered (nodes : List (Node T)) (messages : List Message) (done : ℕ) (nodes_after : List (Node T)) : Type 0 where

@@ -12,6 +12,7 @@ pub mod Progress
 pub mod Answering
 pub mod Giving
 pub mod Delivering
+pub mod Round
 pub mod PlaceLaws
 pub mod DeliveringLaws
 pub mod Leading

@@ -1,5 +1,5 @@
 -- The progress of a pump, and how it ended.
-use Rattle.std.specs.Prelude.{◌≡◌, ◌<◌, ◌≤◌, ◌+◌, ℕ, Bool, true, false, List, length, Result, Ok, Err, if◌then◌else◌, ◌==◌}
+use Rattle.std.specs.Prelude.{◌≡◌, ◌<◌, ◌≤◌, ◌+◌, ℕ, Bool, true, false, List, length, Option, Result, Ok, Err, if◌then◌else◌, ◌==◌}
 use Rattle.wf_codec.specs.declared.message.Message.{Message}
 use Rattle.wf_farm.specs.declared.place.Place.{Place}
 use Rattle.wf_farm.specs.declared.fault.FarmFault.{FarmFault}
@@ -7,7 +7,9 @@ use Rattle.wf_farm.specs.declared.fault.FarmFault.TheVariants.{Memory}
 use Rattle.wf_farm.specs.declared.progress.End.{End}
 use Rattle.wf_farm.specs.declared.progress.End.TheVariants.{Done, Stopped, NoMemory}
 use Rattle.wf_farm.specs.declared.progress.Progress.{Progress}
-use Rattle.wf_farm.specs.Cluster.{Moves}
+use Rattle.wf_farm.specs.Allocating.{TakesStep}
+use Rattle.wf_farm.specs.Cluster.{AreMembers, IsActed, KeepMembers, Moves, StayShown}
+use Rattle.wf_model.specs.Table as table
 use Rattle.wf_farm.specs.Pump.{NextMayAllocate, begun, deliveries, most_deliveries}
 
 -- one more delivery: on to the next of `round` targets, or the round is complete
@@ -23,6 +25,24 @@ pub record HasCome (targets : List ℕ) (first : ℕ) (p : Progress) (places : L
   pub part : p.some < length targets
   pub within : first + p.whole + begun p.some ≤ length sent_after
   pub most : p.done ≤ most_deliveries
+
+-- a message can be delivered to whatever number
+abbrev pub CanTake : List Place → ℕ → Type 0
+CanTake places i = AreMembers places
+
+-- Message k was delivered to node i, if both exist and the node runs; nothing is lost.
+pub record IsGiven (i k : ℕ) (lost : Bool) (places : List Place) (sent : List Message) (places_after : List Place) (sent_after : List Message) : Type 0 where
+  pub number : Option ℕ
+  pub acted : IsActed i (table.Deliver k) number places sent places_after sent_after
+  pub members : KeepMembers places places_after
+  pub grows : length sent ≤ length sent_after
+
+-- An allocation failed: message k wasn't delivered to node i, which would take the step.
+pub record IsWithheld (i k : ℕ) (places : List Place) (sent : List Message) (places_after : List Place) (sent_after : List Message) : Type 0 where
+  pub stays : StayShown places sent places_after sent_after
+  pub taken : TakesStep i (table.Deliver k) places sent
+  pub members : KeepMembers places places_after
+  pub grows : length sent ≤ length sent_after
 
 -- nothing is left; the limit of deliveries is reached, and some are left; or an allocation failed before that
 abbrev pub IsEnd : ℕ → ℕ → Progress → End → Type 0

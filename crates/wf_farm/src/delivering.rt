@@ -1,16 +1,16 @@
 //! Delivery of messages to nodes that a caller holds, over any kind of tape.
 
-ghost use Rattle.std.specs.Prelude.{◌≡◌, ◌<◌, ◌≤◌, ◌+◌, ◌^◌, ℕ, false, List, [], length, IfOk, IfErr, OnErr};
+ghost use Rattle.std.specs.Prelude.{◌≡◌, ◌<◌, ◌≤◌, ℕ, false, List, [], length, IfOk, IfErr, OnErr};
 ghost use Rattle.wf_codec.specs.Message.{view as view_message};
 ghost use Rattle.wf_model.specs.Table.{most_told, Deliver};
 ghost use Rattle.wf_node.specs.Input.{view};
-ghost use Rattle.wf_farm.specs.Delivering.{AnyPart, AreDelivered, AreHandedOut, EachGrows, IsDelivered, IsHanded, IsOne, KeepHalted, MayLeave, StandFor, StandInTurn, counted};
+ghost use Rattle.wf_farm.specs.Delivering.{AnyPart, AreDelivered, AreHandedOut, EachGrows, IsDelivered, IsHanded, IsOne, KeepHalted, MayLeave, StandFor, StandInTurn, is_early};
 ghost use Rattle.wf_farm.specs.Giving.{Answers, Takes, is_halt, is_memory, tells_halt};
 ghost use Rattle.wf_farm.specs.Pump.{most_deliveries};
 
 use crate::happening::{MOST_SAID, send};
-use crate::progress::Progress;
-use crate::pump::MOST_DELIVERIES;
+use crate::progress::End;
+use crate::round::{Receiver, Round, deliver_rounds};
 use std::alloc::{AllocError, Global};
 use wf_canon::Canon;
 use wf_codec::Message;
@@ -69,56 +69,48 @@ fn deliver_each<T: Tape>(alloc: Global, nodes: &mut [Node<T>], messages: Vec<Mes
     ensures handed { AreHandedOut T.honest T.images nodes.old messages.items result.deliveries result.lost result.stopped nodes.new }
 {
     let mut sent = messages;
-    let pumped = deliver_more(alloc, nodes, &mut sent);
+    let round = nodes.len();
+    let Round {
+        progress,
+        lost,
+        end,
+    } = deliver_rounds(alloc, nodes, &mut sent, &[], round, 0);
     drop(sent);
-    pumped
-}
-
-/// The same; the messages that the nodes send are appended to `sent`.
-fn deliver_more<T: Tape>(alloc: Global, nodes: &mut [Node<T>], sent: &mut Vec<Message>) -> Pumped
-    requires some { 0 < length nodes.old }
-    requires in_turn { StandInTurn nodes.old }
-    ensures delivered { IsDelivered T.honest T.images nodes.old sent.old.items result.deliveries nodes.new }
-    ensures handed { AreHandedOut T.honest T.images nodes.old sent.old.items result.deliveries result.lost result.stopped nodes.new }
-{
-    let count = nodes.len();
-    let mut progress = Progress::start();
-    let mut lost = 0;
-    while progress.done < MOST_DELIVERIES {
-        if progress.whole >= sent.len() {
-            return Pumped {
-                deliveries: progress.done,
-                lost,
-                stopped: false,
-            };
-        }
-        match deliver_one(alloc, nodes, sent, progress.some, progress.whole) {
-            Ok(loses) => {
-                lost = count_lost(lost, loses);
-                progress = progress.next(count);
-            }
-            Err(_) => {
-                return Pumped {
-                    deliveries: progress.done,
-                    lost,
-                    stopped: true,
-                };
-            }
-        }
-    }
     Pumped {
         deliveries: progress.done,
         lost,
-        stopped: progress.whole < sent.len(),
+        stopped: is_early(end),
     }
 }
 
-/// The count of lost deliveries after one more delivery.
-fn count_lost(lost: usize, loses: bool) -> usize
-    requires { lost + 1 < 2 ^ 64 }
-    ensures { result ≡ counted lost loses }
+/// Whether the deliveries ended before each message was delivered to each node.
+fn is_early(end: End) -> bool
+    ensures { result ≡ is_early end }
 {
-    if loses { lost + 1 } else { lost }
+    match end {
+        End::Done => false,
+        End::Stopped | End::NoMemory => true,
+    }
+}
+
+impl<T: Tape> Receiver for Node<T> {
+    ghost use Rattle.wf_farm.specs.Delivering.{AreKept, CanTake, IsGiven};
+
+    ghost takes = { CanTake };
+
+    ghost delivered = { IsGiven T.honest T.images };
+
+    ghost stays = { AreKept };
+
+    fn deliver(
+        alloc: Global,
+        receivers: &mut [Node<T>],
+        sent: &mut Vec<Message>,
+        node: usize,
+        number: usize,
+    ) -> Result<bool, AllocError> {
+        deliver_one(alloc, receivers, sent, node, number)
+    }
 }
 
 /// Delivers a message to a node, and appends the messages that the node sends; returns whether the delivery was lost. Room is
@@ -136,6 +128,7 @@ fn deliver_one<T: Tape>(
     ensures one { IsOne T.honest T.images nodes.old sent.old.items nodes.new sent.new.items }
     ensures handed { IfOk result (λ lost. IsHanded T.honest T.images node number lost nodes.old sent.old.items nodes.new sent.new.items) }
     ensures none { OnErr result (nodes.new ≡ nodes.old) }
+    ensures grows { length sent.old.items ≤ length sent.new.items }
 {
     if sent.reserve(MOST_SAID).is_err() {
         return Err(AllocError);

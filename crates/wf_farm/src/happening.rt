@@ -1,6 +1,6 @@
 //! One event of a farm.
 
-ghost use Rattle.std.specs.Prelude.{◌≡◌, ◌<◌, ◌≤◌, ◌+◌, ◌++◌, ℕ, true, is_some, length, map, option_map, slice_get, None, Some, IfOk, IsSome, OnErr, vec_len, vec_capacity};
+ghost use Rattle.std.specs.Prelude.{◌≡◌, ◌<◌, ◌≤◌, ◌+◌, ◌++◌, ℕ, true, is_some, length, map, option_map, slice_get, None, Some, IfOk, OnErr, vec_len, vec_capacity};
 ghost use Rattle.wf_codec.specs.Message.{view as view_message};
 ghost use Rattle.wf_def.specs.Definition.{Definition};
 ghost use Rattle.wf_model.specs.Table.{Action as ModelAction, Deliver, Propose, Retry};
@@ -11,16 +11,16 @@ ghost use Rattle.wf_farm.specs.Allocating.{MayAllocate, TakesStep};
 ghost use Rattle.wf_farm.specs.Cluster.{AreMembers, Happens, IsActed, IsTorn, KeepMembers, StayShown};
 ghost use Rattle.wf_farm.specs.Event.{view, view_action, view_kept};
 ghost use Rattle.wf_farm.specs.Farm.{running_in};
-ghost use Rattle.wf_farm.specs.Place.{number_in};
 
 use crate::cluster::Cluster;
 use crate::event::{Action, Event, Kept};
 use crate::fault::refusal_number;
+use crate::receiving::{answer, deliver_to, runs, step};
 use std::alloc::{AllocError, Global};
 use wf_ballot::NodeId;
 use wf_canon::Canon;
 use wf_codec::Message;
-use wf_node::{Input, NodeFault};
+use wf_node::Input;
 
 /// The most messages that one step sends: the answer to an Ask.
 pub(crate) const MOST_SAID: usize = 8;
@@ -113,20 +113,10 @@ impl Cluster {
         ensures taken { OnErr result (TakesStep node (Deliver number) self.old.places.items self.old.sent.items) }
         ensures members { KeepMembers self.old.places.items self.new.places.items }
     {
-        if !self.runs(node) {
-            return Ok(None);
-        }
-        if number >= self.sent.len() {
-            return Ok(None);
-        }
-        match self.sent[number].copy() {
-            Ok(copy) => self.step(alloc, node, Input::Deliver(copy)),
-            Err(fault) => Err(fault),
-        }
+        deliver_to(alloc, &mut self.places, &mut self.sent, node, number)
     }
 
-    /// Performs a step of a node, if it exists and runs, and sends its messages. Room is reserved first, since a node can't undo
-    /// a step.
+    /// Performs a step of a node, if it exists and runs, and sends its messages.
     #[tactic(auto, using(crate::proofs::Events::same_members))]
     fn step(&mut self, alloc: Global, node: usize, input: Input) -> Result<Option<u8>, AllocError>
         requires members { AreMembers self.old.places.items }
@@ -137,21 +127,7 @@ impl Cluster {
         ensures runs { OnErr result (is_some (running_in (slice_get self.old.places.items node)) ≡ true) }
         ensures members { KeepMembers self.old.places.items self.new.places.items }
     {
-        if !self.runs(node) {
-            drop(input);
-            return Ok(None);
-        }
-        if self.sent.reserve(MOST_SAID).is_err() {
-            drop(input);
-            return Err(AllocError);
-        }
-        match self.places[node].step(alloc, input) {
-            Ok(said) => {
-                send(&mut self.sent, said);
-                Ok(None)
-            }
-            Err(fault) => answer(fault),
-        }
+        step(alloc, &mut self.places, &mut self.sent, node, input)
     }
 
     /// Stops a node, if it exists.
@@ -295,10 +271,7 @@ impl Cluster {
         ensures value { result ≡ is_some (running_in (slice_get self.now.places.items node)) }
         ensures within { result ≡ true → node < length self.now.places.items }
     {
-        match self.places.get(node) {
-            Some(place) => place.running().is_some(),
-            None => false,
-        }
+        runs(&self.places, node)
     }
 
     /// Whether the action has an input: if it is a delivery, whether its message was sent.
@@ -353,15 +326,4 @@ pub(crate) fn send(sent: &mut Vec<Message>, mut said: Vec<Message>)
     let Ok(()) = sent.append(&mut said) else {
         unreachable!()
     };
-}
-
-/// The number of the table's rejection. Otherwise an allocation failed, since the tape of a node here doesn't fail.
-fn answer(fault: NodeFault) -> Result<Option<u8>, AllocError>
-    ensures number { IfOk result (λ number. number ≡ number_in fault) }
-    ensures some { IfOk result IsSome }
-{
-    match refusal_number(fault) {
-        Some(number) => Ok(Some(number)),
-        None => Err(AllocError),
-    }
 }

@@ -45,6 +45,8 @@ mod lending;
 mod place;
 mod progress;
 mod pump;
+mod receiving;
+mod round;
 mod running;
 mod starting;
 mod stepping;

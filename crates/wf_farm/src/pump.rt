@@ -11,14 +11,12 @@ use crate::cluster::Cluster;
 use crate::farm::Farm;
 use crate::fault::FarmFault;
 use crate::progress::{End, Progress};
+use crate::round::{Round, deliver_rounds};
 use crate::targets::targets_of;
 use std::alloc::Global;
 use wf_canon::Canon;
 use wf_model::steps_in_turn;
 use wf_tape::records_are_read_one_way;
-
-/// The most deliveries of one pump.
-pub const MOST_DELIVERIES: usize = 100_000;
 
 impl Farm {
     /// Delivers each message not pumped yet, in order of number and including new ones, once to each named node, ascending; to
@@ -59,21 +57,18 @@ impl Cluster {
         ensures may { MayEnd targets.now first result.0 self.old.places.items self.old.sent.items result.1 }
         ensures members { KeepMembers self.old.places.items self.new.places.items }
     {
-        let mut progress = Progress::start();
-        while progress.done < MOST_DELIVERIES {
-            let number = first + progress.whole;
-            if number >= self.sent.len() {
-                return (progress, End::Done);
-            }
-            match self.deliver(alloc, targets[progress.some], number) {
-                Ok(_) => progress = progress.next(targets.len()),
-                Err(_) => return (progress, End::NoMemory),
-            }
-        }
-        if first + progress.whole < self.sent.len() {
-            (progress, End::Stopped)
-        } else {
-            (progress, End::Done)
-        }
+        let Round {
+            progress,
+            lost: _,
+            end,
+        } = deliver_rounds(
+            alloc,
+            &mut self.places,
+            &mut self.sent,
+            targets,
+            targets.len(),
+            first,
+        );
+        (progress, end)
     }
 }

@@ -19,7 +19,7 @@ use Rattle.clap.specs.declared.parser.matches.ArgMatches.TheViews.{out-SubComman
 use Rattle.clap.specs.declared.parser.matches.ArgMatches.{ArgMatches}
 use Rattle.clap.specs.declared.parser.matches.Found.{Found}
 use Rattle.clap.specs.declared.parser.matches.SubCommand.{SubCommand}
-use Rattle.wf_line.specs.CommandLine.{Asks, IsCacheOf, IsCapsOf, IsDrawOf, IsRejection, IsServeOf, IsServiceOf, program, rejections}
+use Rattle.wf_line.specs.CommandLine.{Asks, IsCacheOf, IsCapsOf, IsDrawOf, IsRejection, IsServeOf, IsServiceOf, IsTapeOf, program, rejections}
 use Rattle.wf_line.specs.Line.{IsInRange}
 use Rattle.wf_line.specs.declared.line.Line.{Line}
 use Rattle.wf_service.specs.Service.{IsService}
@@ -41,6 +41,7 @@ asks_of : (p : Text × List Row) (rows : List Row) → p.1 ≡ rows → p.0 ≡ 
 asks_of p rows has named none (lines.Caps seq query) asks = none (lines.Caps seq query) (rw has at asks.1)
 asks_of p rows has named none (lines.Draw query) asks = false≢true (sym (ap (bytes_eq (codes "caps")) (sym named ∙ asks.0)))
 asks_of p rows has named none lines.Canon asks = let clash : codes "caps" ≡ codes "canon" = sym named ∙ asks in cc
+asks_of p rows has named none (lines.Tape file) asks = false≢true (sym (ap (bytes_eq (codes "caps")) (sym named ∙ asks.0)))
 asks_of p rows has named none lines.Run asks = let clash : codes "caps" ≡ codes "run" = sym named ∙ asks in cc
 asks_of p rows has named none (lines.Serve service) asks = false≢true (sym (ap (bytes_eq (codes "caps")) (sym named ∙ asks.0)))
 
@@ -49,6 +50,7 @@ serve_asks_of : (p : Text × List Row) (rows : List Row) → p.1 ≡ rows → p.
 serve_asks_of p rows has named none (lines.Caps seq query) asks = false≢true (sym (ap (bytes_eq (codes "serve")) (sym named ∙ asks.0)))
 serve_asks_of p rows has named none (lines.Draw query) asks = false≢true (sym (ap (bytes_eq (codes "serve")) (sym named ∙ asks.0)))
 serve_asks_of p rows has named none lines.Canon asks = false≢true (sym (ap (bytes_eq (codes "serve")) (sym named ∙ asks)))
+serve_asks_of p rows has named none (lines.Tape file) asks = false≢true (sym (ap (bytes_eq (codes "serve")) (sym named ∙ asks.0)))
 serve_asks_of p rows has named none lines.Run asks = false≢true (sym (ap (bytes_eq (codes "serve")) (sym named ∙ asks)))
 serve_asks_of p rows has named none (lines.Serve service) asks = none (lines.Serve service) (rw has at asks.1)
 
@@ -63,6 +65,7 @@ draw_asks_of : (p : Text × List Row) (rows : List Row) → p.1 ≡ rows → p.0
 draw_asks_of p rows has named none (lines.Caps seq query) asks = false≢true (sym (ap (bytes_eq (codes "draw")) (sym named ∙ asks.0)))
 draw_asks_of p rows has named none (lines.Draw query) asks = none (lines.Draw query) (rw has at asks.1)
 draw_asks_of p rows has named none lines.Canon asks = false≢true (sym (ap (bytes_eq (codes "draw")) (sym named ∙ asks)))
+draw_asks_of p rows has named none (lines.Tape file) asks = false≢true (sym (ap (bytes_eq (codes "draw")) (sym named ∙ asks.0)))
 draw_asks_of p rows has named none lines.Run asks = false≢true (sym (ap (bytes_eq (codes "draw")) (sym named ∙ asks)))
 draw_asks_of p rows has named none (lines.Serve service) asks = false≢true (sym (ap (bytes_eq (codes "draw")) (sym named ∙ asks.0)))
 
@@ -71,6 +74,21 @@ pub none_drawn : (line : Option Line) (met : Option (Text × List Row)) (rows : 
 none_drawn (Some line) met rows has named none = tt
 none_drawn None None rows has named none = λ l asks. asks
 none_drawn None (Some p) rows has named none = draw_asks_of p rows (let is : p.1 ≡ rows = cc in is) (let is : p.0 ≡ codes "draw" = cc in is) none
+
+-- if `tape` was named and no `tape` line has its arguments, they ask for nothing
+tape_asks_of : (p : Text × List Row) (rows : List Row) → p.1 ≡ rows → p.0 ≡ codes "tape" → ((l : Line) → ¬ (IsTapeOf rows l)) → (l : Line) → ¬ (Asks (Some p) l)
+tape_asks_of p rows has named none (lines.Caps seq query) asks = false≢true (sym (ap (bytes_eq (codes "tape")) (sym named ∙ asks.0)))
+tape_asks_of p rows has named none (lines.Draw query) asks = false≢true (sym (ap (bytes_eq (codes "tape")) (sym named ∙ asks.0)))
+tape_asks_of p rows has named none lines.Canon asks = false≢true (sym (ap (bytes_eq (codes "tape")) (sym named ∙ asks)))
+tape_asks_of p rows has named none (lines.Tape file) asks = none (lines.Tape file) (rw has at asks.1)
+tape_asks_of p rows has named none lines.Run asks = false≢true (sym (ap (bytes_eq (codes "tape")) (sym named ∙ asks)))
+tape_asks_of p rows has named none (lines.Serve service) asks = false≢true (sym (ap (bytes_eq (codes "tape")) (sym named ∙ asks.0)))
+
+pub none_listed : (line : Option Line) (met : Option (Text × List Row)) (rows : List Row) → option_map (λ p. p.1) met ≡ Some rows
+    → option_map (λ p. p.0) met ≡ Some (codes "tape") → IfNone line ((l : Line) → ¬ (IsTapeOf rows l)) → IfNone line ((l : Line) → ¬ (Asks met l))
+none_listed (Some line) met rows has named none = tt
+none_listed None None rows has named none = λ l asks. asks
+none_listed None (Some p) rows has named none = tape_asks_of p rows (let is : p.1 ≡ rows = cc in is) (let is : p.0 ≡ codes "tape" = cc in is) none
 
 -- the numbers of the line that is asked for are in range
 cache_in_range : (word : Option Text) (kept : ℕ) → IsCacheOf word kept → (1 ≤ kept) × (kept ≤ most_kept)
@@ -87,6 +105,7 @@ asked_in_range None line asks = absurd asks
 asked_in_range (Some named) (lines.Caps seq query) (is, (word, text, first, second, (sequence, same))) = sequence.most
 asked_in_range (Some named) (lines.Draw query) asks = tt
 asked_in_range (Some named) lines.Canon asks = tt
+asked_in_range (Some named) (lines.Tape file) asks = tt
 asked_in_range (Some named) lines.Run asks = tt
 asked_in_range (Some named) (lines.Serve service) asks = service_in_range named.1 service asks.1
 

@@ -15,7 +15,7 @@ use Rattle.clap.specs.Takes.{bundle_passes, default_passes, flag_word_passes, is
 use Rattle.clap.specs.ValueTests.{accepts}
 use Rattle.clap.specs.declared.builder.value_parser.ValueParser.TheVariants.{Signed}
 use Rattle.clap.specs.Walk.{Held, Row, finished, nothing_held, pushed, settled, walk, Rule, Text, Walk, after_step, arg_by_index, first_of, idle, long_or_other, short_or_plain, trailing, to_positional, value, walk_from, walked, word_met}
-use Rattle.wf_line.specs.CommandLine.{caps_shape, draw_shape, PlainCapsIsAsked, PlainDrawIsAsked, PlainCanonIsAsked, PlainRunIsAsked, is_plain, program}
+use Rattle.wf_line.specs.CommandLine.{caps_shape, draw_shape, tape_shape, PlainCapsIsAsked, PlainDrawIsAsked, PlainCanonIsAsked, PlainRunIsAsked, PlainTapeIsAsked, is_plain, program}
 use Rattle.wf_line.specs.Line.{IsSequence}
 use Rattle.wf_line.specs.declared.line.Line.TheVariants as lines
 
@@ -134,6 +134,7 @@ caps_asked word query (lines.Caps seq asked) plain_word plain_query is =
     (caps_taken word query plain_word plain_query (sequence_accepted word seq plain_word is.0), rw found.1 (refl, (word, query, found.2, found.3, is)))
 caps_asked word query (lines.Draw asked) plain_word plain_query is = absurd is
 caps_asked word query lines.Canon plain_word plain_query is = absurd is
+caps_asked word query (lines.Tape asked) plain_word plain_query is = absurd is
 caps_asked word query lines.Run plain_word plain_query is = absurd is
 caps_asked word query (lines.Serve service) plain_word plain_query is = absurd is
 
@@ -173,8 +174,49 @@ draw_asked query (lines.Draw asked) plain is =
     let found = draw_rows query plain in
     (draw_taken query plain, rw found.1 (refl, (query, found.2, is)))
 draw_asked query lines.Canon plain is = absurd is
+draw_asked query (lines.Tape asked) plain is = absurd is
 draw_asked query lines.Run plain is = absurd is
 draw_asked query (lines.Serve service) plain is = absurd is
+
+-- ---- tape and its argument
+
+abbrev tape_built : Shape
+tape_built = built_leaf (inherited program.top tape_shape)
+
+-- the argument is parsed for FILE
+found_file : (file : Text) → is_plain file ≡ true
+    → walk tape_built.rules [] nothing_held (file ∷ []) ≡ at (pushed (codes "FILE") file nothing_held) 2
+unfolding clap_on_literals
+found_file file plain = plain_walked tape_built.rules nothing_held 1 file plain
+
+tape_rows : (file : Text) → is_plain file ≡ true
+    → (rows : List Row) × (subcommand_of program (codes "tape" ∷ file ∷ []) ≡ Some (codes "tape", rows)) × (first_of (codes "FILE") rows ≡ Some file)
+unfolding clap_on_literals
+tape_rows file plain = (_, ap (λ w. Some (codes "tape", finished tape_built.rules w.held)) (found_file file plain), refl)
+
+file_walked : (file : Text) → is_plain file ≡ true → walk_passes tape_built [] (walk_from nothing_held) (file ∷ []) ≡ true
+unfolding clap_on_literals
+file_walked file plain = ap (λ b. b && true) (turn_taken tape_built nothing_held 1 file plain)
+
+tape_taken : (file : Text) → is_plain file ≡ true → takes program (codes "tape" ∷ file ∷ []) ≡ true
+unfolding clap_on_literals
+tape_taken file plain =
+    ap (λ b. (b && (settle_passes tape_built.rules false (walk tape_built.rules [] nothing_held (file ∷ [])).held && (list_all default_passes tape_built.rules
+    && is_valid tape_built (finished tape_built.rules (walk tape_built.rules [] nothing_held (file ∷ [])).held) false))) && true)
+    (file_walked file plain)
+    ∙ ap (λ w. (settle_passes tape_built.rules false w.held && (list_all default_passes tape_built.rules && is_valid tape_built (finished tape_built.rules w.held) false)) && true)
+    (found_file file plain)
+    ∙ refl
+
+pub tape_asked : PlainTapeIsAsked
+tape_asked file (lines.Caps seq asked) plain is = absurd is
+tape_asked file (lines.Draw asked) plain is = absurd is
+tape_asked file lines.Canon plain is = absurd is
+tape_asked file (lines.Tape asked) plain is =
+    let found = tape_rows file plain in
+    (tape_taken file plain, rw found.1 (refl, (file, found.2, is)))
+tape_asked file lines.Run plain is = absurd is
+tape_asked file (lines.Serve service) plain is = absurd is
 
 pub canon_asked : PlainCanonIsAsked
 unfolding clap_on_literals

@@ -38,6 +38,14 @@ caps_shape = record (new_shape (codes "caps")) { rules = sequence_rule ∷ query
 abbrev pub draw_shape : Shape
 draw_shape = record (new_shape (codes "draw")) { rules = query_rule ∷ [] }
 
+-- FILE: a required text
+abbrev pub file_rule : Rule
+file_rule = record (new_rule (codes "FILE")) { required = true }
+
+-- `tape FILE`
+abbrev pub tape_shape : Shape
+tape_shape = record (new_shape (codes "tape")) { rules = file_rule ∷ [] }
+
 -- `canon`
 abbrev pub canon_shape : Shape
 canon_shape = new_shape (codes "canon")
@@ -83,7 +91,7 @@ state_rule = record (new_rule (codes "state")) { long = Some (codes "state"); va
 abbrev pub serve_shape : Shape
 serve_shape = record (new_shape (codes "serve")) { rules = nodes_rule ∷ port_rule ∷ requests_rule ∷ cache_rule ∷ state_rule ∷ [] }
 
--- The program's command, as data for the parser: it takes one of five commands, or asks for the version or help.
+-- The program's command, as data for the parser: it takes one of six commands, or asks for the version or help.
 abbrev pub program : App
 program = record {
   top = record (new_shape (codes "wfarm")) {
@@ -92,7 +100,7 @@ program = record {
     has_version = true;
     subcommand_required = true;
   };
-  subs = caps_shape ∷ draw_shape ∷ canon_shape ∷ run_shape ∷ serve_shape ∷ [];
+  subs = caps_shape ∷ draw_shape ∷ canon_shape ∷ run_shape ∷ tape_shape ∷ serve_shape ∷ [];
 }
 
 -- ---- the line that is asked for
@@ -102,6 +110,7 @@ abbrev pub IsCapsLine : Text → Text → Line → Type 0
 IsCapsLine word query (lines.Caps seq asked) = IsSequence word seq × (asked.now ≡ query)
 IsCapsLine word query (lines.Draw asked) = ⊥
 IsCapsLine word query lines.Canon = ⊥
+IsCapsLine word query (lines.Tape file) = ⊥
 IsCapsLine word query lines.Run = ⊥
 IsCapsLine word query (lines.Serve service) = ⊥
 
@@ -115,12 +124,26 @@ abbrev pub IsDrawLine : Text → Line → Type 0
 IsDrawLine query (lines.Caps seq asked) = ⊥
 IsDrawLine query (lines.Draw asked) = asked.now ≡ query
 IsDrawLine query lines.Canon = ⊥
+IsDrawLine query (lines.Tape file) = ⊥
 IsDrawLine query lines.Run = ⊥
 IsDrawLine query (lines.Serve service) = ⊥
 
 -- The line is `draw` with the argument parsed for QUERY.
 abbrev pub IsDrawOf : List Row → Line → Type 0
 IsDrawOf rows line = (query : Text) × (first_of (codes "QUERY") rows ≡ Some query) × IsDrawLine query line
+
+-- The line is `tape` with this file.
+abbrev pub IsTapeLine : Text → Line → Type 0
+IsTapeLine file (lines.Caps seq asked) = ⊥
+IsTapeLine file (lines.Draw asked) = ⊥
+IsTapeLine file lines.Canon = ⊥
+IsTapeLine file (lines.Tape asked) = asked.now ≡ file
+IsTapeLine file lines.Run = ⊥
+IsTapeLine file (lines.Serve service) = ⊥
+
+-- The line is `tape` with the argument parsed for FILE.
+abbrev pub IsTapeOf : List Row → Line → Type 0
+IsTapeOf rows line = (file : Text) × (first_of (codes "FILE") rows ≡ Some file) × IsTapeLine file line
 
 -- the argument parsed for a number spells it
 abbrev pub IsNumberOf : List Row → Text → ℕ → ℕ → ℕ → Type 0
@@ -148,6 +171,7 @@ abbrev pub IsServeOf : List Row → Line → Type 0
 IsServeOf rows (lines.Caps seq query) = ⊥
 IsServeOf rows (lines.Draw query) = ⊥
 IsServeOf rows lines.Canon = ⊥
+IsServeOf rows (lines.Tape file) = ⊥
 IsServeOf rows lines.Run = ⊥
 IsServeOf rows (lines.Serve service) = IsServiceOf rows service
 
@@ -157,6 +181,7 @@ Asks None line = ⊥
 Asks (Some named) (lines.Caps seq query) = (named.0 ≡ codes "caps") × IsCapsOf named.1 (lines.Caps seq query)
 Asks (Some named) (lines.Draw query) = (named.0 ≡ codes "draw") × IsDrawOf named.1 (lines.Draw query)
 Asks (Some named) lines.Canon = named.0 ≡ codes "canon"
+Asks (Some named) (lines.Tape file) = (named.0 ≡ codes "tape") × IsTapeOf named.1 (lines.Tape file)
 Asks (Some named) lines.Run = named.0 ≡ codes "run"
 Asks (Some named) (lines.Serve service) = (named.0 ≡ codes "serve") × IsServeOf named.1 (lines.Serve service)
 
@@ -188,6 +213,11 @@ PlainCapsIsAsked = (word query : Text) (line : Line) → is_plain word ≡ true 
 abbrev pub PlainDrawIsAsked : Type 0
 PlainDrawIsAsked = (query : Text) (line : Line) → is_plain query ≡ true → IsDrawLine query line
     → (takes program (codes "draw" ∷ query ∷ []) ≡ true) × Asks (subcommand_of program (codes "draw" ∷ query ∷ [])) line
+
+-- The parser accepts `tape` and any argument without a leading hyphen as the file. They ask for exactly the line of that file.
+abbrev pub PlainTapeIsAsked : Type 0
+PlainTapeIsAsked = (file : Text) (line : Line) → is_plain file ≡ true → IsTapeLine file line
+    → (takes program (codes "tape" ∷ file ∷ []) ≡ true) × Asks (subcommand_of program (codes "tape" ∷ file ∷ [])) line
 
 -- The parser accepts `canon` alone; it asks for the canonical text.
 abbrev pub PlainCanonIsAsked : Type 0

@@ -11,14 +11,16 @@ abbrev pub IsInRange : Line → Type 0
 IsInRange (lines.Caps seq query) = seq ≤ last_sequence
 IsInRange (lines.Draw query) = ⊤
 IsInRange lines.Canon = ⊤
+IsInRange (lines.Tape file) = ⊤
 IsInRange lines.Run = ⊤
 IsInRange (lines.Serve service) = IsService service
 
--- the line is a command about an input
+-- the line is a command about standard input
 abbrev pub IsOfInput : Line → Type 0
 IsOfInput (lines.Caps seq query) = ⊤
 IsOfInput (lines.Draw query) = ⊤
 IsOfInput lines.Canon = ⊤
+IsOfInput (lines.Tape file) = ⊥
 IsOfInput lines.Run = ⊤
 IsOfInput (lines.Serve service) = ⊥
 

@@ -5,7 +5,7 @@ ghost use Rattle.clap.specs.Simple.{app_of, shape_of, subcommand_of, subcommand_
 ghost use Rattle.clap.specs.Values.{kind_of};
 ghost use Rattle.clap.specs.Walk.{first_of, rows_of, rule_of};
 ghost use Rattle.clap.specs.declared.builder.command.Command.TheViews.{out-Command};
-ghost use Rattle.wf_line.specs.CommandLine.{Asks, IsCacheOf, IsCapsOf, IsDrawOf, IsNumberOf, IsRejection, IsServeOf, IsServiceOf, IsWhyRejected, PlainCanonIsAsked, PlainCapsIsAsked, PlainDrawIsAsked, PlainRunIsAsked, program, caps_shape, draw_shape, canon_shape, run_shape, serve_shape, sequence_rule, query_rule, nodes_rule, port_rule, requests_rule, cache_rule, state_rule};
+ghost use Rattle.wf_line.specs.CommandLine.{Asks, IsCacheOf, IsCapsOf, IsDrawOf, IsNumberOf, IsRejection, IsServeOf, IsServiceOf, IsTapeOf, IsWhyRejected, PlainCanonIsAsked, PlainCapsIsAsked, PlainDrawIsAsked, PlainRunIsAsked, PlainTapeIsAsked, program, caps_shape, draw_shape, canon_shape, run_shape, tape_shape, serve_shape, sequence_rule, query_rule, file_rule, nodes_rule, port_rule, requests_rule, cache_rule, state_rule};
 ghost use Rattle.wf_line.specs.Line.{IsInRange, IsNumber, IsSequence};
 ghost use Rattle.wf_line.specs.declared.line.Line.{Line};
 ghost use Rattle.wf_service.specs.declared.service.Service.{Service};
@@ -49,6 +49,19 @@ I and J are nodes, K is a message, S an update sequence, E an event without its 
 Limits: a script has at most 1,048,576 bytes, 10,000 lines and 64 maps
 Errors (status 1): script fault S1 to S4 with the line number, read fault";
 
+const TAPE_HELP: &str =
+    "Each line begins with a byte offset: one for each record, then one for what follows them.
+OFFSET tried ROUND
+OFFSET promised SEQ ballot (ROUND, NODE)
+OFFSET accepted SEQ ballot (ROUND, NODE) text BYTES
+OFFSET published SEQ text BYTES
+OFFSET end, OFFSET torn record, N bytes, or OFFSET P2 bad record, N bytes
+A torn record is removed when a node opens its tape; a tape with a bad one opens no node.
+The file isn't changed, and needn't be whole: the status is 0 for any that can be read.
+
+Limits: a tape has at most 8 GB
+Errors (status 1): tape fault P1 (the file can't be read, or is too long), tape fault P3 (out of memory)";
+
 /// The most pictures that a node may keep.
 const MOST_CACHE: i64 = 64;
 
@@ -85,6 +98,15 @@ fn query_argument<'a>(alloc: Global) -> Arg<'a>
     Arg::new(alloc, "QUERY").required(true).help(
         "The query string of a WMS request, such as SERVICE=WMS&REQUEST=GetCapabilities",
     )
+}
+
+fn file_argument<'a>(alloc: Global) -> Arg<'a>
+    ensures rule { rule_of result ≡ file_rule }
+    ensures local { result.global ≡ false }
+{
+    Arg::new(alloc, "FILE")
+        .required(true)
+        .help("The file of the tape, such as node-0.tape")
 }
 
 // `caps SEQ QUERY`.
@@ -126,6 +148,16 @@ fn run_command<'a>(alloc: Global) -> Command<'a>
     Command::new(alloc, "run")
         .about("Plays the script on standard input on a farm in memory")
         .after_help(RUN_HELP)
+}
+
+// `tape FILE`.
+fn tape_command<'a>(alloc: Global) -> Result<Command<'a>, AllocError>
+    ensures { IfOk result (λ command. (shape_of command ≡ tape_shape) × ((out-Command command).has_globals ≡ false)) }
+{
+    Command::new(alloc, "tape")
+        .about("Lists the records of a node's tape, and where it is torn or bad")
+        .after_help(TAPE_HELP)
+        .arg(file_argument(alloc))
 }
 
 // `--nodes N`.
@@ -241,12 +273,22 @@ fn input_commands<'a>(alloc: Global) -> Result<Command<'a>, AllocError>
     mapfile_commands(alloc)?.subcommand(run_command(alloc))
 }
 
+// The commands about an input or a file.
+fn reading_commands<'a>(alloc: Global) -> Result<Command<'a>, AllocError>
+    ensures { IfOk result (λ command. app_of command ≡ record program { subs = caps_shape ∷ draw_shape ∷ canon_shape ∷ run_shape ∷ tape_shape ∷ [] }) }
+{
+    let tape = tape_command(alloc)?;
+    input_commands(alloc)?.subcommand(tape)
+}
+
 // The program with all its commands.
 fn command<'a>(alloc: Global) -> Result<Command<'a>, AllocError>
     ensures { IfOk result (λ command. app_of command ≡ program) }
 {
     let serve = serve_command(alloc)?;
-    input_commands(alloc)?.subcommand(serve)?.bin_name("wfarm")
+    reading_commands(alloc)?
+        .subcommand(serve)?
+        .bin_name("wfarm")
 }
 
 // The error for a missing command or a value out of range, with the usage.
@@ -294,6 +336,16 @@ fn draw<'a>(found: &ArgMatches<'a>) -> Option<Line<'a>>
 {
     let word = found.get_str("QUERY")?;
     Some(Line::Draw { query: word })
+}
+
+// The `tape` line of the parsed arguments.
+#[tactic(auto, using(crate::proofs::Named::word_in_row))]
+fn tape<'a>(found: &ArgMatches<'a>) -> Option<Line<'a>>
+    ensures some { IfSome result (IsTapeOf (rows_of (found_of found.now))) }
+    ensures none { IfNone result ((line : Line) → ¬ (IsTapeOf (rows_of (found_of found.now)) line)) }
+{
+    let word = found.get_str("FILE")?;
+    Some(Line::Tape { file: word })
 }
 
 // The number in least..=most that an argument spells.
@@ -367,6 +419,7 @@ fn asked<'a>(matches: &ArgMatches<'a>) -> Option<Line<'a>>
         Some(("draw", found)) => draw(found),
         Some(("canon", _)) => Some(Line::Canon),
         Some(("run", _)) => Some(Line::Run),
+        Some(("tape", found)) => tape(found),
         Some(("serve", found)) => serve(found),
         _ => None,
     }
@@ -395,11 +448,12 @@ pub fn line<'a, S: AsStr>(alloc: Global, words: &'a [S]) -> Result<Line<'a>, Err
     }
 }
 
-/// `caps` with an update sequence and a query, `draw` with a query, `canon` alone and `run` alone ask for these lines, if no
-/// argument begins with a hyphen. A theorem: the call does nothing.
+/// `caps` with an update sequence and a query, `draw` with a query, `tape` with a file, `canon` alone and `run` alone ask for these
+/// lines, if no argument begins with a hyphen. A theorem: the call does nothing.
 pub fn plain_words_are_taken()
     ensures caps { PlainCapsIsAsked }
     ensures draw { PlainDrawIsAsked }
+    ensures tape { PlainTapeIsAsked }
     ensures canon { PlainCanonIsAsked }
     ensures run { PlainRunIsAsked }
 {}

@@ -11,6 +11,8 @@ pub enum Line<'a> {
     Draw { query: &'a str },
     /// Write the canonical text of the mapfile on standard input.
     Canon,
+    /// List what the tape in a file holds.
+    Tape { file: &'a str },
     /// Play the script on standard input.
     Run,
     /// Serve nodes over HTTP.

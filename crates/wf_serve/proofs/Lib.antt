@@ -3,3 +3,4 @@ mod Caches
 mod Come
 mod Led
 mod Opened
+mod Shortened

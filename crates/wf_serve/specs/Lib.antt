@@ -5,3 +5,4 @@ pub mod Serving
 pub mod Connections
 pub mod Folder
 pub mod Agreeing
+pub mod Shortening

@@ -17,6 +17,9 @@
 //! - Many connections: connection c, counted from 0, is served so by node c mod n, or changes nothing if it can't be accepted
 //!   (`specs/Connections.antt`).
 //! - Catching up: each node was asked to, in turn.
+//! - A tape: [`open_shortened`] opens a node on its tape and shortens it. On an honest tape the node has stored what the tape's
+//!   records fold to, and the tape holds exactly the records of a shortened one, or is as it was if an allocation failed. If the
+//!   tape fails meanwhile, what a crash leaves of it reads as before, or stands for the same (`specs/Shortening.antt`).
 //! - Node i of n is at index i throughout, and its tape in a folder is `node-i.tape` (`specs/Folder.antt`).
 //! - The port: the line that is written names it, and it is the requested one unless that is 0. An error reports why the nodes
 //!   aren't served, and what is written of that line by then (`specs/Listening.antt`).
@@ -40,10 +43,12 @@ mod opening;
 mod parting;
 mod port;
 mod serving;
+mod shortening;
 
 pub use connections::serve_connections;
 pub use fault::ServeFault;
 pub use listening::{serve, serve_at, serve_nodes};
 pub use port::listen;
 pub use serving::{catch_up, serve_connection};
+pub use shortening::open_shortened;
 pub use wf_service::Service;

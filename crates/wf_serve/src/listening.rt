@@ -33,7 +33,11 @@ use wf_wms::cache::Cache;
 /// the line is written then. `Write` if the line can't be written; a prefix of it may be. The port is the service's, or one
 /// chosen by the system if that is 0.
 pub fn serve<
-    R: Files<File = File> + Clock + Net<Listener = TcpListener, Stream = TcpStream> + AllocGlobal,
+    R: Files<File = File>
+        + Eprint
+        + Clock
+        + Net<Listener = TcpListener, Stream = TcpStream>
+        + AllocGlobal,
     K: Sink,
 >(rt: &R, service: Service<'_>, sink: &mut K) -> Result<(), ServeFault>
     requires { IsService service }
@@ -49,9 +53,10 @@ pub fn serve<
 }
 
 /// Serves nodes at a listener: opens them from their tapes in the service's folder, or new ones in memory if there is no folder,
-/// and goes on as [`serve_nodes`]. The folder is locked first: if another program has locked it, no tape is opened. The errors
+/// and goes on as [`serve_nodes`]. Each tape in the folder is shortened once its node is open, and a line on standard error tells
+/// how many bytes it had and has. The folder is locked first: if another program has locked it, no tape is opened. The errors
 /// are those of [`serve`].
-pub fn serve_at<R: Files<File = File> + Clock + AllocGlobal, K: Sink>(
+pub fn serve_at<R: Files<File = File> + Eprint + Clock + AllocGlobal, K: Sink>(
     rt: &R,
     listener: &TcpListener,
     service: Service<'_>,
@@ -86,7 +91,7 @@ fn serve_memory<R: Clock + AllocGlobal, K: Sink>(
 }
 
 /// Serves nodes on tapes in the files of the service's folder, which is locked meanwhile.
-fn serve_files<R: Files<File = File> + Clock + AllocGlobal, K: Sink>(
+fn serve_files<R: Files<File = File> + Eprint + Clock + AllocGlobal, K: Sink>(
     rt: &R,
     listener: &TcpListener,
     service: Service<'_>,
@@ -107,7 +112,7 @@ fn serve_files<R: Files<File = File> + Clock + AllocGlobal, K: Sink>(
 }
 
 /// The same once the folder is locked.
-fn serve_tapes<R: Files + Clock + AllocGlobal, K: Sink>(
+fn serve_tapes<R: Files + Eprint + Clock + AllocGlobal, K: Sink>(
     rt: &R,
     listener: &TcpListener,
     service: Service<'_>,

@@ -4,6 +4,7 @@ ghost use Rattle.wf_farm.specs.Delivering.{AnyPart, StandAmong};
 ghost use Rattle.wf_farm.specs.Leading.{AreFresh, AreReached, IsFresh};
 ghost use Rattle.wf_serve.specs.Folder.{tape_path};
 
+use crate::shortening::{bytes_at, open_shortened, tell};
 use std::alloc::Global;
 use std::rt::Files;
 use wf_ballot::NodeId;
@@ -59,7 +60,7 @@ fn add_fresh(
 }
 
 /// Returns n nodes on their tapes in a folder, `node-0.tape` and so on; a missing tape is created.
-pub(crate) fn in_files<'a, R: Files + AllocGlobal>(
+pub(crate) fn in_files<'a, R: Files + Eprint + AllocGlobal>(
     rt: &'a R,
     n: u8,
     folder: &str,
@@ -82,7 +83,7 @@ pub(crate) fn in_files<'a, R: Files + AllocGlobal>(
 }
 
 /// Appends the node of this number, of n, opened from its tape in a folder.
-fn add_file<'a, R: Files + AllocGlobal>(
+fn add_file<'a, R: Files + Eprint + AllocGlobal>(
     rt: &'a R,
     nodes: &mut Vec<Node<FileTape<&'a R>>>,
     number: u8,
@@ -114,8 +115,8 @@ fn path_of(alloc: Global, folder: &str, number: u8) -> Option<String>
     }
 }
 
-/// Appends the node of this number, of n, opened from the tape at its path in a folder.
-fn add_at<'a, R: Files + AllocGlobal>(
+/// Appends the node of this number, of n, opened from the tape at its path in a folder, which is shortened then.
+fn add_at<'a, R: Files + Eprint + AllocGlobal>(
     rt: &'a R,
     nodes: &mut Vec<Node<FileTape<&'a R>>>,
     number: u8,
@@ -131,30 +132,16 @@ fn add_at<'a, R: Files + AllocGlobal>(
     ensures in_turn { OnOk result (StandAmong n nodes.new.items) }
     ensures size { OnOk result (length nodes.new.items ≡ number + 1) }
 {
-    match FileTape::open(rt.alloc(), rt, path) {
-        Ok(tape) => add(rt.alloc(), nodes, tape, number, n),
-        Err(_) => Err(Unopened),
-    }
-}
-
-/// Appends the node of this number, of n, opened from its tape.
-fn add<T: Tape + Drop>(
-    alloc: Global,
-    nodes: &mut Vec<Node<T>>,
-    tape: T,
-    number: u8,
-    n: u8,
-) -> Result<(), Unopened>
-    requires most { n ≤ 64 }
-    requires member { number < n }
-    requires next { length nodes.old.items ≡ number }
-    requires in_turn { StandAmong n nodes.old.items }
-    ensures in_turn { OnOk result (StandAmong n nodes.new.items) }
-    ensures size { OnOk result (length nodes.new.items ≡ number + 1) }
-{
-    match Node::open(alloc, tape, id_of(number), n) {
-        Ok(node) => put(nodes, node, n),
-        Err((tape, _)) => {
+    let Ok(tape) = FileTape::open(rt.alloc(), rt, path) else {
+        return Err(Unopened);
+    };
+    let before = bytes_at(rt, path);
+    match open_shortened(rt.alloc(), tape, id_of(number), n) {
+        Ok((node, is_short)) => {
+            tell(rt, path, before, bytes_at(rt, path), is_short);
+            put(nodes, node, n)
+        }
+        Err(tape) => {
             drop(tape);
             Err(Unopened)
         }

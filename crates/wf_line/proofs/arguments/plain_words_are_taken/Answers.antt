@@ -1,4 +1,4 @@
-use Rattle.wf_line.proofs.PlainWords.{canon_asked, caps_asked, draw_asked, run_asked}
+use Rattle.wf_line.proofs.PlainWords.{canon_asked, caps_asked, draw_asked, run_asked, tape_asked}
 use Rattle.wf_line.proofs.arguments.plain_words_are_taken.Goals as goal
 
 pub returns-clause-caps : goal.returns-clause-caps
@@ -6,6 +6,9 @@ returns-clause-caps c = caps_asked
 
 pub returns-clause-draw : goal.returns-clause-draw
 returns-clause-draw c = draw_asked
+
+pub returns-clause-tape : goal.returns-clause-tape
+returns-clause-tape c = tape_asked
 
 pub returns-clause-canon : goal.returns-clause-canon
 returns-clause-canon c = canon_asked

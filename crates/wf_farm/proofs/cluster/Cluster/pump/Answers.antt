@@ -1,33 +1,33 @@
--- One more delivery; an error leaves the deliveries so far.
-use Rattle.std.proofs.Common.{sym, subst, arith}
-use Rattle.wf_farm.specs.Progress.{HasCome}
-use Rattle.wf_farm.proofs.Allocating.{next_delivery_may}
-use Rattle.wf_farm.proofs.Events.{same_members}
-use Rattle.wf_farm.proofs.Rounds.{come_on, come_start, come_still}
-use Rattle.wf_farm.proofs.Runs.{keep_twice}
+-- What the rounds left is what the deliveries of a pump lead to.
+use Rattle.std.proofs.Common.{◌≡◌, ◌++◌, drop, length, take, ap, sym, subst, arith}
+use Rattle.wf_farm.specs.Cluster.{KeepMembers}
+use Rattle.wf_farm.specs.Progress.{HasCome, MayEnd}
+use Rattle.wf_farm.proofs.Rounds.{come_ended, lent_back, may_ended}
 use Rattle.wf_farm.proofs.cluster.Cluster.pump.Goals as goal
 
-pub loop-progress-init : goal.loop-progress-init
-loop-progress-init c = (
-  subst (λ p. HasCome c.args.targets.now c.args.first p c.args.self.now.places.items c.args.self.now.sent.items c.args.self.now.places.items c.args.self.now.sent.items) (sym c.start-progress.ensures)
-      (come_start c.args.targets.now c.args.first c.args.self.now.places.items c.args.self.now.sent.items c.requires.some c.requires.within),
-  same_members c.args.self.now.places.items,
-)
+-- the entries come back as the rounds left them
+came : (c : goal.After-progress-1) →
+    HasCome c.args.targets.now c.args.first c.deliver_rounds-end.result.progress c.args.self.now.places.items c.args.self.now.sent.items c.deliver_rounds-end.new.receivers c.deliver_rounds-end.new.sent.items
+    × KeepMembers c.args.self.now.places.items c.deliver_rounds-end.new.receivers
+came c =
+    subst (λ ps. HasCome c.args.targets.now c.args.first c.deliver_rounds-end.result.progress ps c.args.self.now.sent.items c.deliver_rounds-end.new.receivers c.deliver_rounds-end.new.sent.items × KeepMembers ps c.deliver_rounds-end.new.receivers)
+    c.deref_mut.ensures.value
+    (come_ended c.args.targets.now c.args.first c.deref_mut.result.now c.args.self.now.sent.items c.deliver_rounds-end.result.progress c.deliver_rounds-end.result.lost c.deliver_rounds-end.result.end c.deliver_rounds-end.new.receivers c.deliver_rounds-end.new.sent.items
+    c.deliver_rounds-end.ensures.ended c.requires.some c.requires.within c.deliver_rounds-end.ensures.counts.most)
 
-pub returns-in-Err-clause-come : goal.returns-in-Err-clause-come
-returns-in-Err-clause-come c =
-    come_still c.args.targets.now c.args.first c.args.self.now.places.items c.args.self.now.sent.items c.loop-progress.progress c.loop-progress.self.places.items c.deliver.new.self.places.items c.loop-progress.self.sent.items c.deliver.new.self.sent.items
-    c.loop-progress.invariant.0 c.in-Err.ensures.err c.deliver.ensures.grows
+returned : (c : goal.After-progress-1) → take c.args.self.now.places.len (c.deliver_rounds-end.new.receivers ++ drop (length c.deliver_rounds-end.new.receivers) c.args.self.now.places.items) ≡ c.deliver_rounds-end.new.receivers
+returned c =
+    lent_back c.args.self.now.places.items c.deliver_rounds-end.new.receivers c.args.self.now.places.len (omega (arith, c.deref_mut.ensures.len, ap length c.deref_mut.ensures.value)) (came c).1.as_many
 
-pub returns-in-Err-clause-may : goal.returns-in-Err-clause-may
-returns-in-Err-clause-may c =
-    next_delivery_may c.args.self.now.places.items c.loop-progress.self.places.items c.args.self.now.sent.items c.loop-progress.self.sent.items c.args.targets.now c.args.first
-    c.loop-progress.progress.whole c.loop-progress.progress.some c.loop-progress.invariant.0.moves c.in-Err.ensures.taken
+pub returns-clause-come : goal.returns-clause-come
+returns-clause-come c =
+    subst (λ ps. HasCome c.args.targets.now c.args.first c.deliver_rounds-end.result.progress c.args.self.now.places.items c.args.self.now.sent.items ps c.deliver_rounds-end.new.sent.items) (sym (returned c)) (came c).0
 
-pub loop-progress-preserved : goal.loop-progress-preserved
-loop-progress-preserved c = (
-  subst (λ p. HasCome c.args.targets.now c.args.first p c.args.self.now.places.items c.args.self.now.sent.items c.deliver.new.self.places.items c.deliver.new.self.sent.items) (sym c.next-progress.ensures)
-      (come_on c.args.targets.now c.args.first c.args.self.now.places.items c.args.self.now.sent.items c.loop-progress.progress c.loop-progress.self.places.items c.deliver.new.self.places.items c.loop-progress.self.sent.items c.deliver.new.self.sent.items
-      c.in-Ok.field-0 c.loop-progress.invariant.0 (omega (arith, c.if-number-len.false, c.len.ensures)) (omega (arith, c.loop-progress-test.true)) c.in-Ok.ensures.done c.deliver.ensures.grows),
-  keep_twice c.args.self.now.places.items c.loop-progress.self.places.items c.deliver.new.self.places.items c.loop-progress.invariant.1 c.deliver.ensures.members,
-)
+pub returns-clause-may : goal.returns-clause-may
+returns-clause-may c =
+    subst (λ ps. MayEnd c.args.targets.now c.args.first c.deliver_rounds-end.result.progress ps c.args.self.now.sent.items c.deliver_rounds-end.result.end) c.deref_mut.ensures.value
+    (may_ended c.args.targets.now c.args.first c.deref_mut.result.now c.args.self.now.sent.items c.deliver_rounds-end.result.progress c.deliver_rounds-end.result.lost c.deliver_rounds-end.result.end c.deliver_rounds-end.new.receivers c.deliver_rounds-end.new.sent.items
+    c.deliver_rounds-end.ensures.ended c.requires.some c.requires.within c.deliver_rounds-end.ensures.counts.most)
+
+pub returns-clause-members : goal.returns-clause-members
+returns-clause-members c = subst (KeepMembers c.args.self.now.places.items) (sym (returned c)) (came c).1

@@ -1,0 +1,129 @@
+//! Steps of, and deliveries to, the entries of a farm.
+
+ghost use Rattle.std.specs.Prelude.{◌≡◌, ◌<◌, ◌≤◌, ℕ, true, is_some, length, map, slice_get, None, IfOk, IsSome, OnErr};
+ghost use Rattle.wf_codec.specs.Message.{view as view_message};
+ghost use Rattle.wf_def.specs.Definition.{Definition};
+ghost use Rattle.wf_model.specs.Table.{Action as ModelAction, Deliver};
+ghost use Rattle.wf_model.specs.World.{input_of};
+ghost use Rattle.wf_node.specs.Input.{view as view_input};
+ghost use Rattle.wf_farm.specs.Allocating.{TakesStep};
+ghost use Rattle.wf_farm.specs.Cluster.{AreMembers, IsActed, KeepMembers, StayShown};
+ghost use Rattle.wf_farm.specs.Farm.{running_in};
+ghost use Rattle.wf_farm.specs.Place.{number_in};
+
+use crate::fault::refusal_number;
+use crate::happening::{MOST_SAID, send};
+use crate::place::Place;
+use crate::round::Receiver;
+use std::alloc::{AllocError, Global};
+use wf_codec::Message;
+use wf_node::{Input, NodeFault};
+
+impl Receiver for Place {
+    ghost use Rattle.wf_farm.specs.Progress.{CanTake, IsGiven, IsWithheld};
+
+    ghost takes = { CanTake };
+
+    ghost delivered = { IsGiven };
+
+    ghost stays = { IsWithheld };
+
+    /// Nothing is lost: an allocation failure is reported.
+    fn deliver(
+        alloc: Global,
+        receivers: &mut [Place],
+        sent: &mut Vec<Message>,
+        node: usize,
+        number: usize,
+    ) -> Result<bool, AllocError> {
+        match deliver_to(alloc, receivers, sent, node, number) {
+            Ok(_) => Ok(false),
+            Err(fault) => Err(fault),
+        }
+    }
+}
+
+/// Delivers a message to a node, if both exist and the node runs.
+#[tactic(auto, using(crate::proofs::Events::same_members))]
+pub(crate) fn deliver_to(
+    alloc: Global,
+    places: &mut [Place],
+    sent: &mut Vec<Message>,
+    node: usize,
+    number: usize,
+) -> Result<Option<u8>, AllocError>
+    requires members { AreMembers places.old }
+    ensures grows { length sent.old.items ≤ length sent.new.items }
+    ensures done { IfOk result (λ refused. IsActed node (Deliver number) refused places.old sent.old.items places.new sent.new.items) }
+    ensures err { OnErr result (StayShown places.old sent.old.items places.new sent.new.items) }
+    ensures taken { OnErr result (TakesStep node (Deliver number) places.old sent.old.items) }
+    ensures members { KeepMembers places.old places.new }
+{
+    if !runs(places, node) {
+        return Ok(None);
+    }
+    if number >= sent.len() {
+        return Ok(None);
+    }
+    match sent[number].copy() {
+        Ok(copy) => step(alloc, places, sent, node, Input::Deliver(copy)),
+        Err(fault) => Err(fault),
+    }
+}
+
+/// Performs a step of a node, if it exists and runs, and sends its messages. Room is reserved first, since a node can't undo
+/// a step.
+#[tactic(auto, using(crate::proofs::Events::same_members))]
+pub(crate) fn step(
+    alloc: Global,
+    places: &mut [Place],
+    sent: &mut Vec<Message>,
+    node: usize,
+    input: Input,
+) -> Result<Option<u8>, AllocError>
+    requires members { AreMembers places.old }
+    ensures grows { length sent.old.items ≤ length sent.new.items }
+    ensures done { (action : ModelAction Definition ℕ) → input_of (map view_message sent.old.items) action ≡ Some (view_input input) →
+        IfOk result (λ refused. IsActed node action refused places.old sent.old.items places.new sent.new.items) }
+    ensures err { OnErr result (StayShown places.old sent.old.items places.new sent.new.items) }
+    ensures runs { OnErr result (is_some (running_in (slice_get places.old node)) ≡ true) }
+    ensures members { KeepMembers places.old places.new }
+{
+    if !runs(places, node) {
+        drop(input);
+        return Ok(None);
+    }
+    if sent.reserve(MOST_SAID).is_err() {
+        drop(input);
+        return Err(AllocError);
+    }
+    match places[node].step(alloc, input) {
+        Ok(said) => {
+            send(sent, said);
+            Ok(None)
+        }
+        Err(fault) => answer(fault),
+    }
+}
+
+/// Whether the node of that number exists and runs.
+pub(crate) fn runs(places: &[Place], node: usize) -> bool
+    ensures value { result ≡ is_some (running_in (slice_get places.now node)) }
+    ensures within { result ≡ true → node < length places.now }
+{
+    match places.get(node) {
+        Some(place) => place.running().is_some(),
+        None => false,
+    }
+}
+
+/// The number of the table's rejection. Otherwise an allocation failed, since the tape of a node here doesn't fail.
+pub(crate) fn answer(fault: NodeFault) -> Result<Option<u8>, AllocError>
+    ensures number { IfOk result (λ number. number ≡ number_in fault) }
+    ensures some { IfOk result IsSome }
+{
+    match refusal_number(fault) {
+        Some(number) => Ok(Some(number)),
+        None => Err(AllocError),
+    }
+}

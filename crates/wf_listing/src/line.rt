@@ -1,0 +1,91 @@
+//! The lines of a listing.
+ghost use Rattle.std.specs.Prelude.{◌≡◌, ◌++◌, OnOk};
+ghost use Rattle.std.specs.String.{string_bytes};
+ghost use Rattle.wf_listing.specs.Listing.{accepted_line, left_line, promised_line, published_line, record_line, rest_line, tried_line};
+ghost use Rattle.wf_tape.specs.Record.{view};
+
+use crate::rest::Rest;
+use std::alloc::AllocError;
+use std::fmt::Write;
+use wf_ballot::{Ballot, Round, Slot};
+use wf_tape::Record;
+
+/// Appends the line of the record at a byte offset.
+pub(crate) fn push_record(out: &mut String, offset: usize, entry: &Record) -> Result<(), AllocError>
+    ensures { OnOk result (string_bytes out.new ≡ string_bytes out.old ++ record_line offset (view entry.now)) }
+{
+    match entry {
+        Record::Tried(round) => push_tried(out, offset, *round),
+        Record::Promised(slot, ballot) => push_promised(out, offset, *slot, *ballot),
+        Record::Accepted(slot, ballot, canon) => {
+            push_accepted(out, offset, *slot, *ballot, canon.text().len())
+        }
+        Record::Published(slot, canon) => push_published(out, offset, *slot, canon.text().len()),
+    }
+}
+
+// One function for each kind: a line alone is proved in less time.
+fn push_tried(out: &mut String, offset: usize, round: Round) -> Result<(), AllocError>
+    ensures { OnOk result (string_bytes out.new ≡ string_bytes out.old ++ tried_line offset round) }
+{
+    writeln!(out, "{offset} tried {round}")
+}
+
+fn push_promised(
+    out: &mut String,
+    offset: usize,
+    slot: Slot,
+    ballot: Ballot,
+) -> Result<(), AllocError>
+    ensures { OnOk result (string_bytes out.new ≡ string_bytes out.old ++ promised_line offset slot ballot) }
+{
+    writeln!(out, "{offset} promised {slot} ballot {ballot}")
+}
+
+fn push_accepted(
+    out: &mut String,
+    offset: usize,
+    slot: Slot,
+    ballot: Ballot,
+    length: usize,
+) -> Result<(), AllocError>
+    ensures { OnOk result (string_bytes out.new ≡ string_bytes out.old ++ accepted_line offset slot ballot length) }
+{
+    writeln!(
+        out,
+        "{offset} accepted {slot} ballot {ballot} text {length}"
+    )
+}
+
+fn push_published(
+    out: &mut String,
+    offset: usize,
+    slot: Slot,
+    length: usize,
+) -> Result<(), AllocError>
+    ensures { OnOk result (string_bytes out.new ≡ string_bytes out.old ++ published_line offset slot length) }
+{
+    writeln!(out, "{offset} published {slot} text {length}")
+}
+
+/// Appends the line of what follows the records: it begins at a byte offset and has that many bytes.
+pub(crate) fn push_rest(
+    out: &mut String,
+    offset: usize,
+    count: usize,
+    rest: Rest,
+) -> Result<(), AllocError>
+    ensures { OnOk result (string_bytes out.new ≡ string_bytes out.old ++ rest_line offset count rest) }
+{
+    match rest {
+        Rest::Nothing => writeln!(out, "{offset} end"),
+        Rest::Torn => push_left(out, offset, "torn record", count),
+        Rest::Bad => push_left(out, offset, "P2 bad record", count),
+    }
+}
+
+fn push_left(out: &mut String, offset: usize, words: &str, count: usize) -> Result<(), AllocError>
+    ensures { OnOk result (string_bytes out.new ≡ string_bytes out.old ++ left_line offset words.now count) }
+{
+    writeln!(out, "{offset} {words}, {count} bytes")
+}

@@ -1,0 +1,31 @@
+-- A node that is opened on its tape, and the tape's shortening.
+use Rattle.std.specs.Prelude.{◌≡◌, ◌⊎◌, ℕ, Bool, true, false, List}
+use Rattle.wf_def.specs.Definition.{Definition}
+use Rattle.wf_model.specs.Stored.{Stored}
+use Rattle.wf_model.specs.Working as model
+use Rattle.wf_node.specs.Images.{AllStandFor}
+use Rattle.wf_node.specs.Node.{Node, stored_of, working_of}
+use Rattle.wf_node.specs.Opening.{IsFoldOf}
+use Rattle.wf_node.specs.Shortening.{shortened}
+use Rattle.wf_tape.specs.Journal.{Follows, Holds, ReadsSame}
+
+module _ {T : Type 0} (content : T → List ℕ) (images : T → List ℕ → Type 0) where
+  -- If the tape is shortened, it holds exactly the records of a shortened tape for what the node has stored, all synced.
+  abbrev pub IsShort : Node T → Bool → Type 0
+  IsShort node is_short = is_short ≡ true → Holds (content node.tape) (images node.tape) (shortened (stored_of node))
+
+  -- What is left of a tape on which no node is open: each image reads as the records of one from before, or stands for what the
+  -- tape's records fold to.
+  abbrev pub IsLeft : T → T → Type 0
+  IsLeft tape left = Follows ReadsSame (images tape) (images left)
+      ⊎ ((stored : Stored Definition) × IsFoldOf stored (content tape) × AllStandFor stored (images left))
+
+module _ {T : Type 0} (honest : Type 0) (content : T → List ℕ) (images : T → List ℕ → Type 0) where
+  -- The node is open on the tape, with what its records fold to and no proposal. Whether it is shortened or not, every image of an
+  -- honest tape stands for that.
+  pub record IsOpened (tape : T) (node : Node T) (is_short : Bool) : Type 0 where
+    pub running : node.halted ≡ false
+    pub working : working_of node ≡ model.Idle
+    pub stored : honest → IsFoldOf (stored_of node) (content tape)
+    pub stands : honest → AllStandFor (stored_of node) (images node.tape)
+    pub short : honest → IsShort content images node is_short

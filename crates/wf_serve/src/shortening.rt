@@ -1,0 +1,80 @@
+//! A node's tape is shortened once it has opened.
+ghost use Rattle.std.specs.Prelude.{◌≡◌, ◌<◌, ◌≤◌, false, IfErr, IfOk};
+ghost use Rattle.wf_node.specs.Images.{AllStandFor};
+ghost use Rattle.wf_node.specs.Node.{stored_of};
+ghost use Rattle.wf_serve.specs.Shortening.{IsLeft, IsOpened, IsShort};
+
+use std::alloc::Global;
+use std::fs;
+use std::rt::Files;
+use wf_ballot::NodeId;
+use wf_node::{Node, NodeFault};
+use wf_tape::Tape;
+
+/// Node `id` of `n`, opened from its tape, which is shortened then. Returns also whether it is: if an allocation fails in shortening,
+/// the node is open on the tape as it was.
+///
+/// Err: the tape, if the node doesn't open, or the tape fails in shortening. What a crash leaves of it then reads as what it held, or
+/// stands for what the node had stored.
+pub fn open_shortened<T: Tape>(
+    alloc: Global,
+    tape: T,
+    id: NodeId,
+    n: u8,
+) -> Result<(Node<T>, bool), T>
+    requires nodes { n ≤ 64 }
+    requires member { id < n }
+    ensures id { IfOk result (λ x. x.0.id ≡ id) }
+    ensures n { IfOk result (λ x. x.0.n ≡ n) }
+    ensures opened { IfOk result (λ x. IsOpened T.honest T.content T.images tape x.0 x.1) }
+    ensures left { T.honest → IfErr result (IsLeft T.content T.images tape) }
+{
+    match Node::open(alloc, tape, id, n) {
+        Ok(node) => shorten(alloc, node),
+        Err((tape, _)) => Err(tape),
+    }
+}
+
+/// Shortens the tape of a node.
+fn shorten<T: Tape>(alloc: Global, mut node: Node<T>) -> Result<(Node<T>, bool), T>
+    requires { node.halted ≡ false }
+    ensures same { IfOk result (λ x. x.0 ≡ record node { tape = x.0.tape }) }
+    ensures short { T.honest → IfOk result (λ x. IsShort T.content T.images x.0 x.1) }
+    ensures stands { T.honest → IfOk result (λ x. AllStandFor (stored_of node) (T.images x.0.tape)) }
+    ensures left { T.honest → IfErr result (λ tape. AllStandFor (stored_of node) (T.images tape)) }
+{
+    match node.shorten(alloc) {
+        Ok(()) => Ok((node, true)),
+        Err(NodeFault::Memory) => Ok((node, false)),
+        Err(_) => Err(node.close()),
+    }
+}
+
+/// The number of bytes of the file at a path. None if the system doesn't say.
+pub(crate) fn bytes_at<R: Files>(rt: &R, path: &str) -> Option<u64> {
+    match fs::metadata(rt, path) {
+        Ok(metadata) => Some(metadata.len()),
+        Err(_) => None,
+    }
+}
+
+/// Prints the line about a tape on standard error: how many bytes it had before it was opened, and how many it has now. Nothing is
+/// printed if the system doesn't say; a line that can't be printed is lost.
+pub(crate) fn tell<R: Eprint>(
+    rt: &R,
+    path: &str,
+    before: Option<u64>,
+    after: Option<u64>,
+    is_short: bool,
+) {
+    let (Some(before), Some(after)) = (before, after) else {
+        return;
+    };
+    if !is_short {
+        let _ = eprintln!(rt; "{path}: {before} bytes, not shortened (N1)");
+    } else if after == before {
+        let _ = eprintln!(rt; "{path}: {before} bytes");
+    } else {
+        let _ = eprintln!(rt; "{path}: {before} bytes, shortened to {after}");
+    }
+}
