@@ -11,11 +11,11 @@ use Rattle.wf_text.specs.Booleans.{and_left, and_right}
 use Rattle.wf_def.specs.Definition.{Definition}
 use Rattle.wf_def.specs.Limits.{IsWithinLimits}
 use Rattle.wf_token.specs.Token.{Token, Word, Between, without_mark, tokens, tokens_from}
-use Rattle.wf_mapfile.specs.Grammar.{◌>>=◌, word}
+use Rattle.wf_block.specs.Grammar.{◌>>=◌, word}
 use Rattle.wf_mapfile.specs.Meaning.{file, longest_mapfile, meaning, Means, MeansNothing}
-use Rattle.wf_mapfile.specs.Reading.{IsNotUtf8, is_memory}
-use Rattle.wf_mapfile.specs.declared.fault.MapFault.{MapFault}
-use Rattle.wf_mapfile.specs.declared.fault.MapFault.TheVariants as reading
+use Rattle.wf_block.specs.Reading.{IsNotUtf8, is_memory}
+use Rattle.wf_block.specs.declared.fault.MapFault.{MapFault}
+use Rattle.wf_block.specs.declared.fault.MapFault.TheVariants as reading
 use Rattle.wf_token.specs.Spelling.{is_written, are_written, line}
 use Rattle.wf_canon.specs.Canon.{map_lines, canon}
 use Rattle.wf_canon.specs.declared.fault.CanonFault.{CanonFault}

@@ -4,7 +4,7 @@ ghost use Rattle.std.specs.Prelude.{◌≡◌, ◌<◌, ◌≤◌, true, length,
 ghost use Rattle.std.specs.Str.{is_utf8};
 ghost use Rattle.wf_def.specs.Limits.{IsWithinLimits};
 ghost use Rattle.wf_mapfile.specs.Meaning.{Means};
-ghost use Rattle.wf_mapfile.specs.Reading.{is_memory};
+ghost use Rattle.wf_block.specs.Reading.{is_memory};
 ghost use Rattle.wf_canon.specs.Canon.{canon, most_canon_bytes, IsCanon};
 ghost use Rattle.wf_canon.specs.Refusal.{IsCauseOf, IsWhyRefused, refused_again};
 

@@ -1,6 +1,6 @@
 -- A run's count of failed calls.
 use Rattle.std.specs.Prelude.{◌≡◌, ℕ, Result, Ok, Err, false}
-use Rattle.wf_mapfile.specs.Reading.{is_memory}
+use Rattle.wf_block.specs.Reading.{is_memory}
 use Rattle.wf_script.specs.Fault as script
 use Rattle.wf_stream.specs.Reading.{Rises}
 use Rattle.wf_commands.specs.declared.fault.RunFault.{RunFault}

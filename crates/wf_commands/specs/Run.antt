@@ -4,7 +4,7 @@ use Rattle.std.specs.Io.KnownBytes.{Appends, Keeps}
 use Rattle.wf_def.specs.Definition.{Definition}
 use Rattle.wf_def.specs.Limits.{IsWithinLimits}
 use Rattle.wf_mapfile.specs.Meaning.{Means, MeansNothing}
-use Rattle.wf_mapfile.specs.Reading.{is_memory}
+use Rattle.wf_block.specs.Reading.{is_memory}
 use Rattle.wf_canon.specs.Canon.{canon}
 use Rattle.wf_canon.specs.Refusal.{IsCauseOf}
 use Rattle.wf_canon.specs.declared.fault.CanonFault.{CanonFault}

@@ -11,9 +11,9 @@ use Rattle.wf_canon.specs.declared.fault.CanonFault.TheVariants as canonical
 use Rattle.wf_codec.specs.declared.message.Message.{Message}
 use Rattle.wf_def.specs.Definition.{Definition}
 use Rattle.wf_mapfile.specs.Meaning.{Means, MeansNothing, meaning, longest_mapfile}
-use Rattle.wf_mapfile.specs.Reading.{is_memory, IsNotUtf8}
-use Rattle.wf_mapfile.specs.declared.fault.MapFault.{MapFault}
-use Rattle.wf_mapfile.specs.declared.fault.MapFault.TheVariants as map
+use Rattle.wf_block.specs.Reading.{is_memory, IsNotUtf8}
+use Rattle.wf_block.specs.declared.fault.MapFault.{MapFault}
+use Rattle.wf_block.specs.declared.fault.MapFault.TheVariants as map
 use Rattle.wf_model.specs.Table.{Propose, store}
 use Rattle.wf_node.specs.Fault.{refused_by}
 use Rattle.wf_node.specs.Images.{AllStandFor, EachStandsFor}

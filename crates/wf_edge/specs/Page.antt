@@ -1,8 +1,8 @@
 -- A node's own pages: the map service, its status, an accepted map, and the error of a map.
 use Rattle.std.specs.Prelude.{◌≡◌, ℕ, ◌+◌, List, ◌++◌, codes, decimal, length, None, Result, Ok, Err, if◌then◌else◌}
 use Rattle.wf_def.specs.Definition.{Definition}
-use Rattle.wf_mapfile.specs.declared.fault.MapFault.{MapFault}
-use Rattle.wf_mapfile.specs.declared.fault.MapFault.TheVariants as map
+use Rattle.wf_block.specs.declared.fault.MapFault.{MapFault}
+use Rattle.wf_block.specs.declared.fault.MapFault.TheVariants as map
 use Rattle.wf_node.specs.Node.{Node, working_of}
 use Rattle.wf_proposer.specs.Standing.{standing_of}
 use Rattle.wf_proposer.specs.declared.standing.Standing.{Standing}

@@ -1,7 +1,7 @@
 //! Publishing a map: it is parsed, made canonical, and proposed by the node.
 ghost use Rattle.std.specs.Prelude.{◌≡◌, IfOk, IfErr, if◌then◌else◌};
 ghost use Rattle.wf_mapfile.specs.Meaning.{Means};
-ghost use Rattle.wf_mapfile.specs.Reading.{is_memory};
+ghost use Rattle.wf_block.specs.Reading.{is_memory};
 ghost use Rattle.wf_edge.specs.Publish.{IsMapOf, IsWhyNoMap, IsProposed, IsPublished, TellsFault, unwritten};
 
 use crate::answering::{accept, tell_fault};

@@ -1,24 +1,12 @@
--- The counts made while a block is read equal those of its value.
-use Rattle.std.proofs.Common.{◌≡◌, Bool, true, false, List, ℕ, length, refl, sym, ap, ◌∙◌}
-use Rattle.std.specs.Prelude.{nat_lt, Option, Some, None, if◌then◌else◌, sum_by}
+-- The counts made while a layer is read equal those of its value.
+use Rattle.std.proofs.Common.{◌≡◌, ◌∙◌, Bool, true, false, List, ℕ, refl, sym, ap}
+use Rattle.std.specs.Prelude.{Option, Some, None, if◌then◌else◌}
 use Rattle.wf_def.specs.Definition.{FeatureDefinition, LayerDefinition}
 use Rattle.wf_def.specs.Layer as def
-use Rattle.wf_def.specs.Limits.{points_of_feature}
 use Rattle.wf_def.specs.declared.choice.LayerKind.{LayerKind}
-use Rattle.wf_mapfile.specs.declared.slots.feature.FeatureSlots.{FeatureSlots}
 use Rattle.wf_mapfile.specs.declared.slots.layer.LayerSlots.{LayerSlots}
-use Rattle.wf_mapfile.specs.Grammar.{◌>>=◌}
-use Rattle.wf_mapfile.specs.Feature.{feature_of}
+use Rattle.wf_block.specs.Grammar.{◌>>=◌}
 use Rattle.wf_mapfile.specs.Layer.{layer_of}
-
-pub given : {A : Type 0} (so : Bool) (x y : A) → (if so then Some x else None) ≡ Some y → x ≡ y
-given true x y e = cc
-given false x y e = absurd (let impossible : ⊥ = cc in impossible)
-
--- a feature's points are those of its parts
-pub feature_counted : (said : FeatureSlots) (f : FeatureDefinition) → feature_of said ≡ Some f → sum_by length said.parts ≡ points_of_feature f
-unfolding feature_of def.feature_of
-feature_counted said f e = ap points_of_feature (given (nat_lt 0 (length said.parts)) _ f e)
 
 abbrev Entry : Type 0
 Entry = List ℕ × LayerDefinition

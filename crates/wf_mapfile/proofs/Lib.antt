@@ -1,11 +1,3 @@
-pub mod Names
-pub mod Blocks
-pub mod Options
-pub mod Pairs
-pub mod PointsLaw
 pub mod Texts
-pub mod Unlike
-pub mod GatheredLaw
-pub mod LayerNames
 pub mod Booleans
 pub mod Counted

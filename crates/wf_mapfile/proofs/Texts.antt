@@ -12,11 +12,11 @@ use Rattle.std.proofs.lemmas.Slice.Eq.{bytes_eq-Decides}
 use Rattle.std.proofs.lemmas.Str.{IsUtf8-from_is_utf8, is_utf8-from_IsUtf8, IsUtf8-take, IsUtf8-drop, IsCharBoundary-after_ascii, chars-append}
 use Rattle.wf_def.specs.Text.{is_text, is_text_character, has_both_quotes}
 use Rattle.wf_def.specs.Limit.{most_text_bytes}
-use Rattle.wf_mapfile.specs.declared.fault.MapFault.{MapFault}
+use Rattle.wf_block.specs.declared.fault.MapFault.{MapFault}
 use Rattle.wf_token.specs.Token.{Token}
-use Rattle.wf_mapfile.specs.Grammar.{text}
+use Rattle.wf_block.specs.Grammar.{text}
 use Rattle.wf_mapfile.specs.Layer.{processing}
-use Rattle.wf_mapfile.specs.Reading.{Gives}
+use Rattle.wf_block.specs.Reading.{Gives}
 use Rattle.wf_mapfile.proofs.Booleans.{both, or_right}
 
 -- what fails for the whole fails for a part

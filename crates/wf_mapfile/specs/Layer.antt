@@ -1,32 +1,24 @@
 -- LAYER: a layer with its name.
-use Rattle.std.specs.Prelude.{◌≡◌, ◌↔◌, ℕ, ◌-◌, Bool, true, not, ◌&&◌, ◌==◌, nat_lt, if◌then◌else◌, List, [], ◌∷◌, length, take, drop, codes, Option, Some, None, sum_by, unwrap_or}
-use Rattle.std.specs.List.{list_any}
+use Rattle.std.specs.Prelude.{ℕ, ◌-◌, if◌then◌else◌, List, [], ◌∷◌, take, drop, codes, Option, Some, None, sum_by, unwrap_or}
 use Rattle.std.specs.Str.{str_eq_ignore_ascii_case}
 use Rattle.wf_def.specs.Definition.{LayerDefinition}
 use Rattle.wf_def.specs.Layer as def
-use Rattle.wf_def.specs.Text.{IsText}
-use Rattle.wf_def.specs.Limits.{IsLayerName, has_layer, points_of_feature, feature_count, point_count}
+use Rattle.wf_def.specs.Limits.{has_layer, points_of_feature}
 use Rattle.wf_def.specs.declared.choice.LayerKind.{LayerKind}
 use Rattle.wf_def.specs.declared.choice.LayerKind.TheVariants as kind
-use Rattle.wf_def.specs.Limit.{most_classes, most_features, most_points}
+use Rattle.wf_def.specs.Limit.{most_classes}
 use Rattle.wf_mapfile.specs.declared.slots.layer.LayerDropped.{LayerDropped}
 use Rattle.wf_mapfile.specs.declared.slots.layer.LayerOnce.{LayerOnce}
 use Rattle.wf_mapfile.specs.declared.slots.layer.LayerSlots.{LayerSlots}
 use Rattle.wf_token.specs.Token.{Token}
-use Rattle.wf_mapfile.specs.Grammar.{◌>>=◌, text, chosen}
-use Rattle.wf_mapfile.specs.Steps.{once, again, step_by, step_or, put_into, block}
-use Rattle.wf_mapfile.specs.Metadata.{metadata}
-use Rattle.wf_mapfile.specs.Web.{no_metadata}
-use Rattle.wf_mapfile.specs.Class.{class}
-use Rattle.wf_mapfile.specs.Feature.{feature}
-
--- whether a text may be a layer's name: it isn't empty and has no comma (44)
-unfoldable pub is_layer_name : List ℕ → Bool
-is_layer_name name = nat_lt 0 (length name) && not (list_any (λ b. b == 44) name)
-
--- the test is true iff the text is a layer's name by the limits of a map
-abbrev pub LayerNamesAreTested : Type 0
-LayerNamesAreTested = (name : List ℕ) → IsText name → (is_layer_name name ≡ true) ↔ IsLayerName name
+use Rattle.wf_block.specs.Grammar.{◌>>=◌, text, chosen}
+use Rattle.wf_block.specs.Steps.{once, again, step_by, step_or, put_into, block}
+use Rattle.wf_metadata.specs.Metadata.{metadata}
+use Rattle.wf_metadata.specs.Web.{no_metadata}
+use Rattle.wf_class.specs.Class.{class}
+use Rattle.wf_feature.specs.Feature.{feature}
+unfoldable pub use Rattle.wf_feature.specs.Layers.{is_layer_name, features_left, points_left}
+pub use Rattle.wf_feature.specs.Layers.{LayerNamesAreTested}
 
 unfoldable pub layer_name : List Token → Option (List ℕ × List Token)
 layer_name tokens = do
@@ -54,13 +46,6 @@ unfoldable pub new_name : List (List ℕ × LayerDefinition) → List Token → 
 new_name others tokens = do
   x ← layer_name tokens
   if has_layer others x.0 then None else Some x
-
--- how many features and points the map may have after these layers
-unfoldable pub features_left : List (List ℕ × LayerDefinition) → ℕ
-features_left layers = most_features - feature_count layers
-
-unfoldable pub points_left : List (List ℕ × LayerDefinition) → ℕ
-points_left layers = most_points - point_count layers
 
 -- the slots after a dropped keyword: each comes at most once
 unfoldable pub layer_dropped : LayerDropped → List ℕ → List Token → Option (LayerDropped × List Token)

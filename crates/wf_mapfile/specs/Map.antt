@@ -9,11 +9,11 @@ use Rattle.wf_mapfile.specs.declared.slots.map.MapDropped.{MapDropped}
 use Rattle.wf_mapfile.specs.declared.slots.map.MapOnce.{MapOnce}
 use Rattle.wf_mapfile.specs.declared.slots.map.MapSlots.{MapSlots}
 use Rattle.wf_token.specs.Token.{Token}
-use Rattle.wf_mapfile.specs.Grammar.{◌>>=◌, choice, text, number, end}
-use Rattle.wf_mapfile.specs.Steps.{once, again, step_by, step_or, put_into, block}
-use Rattle.wf_mapfile.specs.Color.{color}
-use Rattle.wf_mapfile.specs.declared.slots.Metadata as kept
-use Rattle.wf_mapfile.specs.Web.{web, no_metadata}
+use Rattle.wf_block.specs.Grammar.{◌>>=◌, choice, text, number, end}
+use Rattle.wf_block.specs.Steps.{once, again, step_by, step_or, put_into, block}
+use Rattle.wf_class.specs.Color.{color}
+use Rattle.wf_metadata.specs.declared.slots.Metadata as kept
+use Rattle.wf_metadata.specs.Web.{web, no_metadata}
 use Rattle.wf_mapfile.specs.Layer.{layer}
 
 -- four numbers, each minimum below its maximum

@@ -3,7 +3,7 @@ use Rattle.std.specs.Prelude.{◌≡◌, ℕ, ◌&&◌, ◌==◌, nat_le, if◌t
 use Rattle.std.specs.Str.{is_utf8, str_eq_ignore_ascii_case}
 use Rattle.wf_def.specs.Definition.{Definition}
 use Rattle.wf_token.specs.Token.{Token, tokens}
-use Rattle.wf_mapfile.specs.Grammar.{◌>>=◌, word}
+use Rattle.wf_block.specs.Grammar.{◌>>=◌, word}
 use Rattle.wf_mapfile.specs.Map.{map}
 
 -- the longest mapfile, in bytes

@@ -1,25 +1,32 @@
 //! LAYER: features of one kind, and how they are drawn.
-ghost use Rattle.std.specs.Prelude.{◌≡◌, ◌≤◌, [], None, Some, IfOk, IfSome, MatchOption, MatchResult, OnOk, codes, drop, is_some, take, true, false, length, nat_lt, sum_by, unwrap_or};
+ghost use Rattle.std.specs.Prelude.{◌≡◌, ◌≤◌, ◌+◌, [], None, Some, IfOk, IfSome, MatchOption, MatchResult, OnOk, codes, drop, is_some, take, true, false, length, nat_lt, sum_by, unwrap_or};
 ghost use Rattle.std.specs.Str.{str_eq_ignore_ascii_case};
 ghost use Rattle.wf_def.specs.Layer as def;
 ghost use Rattle.wf_def.specs.Limits.{has_layer, points_of_feature};
 ghost use Rattle.wf_mapfile.specs.Layer.{features_left, layer, layer_dropped, layer_kind, layer_name, layer_of, layer_once, new_name, no_layer, points_left, processing};
-ghost use Rattle.wf_mapfile.specs.Reading.{Gives, is_memory};
-ghost use Rattle.wf_mapfile.specs.Web.{no_metadata};
+ghost use Rattle.wf_block.specs.Reading.{Gives, is_memory};
+ghost use Rattle.wf_block.specs.Steps.{again};
+ghost use Rattle.wf_class.specs.Class.{class};
+ghost use Rattle.wf_feature.specs.Feature.{feature};
+ghost use Rattle.wf_metadata.specs.Web.{no_metadata};
 ghost use Rattle.wf_def.specs.Limit.{most_classes};
 
-use crate::block::{Slots, fill_block, once};
-use crate::fault::MapFault;
-use crate::keyword::is_name;
-use crate::layers::{LayerName, LayerRead, Layers};
-use crate::map::text_or_empty;
-use crate::parser::Parser;
-use crate::slots::Metadata;
 use crate::slots::layer::{LayerDropped, LayerOnce, LayerSlots};
 use std::alloc::{AllocError, Global};
+use wf_block::block::{Slots, fill_block};
+use wf_block::default::text_or_empty;
+use wf_block::fault::MapFault;
+use wf_block::keyword::is_name;
+use wf_block::once;
+use wf_block::parser::Parser;
+use wf_class::class::read_class;
 use wf_def::choice::LayerKind;
 use wf_def::layer::{Classes, Features, Layer};
 use wf_def::text::Text;
+use wf_feature::feature::read_feature;
+use wf_feature::layers::{LayerName, LayerRead, Layers};
+use wf_metadata::metadata::read_metadata;
+use wf_metadata::slots::Metadata;
 use wf_token::token::Token;
 
 /// LAYER while it is read.
@@ -54,18 +61,49 @@ impl Slots for LayerReading<'_> {
     #[tactic(auto, unfolding(crate::specs::Layer::layer_put))]
     fn take(&mut self, keyword: Token<'_>, parser: &mut Parser<'_>) -> Result<(), MapFault> {
         if is_name(keyword.text, "CLASS") {
-            class_room(&self.slots.classes)?;
-            let class = parser.class()?;
-            self.slots.classes.push(class)?;
+            self.slots.take_class(parser)?;
         } else if is_name(keyword.text, "FEATURE") {
-            feature_room(&self.slots.features, self.others.features_left())?;
-            let (feature, points) = parser.feature(self.others.points_left() - self.points)?;
-            self.slots.features.push(feature)?;
-            self.points += points;
+            let most = self.others.features_left();
+            let left = self.others.points_left() - self.points;
+            self.points += self.slots.take_feature(most, left, parser)?;
         } else {
             self.slots.single.take(keyword, parser, self.others)?;
         }
         Ok(())
+    }
+}
+
+impl LayerSlots {
+    /// Reads a class and appends it to those before, if there is room for it.
+    fn take_class(&mut self, parser: &mut Parser<'_>) -> Result<(), MapFault>
+        ensures read { Gives (λ _. (self.new, parser.new)) result (again most_classes self.old.classes class (λ more. record self.old { classes = more }) parser.old) }
+        ensures features { OnOk result (self.new.features ≡ self.old.features) }
+        ensures single { OnOk result (self.new.single ≡ self.old.single) }
+    {
+        class_room(&self.classes)?;
+        let class = read_class(parser)?;
+        self.classes.push(class)?;
+        Ok(())
+    }
+
+    /// Reads a feature of at most `left` points and appends it to those before, if there are less than `most`. Returns the number
+    /// of its points.
+    fn take_feature(
+        &mut self,
+        most: usize,
+        left: usize,
+        parser: &mut Parser<'_>,
+    ) -> Result<usize, MapFault>
+        ensures read { Gives (λ _. (self.new, parser.new)) result (again most self.old.features (feature left) (λ more. record self.old { features = more }) parser.old) }
+        ensures room { OnOk result (length self.new.features ≤ most) }
+        ensures counted { IfOk result (λ points. sum_by points_of_feature self.new.features ≡ sum_by points_of_feature self.old.features + points) }
+        ensures fits { IfOk result (λ points. points ≤ left) }
+        ensures single { OnOk result (self.new.single ≡ self.old.single) }
+    {
+        feature_room(&self.features, most)?;
+        let (feature, points) = read_feature(parser, left)?;
+        self.features.push(feature)?;
+        Ok(points)
     }
 }
 
@@ -106,17 +144,17 @@ impl LayerOnce {
         let word = keyword.text;
         let place = keyword.place;
         if is_name(word, "NAME") {
-            once!(self.name, place, parser.new_name(others));
+            once!(self.name, place, read_new_name(parser, others));
         } else if is_name(word, "TYPE") {
-            once!(self.kind, place, parser.layer_kind());
+            once!(self.kind, place, read_layer_kind(parser));
         } else if is_name(word, "CLASSITEM") {
             once!(self.class_item, place, parser.text());
         } else if is_name(word, "LABELITEM") {
             once!(self.label_item, place, parser.text());
         } else if is_name(word, "PROCESSING") {
-            once!(self.items, place, parser.attribute_names());
+            once!(self.items, place, read_attribute_names(parser));
         } else if is_name(word, "METADATA") {
-            once!(self.metadata, place, parser.metadata());
+            once!(self.metadata, place, read_metadata(parser));
         } else {
             self.dropped.take(keyword, parser)?;
         }
@@ -355,78 +393,76 @@ fn title_or(metadata: Option<Metadata>, name: &Text) -> Result<Text, AllocError>
     }
 }
 
-impl Parser<'_> {
-    /// Reads a layer up to its END (MapServer mapfile reference, LAYER), after other layers: its name differs from theirs, and it
-    /// has at most as many features and points as are left for the map.
-    #[tactic(auto, unfolding(crate::specs::Layer::layer))]
-    pub fn layer(&mut self, others: &Layers) -> Result<LayerRead, MapFault>
-        ensures read { Gives (λ l. ((l.name, l.layer), self.new)) result (layer others.now self.old) }
-        ensures new { IfOk result (λ l. has_layer others.now l.name ≡ false) }
-        ensures features { IfOk result (λ l. length l.layer.features ≤ features_left others.now) }
-        ensures counted { IfOk result (λ l. l.points ≡ sum_by points_of_feature l.layer.features) }
-        ensures points { IfOk result (λ l. l.points ≤ points_left others.now) }
-    {
-        let mut reading = LayerReading {
-            slots: LayerSlots::new(self.alloc()),
-            others,
-            points: 0,
-        };
-        match fill_block(self, &mut reading) {
-            Ok(()) => reading.filled(self.alloc()),
-            Err(fault) => {
-                drop(reading);
-                Err(fault)
-            }
+/// Reads a layer up to its END (MapServer mapfile reference, LAYER), after other layers: its name differs from theirs, and it
+/// has at most as many features and points as are left for the map.
+#[tactic(auto, unfolding(crate::specs::Layer::layer))]
+pub fn read_layer(parser: &mut Parser<'_>, others: &Layers) -> Result<LayerRead, MapFault>
+    ensures read { Gives (λ l. ((l.name, l.layer), parser.new)) result (layer others.now parser.old) }
+    ensures new { IfOk result (λ l. has_layer others.now l.name ≡ false) }
+    ensures features { IfOk result (λ l. length l.layer.features ≤ features_left others.now) }
+    ensures counted { IfOk result (λ l. l.points ≡ sum_by points_of_feature l.layer.features) }
+    ensures points { IfOk result (λ l. l.points ≤ points_left others.now) }
+{
+    let mut reading = LayerReading {
+        slots: LayerSlots::new(parser.alloc()),
+        others,
+        points: 0,
+    };
+    match fill_block(parser, &mut reading) {
+        Ok(()) => reading.filled(parser.alloc()),
+        Err(fault) => {
+            drop(reading);
+            Err(fault)
         }
     }
+}
 
-    /// Reads a name that none of the layers before has.
-    #[tactic(auto, unfolding(crate::specs::Layer::new_name))]
-    fn new_name(&mut self, others: &Layers) -> Result<LayerName, MapFault>
-        ensures read { Gives (λ name. (name, self.new)) result (new_name others.now self.old) }
-        ensures new { IfOk result (λ name. has_layer others.now name ≡ false) }
-    {
-        let place = self.place();
-        let name = self.layer_name()?;
-        if others.has_layer(&name) {
-            return Err(MapFault::Repeated(place));
-        }
-        Ok(name)
+/// Reads a name that none of the layers before has.
+#[tactic(auto, unfolding(crate::specs::Layer::new_name))]
+fn read_new_name(parser: &mut Parser<'_>, others: &Layers) -> Result<LayerName, MapFault>
+    ensures read { Gives (λ name. (name, parser.new)) result (new_name others.now parser.old) }
+    ensures new { IfOk result (λ name. has_layer others.now name ≡ false) }
+{
+    let place = parser.place();
+    let name = read_layer_name(parser)?;
+    if others.has_layer(&name) {
+        return Err(MapFault::Repeated(place));
     }
+    Ok(name)
+}
 
-    /// Reads a layer's name: a text that isn't empty and has no comma (MapServer mapfile reference, LAYER NAME).
-    #[tactic(auto, unfolding(crate::specs::Layer::layer_name))]
-    fn layer_name(&mut self) -> Result<LayerName, MapFault>
-        ensures { Gives (λ name. (name, self.new)) result (layer_name self.old) }
-    {
-        let place = self.place();
-        let text = self.text()?;
-        LayerName::new(text).ok_or(MapFault::OutOfRange(place))
-    }
+/// Reads a layer's name: a text that isn't empty and has no comma (MapServer mapfile reference, LAYER NAME).
+#[tactic(auto, unfolding(crate::specs::Layer::layer_name))]
+fn read_layer_name(parser: &mut Parser<'_>) -> Result<LayerName, MapFault>
+    ensures { Gives (λ name. (name, parser.new)) result (layer_name parser.old) }
+{
+    let place = parser.place();
+    let text = parser.text()?;
+    LayerName::new(text).ok_or(MapFault::OutOfRange(place))
+}
 
-    /// Reads the kind of features (MapServer mapfile reference, LAYER TYPE).
-    #[tactic(auto, unfolding(crate::specs::Layer::layer_kind))]
-    fn layer_kind(&mut self) -> Result<LayerKind, MapFault>
-        ensures { Gives (λ kind. (kind, self.new)) result (layer_kind self.old) }
-    {
-        self.chosen(&[
-            ("POINT", LayerKind::Points),
-            ("LINE", LayerKind::Lines),
-            ("POLYGON", LayerKind::Polygons),
-        ])
-    }
+/// Reads the kind of features (MapServer mapfile reference, LAYER TYPE).
+#[tactic(auto, unfolding(crate::specs::Layer::layer_kind))]
+fn read_layer_kind(parser: &mut Parser<'_>) -> Result<LayerKind, MapFault>
+    ensures { Gives (λ kind. (kind, parser.new)) result (layer_kind parser.old) }
+{
+    parser.chosen(&[
+        ("POINT", LayerKind::Points),
+        ("LINE", LayerKind::Lines),
+        ("POLYGON", LayerKind::Polygons),
+    ])
+}
 
-    /// Reads the names of the features' attributes (MapServer mapfile reference, PROCESSING): what follows `ITEMS=` in a text.
-    #[tactic(auto, unfolding(crate::specs::Layer::processing))]
-    fn attribute_names(&mut self) -> Result<Text, MapFault>
-        ensures { Gives (λ t. (t, self.new)) result (processing self.old) }
-    {
-        let place = self.place();
-        let text = self.text_there()?;
-        match names_of(text.as_bytes()) {
-            Some(names) => self.text_at(names, place),
-            None => Err(MapFault::UnexpectedWord(place)),
-        }
+/// Reads the names of the features' attributes (MapServer mapfile reference, PROCESSING): what follows `ITEMS=` in a text.
+#[tactic(auto, unfolding(crate::specs::Layer::processing))]
+fn read_attribute_names(parser: &mut Parser<'_>) -> Result<Text, MapFault>
+    ensures { Gives (λ t. (t, parser.new)) result (processing parser.old) }
+{
+    let place = parser.place();
+    let text = parser.text_there()?;
+    match names_of(text.as_bytes()) {
+        Some(names) => parser.text_at(names, place),
+        None => Err(MapFault::UnexpectedWord(place)),
     }
 }
 

@@ -8,31 +8,18 @@
 //! failure, the bytes mean no map. It looks at each byte a bounded number of times. Which error is returned, and its byte offset,
 //! is tested and not proved. Not here: files, and how a definition is written (wf_canon).
 //!
-//! Modules: wf_token's lexer (bytes to tokens), `parser` (readers of tokens), `block` (keywords up to END, for any block), and
-//! one module for each block (`map`, `web`, `metadata`, `layer`, `class`, `style`, `label`, `feature`); each keyword fills its
-//! slot in `slots`. `layers` holds the layers read so far and how many more features and points the map may have.
+//! Modules: `map` and `layer`, the blocks that hold all others, whose keywords fill their slots in `slots`, and `reader`, the
+//! whole file. The readers of tokens and of any block are in wf_block, METADATA and WEB in wf_metadata, CLASS with STYLE and LABEL
+//! in wf_class, FEATURE and the layers so far in wf_feature. The errors and the slots, which contracts name, are re-exported.
 #![tactic(auto)]
 
-mod block;
-mod choice;
-mod class;
-mod color;
-mod default;
 pub mod fault;
-mod feature;
-mod keyword;
-mod label;
 mod layer;
-mod layers;
 pub mod lexer;
 mod map;
-mod metadata;
-mod parser;
 mod reader;
-mod slots;
-mod style;
+pub mod slots;
 pub mod token;
-mod web;
 
-pub use layers::layer_names_are_tested;
 pub use reader::{MOST_MAPFILE_BYTES, limit_of_mapfiles, read};
+pub use wf_feature::layers::layer_names_are_tested;

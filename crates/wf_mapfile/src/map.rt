@@ -1,24 +1,28 @@
 //! MAP: a map's definition.
 ghost use Rattle.std.specs.Prelude.{◌≡◌, [], None, IfOk, MatchResult, true, false, codes, length, nat_lt, unwrap_or};
-ghost use Rattle.wf_def.specs.Text.{IsText};
 ghost use Rattle.wf_mapfile.specs.Map.{definition, extent, map, map_dropped, map_of, map_once, no_map, projection, projection_named, two_numbers};
-ghost use Rattle.wf_mapfile.specs.Reading.{Gives, is_memory};
-ghost use Rattle.wf_mapfile.specs.Web.{no_metadata};
+ghost use Rattle.wf_block.specs.Reading.{Gives, is_memory};
+ghost use Rattle.wf_metadata.specs.Web.{no_metadata};
 ghost use Rattle.wf_def.specs.Limit.{most_layers};
 
-use crate::block::{Slots, fill_block, once};
-use crate::choice::choose;
-use crate::fault::MapFault;
-use crate::keyword::is_name;
-use crate::layers::Layers;
-use crate::parser::Parser;
-use crate::slots::Metadata;
+use crate::layer::read_layer;
 use crate::slots::map::{MapDropped, MapOnce, MapSlots};
 use std::alloc::{AllocError, Global};
+use wf_block::block::{Slots, fill_block};
+use wf_block::choice::choose;
+use wf_block::default::{text_or, text_or_empty};
+use wf_block::fault::MapFault;
+use wf_block::keyword::is_name;
+use wf_block::once;
+use wf_block::parser::Parser;
+use wf_class::color::read_color;
 use wf_def::choice::Projection;
 use wf_def::extent::Extent;
 use wf_def::map::MapDef;
 use wf_def::text::Text;
+use wf_feature::layers::Layers;
+use wf_metadata::slots::Metadata;
+use wf_metadata::web::read_web;
 use wf_token::token::Token;
 
 /// The name of a map without NAME.
@@ -45,7 +49,7 @@ impl Slots for MapSlots {
     fn take(&mut self, keyword: Token<'_>, parser: &mut Parser<'_>) -> Result<(), MapFault> {
         if is_name(keyword.text, "LAYER") {
             layer_room(&self.layers)?;
-            let read = parser.layer(&self.layers)?;
+            let read = read_layer(parser, &self.layers)?;
             self.layers.push(read)?;
         } else {
             self.single.take(keyword, parser)?;
@@ -65,11 +69,11 @@ impl MapOnce {
         if is_name(word, "NAME") {
             once!(self.name, place, parser.text());
         } else if is_name(word, "EXTENT") {
-            once!(self.extent, place, parser.extent(place));
+            once!(self.extent, place, read_extent(parser, place));
         } else if is_name(word, "PROJECTION") {
-            once!(self.projection, place, parser.projection());
+            once!(self.projection, place, read_projection(parser));
         } else if is_name(word, "WEB") {
-            once!(self.web, place, parser.web());
+            once!(self.web, place, read_web(parser));
         } else {
             self.dropped.take(keyword, parser)?;
         }
@@ -86,9 +90,9 @@ impl MapDropped {
         let word = keyword.text;
         let place = keyword.place;
         if is_name(word, "SIZE") {
-            once!(self.size, place, parser.two_numbers());
+            once!(self.size, place, read_two_numbers(parser));
         } else if is_name(word, "IMAGECOLOR") {
-            once!(self.image_color, place, parser.color(), _ => ());
+            once!(self.image_color, place, read_color(parser), _ => ());
         } else if is_name(word, "UNITS") {
             once!(self.units, place, parser.text_there(), _ => ());
         } else if is_name(word, "STATUS") {
@@ -216,69 +220,49 @@ impl Service {
     }
 }
 
-/// The text, or else an empty one.
-pub fn text_or_empty(alloc: Global, text: Option<Text>) -> Result<Text, AllocError>
-    ensures { IfOk result (λ t. t ≡ unwrap_or text []) }
+/// Reads a map up to MAP's END (MapServer mapfile reference, MAP).
+#[tactic(auto, unfolding(crate::specs::Map::map))]
+pub fn read_map(parser: &mut Parser<'_>) -> Result<MapDef, MapFault>
+    ensures { Gives (λ d. (d, parser.new)) result (map parser.old) }
 {
-    text_or(alloc, text, "")
+    let mut slots = MapSlots::new(parser.alloc());
+    fill_block(parser, &mut slots)?;
+    slots.filled(parser.alloc())
 }
 
-/// The text, or else the default.
-fn text_or(alloc: Global, text: Option<Text>, default: &str) -> Result<Text, AllocError>
-    requires { IsText default.now }
-    ensures { IfOk result (λ t. t ≡ unwrap_or text default.now) }
+/// Reads a width and a height, which may be any numbers.
+#[tactic(auto, unfolding(crate::specs::Map::two_numbers))]
+fn read_two_numbers(parser: &mut Parser<'_>) -> Result<(), MapFault>
+    ensures { Gives (λ x. (x, parser.new)) result (two_numbers parser.old) }
 {
-    match text {
-        Some(text) => Ok(text),
-        None => Text::from_str(alloc, default),
-    }
+    let _ = parser.number()?;
+    let _ = parser.number()?;
+    Ok(())
 }
 
-impl Parser<'_> {
-    /// Reads a map up to MAP's END (MapServer mapfile reference, MAP).
-    #[tactic(auto, unfolding(crate::specs::Map::map))]
-    pub fn map(&mut self) -> Result<MapDef, MapFault>
-        ensures { Gives (λ d. (d, self.new)) result (map self.old) }
-    {
-        let mut slots = MapSlots::new(self.alloc());
-        fill_block(self, &mut slots)?;
-        slots.filled(self.alloc())
-    }
+/// Reads a box (MapServer mapfile reference, EXTENT). If its minima aren't below its maxima, it is out of range at the
+/// keyword.
+#[tactic(auto, unfolding(crate::specs::Map::extent))]
+fn read_extent(parser: &mut Parser<'_>, keyword: usize) -> Result<Extent, MapFault>
+    ensures { Gives (λ e. (e, parser.new)) result (extent parser.old) }
+{
+    let minx = parser.number()?;
+    let miny = parser.number()?;
+    let maxx = parser.number()?;
+    let maxy = parser.number()?;
+    Extent::new(minx, miny, maxx, maxy).ok_or(MapFault::OutOfRange(keyword))
+}
 
-    /// Reads a width and a height, which may be any numbers.
-    #[tactic(auto, unfolding(crate::specs::Map::two_numbers))]
-    fn two_numbers(&mut self) -> Result<(), MapFault>
-        ensures { Gives (λ x. (x, self.new)) result (two_numbers self.old) }
-    {
-        let _ = self.number()?;
-        let _ = self.number()?;
-        Ok(())
-    }
-
-    /// Reads a box (MapServer mapfile reference, EXTENT). If its minima aren't below its maxima, it is out of range at the
-    /// keyword.
-    #[tactic(auto, unfolding(crate::specs::Map::extent))]
-    fn extent(&mut self, keyword: usize) -> Result<Extent, MapFault>
-        ensures { Gives (λ e. (e, self.new)) result (extent self.old) }
-    {
-        let minx = self.number()?;
-        let miny = self.number()?;
-        let maxx = self.number()?;
-        let maxy = self.number()?;
-        Extent::new(minx, miny, maxx, maxy).ok_or(MapFault::OutOfRange(keyword))
-    }
-
-    /// Reads a coordinate system up to its END (MapServer mapfile reference, PROJECTION).
-    #[tactic(auto, unfolding(crate::specs::Map::projection))]
-    fn projection(&mut self) -> Result<Projection, MapFault>
-        ensures { Gives (λ p. (p, self.new)) result (projection self.old) }
-    {
-        let place = self.place();
-        let text = self.text_there()?;
-        let projection = projection_named(text.as_bytes()).ok_or(MapFault::UnexpectedWord(place))?;
-        self.end()?;
-        Ok(projection)
-    }
+/// Reads a coordinate system up to its END (MapServer mapfile reference, PROJECTION).
+#[tactic(auto, unfolding(crate::specs::Map::projection))]
+fn read_projection(parser: &mut Parser<'_>) -> Result<Projection, MapFault>
+    ensures { Gives (λ p. (p, parser.new)) result (projection parser.old) }
+{
+    let place = parser.place();
+    let text = parser.text_there()?;
+    let projection = projection_named(text.as_bytes()).ok_or(MapFault::UnexpectedWord(place))?;
+    parser.end()?;
+    Ok(projection)
 }
 
 /// The coordinate system that PROJECTION's text names.

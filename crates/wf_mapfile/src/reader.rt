@@ -2,15 +2,16 @@
 ghost use Rattle.std.specs.Prelude.{◌≡◌, ◌<◌, ◌≤◌, false, true, length, Err, IfErr, IfOk, OnErr, OnOk};
 ghost use Rattle.std.specs.Str.{is_utf8};
 ghost use Rattle.wf_mapfile.specs.Meaning.{Means, MeansNothing, file, meaning, longest_mapfile};
-ghost use Rattle.wf_mapfile.specs.Reading.{Gives, IsNotUtf8, is_memory};
+ghost use Rattle.wf_block.specs.Reading.{Gives, IsNotUtf8, is_memory};
 
-use crate::fault::MapFault;
-use crate::keyword::is_name;
-use crate::parser::Parser;
+use crate::map::read_map;
 use std::alloc::Global;
+use wf_block::fault::MapFault;
+use wf_block::keyword::is_name;
+use wf_block::parser::Parser;
 use wf_def::map::MapDef;
 use wf_token::lexer::tokenize;
-use wf_token::token::{LexFault, LexFaultKind};
+use wf_token::token::LexFault;
 
 /// The longest mapfile, in bytes.
 pub const MOST_MAPFILE_BYTES: usize = 65_536;
@@ -50,7 +51,7 @@ fn read_meaning(alloc: Global, bytes: &[u8]) -> Result<MapDef, MapFault>
     check_utf8(bytes)?;
     let lexed = tokenize(alloc, bytes)?;
     let mut parser = Parser::new(alloc, lexed.tokens.as_slice(), bytes.len());
-    let parsed = parser.file();
+    let parsed = read_file(&mut parser);
     match lexed.fault {
         None => parsed,
         Some(fault) => Err(first_fault(parsed, lexed.tokens.is_empty(), fault)),
@@ -79,37 +80,21 @@ fn first_fault(parsed: Result<MapDef, MapFault>, no_tokens: bool, lexed: LexFaul
     }
 }
 
-impl From<LexFault> for MapFault {
-    ghost use Rattle.std.specs.Prelude.{◌≡◌, false};
-    ghost use Rattle.wf_mapfile.specs.Reading.{is_memory};
-
-    ghost from_gives = { λ _ e. is_memory e ≡ false };
-
-    fn from(fault: LexFault) -> MapFault {
-        match fault.kind {
-            LexFaultKind::BadToken => MapFault::BadToken(fault.place),
-            LexFaultKind::OutOfRange => MapFault::OutOfRange(fault.place),
-        }
+/// Reads a whole file: MAP up to its END, and nothing else.
+#[tactic(auto, unfolding(crate::specs::Meaning::file, wf_block::specs::Grammar::word))]
+fn read_file(parser: &mut Parser<'_>) -> Result<MapDef, MapFault>
+    ensures { Gives (λ map. map) result (file parser.old) }
+{
+    if parser.peek().is_none() {
+        return Err(MapFault::Missing);
     }
-}
-
-impl Parser<'_> {
-    /// Reads a whole file: MAP up to its END, and nothing else.
-    #[tactic(auto, unfolding(crate::specs::Meaning::file, crate::specs::Grammar::word))]
-    fn file(&mut self) -> Result<MapDef, MapFault>
-        ensures { Gives (λ map. map) result (file self.old) }
-    {
-        if self.peek().is_none() {
-            return Err(MapFault::Missing);
-        }
-        let word = self.word()?;
-        if !is_name(word.text, "MAP") {
-            return Err(MapFault::UnexpectedWord(word.place));
-        }
-        let map = self.map()?;
-        match self.peek() {
-            None => Ok(map),
-            Some(token) => Err(MapFault::Trailing(token.place)),
-        }
+    let word = parser.word()?;
+    if !is_name(word.text, "MAP") {
+        return Err(MapFault::UnexpectedWord(word.place));
+    }
+    let map = read_map(parser)?;
+    match parser.peek() {
+        None => Ok(map),
+        Some(token) => Err(MapFault::Trailing(token.place)),
     }
 }

@@ -7,26 +7,4 @@ pub mod layer;
 pub mod map;
 pub mod style;
 
-use wf_def::text::Text;
-
-/// The values of METADATA that are kept (OGC 06-042 7.2.4.2).
-#[derive(Drop)]
-pub struct Metadata {
-    /// The human-readable title of the service.
-    pub title: Option<Text>,
-    /// A short description of the service.
-    pub abstract_text: Option<Text>,
-    /// The address that requests are sent to.
-    pub address: Option<Text>,
-}
-
-/// WEB.
-#[derive(Default, Drop)]
-pub struct WebSlots {
-    /// The pairs that are kept.
-    pub metadata: Option<Metadata>,
-    /// The directory of pictures.
-    pub image_path: Option<()>,
-    /// The address of pictures.
-    pub image_url: Option<()>,
-}
+pub use wf_metadata::slots::{Metadata, WebSlots};

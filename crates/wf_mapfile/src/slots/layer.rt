@@ -1,10 +1,10 @@
 //! What the keywords of LAYER fill.
 
-use crate::layers::LayerName;
-use crate::slots::Metadata;
 use wf_def::choice::LayerKind;
 use wf_def::layer::{Classes, Features};
 use wf_def::text::Text;
+use wf_feature::layers::LayerName;
+use wf_metadata::slots::Metadata;
 
 /// LAYER.
 #[derive(Drop)]

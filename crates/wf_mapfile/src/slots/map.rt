@@ -1,10 +1,10 @@
 //! What the keywords of MAP fill.
 
-use crate::layers::Layers;
-use crate::slots::Metadata;
 use wf_def::choice::Projection;
 use wf_def::extent::Extent;
 use wf_def::text::Text;
+use wf_feature::layers::Layers;
+use wf_metadata::slots::Metadata;
 
 /// MAP.
 #[derive(Drop)]

@@ -1,0 +1,218 @@
+//! The parser: readers of the remaining tokens.
+ghost use Rattle.std.specs.Prelude.{◌≡◌, ◌∷◌, [], drop, false, is_some, length, IfOk, MatchOption, MatchResult, Some, None, if◌then◌else◌};
+ghost use Rattle.wf_text.specs.Text.{IsText, is_text};
+ghost use Rattle.wf_token.specs.Token.{token_value, token_values};
+ghost use Rattle.wf_block.specs.Reading.{Gives, is_memory};
+ghost use Rattle.wf_block.specs.Grammar.{argument, end, number, text, whole, word};
+
+use crate::fault::MapFault;
+use crate::keyword::is_end;
+use std::alloc::Global;
+use std::marker::Model;
+use wf_text::fault::{NumberFault, TextFault};
+use wf_text::micro::Micro;
+use wf_text::text::{Text, checked};
+use wf_text::whole::Whole;
+use wf_token::token::{Token, TokenKind};
+
+/// The remaining tokens of a file. Model: their values.
+#[derive(Drop)]
+pub struct Parser<'a> {
+    alloc: Global,
+    tokens: &'a [Token<'a>],
+    at: usize,
+    end: usize,
+}
+
+impl<'a> Model for Parser<'a> {
+    ghost use Rattle.std.specs.Prelude.{◌≤◌, List, drop, length};
+    ghost use Rattle.wf_token.specs.Token.{Token, token_values};
+
+    ghost Value = { List Token };
+
+    ghost view = { λ p. token_values (drop p.at p.tokens.now) };
+
+    ghost invariant = { λ p. p.at ≤ length p.tokens.now };
+}
+
+impl<'a> Parser<'a> {
+    /// A parser of a file's tokens; `end` is the file's length in bytes.
+    pub fn new(alloc: Global, tokens: &'a [Token<'a>], end: usize) -> Self
+        ensures { result ≡ token_values tokens.now }
+    {
+        Parser {
+            alloc,
+            tokens,
+            at: 0,
+            end,
+        }
+    }
+
+    /// The number of remaining tokens.
+    pub fn len(&self) -> usize
+        ensures { result ≡ length self.now }
+    {
+        self.tokens.len() - self.at
+    }
+
+    /// Takes the first remaining token.
+    pub fn next(&mut self) -> Result<Token<'a>, MapFault>
+        ensures { MatchResult result (λ t. self.old ≡ token_value t ∷ self.new) (λ e. (self.old ≡ []) × (is_memory e ≡ false)) }
+    {
+        if self.at == self.tokens.len() {
+            return Err(self.missing_end());
+        }
+        let token = self.tokens[self.at];
+        self.at += 1;
+        Ok(token)
+    }
+
+    /// The allocator for the values that are read.
+    pub fn alloc(&self) -> Global {
+        self.alloc
+    }
+
+    /// The first remaining token, without taking it.
+    pub fn peek(&self) -> Option<Token<'a>>
+        ensures { MatchOption result (self.now ≡ []) (λ t. self.now ≡ token_value t ∷ drop 1 self.now) }
+    {
+        if self.at == self.tokens.len() {
+            return None;
+        }
+        Some(self.tokens[self.at])
+    }
+
+    /// The byte offset of the first remaining token, or the file's length.
+    pub fn place(&self) -> usize {
+        match self.peek() {
+            Some(token) => token.place,
+            None => self.end,
+        }
+    }
+
+    /// The error of a file that ends too early.
+    pub fn missing_end(&self) -> MapFault
+        ensures { is_memory result ≡ false }
+    {
+        MapFault::MissingEnd(self.end)
+    }
+
+    /// Reads an argument: a string, or a word other than END.
+    #[tactic(auto, unfolding(crate::specs::Grammar::argument))]
+    pub fn argument(&mut self) -> Result<Token<'a>, MapFault>
+        ensures { Gives (λ t. (t.text.now, self.new)) result (argument self.old) }
+    {
+        let token = self.next()?;
+        match token.kind {
+            TokenKind::Quoted => Ok(token),
+            TokenKind::Word => {
+                if is_end(token.text) {
+                    Err(MapFault::UnexpectedWord(token.place))
+                } else {
+                    Ok(token)
+                }
+            }
+        }
+    }
+
+    /// Reads a word, such as a keyword.
+    #[tactic(auto, unfolding(crate::specs::Grammar::word))]
+    pub fn word(&mut self) -> Result<Token<'a>, MapFault>
+        ensures { Gives (λ t. (t.text.now, self.new)) result (word self.old) }
+    {
+        let token = self.next()?;
+        match token.kind {
+            TokenKind::Quoted => Err(MapFault::UnexpectedWord(token.place)),
+            TokenKind::Word => Ok(token),
+        }
+    }
+
+    /// Reads the END of a block.
+    #[tactic(auto, unfolding(crate::specs::Grammar::end))]
+    pub fn end(&mut self) -> Result<(), MapFault>
+        ensures { Gives (λ _. self.new) result (end self.old) }
+    {
+        let word = self.word()?;
+        if is_end(word.text) {
+            Ok(())
+        } else {
+            Err(MapFault::UnexpectedWord(word.place))
+        }
+    }
+
+    /// Whether the block's END is next.
+    #[tactic(auto, unfolding(crate::specs::Grammar::end, crate::specs::Grammar::word))]
+    pub fn is_at_end(&self) -> bool
+        ensures { result ≡ is_some (end self.now) }
+    {
+        match self.peek() {
+            None => false,
+            Some(token) => match token.kind {
+                TokenKind::Quoted => false,
+                TokenKind::Word => is_end(token.text),
+            },
+        }
+    }
+
+    /// Reads a text.
+    #[tactic(auto, unfolding(crate::specs::Grammar::text))]
+    pub fn text(&mut self) -> Result<Text, MapFault>
+        ensures { Gives (λ t. (t, self.new)) result (text self.old) }
+    {
+        let token = self.argument()?;
+        self.text_at(token.text, token.place)
+    }
+
+    /// Reads a text without copying it from the file.
+    #[tactic(auto, unfolding(crate::specs::Grammar::text))]
+    pub fn text_there(&mut self) -> Result<&'a str, MapFault>
+        ensures read { Gives (λ t. (t.now, self.new)) result (text self.old) }
+        ensures within { IfOk result (λ t. IsText t.now) }
+    {
+        let token = self.argument()?;
+        text_of(token.text, token.place)
+    }
+
+    /// The bytes of a token as a text.
+    pub fn text_at(&self, bytes: &[u8], place: usize) -> Result<Text, MapFault>
+        ensures { Gives (λ t. t) result (if is_text bytes.now then Some bytes.now else None) }
+    {
+        let text = text_of(bytes, place)?;
+        Ok(Text::from_str(self.alloc, text)?)
+    }
+
+    /// Reads a number.
+    #[tactic(auto, unfolding(crate::specs::Grammar::number))]
+    pub fn number(&mut self) -> Result<Micro, MapFault>
+        ensures { Gives (λ n. (n, self.new)) result (number self.old) }
+    {
+        let token = self.argument()?;
+        match Micro::read(token.text) {
+            Ok(number) => Ok(number),
+            Err(NumberFault::BadNumber) => Err(MapFault::BadNumber(token.place)),
+            Err(NumberFault::OutOfRange) => Err(MapFault::OutOfRange(token.place)),
+        }
+    }
+
+    /// Reads an integer from `LEAST` to `MOST`.
+    #[tactic(auto, unfolding(crate::specs::Grammar::whole))]
+    pub fn whole<const LEAST: u8, const MOST: u8>(&mut self) -> Result<Whole<LEAST, MOST>, MapFault>
+        ensures { Gives (λ n. (n, self.new)) result (whole LEAST MOST self.old) }
+    {
+        let place = self.place();
+        let number = self.number()?;
+        Whole::from_micro(number).ok_or(MapFault::OutOfRange(place))
+    }
+}
+
+/// The bytes of a token as a text.
+fn text_of(bytes: &[u8], place: usize) -> Result<&str, MapFault>
+    ensures read { Gives (λ t. t.now) result (if is_text bytes.now then Some bytes.now else None) }
+    ensures within { IfOk result (λ t. IsText t.now) }
+{
+    match checked(bytes) {
+        Ok(text) => Ok(text),
+        Err(TextFault::TooLong) => Err(MapFault::OutOfRange(place)),
+        Err(_) => Err(MapFault::BadToken(place)),
+    }
+}

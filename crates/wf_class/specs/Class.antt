@@ -1,0 +1,53 @@
+-- CLASS: which features it contains, and how they are drawn.
+use Rattle.std.specs.Prelude.{ℕ, Bool, false, if◌then◌else◌, List, [], ◌∷◌, codes, Option, Some, None, unwrap_or}
+use Rattle.wf_def.specs.Limit.{most_styles}
+use Rattle.wf_def.specs.Definition.{ClassDefinition}
+use Rattle.wf_class.specs.declared.slots.class.ClassOnce.{ClassOnce}
+use Rattle.wf_class.specs.declared.slots.class.ClassSlots.{ClassSlots}
+use Rattle.wf_token.specs.Token.{Token, Word, Quoted, is_slash}
+use Rattle.wf_block.specs.Grammar.{◌>>=◌, text}
+use Rattle.wf_block.specs.Steps.{once, again, step_by, step_or, put_into, block}
+use Rattle.wf_class.specs.Style.{style}
+use Rattle.wf_class.specs.Label.{label}
+
+-- whether a regular expression begins here: a word that begins with `/`, outside quotes
+unfoldable pub begins_pattern : List Token → Bool
+begins_pattern [] = false
+begins_pattern (Quoted bytes ∷ rest) = false
+begins_pattern (Word [] ∷ rest) = false
+begins_pattern (Word (b ∷ bytes) ∷ rest) = is_slash b
+
+-- a text to compare with; a regular expression isn't one
+unfoldable pub expression : List Token → Option (List ℕ × List Token)
+expression tokens = if begins_pattern tokens then None else text tokens
+
+-- the slots after a keyword that comes at most once
+unfoldable pub class_once : ClassOnce → List ℕ → List Token → Option (ClassOnce × List Token)
+class_once said = step_by (
+    (codes "NAME", once said.name text (λ x. record said { name = Some x })) ∷
+    (codes "EXPRESSION", once said.expression expression (λ x. record said { expression = Some x })) ∷
+    (codes "LABEL", once said.label label (λ x. record said { label = Some x })) ∷ [])
+
+-- the slots after a keyword
+unfoldable pub class_put : ClassSlots → List ℕ → List Token → Option (ClassSlots × List Token)
+class_put said = step_or (
+    (codes "STYLE", again most_styles said.styles style (λ more. record said { styles = more })) ∷ [])
+    (λ keyword tokens. put_into (λ x. record said { single = x }) (class_once said.single keyword tokens))
+
+abbrev pub no_class : ClassSlots
+no_class = record { styles = []; single = record { name = None; expression = None; label = None } }
+
+-- the class of the slots: an absent name is empty
+unfoldable pub class_of : ClassSlots → ClassDefinition
+class_of said = record {
+  name = unwrap_or said.single.name [];
+  expression = said.single.expression;
+  styles = said.styles;
+  label = said.single.label;
+}
+
+-- what follows the word CLASS, up to its END
+unfoldable pub class : List Token → Option (ClassDefinition × List Token)
+class tokens = do
+  x ← block class_put no_class tokens
+  Some (class_of x.0, x.1)

@@ -1,0 +1,87 @@
+-- LABEL: how a feature's text is drawn.
+use Rattle.std.specs.Prelude.{ℕ, Bool, true, false, List, [], ◌∷◌, codes, Option, Some, None, unwrap_or}
+use Rattle.wf_def.specs.declared.color.Color.{Color}
+use Rattle.wf_def.specs.declared.choice.LabelSize.{LabelSize}
+use Rattle.wf_def.specs.declared.choice.LabelSize.TheVariants.{Tiny, Small, Medium, Large, Giant}
+use Rattle.wf_def.specs.declared.choice.LabelPosition.{LabelPosition}
+use Rattle.wf_def.specs.declared.choice.LabelPosition.TheVariants.{UpperLeft, UpperCenter, UpperRight, CenterLeft, CenterCenter, CenterRight, LowerLeft, LowerCenter, LowerRight}
+use Rattle.wf_def.specs.Limit.{most_priority, most_buffer}
+use Rattle.wf_def.specs.Definition.{LabelDefinition}
+use Rattle.wf_class.specs.declared.slots.label.LabelSlots.{LabelSlots}
+use Rattle.wf_token.specs.Token.{Token}
+use Rattle.wf_block.specs.Grammar.{◌>>=◌, chosen, whole}
+use Rattle.wf_block.specs.Steps.{once, step_by, block}
+use Rattle.wf_class.specs.Color.{color}
+
+abbrev pub label_sizes : List (List ℕ × LabelSize)
+label_sizes =
+    (codes "TINY", Tiny) ∷
+    (codes "SMALL", Small) ∷
+    (codes "MEDIUM", Medium) ∷
+    (codes "LARGE", Large) ∷
+    (codes "GIANT", Giant) ∷ []
+
+abbrev pub label_positions : List (List ℕ × LabelPosition)
+label_positions =
+    (codes "UL", UpperLeft) ∷
+    (codes "UC", UpperCenter) ∷
+    (codes "UR", UpperRight) ∷
+    (codes "CL", CenterLeft) ∷
+    (codes "CC", CenterCenter) ∷
+    (codes "CR", CenterRight) ∷
+    (codes "LL", LowerLeft) ∷
+    (codes "LC", LowerCenter) ∷
+    (codes "LR", LowerRight) ∷ []
+
+abbrev pub truths : List (List ℕ × Bool)
+truths = (codes "TRUE", true) ∷ (codes "FALSE", false) ∷ []
+
+-- bitmap letters are the only kind
+abbrev pub label_kinds : List (List ℕ × Unit {0})
+label_kinds = (codes "BITMAP", tt) ∷ []
+
+unfoldable pub label_size : List Token → Option (LabelSize × List Token)
+label_size tokens = chosen label_sizes tokens
+
+unfoldable pub label_position : List Token → Option (LabelPosition × List Token)
+label_position tokens = chosen label_positions tokens
+
+unfoldable pub truth : List Token → Option (Bool × List Token)
+truth tokens = chosen truths tokens
+
+unfoldable pub label_kind : List Token → Option (Unit {0} × List Token)
+label_kind tokens = chosen label_kinds tokens
+
+-- the slots after a keyword: each comes at most once, and the last is dropped
+unfoldable pub label_put : LabelSlots → List ℕ → List Token → Option (LabelSlots × List Token)
+label_put said = step_by (
+    (codes "COLOR", once said.color color (λ x. record said { color = Some x })) ∷
+    (codes "SIZE", once said.size label_size (λ x. record said { size = Some x })) ∷
+    (codes "POSITION", once said.position label_position (λ x. record said { position = Some x })) ∷
+    (codes "PRIORITY", once said.priority (whole 1 most_priority) (λ x. record said { priority = Some x })) ∷
+    (codes "FORCE", once said.force truth (λ x. record said { force = Some x })) ∷
+    (codes "BUFFER", once said.buffer (whole 0 most_buffer) (λ x. record said { buffer = Some x })) ∷
+    (codes "TYPE", once said.kind label_kind (λ x. record said { kind = Some x })) ∷ [])
+
+abbrev pub no_label : LabelSlots
+no_label = record { color = None; size = None; position = None; priority = None; force = None; buffer = None; kind = None }
+
+abbrev pub black : Color
+black = record { r = 0; g = 0; b = 0 }
+
+-- the label of the slots, with defaults for absent ones
+unfoldable pub label_of : LabelSlots → LabelDefinition
+label_of said = record {
+  color = unwrap_or said.color black;
+  size = unwrap_or said.size Medium;
+  position = unwrap_or said.position CenterCenter;
+  priority = unwrap_or said.priority 1;
+  force = unwrap_or said.force false;
+  buffer = unwrap_or said.buffer 0;
+}
+
+-- what follows the word LABEL, up to its END
+unfoldable pub label : List Token → Option (LabelDefinition × List Token)
+label tokens = do
+  x ← block label_put no_label tokens
+  Some (label_of x.0, x.1)

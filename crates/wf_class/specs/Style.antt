@@ -1,0 +1,35 @@
+-- STYLE: how a feature is drawn.
+use Rattle.std.specs.Prelude.{ℕ, List, [], ◌∷◌, codes, Option, Some, None, unwrap_or}
+use Rattle.wf_def.specs.Limit.{most_width, most_size}
+use Rattle.wf_def.specs.Definition.{StyleDefinition}
+use Rattle.wf_class.specs.declared.slots.style.StyleSlots.{StyleSlots}
+use Rattle.wf_token.specs.Token.{Token}
+use Rattle.wf_block.specs.Grammar.{◌>>=◌, whole}
+use Rattle.wf_block.specs.Steps.{once, step_by, block}
+use Rattle.wf_class.specs.Color.{color}
+
+-- the slots after a keyword: each comes at most once
+unfoldable pub style_put : StyleSlots → List ℕ → List Token → Option (StyleSlots × List Token)
+style_put said = step_by (
+    (codes "COLOR", once said.color color (λ x. record said { color = Some x })) ∷
+    (codes "OUTLINECOLOR", once said.outline_color color (λ x. record said { outline_color = Some x })) ∷
+    (codes "WIDTH", once said.width (whole 1 most_width) (λ x. record said { width = Some x })) ∷
+    (codes "SIZE", once said.size (whole 1 most_size) (λ x. record said { size = Some x })) ∷ [])
+
+abbrev pub no_style : StyleSlots
+no_style = record { color = None; outline_color = None; width = None; size = None }
+
+-- the style of the slots: an absent colour is none, an absent width or size is one pixel
+unfoldable pub style_of : StyleSlots → StyleDefinition
+style_of said = record {
+  color = said.color;
+  outline_color = said.outline_color;
+  width = unwrap_or said.width 1;
+  size = unwrap_or said.size 1;
+}
+
+-- what follows the word STYLE, up to its END
+unfoldable pub style : List Token → Option (StyleDefinition × List Token)
+style tokens = do
+  x ← block style_put no_style tokens
+  Some (style_of x.0, x.1)

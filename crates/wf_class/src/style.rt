@@ -1,0 +1,74 @@
+//! STYLE: how a feature is drawn.
+ghost use Rattle.std.specs.Prelude.{◌≡◌};
+ghost use Rattle.wf_block.specs.Reading.{Gives};
+ghost use Rattle.wf_class.specs.Style.{style, style_of};
+
+use crate::color::read_color;
+use crate::slots::style::StyleSlots;
+use wf_block::block::{Slots, fill_block};
+use wf_block::default::or_least;
+use wf_block::fault::MapFault;
+use wf_block::keyword::is_name;
+use wf_block::once;
+use wf_block::parser::Parser;
+use wf_def::limits::{MOST_SIZE, MOST_WIDTH};
+use wf_def::style::Style;
+use wf_token::token::Token;
+
+impl Slots for StyleSlots {
+    ghost use Rattle.wf_class.specs.declared.slots.style.StyleSlots.{StyleSlots as Value};
+    ghost use Rattle.wf_class.specs.Style.{style_put};
+
+    ghost Said = { Value };
+
+    ghost said = { λ slots. slots };
+
+    ghost Within = { Unit {0} };
+
+    ghost within = { λ _. tt };
+
+    ghost put = { λ _. style_put };
+
+    #[tactic(auto, unfolding(crate::specs::Style::style_put))]
+    fn take(&mut self, keyword: Token<'_>, parser: &mut Parser<'_>) -> Result<(), MapFault> {
+        let word = keyword.text;
+        let place = keyword.place;
+        if is_name(word, "COLOR") {
+            once!(self.color, place, read_color(parser));
+        } else if is_name(word, "OUTLINECOLOR") {
+            once!(self.outline_color, place, read_color(parser));
+        } else if is_name(word, "WIDTH") {
+            once!(self.width, place, parser.whole::<1, MOST_WIDTH>());
+        } else if is_name(word, "SIZE") {
+            once!(self.size, place, parser.whole::<1, MOST_SIZE>());
+        } else {
+            return Err(MapFault::UnexpectedWord(place));
+        }
+        Ok(())
+    }
+}
+
+impl StyleSlots {
+    /// The style of the slots, with defaults for absent ones.
+    #[tactic(auto, unfolding(crate::specs::Style::style_of))]
+    fn filled(self) -> Style
+        ensures { result ≡ style_of self }
+    {
+        Style {
+            color: self.color,
+            outline_color: self.outline_color,
+            width: or_least(self.width),
+            size: or_least(self.size),
+        }
+    }
+}
+
+/// Reads a block up to its END (MapServer mapfile reference, STYLE).
+#[tactic(auto, unfolding(crate::specs::Style::style))]
+pub fn read_style(parser: &mut Parser<'_>) -> Result<Style, MapFault>
+    ensures { Gives (λ s. (s, parser.new)) result (style parser.old) }
+{
+    let mut slots = StyleSlots::default();
+    fill_block(parser, &mut slots)?;
+    Ok(slots.filled())
+}

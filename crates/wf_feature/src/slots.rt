@@ -1,0 +1,3 @@
+//! The slots that the keywords of FEATURE fill.
+
+pub mod feature;

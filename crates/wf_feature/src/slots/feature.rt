@@ -1,0 +1,22 @@
+//! What the keywords of FEATURE fill.
+
+use wf_def::feature::Parts;
+use wf_def::text::Text;
+
+/// FEATURE.
+#[derive(Drop)]
+pub struct FeatureSlots {
+    /// The parts of the shape.
+    pub parts: Parts,
+    /// The keywords that come at most once.
+    pub single: FeatureOnce,
+}
+
+/// The keywords of FEATURE that come at most once.
+#[derive(Default, Drop)]
+pub struct FeatureOnce {
+    /// The values of the attributes.
+    pub items: Option<Text>,
+    /// The text of the label.
+    pub text: Option<Text>,
+}

@@ -1,5 +1,0 @@
-use Rattle.wf_mapfile.proofs.LayerNames.{is_name, named}
-use Rattle.wf_mapfile.proofs.layers.layer_names_are_tested.Goals as goal
-
-pub returns : goal.returns
-returns c = λ name text. (is_name name text, named name)

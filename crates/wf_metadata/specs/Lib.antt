@@ -1,0 +1,7 @@
+pub use Rattle.wf_block.specs.Grammar
+pub use Rattle.wf_block.specs.Steps
+pub use Rattle.wf_block.specs.Reading
+pub use Rattle.wf_block.specs.Distinct
+pub mod Metadata
+pub mod Pairs
+pub mod Web
