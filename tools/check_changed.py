@@ -20,7 +20,7 @@ import subprocess
 import sys
 import tempfile
 
-from kit import TOP, changed_files, dependencies, git, load_rt
+from kit import TOP, changed_files, dependencies, git, load_rt, remember_stamps, take_library
 
 # What a verdict on a crate reads: its code, its proofs, its mutants, and what its program is run on.
 PARTS = ("src", "specs", "proofs", "must-fail", "stdin", "stdout", "args", "status", "data")
@@ -49,9 +49,9 @@ def differing(base):
         found |= above
 
 
-def leave_out(rt, chosen):
-    """Has CI's code take the library of each crate that isn't chosen from a checkout that proved the same, and try none of its mutants."""
-    give, edits_of = rt.Kept.give, rt.edits_of
+def leave_out_kept(rt, chosen):
+    """The same for a kit whose CI keeps what it proved: has it take the library of each crate that isn't chosen."""
+    give = rt.Kept.give
 
     def give_or_take(kept, crate, tests, key):
         if crate.name in chosen:
@@ -65,14 +65,33 @@ def leave_out(rt, chosen):
     # (CI keeps only what it proved over libraries of its own)
     made, rt.Kept.__init__, rt.Kept.tell = rt.Kept.__init__, nothing_kept, lambda kept: None
     rt.Kept.give = give_or_take
+
+
+def leave_out(rt, chosen):
+    """Has CI's code take the library of each crate that isn't chosen from a checkout that proved the same, and try none of its mutants."""
+    edits_of, prove = rt.edits_of, rt.Crate.ci
     rt.edits_of = lambda crate: edits_of(crate) if crate.name in chosen else ([], [])
+    if hasattr(rt, "Kept"):
+        leave_out_kept(rt, chosen)
+        return
+
+    def take_or_prove(crate, flags, tests):
+        if crate.name not in chosen and (tests or crate.is_program or take_library(crate)):
+            return 0
+        return prove(crate, flags, tests)
+
+    rt.Crate.ci = take_or_prove
 
 
 def check(rt, clone, chosen):
     """Runs CI's own code over the chosen crates of the clone, and returns its status."""
     os.chdir(clone)
-    with tempfile.TemporaryDirectory(prefix="check-aside-") as aside, rt.ending():
-        return rt.ci_over(aside, False, sorted(chosen))
+    with tempfile.TemporaryDirectory(prefix="check-aside-") as aside:
+        if not hasattr(rt, "Kept"):
+            remember_stamps(rt)
+            return rt.ci_from_nothing(aside)
+        with rt.ending():
+            return rt.ci_over(aside, False, sorted(chosen))
 
 
 def main():

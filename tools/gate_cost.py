@@ -17,7 +17,8 @@ import subprocess
 import sys
 import time
 
-TOP = pathlib.Path(__file__).resolve().parent.parent
+from kit import TOP, load_rt, stamp_libraries
+
 TICKS = os.sysconf("SC_CLK_TCK")
 PARTS = ("proof", "tests", "edits")
 
@@ -103,6 +104,9 @@ def main():
         f"{(time.time() - began) / 60:.0f} minutes on {os.cpu_count()} processors,"
         f" {(used.ru_utime + used.ru_stime) / 60:.0f} processor minutes"
     )
+    if gate.returncode == 0:
+        # (so that tools/check_changed.py can take what this run proved)
+        stamp_libraries(load_rt(), TOP)
     return gate.returncode
 
 

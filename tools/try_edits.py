@@ -26,7 +26,7 @@ import sys
 import tempfile
 from concurrent.futures import ThreadPoolExecutor
 
-from kit import TOP, changed_files, git, load_rt
+from kit import TOP, changed_files, git, load_rt, take_library, was_rejected
 
 RESULTS = TOP / "docs" / "EDITS.md"
 
@@ -82,8 +82,8 @@ def try_all(rt, crate, edits, lanes):
                 return False, f"must-fail {crate.name}/{edit.name}: BAD EDIT: {why}"
             lane = rooms.get()
             try:
-                kind, text = rt.must_fail(crate, str(edit), ["--jobs", "1"], lane)
-                return kind in (rt.REFUSED, rt.AT_LIMIT), text
+                verdict, text = rt.must_fail(crate, str(edit), ["--jobs", "1"], lane)
+                return was_rejected(rt, verdict), text
             finally:
                 rooms.put(lane)
 
@@ -107,12 +107,17 @@ def record(name, tried, refused):
     RESULTS.write_text("\n".join(lines) + "\n")
 
 
+def has_library(crate):
+    """Whether the library of a crate is there, from this checkout, from another one of the same files, or proved now."""
+    return crate.is_built() or take_library(crate) or not crate.build_rlib(["--jobs", "1"], anew=False)
+
+
 def try_crate(rt, name, given):
     """Tries a crate's mutants, and returns how many were not rejected."""
     crate = next(it for it in rt.rtlib.crates_below(str(TOP)) if it.name == name)
     edits = edits_of(TOP / "crates" / name, given.by_hand)
     edits = [it for it in edits if not given.names or name_of(it) in given.names]
-    if any(below.build_rlib(["--jobs", "1"], anew=False) for below in crate.below()):
+    if not all(has_library(below) for below in crate.below()):
         print(f"{name}: a library below it failed")
         return 1
     refused = try_all(rt, crate, edits, given.lanes)
@@ -138,8 +143,9 @@ def main():
     os.chdir(TOP)
     if given.applies:
         return 1 if look(rt) else 0
-    # (libraries and kept work that another checkout here made of the same files serve)
-    rt.share_work(False)
+    # (kept work that another checkout here made of the same files serves, where the kit can share it)
+    if hasattr(rt, "share_work"):
+        rt.share_work(False)
     rt.rtlib.guarded()
     every = [it.name for it in rt.rtlib.crates_below(str(TOP))]
     chosen = sorted(changed_files(given.changed, ("src", "specs"), None)) if given.changed else [given.crate]
