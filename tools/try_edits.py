@@ -26,7 +26,7 @@ import sys
 import tempfile
 from concurrent.futures import ThreadPoolExecutor
 
-from kit import TOP, changed_files, git, load_rt, take_library, was_rejected
+from kit import TOP, changed_files, git, load_rt, remember_stamps, take_library, was_rejected
 
 RESULTS = TOP / "docs" / "EDITS.md"
 
@@ -140,6 +140,7 @@ def main():
     parser.add_argument("--record", action="store_true")
     given = parser.parse_args()
     rt = load_rt()
+    remember_stamps(rt)
     os.chdir(TOP)
     if given.applies:
         return 1 if look(rt) else 0
