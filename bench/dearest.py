@@ -74,6 +74,15 @@ distinct.side = 0
 distinct.draw = random.Random(2)
 
 
+def grouped(group):
+    """Up and down over the whole height, each end at one of six positions next to each other: between groups columns stay free."""
+    ends = [(group + grouped.draw.randrange(6) / 10, 9 * (k % 2)) for k in range(5_140 // 9)]
+    return f"POINTS {' '.join(f'{x} {y}' for x, y in ends)} END\n"
+
+
+grouped.draw = random.Random(4)
+
+
 def oblique(k):
     """To and fro over the whole width, just flatter than 1 to 1, each end at one of 10 positions."""
     return (9 * (k % 2), oblique.draw.randrange(10) / 10 + 8 * (k % 2))
@@ -91,6 +100,8 @@ def cases():
     yield "one polygon of distinct edges with ends anywhere, 8 outlines of falling width", mapfile(
         "POLYGON", falling, [feature(fitting(distinct, 6))])
     yield "the same edges, one fill", mapfile("POLYGON", styles("COLOR {color}", 1), [feature(fitting(distinct, 6))])
+    yield "one polygon of edges in nine groups with free columns between, 8 outlines of falling width", mapfile(
+        "POLYGON", falling, [f"FEATURE\n{''.join(grouped(k) for k in range(9))}END\n"])
     yield "one polygon of oblique edges, 8 outlines of falling width", mapfile(
         "POLYGON", falling, [feature(fitting(oblique, 6))])
     yield "one polygon of slanted edges, 8 outlines of falling width", mapfile(

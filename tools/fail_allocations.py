@@ -1,44 +1,347 @@
 #!/usr/bin/env python3
-"""Runs each test of a crate with each of its allocations failing in turn.
+"""Makes each allocation of the built programs of cases, and of the tests, fail in turn.
 
-    (cd crates/wf_tests && rt test)
-    python3 tools/fail_allocations.py crates/wf_tests
+    python3 tools/fail_allocations.py                           the programs of cases below, and wf_tests
+    python3 tools/fail_allocations.py wf_cases_map wf_tests     these alone
+    python3 tools/fail_allocations.py wf_cases_map --case 503   the cases whose names hold this text
 
-A test that repeats a call after an allocation failure passes whichever allocation fails, if the failed call
-changed nothing. Each test's line says how many allocations it makes, and with how many of them failing
-it did not pass. Wants cc and a C library that is linked dynamically.
+Run it after `rt ci`, or after `rt run < stdin` in each program of cases and `rt test` in wf_tests. Wants cc, and a C
+library that is linked dynamically.
+
+A program of cases gets each case of its `stdin`, and each line `for` of one, as a table of its own. At each allocation
+it forks: in the child the allocation fails, and the child goes on to its end. What the child prints has to be one of
+these:
+
+    ended         nothing, with status 1: the allocation failure was returned, and so the run ended
+    unread        an error of the table, where the allocation is one by which the table is read
+    as always     each answer is the expected one: something was lost that may be, such as a picture to be kept
+    503           a request is answered with 503 and no message, and each later one as if that request had never come
+    cut           a prefix of a response is written, since the writer failed; the messages and all later responses
+                  are the expected ones
+    named         the answer is the expected one but for the allocation failure, which it counts or names, or where it ends
+
+A test is run once for each of its allocations, each time in an empty folder. Tests repeat a call after an allocation
+failure, so each passes whichever allocation fails, if the failed call changed nothing. Those of tapes in files, of
+journals over tapes that fail, and two that read what a server left, make each call once: they are run and not judged.
+
+Cases with more allocations than --most are tried at the first half of that number, and then at evenly spaced ones. The
+status is 1 where anything else was printed.
 """
 
+import argparse
+import collections
 import os
 import pathlib
+import re
 import subprocess
 import sys
 import tempfile
+from concurrent.futures import ThreadPoolExecutor
+
+from kit import TOP
+
+CRATES = ["wf_cases_map", "wf_cases_farm", "wf_cases_paint", "wf_tests"]
+# tests that make each call once, and so fail where an allocation does
+ONCE = (
+    "tape::",
+    "edge::a_request_over_a_connection_is_answered",
+    "serve::a_start_where_port_or_folder_is_taken_changes_no_tape",
+)
+EDGE = ("hear", "serve", "refuse", "serve_published", "serve_cached")
+# their input begins with a mapfile
+PUBLISHED = ("serve_published", "serve_cached")
+UNAVAILABLE = (
+    b"sent 503, 104 bytes\nHTTP/1.1 503 Service Unavailable\r\nContent-Type: text/plain\r\nContent-Length: 4\r\n"
+    b"Connection: close\r\n\r\n503\n"
+)
+OUTCOME = re.compile(rb"^(?:(?:sent|cut) \d+, \d+ bytes|read failed|no request|heard [^\n]*)\n", re.MULTILINE)
+DIFFERENCE = re.compile(rb"line \d+: [^\n]*\n  expected: ([^\n]*)\n  given:    ([^\n]*)\n")
+UNREAD = re.compile(rb"(?:line \d+: [^\n]*\n)+0 cases, 0 differ, \d+ faults of the table\n")
+ESCAPE = re.compile(rb"\\(?:x([0-9A-Fa-f]{2})|(.))")
+MEANT = {b"n": b"\n", b"r": b"\r", b"t": b"\t", b"s": b" ", b"\\": b"\\"}
 
 
-def run(tests, name, library, **environment):
-    """The test's run with the library loaded before the C library."""
+def unescaped(text):
+    """The bytes that a table's text spells."""
+    return ESCAPE.sub(lambda it: bytes.fromhex(it[1].decode()) if it[1] else MEANT[it[2]], text)
+
+
+def escaped(data):
+    """Bytes as a table spells them, on one line and without a space."""
+    return "".join(chr(it) if 0x21 <= it <= 0x7E and it != 0x5C else f"\\x{it:02x}" for it in data)
+
+
+def tried_of(count, most):
+    """The first allocations that are tried, and at which multiples the later ones are."""
+    return (count, 1) if count <= most else (most // 2, -(-2 * count // most))
+
+
+class Table:
+    """The cases of a table, each with the named texts that it needs."""
+
+    def __init__(self, path):
+        self.texts, self.cases = {}, []
+        lines = None
+        for line in path.read_text().splitlines():
+            word, _, name = line.partition(" ")
+            if word in ("text", "case"):
+                lines = [line]
+                if word == "text":
+                    self.texts[name] = lines
+                else:
+                    self.cases.append((name, lines))
+            elif word == "for":
+                lines = self.add_row(line)
+            elif lines is not None and line and not line.startswith("#"):
+                lines.append(line)
+
+    def add_row(self, row):
+        """Adds a case of this row alone, in place of the case without one; its lines."""
+        name, lines = self.cases[-1]
+        if lines[-1].startswith("for "):
+            self.cases.append((name, [*lines[:-1], row]))
+        else:
+            lines.append(row)
+        return self.cases[-1][1]
+
+    def needed(self, lines, known=None):
+        """The lines of the texts that these lines name, and of those that they name in turn."""
+        known = set() if known is None else known
+        found = []
+        for line in lines:
+            if line[:3] in ("<& ", ">& ") and line[3:] not in known:
+                known.add(line[3:])
+                found += self.needed(self.texts[line[3:]], known) + self.texts[line[3:]]
+        return found
+
+    def alone(self, lines):
+        """The table of this case alone."""
+        return "\n".join([*self.needed(lines), *lines, ""]).encode()
+
+    def input_of(self, lines):
+        """The bytes of a case's input, or of a named text."""
+        data = b""
+        for line in lines:
+            if line == "<" or line.startswith("< "):
+                data += unescaped(line[2:].encode()) + b"\n"
+            elif line.startswith("<. "):
+                data += unescaped(line[3:].encode())
+            elif line.startswith("<* "):
+                count, _, text = line[3:].partition(" ")
+                data += unescaped(text.encode()) * int(count)
+            elif line.startswith("<& "):
+                data += self.input_of(self.texts[line[3:]])
+            elif line.startswith("for "):
+                data += unescaped(line[4:].partition("=>")[0].strip().encode())
+        return data
+
+
+def lines_of_runs(answer):
+    """The lines that an answer counts, as `3 times: LINE`, one by one."""
+    runs = re.findall(rb"(\d+) times: (.*?)(?=\d+ times: |\Z)", answer, re.DOTALL)
+    return [line for times, line in runs for _ in range(int(times))]
+
+
+def blocks_of(answer):
+    """What an answer of the edge tells of each request: the outcome, what was written, the messages."""
+    starts = [it.start() for it in OUTCOME.finditer(answer)]
+    return [answer[start:end] for start, end in zip(starts, [*starts[1:], len(answer)])]
+
+
+def is_part(block, whole):
+    """Whether a block is this one, but for a response of which a prefix is written."""
+    whole = re.fullmatch(rb"(?:sent|cut) (\d+), \d+ bytes\n(.*?)((?:send [^\n]*\n)*)", whole, re.DOTALL)
+    cut = re.match(rb"cut (\d+), (\d+) bytes\n", block)
+    if not whole or not cut or cut[1] != whole[1]:
+        return False
+    part = whole[2][: int(cut[2])]
+    end = b"" if not part or part.endswith(b"\n") else b"\n"
+    return block == cut[0] + part + end + whole[3]
+
+
+class Case:
+    def __init__(self, program, table, name, lines):
+        self.program, self.table, self.name, self.lines = program, table, name, lines
+        self.ask = next((line for line in lines if line.startswith("ask ")), "ask ")
+        self.question = self.ask.split()[1]
+        self.dropped = {}
+
+    def run(self, lines, **environment):
+        return subprocess.run([self.program], input=self.table.alone(lines), env={**os.environ, **environment}, capture_output=True)
+
+    def blocks_without(self, index):
+        """What the edge tells where the request of this index never comes."""
+        if self.question == "serve_cached":
+            return blocks_of(unescaped(DIFFERENCE.search(self.run([*self.lines[:3], ">. x"]).stdout)[2]))[:1]
+        if index not in self.dropped:
+            pieces = self.table.input_of(self.lines).split(b"\0")
+            first = 1 if self.question in PUBLISHED else 0
+            left = pieces[: first + index] + pieces[first + index + 1 :]
+            answer = b""
+            if len(left) > first:
+                ran = self.run(["case without it", self.ask, "<. " + escaped(b"\0".join(left)), ">. x"])
+                answer = unescaped(DIFFERENCE.search(ran.stdout)[2])
+            self.dropped[index] = blocks_of(answer)
+        return self.dropped[index]
+
+    def is_unavailable(self, index, expected, given):
+        """Whether the answer is as if this request hadn't come, but for its 503."""
+        block = UNAVAILABLE + (b"" if self.question == "hear" else b"send nothing\n")
+        has_room = expected[index].startswith(b"sent")
+        if given[index] != block and (has_room or not is_part(given[index], block)):
+            return False
+        return given[:index] + given[index + 1 :] == self.blocks_without(index)
+
+    def verdict_of_edge(self, expected, given):
+        expected, given = blocks_of(expected), blocks_of(given)
+        if len(expected) != len(given):
+            return "wrong"
+        index = next(it for it in range(len(given)) if given[it] != expected[it])
+        if self.is_unavailable(index, expected, given):
+            return "503"
+        is_cut = given[:index] + given[index + 1 :] == expected[:index] + expected[index + 1 :] and is_part(given[index], expected[index])
+        return "cut" if is_cut else "wrong"
+
+    def verdict_of_answer(self, expected, given):
+        """What an answer is that isn't the expected one."""
+        if self.question in EDGE:
+            return self.verdict_of_edge(expected, given)
+        if self.question == "beginnings":
+            read, refused, _ = map(int, re.findall(rb"\d+", expected))
+            wanted = [b"%d read, %d refused, 1 for memory\n" % it for it in ((read - 1, refused), (read, refused - 1))]
+            return "named" if given in wanted else "wrong"
+        if self.question in ("each_byte", "gaps"):
+            expected, given = lines_of_runs(expected), lines_of_runs(given)
+            others = [pair for pair in zip(expected, given) if pair[0] != pair[1]]
+            is_cut = len(expected) == len(given) and len(others) == 1 and others[0][0].startswith(others[0][1])
+            return "named" if is_cut else "wrong"
+        if self.question == "table":
+            told = given.removesuffix(b"memory ran out\n")
+            return "named" if told != given and expected.startswith(told) else "wrong"
+        return "wrong"
+
+    def verdict(self, status, output, usual, is_reading):
+        """What a child is, by its wait status and its output, and whether the allocation may be one of the table's."""
+        if status == 0:
+            return "as always" if output == usual else "wrong"
+        if os.waitstatus_to_exitcode(status) != 1:
+            return "wrong"
+        if not output:
+            return "ended"
+        if is_reading and UNREAD.fullmatch(output):
+            return "unread"
+        differences = DIFFERENCE.findall(output)
+        ending = re.search(rb"(?:^|\n)\d+ cases, (\d+) differ, (\d+) faults of the table\n$", output)
+        if len(differences) != 1 or not ending or ending.groups() != (b"1", b"0"):
+            return "wrong"
+        return self.verdict_of_answer(*map(unescaped, differences[0]))
+
+    def try_each(self, library, most):
+        """How many allocations the case makes, what the children are, and those of them that are wrong."""
+        counting = {"LD_PRELOAD": library, "COUNT_ALLOCATIONS": "1"}
+        counted = self.run(self.lines, **counting)
+        count, usual = int(counted.stderr.split()[-1]), counted.stdout
+        unasked = [line if line != self.ask else "ask nothing" for line in self.lines]
+        reading = int(self.run(unasked, **counting).stderr.split()[-1])
+        if counted.returncode:
+            return count, collections.Counter(wrong=1), [(0, usual)]
+        first, every = tried_of(count, most)
+        with tempfile.TemporaryDirectory() as folder:
+            results = pathlib.Path(folder, "results")
+            places = {"FORK_ALLOCATIONS": str(results), "FORK_FIRST": str(first), "FORK_EVERY": str(every)}
+            ran = self.run(self.lines, LD_PRELOAD=library, **places)
+            found, wrong = collections.Counter(), []
+            if ran.stdout != usual or ran.returncode:
+                wrong.append((0, ran.stdout + ran.stderr))
+            data = results.read_bytes() if results.exists() else b""
+        start, what, output = 0, "", b""
+        while start < len(data):
+            end = data.index(b"\n", start)
+            number, status, length = map(int, data[start:end].split())
+            start = end + 1
+            # -1: as the one before
+            if length >= 0 or what == "unread":
+                output = data[start : start + length] if length >= 0 else output
+                start += max(length, 0)
+                what = self.verdict(status, output, usual, number <= reading)
+            found[what] += 1
+            if what == "wrong":
+                wrong.append((number, b"status %d " % status + output[-2000:]))
+        return count, found, wrong
+
+
+def try_cases(crate, library, options):
+    """Tries each case of a program; whether nothing was wrong."""
+    table = Table(crate / "stdin")
+    program = crate / "out" / crate.name
+    cases = [Case(program, table, *it) for it in table.cases if options.case in it[0]]
+    allocations, found, partly = 0, collections.Counter(), 0
+    with ThreadPoolExecutor(options.jobs) as pool:
+        tried = pool.map(lambda case: case.try_each(library, options.most), cases)
+        for case, (count, verdicts, wrong) in zip(cases, tried):
+            allocations += count
+            found += verdicts
+            partly += count > options.most
+            if options.each:
+                print(f"  {case.name}: {count} allocations, {dict(verdicts)}", flush=True)
+            for number, output in wrong[:3]:
+                print(f"  {case.name}: allocation {number}: {output[:2000]!r}", flush=True)
+    told = ", ".join(f"{found[it]} {it}" for it in ("ended", "unread", "as always", "503", "cut", "named", "wrong"))
+    print(f"{crate.name}: {len(cases)} cases, {allocations} allocations ({partly} cases tried in part), {found.total()} failures: {told}", flush=True)
+    return not found["wrong"]
+
+
+def run_test(tests, name, library, **environment):
+    """A run of the test in an empty folder."""
     environment = {**os.environ, "LD_PRELOAD": library, **environment}
-    return subprocess.run([tests, name], env=environment, capture_output=True, text=True)
+    with tempfile.TemporaryDirectory() as folder:
+        return subprocess.run([tests, name], cwd=folder, env=environment, capture_output=True, text=True)
 
 
-def main():
-    crate = pathlib.Path(sys.argv[1]).resolve()
+def try_tests(crate, library, options):
+    """Tries each test; whether all passed."""
     tests = str(crate / "out" / f"{crate.name}_tests")
     listed = subprocess.run([tests, "--list"], capture_output=True, text=True, check=True).stdout
     names = [line.rsplit(": test", 1)[0] for line in listed.splitlines() if line.endswith(": test")]
-    failures = 0
+    names = [name for name in names if options.case in name]
+    allocations = total = bad = unjudged = 0
+    for name in names:
+        count = int(run_test(tests, name, library, COUNT_ALLOCATIONS="1").stderr.split()[-1])
+        first, every = tried_of(count, options.most)
+        numbers = [n for n in range(1, count + 1) if n <= first or n % every == 0]
+        with ThreadPoolExecutor(options.jobs) as pool:
+            runs = pool.map(lambda n: run_test(tests, name, library, FAIL_ALLOCATION=str(n)).returncode, numbers)
+            failed = [n for n, status in zip(numbers, runs) if status]
+        is_judged = not name.startswith(ONCE)
+        if (failed and is_judged) or options.each:
+            print(f"  {name}: {count} allocations, {len(failed)} failed tests {failed[:5] or ''}".rstrip(), flush=True)
+        allocations += count
+        total += len(numbers)
+        bad += len(failed) * is_judged
+        unjudged += len(numbers) * (not is_judged)
+    told = f"{bad} failed tests; {unjudged} of the failures in tests that make each call once, which aren't judged"
+    print(f"{crate.name}: {len(names)} tests, {allocations} allocations, {total} failures: {told}", flush=True)
+    return not bad
+
+
+def main():
+    parser = argparse.ArgumentParser(description=__doc__, formatter_class=argparse.RawDescriptionHelpFormatter)
+    parser.add_argument("crates", nargs="*", default=CRATES)
+    parser.add_argument("--case", default="", help="only cases and tests whose name holds this text")
+    parser.add_argument("--each", action="store_true", help="a line for each case and test")
+    parser.add_argument("--jobs", type=int, default=os.cpu_count(), help="how many run side by side")
+    parser.add_argument("--most", type=int, default=10_000, help="how many failures of one case are tried at most")
+    options = parser.parse_args()
     with tempfile.TemporaryDirectory() as folder:
         library = f"{folder}/fail_allocation.so"
         source = pathlib.Path(__file__).with_name("fail_allocation.c")
-        subprocess.run(["cc", "-shared", "-fPIC", "-o", library, source, "-ldl"], check=True)
-        for name in names:
-            counted = run(tests, name, library, COUNT_ALLOCATIONS="1")
-            count = int(counted.stderr.split()[-1])
-            failed = [n for n in range(1, count + 1) if run(tests, name, library, FAIL_ALLOCATION=str(n)).returncode]
-            print(f"{name}: {count} allocations, {len(failed)} failures {failed[:5] or ''}".rstrip())
-            failures += len(failed)
-    return 1 if failures else 0
+        subprocess.run(["cc", "-O2", "-shared", "-fPIC", "-o", library, source, "-ldl"], check=True)
+        is_right = True
+        for name in options.crates:
+            crate = TOP / "crates" / pathlib.Path(name).name
+            tried = try_cases if (crate / "stdin").exists() else try_tests
+            is_right = tried(crate, library, options) and is_right
+    return 0 if is_right else 1
 
 
 if __name__ == "__main__":

@@ -60,7 +60,7 @@ impl Canon {
         ensures short { OnOk result (length (canon def.now) ≤ most_canon_bytes) }
         ensures cause { IfErr result (λ fault. IsCauseOf fault def.now) }
     {
-        let text = text_of(alloc, def)?;
+        let text = text_of(alloc, def, 0)?;
         let own = def.clone()?;
         Ok(share(alloc, text, own)?)
     }
@@ -72,7 +72,7 @@ impl Canon {
         ensures short { OnOk result (length (canon def) ≤ most_canon_bytes) }
         ensures cause { IfErr result (λ fault. IsCauseOf fault def) }
     {
-        let text = text_of(alloc, &def)?;
+        let text = text_of(alloc, &def, 0)?;
         Ok(share(alloc, text, def)?)
     }
 
@@ -129,14 +129,15 @@ fn share(alloc: Global, text: Vec<u8>, def: MapDef) -> Result<Canon, AllocError>
     Ok(Canon { shared })
 }
 
-/// The canonical text of a definition, within the limit; bytes are counted before memory for them is allocated.
-fn text_of(alloc: Global, def: &MapDef) -> Result<Vec<u8>, CanonFault>
+/// The canonical text of a definition, within the limit, in a buffer that begins with this room. Beyond that room bytes are
+/// counted before memory for them is allocated.
+fn text_of(alloc: Global, def: &MapDef, room: usize) -> Result<Vec<u8>, CanonFault>
     ensures written { IfOk result (λ text. text.items ≡ canon def.now) }
     ensures short { OnOk result (length (canon def.now) ≤ most_canon_bytes) }
     ensures within { IsWithinLimits def.now }
     ensures cause { IfErr result (λ fault. IsCauseOf fault def.now) }
 {
-    let mut draft = Draft::new(alloc);
+    let mut draft = Draft::with_room(alloc, room);
     push_map(&mut draft, def);
     if draft.is_too_long() {
         return Err(CanonFault::TooBig);
@@ -156,7 +157,7 @@ fn same_text(alloc: Global, def: &MapDef, bytes: &[u8]) -> Result<Vec<u8>, Canon
     ensures within { IsWithinLimits def.now }
     ensures cause { IfErr result (λ fault. IsWhyRefused fault bytes.now) }
 {
-    match text_of(alloc, def) {
+    match text_of(alloc, def, bytes.len()) {
         Ok(text) => {
             if text.as_slice() != bytes {
                 return Err(CanonFault::NotCanonical);

@@ -1,6 +1,6 @@
 //! A canonical text while it is written.
 
-ghost use Rattle.std.specs.Prelude.{◌≡◌, ◌≤◌, ℕ, List, [], nat_lt, true, IfOk};
+ghost use Rattle.std.specs.Prelude.{◌≡◌, ◌≤◌, ◌+◌, ◌++◌, ℕ, List, [], nat_lt, true, IfOk, IsOk, is_ok, length, vec_len, vec_capacity, if◌then◌else◌};
 ghost use Rattle.wf_canon.specs.Canon.{most_canon_bytes};
 ghost use Rattle.wf_canon.specs.Draft.{HasRoomFor, IsDraftOf, Writes};
 
@@ -19,12 +19,16 @@ pub struct Draft {
 }
 
 impl Draft {
-    /// The empty text.
-    pub fn new(alloc: Global) -> Self
+    /// The empty text, with room for that many bytes if there is memory for them.
+    pub fn with_room(alloc: Global, room: usize) -> Self
         ensures { IsDraftOf result [] }
     {
+        let text = match Vec::with_capacity(alloc, room) {
+            Ok(text) => text,
+            Err(_) => Vec::new(alloc),
+        };
         Draft {
-            text: Vec::new(alloc),
+            text,
             length: 0,
             is_whole: true,
         }
@@ -42,7 +46,7 @@ impl Draft {
             return;
         }
         self.length += bytes.len();
-        if self.is_whole && self.text.extend_from_slice(bytes).is_err() {
+        if self.is_whole && append(&mut self.text, bytes).is_err() {
             self.is_whole = false;
         }
     }
@@ -64,5 +68,19 @@ impl Draft {
         } else {
             Err(AllocError)
         }
+    }
+}
+
+/// Appends bytes; most pieces are one byte, a space, a quote or an LF, which needs no call that copies.
+fn append(text: &mut Vec<u8>, bytes: &[u8]) -> Result<(), AllocError>
+    ensures items { text.new.items ≡ (if is_ok result then text.old.items ++ bytes.now else text.old.items) }
+    ensures succeeds { vec_len text.old + length bytes.now ≤ vec_capacity text.old → IsOk result }
+{
+    match bytes {
+        [byte] => {
+            text.push(*byte)?;
+            Ok(())
+        }
+        _ => text.extend_from_slice(bytes),
     }
 }

@@ -1,5 +1,6 @@
 //! The questions about messages.
-use crate::reading::{tell_beginnings, tell_copy, tell_decoded};
+use crate::inbox::{tell_cuts, tell_fed};
+use crate::reading::{tell_beginnings, tell_copy, tell_decoded, tell_followed};
 use crate::spelling::tell_encoded;
 use wf_calls::telling::tell_printed;
 use wf_codec::DecodeFault;
@@ -8,11 +9,14 @@ use wf_table::{Answer, Answered, Asked, Unanswered, Words};
 pub(crate) fn ask(mut asked: Asked<'_>, answer: &mut Answer) -> Answered {
     match asked.words.word() {
         "decode" => tell_decoded(asked, answer),
+        "followed" => tell_followed(asked, answer),
         "beginnings" => {
             tell_beginnings(asked, answer);
             Ok(())
         }
         "copy" => tell_copy(asked, answer),
+        "fed" => tell_fed(asked, answer),
+        "cuts" => tell_cuts(asked, answer),
         "encode" => tell_encoded(asked, answer),
         "fault" => tell_fault_named(asked, answer),
         _ => Err(Unanswered::UnknownQuestion),

@@ -15,8 +15,11 @@
 //! ballot next               a round and a node      the ballot of the next round, none
 //! ballot compare            1 0 1 2                 whether the first is below the second, above it or equal
 //! message decode            bytes                   how many bytes the message has, and it in words; or the error
+//! message followed          bytes                   the same with one more byte after them, each of the 256 in turn
 //! message beginnings        bytes                   how many of their proper beginnings are short
 //! message copy              bytes                   the bytes of a copy of the message
+//! message fed N             bytes                   what an inbox returns for each piece of N bytes; how many bytes it keeps
+//! message cuts              bytes                   cut in two at how many places they give the same messages
 //! message encode KIND ..    a definition's text     `message ` and the bytes of the message
 //! message fault             the name of an error    the error as it is printed
 //! acceptor NODE             a script                what the node's acceptor answers to each call

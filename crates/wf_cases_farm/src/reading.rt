@@ -5,7 +5,7 @@ use wf_calls::script::Maps;
 use wf_calls::telling::tell_printed;
 use wf_calls::words_of_message::write_message;
 use wf_codec::{DecodeFault, Message, decode};
-use wf_table::{Answer, Answered, Asked, Unanswered};
+use wf_table::{Answer, Answered, Asked, Runs, Unanswered};
 
 /// Appends how many bytes the message at the front has, and the message; or the error.
 pub(crate) fn tell_decoded(asked: Asked<'_>, answer: &mut Answer) -> Answered {
@@ -23,6 +23,43 @@ fn tell_read(message: Message, count: usize, answer: &mut Answer) {
     write_message(&message, Maps::NONE, answer);
     answer.line("");
     drop(message);
+}
+
+/// Appends what is read of the bytes with one more byte after them, which is each byte in turn: equal answers together, as
+/// `256 times: ..`.
+pub(crate) fn tell_followed(asked: Asked<'_>, answer: &mut Answer) -> Answered {
+    let mut runs = Runs::new(asked.alloc);
+    let taken = take_followed(asked, &mut runs, answer);
+    runs.write(answer);
+    drop(runs);
+    taken
+}
+
+fn take_followed(asked: Asked<'_>, runs: &mut Runs, answer: &mut Answer) -> Answered {
+    for byte in 0..=255u8 {
+        take_followed_by(asked, byte, runs, answer)?;
+    }
+    Ok(())
+}
+
+fn take_followed_by(asked: Asked<'_>, byte: u8, runs: &mut Runs, answer: &mut Answer) -> Answered {
+    let mut bytes = Answer::new(asked.alloc);
+    let mut told = Answer::new(asked.alloc);
+    bytes.bytes(asked.input);
+    bytes.bytes(&[byte]);
+    let answered = tell_decoded_of(asked, &bytes, &mut told);
+    runs.take(&told, answer);
+    drop(told);
+    drop(bytes);
+    answered
+}
+
+fn tell_decoded_of(asked: Asked<'_>, bytes: &Answer, answer: &mut Answer) -> Answered {
+    let whole = Asked {
+        input: bytes.written()?,
+        ..asked
+    };
+    tell_decoded(whole, answer)
 }
 
 /// Appends how many of the proper beginnings of the bytes are short.

@@ -10,9 +10,12 @@
 //!                            separate several requests; each is read and answered in the same way: `by N`, `by N failing at K` and
 //!                            so on, `room N`
 //! refuse NODE of NODES [WAY] the same, where the node's tape fails
+//! serve_published NODE of NODES [WAY]    the same of a node that has published a map: its mapfile and a byte of 0 come first
+//! serve_cached NODE of NODES [WAY]       the same of one request that comes twice, by a cache of one picture
 //! ```
 use crate::broken::Broken;
 use crate::exchange::{Exchange, tell_hearing};
+use crate::published::serve_published;
 use crate::serving::serve;
 use wf_table::{Answer, Answered, Asked};
 use wf_tape::MemoryTape;
@@ -30,4 +33,14 @@ pub(crate) fn serve_one(asked: Asked<'_>, answer: &mut Answer) -> Answered {
 /// `refuse`: what a new node answers whose tape fails.
 pub(crate) fn refuse(asked: Asked<'_>, answer: &mut Answer) -> Answered {
     serve(asked, Broken::new(), answer)
+}
+
+/// `serve_published`: what a node answers that has published a map.
+pub(crate) fn serve_map(asked: Asked<'_>, answer: &mut Answer) -> Answered {
+    serve_published(asked, false, answer)
+}
+
+/// `serve_cached`: the same, by a cache of one picture.
+pub(crate) fn serve_cached(asked: Asked<'_>, answer: &mut Answer) -> Answered {
+    serve_published(asked, true, answer)
 }

@@ -18,6 +18,7 @@ mod kept;
 mod mapfiles;
 mod maps;
 mod numbers;
+mod published;
 mod questions;
 mod reports;
 mod requests;

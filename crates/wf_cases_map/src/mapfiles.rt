@@ -1,5 +1,6 @@
 //! Mapfiles: the map that they mean, or the error.
 use crate::shown::{write_class, write_fault, write_layers, write_map};
+use crate::texts::text_of;
 use crate::wrapping::{CLASS, Wrapping, wrapping_of};
 use std::alloc::Global;
 use wf_def::class::Class;
@@ -117,6 +118,7 @@ pub(crate) fn class(asked: Asked<'_>, answer: &mut Answer) -> Answered {
 fn tell_class(asked: Asked<'_>, end: usize, answer: &mut Answer) {
     match CLASS.read(asked.alloc, asked.input) {
         Ok(map) => Told::Classes.tell(map, answer),
+        Err(MapFault::Memory) => answer.cut(),
         Err(_) => write_fault(MapFault::MissingEnd(end), CLASS.front.len(), answer),
     }
 }
@@ -214,12 +216,12 @@ fn write_attributes(map: &MapDef, name: &Text, answer: &mut Answer) {
 /// size.
 pub(crate) fn attribute_of(asked: Asked<'_>, answer: &mut Answer) -> Answered {
     let wrapping = wrapping_of("kinds")?;
-    match Text::new(asked.alloc, asked.words.rest().as_bytes()) {
+    match text_of(asked.alloc, asked.words.rest().as_bytes()) {
         Ok(name) => {
             Told::Attributes(&name).tell_read(asked, wrapping, answer);
             drop(name);
             Ok(())
         }
-        Err(_) => Err(Unanswered::BadWords),
+        Err(unanswered) => Err(unanswered),
     }
 }

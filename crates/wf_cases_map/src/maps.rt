@@ -4,9 +4,10 @@ ghost use Rattle.wf_wms.specs.Kept.{AllKept};
 use crate::requests::tell_summary;
 use std::alloc::{AllocError, Global};
 use wf_ballot::Slot;
-use wf_canon::Canon;
+use wf_canon::{Canon, CanonFault};
 use wf_def::map::MapDef;
 use wf_learner::History;
+use wf_mapfile::fault::MapFault;
 use wf_table::escape::unescape;
 use wf_table::{Answer, Answered, Asked, Unanswered};
 use wf_wms::Answer as Given;
@@ -23,6 +24,7 @@ fn canon_of(alloc: Global, map: MapDef) -> Result<Canon, Unanswered> {
     drop(map);
     match canon {
         Ok(canon) => Ok(canon),
+        Err(CanonFault::Memory) => Err(Unanswered::Memory),
         Err(_) => Err(Unanswered::BadWords),
     }
 }
@@ -30,6 +32,7 @@ fn canon_of(alloc: Global, map: MapDef) -> Result<Canon, Unanswered> {
 pub(crate) fn read_canon(alloc: Global, mapfile: &[u8]) -> Result<Canon, Unanswered> {
     match wf_mapfile::read(alloc, mapfile) {
         Ok(map) => canon_of(alloc, map),
+        Err(MapFault::Memory) => Err(Unanswered::Memory),
         Err(_) => Err(Unanswered::BadWords),
     }
 }

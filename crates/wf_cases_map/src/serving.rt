@@ -44,8 +44,8 @@ fn serve_by<T: Tape + Drop>(
     }
 }
 
-// One request after the other: bytes of 0, which no head can hold, separate them.
-fn serve_each<T: Tape>(
+/// Appends the same for a node that is open already. Bytes of 0, which no head can hold, separate the requests.
+pub(crate) fn serve_each<T: Tape>(
     asked: Asked<'_>,
     node: &mut Node<T>,
     way: Exchange,
@@ -74,7 +74,8 @@ fn tell_serving<T: Tape>(
     Ok(())
 }
 
-fn tell(served: &Served, written: &[u8], answer: &mut Answer) {
+/// Appends what became of a request, what was written and what is sent.
+pub(crate) fn tell(served: &Served, written: &[u8], answer: &mut Answer) {
     tell_outcome(served.outcome, answer);
     tell_written(written, answer);
     tell_sent(&served.messages, Maps::NONE, answer);

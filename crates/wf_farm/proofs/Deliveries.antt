@@ -25,7 +25,7 @@ use Rattle.wf_node.specs.Step.{row_of, refusal_at, IsRow, IsSameNode}
 use Rattle.wf_node.specs.declared.fault.NodeFault.{NodeFault}
 use Rattle.wf_node.specs.declared.fault.NodeFault.TheVariants as fault_case
 use Rattle.wf_farm.specs.declared.progress.End.{End}
-use Rattle.wf_farm.specs.declared.progress.End.TheVariants.{Done, Stopped, NoMemory}
+use Rattle.wf_farm.specs.declared.progress.End.TheVariants.{Done, Stopped, Failed}
 use Rattle.wf_farm.specs.declared.progress.Progress.{Progress}
 use Rattle.wf_farm.specs.Giving as giving
 use Rattle.wf_farm.specs.Giving.{Answers, Takes, is_halt, is_memory, tells_halt}
@@ -460,13 +460,13 @@ left_before images nodes after left keeps may = λ i node at halted. may i node 
 kept_left : {T : Type 0} (end : End) (node number : ℕ) (middle after : List (Node T)) (said more : List Message) → IsLeft AreKept end node number middle said after more → after ≡ middle
 kept_left Done node number middle after said more left = left.0
 kept_left Stopped node number middle after said more left = left.0
-kept_left NoMemory node number middle after said more left = left.1
+kept_left (Failed fault) node number middle after said more left = left.1
 
 -- How the rounds ended is how the deliveries did.
 ended_early : {T : Type 0} (p : Progress) (end : End) (node : ℕ) (middle after : List (Node T)) (said more : List Message) → IsLeft AreKept end node (0 + p.whole) middle said after more → goes.IsEnd 0 (length more) p end → IsEnd (is_early end) p said
 ended_early p Done node middle after said more left ended = (ended.0, omega (arith, ended.1, ap length left.1))
 ended_early p Stopped node middle after said more left ended = omega (arith, ended.1, ap length left.1)
-ended_early p NoMemory node middle after said more left ended = omega (arith, left.0)
+ended_early p (Failed fault) node middle after said more left ended = omega (arith, left.0)
 
 module _ {T : Type 0} (honest : Type 0) (images : T → List ℕ → Type 0) (nodes : List (Node T)) (messages : List Message) where
   -- Nothing is delivered yet.

@@ -4,6 +4,7 @@ mod Events
 mod Idle
 mod Allocating
 mod Runs
+mod Carried
 mod Worlds
 mod Listed
 mod Counting

@@ -1,8 +1,9 @@
 -- The result of a farm's pump.
 use Rattle.std.proofs.Common.{◌≡◌, ℕ, ◌+◌, ◌≤◌, Bool, List, length, Result, IfOk, IfErr, inr, sym, subst, ◌∙◌}
+use Rattle.wf_farm.specs.declared.carrier.CarrierFault.TheVariants as carrier
 use Rattle.wf_farm.specs.declared.fault.FarmFault.{FarmFault}
 use Rattle.wf_farm.specs.declared.progress.End.{End}
-use Rattle.wf_farm.specs.declared.progress.End.TheVariants.{Done, Stopped, NoMemory}
+use Rattle.wf_farm.specs.declared.progress.End.TheVariants.{Done, Stopped, Failed}
 use Rattle.wf_farm.specs.declared.progress.Progress.{Progress}
 use Rattle.wf_farm.specs.Farm.{Farm, size}
 use Rattle.wf_farm.specs.Progress.{HasCome, IsEnd, MayEnd, outcome}
@@ -25,12 +26,13 @@ module _ (names : List ℕ) (before after : Farm) (n : ℕ) (targets items : Lis
   done_end : (end : End) → IsEnd before.pumped (length after.sent) p end → IfOk (outcome p end) (IsPumped names before after)
   done_end Done end = (a_pump, (subst (λ k. k ≤ most_deliveries) (sym come.count) come.most, end.0, end.1))
   done_end Stopped end = (a_pump, (come.count ∙ end.0, end.1))
-  done_end NoMemory end = tt
+  done_end (Failed fault) end = tt
 
   part_end : (end : End) → IsEnd before.pumped (length after.sent) p end → MayEnd targets before.pumped p before.places before.sent end → IfErr (outcome p end) (IsPumpedPart names before after)
   part_end Done end may = tt
   part_end Stopped end may = tt
-  part_end NoMemory end may = inr (a_pump, come.count, end, may)
+  part_end (Failed carrier.Memory) end may = inr (a_pump, come.count, end, may)
+  part_end (Failed carrier.Lost) end may = (a_pump, come.count, end, may)
 
   module _ (end : End) (is : IsEnd before.pumped (length after.sent) p end) (result : Result Bool FarmFault) (told : result ≡ outcome p end) where
     pub pump_done : IfOk result (IsPumped names before after)

@@ -7,7 +7,7 @@ use Rattle.wf_model.specs.Table as table
 use Rattle.wf_model.specs.World.{Deliver, happens, steps}
 use Rattle.wf_farm.specs.declared.place.Place.{Place}
 use Rattle.wf_farm.specs.declared.progress.End.{End}
-use Rattle.wf_farm.specs.declared.progress.End.TheVariants.{Done, Stopped, NoMemory}
+use Rattle.wf_farm.specs.declared.progress.End.TheVariants.{Done, Stopped, Failed}
 use Rattle.wf_farm.specs.declared.progress.Progress.{Progress}
 use Rattle.wf_farm.specs.Allocating.{TakesStep}
 use Rattle.wf_farm.specs.Cluster.{Shows, Moves, IsActed, KeepMembers, StayShown}
@@ -144,12 +144,12 @@ module _ (targets : List ℕ) (first : ℕ) (places : List Place) (sent : List M
         subst (λ ps. HasCome targets first p places sent ps more × KeepMembers places ps) (sym left.0) (subst (λ ms. HasCome targets first p places sent middle ms × KeepMembers places middle) (sym left.1) come)
     left_come Stopped left =
         subst (λ ps. HasCome targets first p places sent ps more × KeepMembers places ps) (sym left.0) (subst (λ ms. HasCome targets first p places sent middle ms × KeepMembers places middle) (sym left.1) come)
-    left_come NoMemory left = (come_still p middle after said more come.0 left.1.stays left.1.grows, keep_twice places middle after come.1 left.1.members)
+    left_come (Failed fault) left = (come_still p middle after said more come.0 left.1.stays left.1.grows, keep_twice places middle after come.1 left.1.members)
 
     left_may : (end : End) → IsLeft IsWithheld end (get_or targets p.some p.some) (first + p.whole) middle said after more → MayEnd targets first p places sent end
     left_may Done left = tt
     left_may Stopped left = tt
-    left_may NoMemory left =
+    left_may (Failed fault) left =
         next_delivery_may places middle sent said targets first p.whole p.some come.0.moves (subst (λ i. TakesStep i (table.Deliver (first + p.whole)) middle said) (get_or_default targets p.some p.some 0 come.0.part) left.1.taken)
 
   module _ (p : Progress) (lost : ℕ) (end : End) (after : List Place) (more : List Message) (ended : HaveEnded IsGiven IsWithheld targets (length targets) first places sent p lost end after more)
@@ -158,6 +158,6 @@ module _ (targets : List ℕ) (first : ℕ) (places : List Place) (sent : List M
     pub come_ended : HasCome targets first p places sent after more × KeepMembers places after
     come_ended = left_come p ended.middle after ended.said more (come_along p lost ended.middle ended.said ended.gone some within most) end ended.left
 
-    -- If an allocation failed, the next delivery has an effect.
+    -- If the next delivery wasn't made, it has an effect.
     pub may_ended : MayEnd targets first p places sent end
     may_ended = left_may p ended.middle after ended.said more (come_along p lost ended.middle ended.said ended.gone some within most) end ended.left

@@ -9,7 +9,7 @@ use Rattle.wf_model.specs.Table.{Action}
 use Rattle.wf_model.specs.World as world
 use Rattle.wf_model.specs.World.{World, Event, turn, steps}
 use Rattle.wf_farm.specs.declared.fault.FarmFault.{FarmFault}
-use Rattle.wf_farm.specs.declared.fault.FarmFault.TheVariants.{Memory, NoNode}
+use Rattle.wf_farm.specs.declared.fault.FarmFault.TheVariants.{Memory, NoNode, Carried}
 use Rattle.wf_farm.specs.declared.place.Place.{Place}
 use Rattle.wf_farm.specs.declared.place.Place.TheVariants.{Running, Stopped}
 use Rattle.wf_farm.specs.Cluster.{Shows}
@@ -56,6 +56,7 @@ MayAllocateAt done events places sent = (w : World Definition) → Shows places 
 abbrev pub AllocatesAt : FarmFault → List (Event Definition) → List Place → List Message → Type 0
 AllocatesAt (Memory done) events places sent = MayAllocateAt done events places sent
 AllocatesAt NoNode events places sent = ⊥
+AllocatesAt (Carried done) events places sent = ⊥
 
 -- the entry has a stopped node
 abbrev pub IsStopped : Place → Type 0

@@ -15,7 +15,7 @@ use Rattle.wf_node.specs.Growth.{IsGrown}
 use Rattle.wf_node.specs.Images.{StandsFor}
 use Rattle.wf_node.specs.Node.{Node, stored_of, working_of}
 use Rattle.wf_farm.specs.declared.progress.End.{End}
-use Rattle.wf_farm.specs.declared.progress.End.TheVariants.{Done, Stopped, NoMemory}
+use Rattle.wf_farm.specs.declared.progress.End.TheVariants.{Done, Stopped, Failed}
 use Rattle.wf_farm.specs.declared.progress.Progress.{Progress}
 use Rattle.wf_farm.specs.Giving.{Takes}
 use Rattle.wf_farm.specs.Progress.{next}
@@ -111,7 +111,7 @@ IsEnd true p sent = p.whole < length sent
 abbrev pub is_early : End → Bool
 is_early Done = false
 is_early Stopped = true
-is_early NoMemory = true
+is_early (Failed fault) = true
 
 -- the count of lost deliveries after one more delivery, by whether that is lost
 abbrev pub counted : ℕ → Bool → ℕ

@@ -9,7 +9,7 @@ use Rattle.wf_tape.specs.MemoryTape.{Kept}
 use Rattle.wf_farm.specs.declared.place.Place.{Place}
 use Rattle.wf_farm.specs.declared.place.Place.TheVariants.{Running, Stopped}
 use Rattle.wf_farm.specs.declared.fault.FarmFault.{FarmFault}
-use Rattle.wf_farm.specs.declared.fault.FarmFault.TheVariants.{Memory, NoNode}
+use Rattle.wf_farm.specs.declared.fault.FarmFault.TheVariants.{Memory, NoNode, Carried}
 use Rattle.wf_farm.specs.Cluster as cluster
 use Rattle.wf_farm.specs.Cluster.{AreMembers, Moves}
 
@@ -56,6 +56,7 @@ Runs events before after = Moves events before.places before.sent after.places a
 abbrev pub RunsPart : FarmFault → List (Event Definition) → Farm → Farm → Type 0
 RunsPart (Memory done) events before after = (done < length events) × Runs (take done events) before after
 RunsPart NoNode events before after = ⊥
+RunsPart (Carried done) events before after = ⊥
 
 -- the error is allocation failure before anything was done
 abbrev pub IsAtOnce : FarmFault → Type 0

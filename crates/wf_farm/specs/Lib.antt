@@ -4,6 +4,7 @@ pub mod Fault
 pub mod Place
 pub mod Cluster
 pub mod Allocating
+pub mod Carrying
 pub mod Start
 pub mod Farm
 pub mod Agreement

@@ -3,11 +3,11 @@ use Rattle.std.specs.Prelude.{◌≡◌, ◌<◌, ◌≤◌, ◌+◌, ℕ, Bool,
 use Rattle.wf_codec.specs.declared.message.Message.{Message}
 use Rattle.wf_farm.specs.declared.place.Place.{Place}
 use Rattle.wf_farm.specs.declared.fault.FarmFault.{FarmFault}
-use Rattle.wf_farm.specs.declared.fault.FarmFault.TheVariants.{Memory}
 use Rattle.wf_farm.specs.declared.progress.End.{End}
-use Rattle.wf_farm.specs.declared.progress.End.TheVariants.{Done, Stopped, NoMemory}
+use Rattle.wf_farm.specs.declared.progress.End.TheVariants.{Done, Stopped, Failed}
 use Rattle.wf_farm.specs.declared.progress.Progress.{Progress}
 use Rattle.wf_farm.specs.Allocating.{TakesStep}
+use Rattle.wf_farm.specs.Carrying.{fault_after}
 use Rattle.wf_farm.specs.Cluster.{AreMembers, IsActed, KeepMembers, Moves, StayShown}
 use Rattle.wf_model.specs.Table as table
 use Rattle.wf_farm.specs.Pump.{NextMayAllocate, begun, deliveries, most_deliveries}
@@ -37,27 +37,27 @@ pub record IsGiven (i k : ℕ) (lost : Bool) (places : List Place) (sent : List 
   pub members : KeepMembers places places_after
   pub grows : length sent ≤ length sent_after
 
--- An allocation failed: message k wasn't delivered to node i, which would take the step.
+-- Message k wasn't delivered to node i, which would take the step.
 pub record IsWithheld (i k : ℕ) (places : List Place) (sent : List Message) (places_after : List Place) (sent_after : List Message) : Type 0 where
   pub stays : StayShown places sent places_after sent_after
   pub taken : TakesStep i (table.Deliver k) places sent
   pub members : KeepMembers places places_after
   pub grows : length sent ≤ length sent_after
 
--- nothing is left; the limit of deliveries is reached, and some are left; or an allocation failed before that
+-- nothing is left; the limit of deliveries is reached, and some are left; or one wasn't made before that
 abbrev pub IsEnd : ℕ → ℕ → Progress → End → Type 0
 IsEnd first count p Done = (p.some ≡ 0) × (first + p.whole ≡ count)
 IsEnd first count p Stopped = (p.done ≡ most_deliveries) × (first + p.whole < count)
-IsEnd first count p NoMemory = p.done < most_deliveries
+IsEnd first count p (Failed fault) = p.done < most_deliveries
 
--- Where an allocation failed, the next delivery may allocate.
+-- Where a delivery wasn't made, it may allocate.
 abbrev pub MayEnd : List ℕ → ℕ → Progress → List Place → List Message → End → Type 0
 MayEnd targets first p places sent Done = Unit {0}
 MayEnd targets first p places sent Stopped = Unit {0}
-MayEnd targets first p places sent NoMemory = NextMayAllocate targets first p.whole p.some places sent
+MayEnd targets first p places sent (Failed fault) = NextMayAllocate targets first p.whole p.some places sent
 
 -- the result for each end
 abbrev pub outcome : Progress → End → Result Bool FarmFault
 outcome p Done = Ok false
 outcome p Stopped = Ok true
-outcome p NoMemory = Err (Memory p.done)
+outcome p (Failed fault) = Err (fault_after fault p.done)

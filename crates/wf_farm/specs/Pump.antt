@@ -6,7 +6,7 @@ use Rattle.wf_def.specs.Definition.{Definition}
 use Rattle.wf_def.specs.Equality.{definition_eq}
 use Rattle.wf_model.specs.World.{World, Event, Deliver, steps}
 use Rattle.wf_farm.specs.declared.fault.FarmFault.{FarmFault}
-use Rattle.wf_farm.specs.declared.fault.FarmFault.TheVariants.{Memory, NoNode}
+use Rattle.wf_farm.specs.declared.fault.FarmFault.TheVariants.{Memory, NoNode, Carried}
 use Rattle.wf_farm.specs.declared.place.Place.{Place}
 use Rattle.wf_farm.specs.Allocating.{may_allocate}
 use Rattle.wf_farm.specs.Cluster.{Shows}
@@ -76,8 +76,10 @@ abbrev pub IsPumped : List ℕ → Farm → Farm → Bool → Type 0
 IsPumped names before after stopped = (pumps : Pumps names before after) × IsEnd stopped pumps
 
 -- An allocation failed after this number of deliveries, at the next one, which has an effect; or before the first one, and then
--- nothing is changed.
+-- nothing is changed. Or after this number the next one, which has an effect, wasn't carried.
 abbrev pub IsPumpedPart : List ℕ → Farm → Farm → FarmFault → Type 0
 IsPumpedPart names before after (Memory done) = ((done ≡ 0) × (after ≡ before)) ⊎ ((pumps : Pumps names before after) × (count pumps ≡ done) × (done < most_deliveries)
     × NextMayAllocate pumps.targets before.pumped pumps.whole pumps.some before.places before.sent)
 IsPumpedPart names before after NoNode = ⊥
+IsPumpedPart names before after (Carried done) = (pumps : Pumps names before after) × (count pumps ≡ done) × (done < most_deliveries)
+    × NextMayAllocate pumps.targets before.pumped pumps.whole pumps.some before.places before.sent

@@ -1,8 +1,9 @@
 -- Deliveries in turn: of each message from a number on, to each target, ascending.
-use Rattle.std.specs.Prelude.{◌≡◌, ◌<◌, ◌≤◌, ◌+◌, ℕ, Bool, true, false, List, length, get_or}
+use Rattle.std.specs.Prelude.{◌≡◌, ◌<◌, ◌≤◌, ◌+◌, ℕ, ⊤, Bool, true, false, List, length, get_or}
 use Rattle.wf_codec.specs.declared.message.Message.{Message}
 use Rattle.wf_farm.specs.declared.progress.End.{End}
-use Rattle.wf_farm.specs.declared.progress.End.TheVariants.{Done, Stopped, NoMemory}
+use Rattle.wf_farm.specs.declared.progress.End.TheVariants.{Done, Stopped, Failed}
+use Rattle.wf_farm.specs.declared.carrier.CarrierFault.TheVariants as carrier
 use Rattle.wf_farm.specs.declared.progress.Progress.{Progress}
 use Rattle.wf_farm.specs.Delivering.{counted}
 use Rattle.wf_farm.specs.Progress.{next}
@@ -12,6 +13,12 @@ use Rattle.wf_farm.specs.Pump.{begun, most_deliveries}
 abbrev pub last_end : Bool → End
 last_end true = Stopped
 last_end false = Done
+
+-- if a delivery wasn't made, an allocation failed
+abbrev pub IsForMemory : End → Type 0
+IsForMemory Done = ⊤
+IsForMemory Stopped = ⊤
+IsForMemory (Failed fault) = fault ≡ carrier.Memory
 
 -- the counts of the deliveries, where this many messages are sent by now
 pub record AreCounted (round first : ℕ) (p : Progress) (lost sent : ℕ) : Type 0 where
@@ -29,11 +36,11 @@ module _ {R : Type 0} (delivered : ℕ → ℕ → Bool → List R → List Mess
         → delivered (get_or targets p.some p.some) (first + p.whole) loses middle said after more → HaveGone (next round p) (counted lost loses) after more
 
 module _ {R : Type 0} (stays : ℕ → ℕ → List R → List Message → List R → List Message → Type 0) where
-  -- What the last delivery left: nothing more, unless an allocation failed at one that was then not made.
+  -- What the last delivery left: nothing more, unless one wasn't made.
   abbrev pub IsLeft : End → ℕ → ℕ → List R → List Message → List R → List Message → Type 0
   IsLeft Done node number middle said after more = (after ≡ middle) × (more ≡ said)
   IsLeft Stopped node number middle said after more = (after ≡ middle) × (more ≡ said)
-  IsLeft NoMemory node number middle said after more = (number < length said) × stays node number middle said after more
+  IsLeft (Failed fault) node number middle said after more = (number < length said) × stays node number middle said after more
 
 -- The deliveries have gone this far, and ended so.
 pub record HaveEnded {R : Type 0} (delivered : ℕ → ℕ → Bool → List R → List Message → List R → List Message → Type 0) (stays : ℕ → ℕ → List R → List Message → List R → List Message → Type 0)

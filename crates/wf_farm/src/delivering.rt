@@ -8,6 +8,7 @@ ghost use Rattle.wf_farm.specs.Delivering.{AnyPart, AreDelivered, AreHandedOut, 
 ghost use Rattle.wf_farm.specs.Giving.{Answers, Takes, is_halt, is_memory, tells_halt};
 ghost use Rattle.wf_farm.specs.Pump.{most_deliveries};
 
+use crate::carrier::CarrierFault;
 use crate::happening::{MOST_SAID, send};
 use crate::progress::End;
 use crate::round::{Receiver, Round, deliver_rounds};
@@ -68,13 +69,14 @@ fn deliver_each<T: Tape>(alloc: Global, nodes: &mut [Node<T>], messages: Vec<Mes
     ensures delivered { IsDelivered T.honest T.images nodes.old messages.items result.deliveries nodes.new }
     ensures handed { AreHandedOut T.honest T.images nodes.old messages.items result.deliveries result.lost result.stopped nodes.new }
 {
+    let mut nothing = ();
     let mut sent = messages;
     let round = nodes.len();
     let Round {
         progress,
         lost,
         end,
-    } = deliver_rounds(alloc, nodes, &mut sent, &[], round, 0);
+    } = deliver_rounds(alloc, &mut nothing, nodes, &mut sent, &[], round, 0);
     drop(sent);
     Pumped {
         deliveries: progress.done,
@@ -89,11 +91,11 @@ fn is_early(end: End) -> bool
 {
     match end {
         End::Done => false,
-        End::Stopped | End::NoMemory => true,
+        End::Stopped | End::Failed(_) => true,
     }
 }
 
-impl<T: Tape> Receiver for Node<T> {
+impl<T: Tape> Receiver<()> for Node<T> {
     ghost use Rattle.wf_farm.specs.Delivering.{AreKept, CanTake, IsGiven};
 
     ghost takes = { CanTake };
@@ -102,14 +104,20 @@ impl<T: Tape> Receiver for Node<T> {
 
     ghost stays = { AreKept };
 
+    ghost certain = { Unit {0} };
+
     fn deliver(
         alloc: Global,
+        _carrier: &mut (),
         receivers: &mut [Node<T>],
         sent: &mut Vec<Message>,
         node: usize,
         number: usize,
-    ) -> Result<bool, AllocError> {
-        deliver_one(alloc, receivers, sent, node, number)
+    ) -> Result<bool, CarrierFault> {
+        match deliver_one(alloc, receivers, sent, node, number) {
+            Ok(lost) => Ok(lost),
+            Err(_) => Err(CarrierFault::Memory),
+        }
     }
 }
 

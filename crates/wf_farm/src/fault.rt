@@ -1,8 +1,10 @@
 //! Errors of a farm, and the rejections of a node that it reports.
 
 ghost use Rattle.std.specs.Prelude.{◌≡◌};
+ghost use Rattle.wf_farm.specs.Carrying.{fault_after};
 ghost use Rattle.wf_farm.specs.Place.{number_in};
 
+use crate::carrier::CarrierFault;
 use thiserror::Error;
 use wf_node::NodeFault;
 
@@ -15,6 +17,19 @@ pub enum FarmFault {
     /// F2: the node doesn't exist or is stopped.
     #[error("F2: no such node runs")]
     NoNode,
+    /// F3: a message wasn't carried to its node, after this number of deliveries of a pump.
+    #[error("F3: not carried after {0}")]
+    Carried(usize),
+}
+
+/// The error after this number of deliveries, by why the next one wasn't made.
+pub(crate) fn fault_after(fault: CarrierFault, done: usize) -> FarmFault
+    ensures { result ≡ fault_after fault done }
+{
+    match fault {
+        CarrierFault::Memory => FarmFault::Memory(done),
+        CarrierFault::Lost => FarmFault::Carried(done),
+    }
 }
 
 /// The number of a rejection, 2, 3, 4 or 7; None for an error that isn't a rejection of the step table.

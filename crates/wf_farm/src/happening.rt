@@ -12,10 +12,11 @@ ghost use Rattle.wf_farm.specs.Cluster.{AreMembers, Happens, IsActed, IsTorn, Ke
 ghost use Rattle.wf_farm.specs.Event.{view, view_action, view_kept};
 ghost use Rattle.wf_farm.specs.Farm.{running_in};
 
+use crate::carrier::Copies;
 use crate::cluster::Cluster;
 use crate::event::{Action, Event, Kept};
 use crate::fault::refusal_number;
-use crate::receiving::{answer, deliver_to, runs, step};
+use crate::receiving::{answer, runs, step};
 use std::alloc::{AllocError, Global};
 use wf_ballot::NodeId;
 use wf_canon::Canon;
@@ -113,7 +114,11 @@ impl Cluster {
         ensures taken { OnErr result (TakesStep node (Deliver number) self.old.places.items self.old.sent.items) }
         ensures members { KeepMembers self.old.places.items self.new.places.items }
     {
-        deliver_to(alloc, &mut self.places, &mut self.sent, node, number)
+        let mut copies = Copies;
+        match self.deliver_by(alloc, &mut copies, node, number) {
+            Ok(refused) => Ok(refused),
+            Err(_) => Err(AllocError),
+        }
     }
 
     /// Performs a step of a node, if it exists and runs, and sends its messages.

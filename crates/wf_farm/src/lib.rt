@@ -10,7 +10,10 @@
 //! - A run of events leaves exactly the model's world after them. A pump is a run of deliveries only, of each message not pumped
 //!   yet to each of its targets (`specs/Pump.antt`). If an allocation fails, the farm is the world after the events or deliveries
 //!   done, whose number the error reports; it fails only at an event that has an effect (`specs/Allocating.antt`).
-//! - What a node published stays a prefix of what it publishes after a run or a pump.
+//! - Messages may be brought to the nodes by a [`Carrier`]: a delivery ([`Farm::deliver_by`]) or a pump ([`Farm::pump_by`]) is what
+//!   it would be without, whatever the carrier does. A message that isn't brought, or isn't the one that was sent, is an error and
+//!   not delivered.
+//! - What a node published stays a prefix of what it publishes after a run, a pump or a delivery.
 //! - No two nodes, running or stopped, publish different definitions under one sequence, since every farm is reached from the
 //!   start: [`Farm::agree`].
 //! - A running node answers clients as `wf_wms` does, from what it published ([`Farm::answer`]). Two nodes with the same last
@@ -29,12 +32,15 @@
 //! opened again from what reached nodes left on their tapes ([`reopen`], [`reopened_nodes_are_reached`]; `specs/Reopening.antt`).
 //! So such nodes agree and answer as a farm's do: [`reached_nodes_agree`], [`reached_nodes_answer_alike`].
 //!
-//! **Doesn't.** There is no time, and no promise that anything is ever published or that an allocation had to fail.
+//! **Doesn't.** There is no time, and no promise that anything is ever published, that an allocation had to fail, or that a carrier
+//! is used.
 #![tactic(auto)]
 
 mod answering;
+mod carrier;
 mod cluster;
 mod delivering;
+mod delivery;
 mod event;
 mod farm;
 mod fault;
@@ -48,11 +54,13 @@ mod pump;
 mod receiving;
 mod round;
 mod running;
+mod same;
 mod starting;
 mod stepping;
 mod targets;
 mod tearing;
 
+pub use carrier::{Carrier, CarrierFault, Copies};
 pub use delivering::{Pumped, deliver_all};
 pub use event::{Action, Event, Kept};
 pub use farm::Farm;

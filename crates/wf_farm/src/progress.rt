@@ -2,7 +2,8 @@ ghost use Rattle.std.specs.Prelude.{◌≡◌, ◌+◌, ◌<◌, ◌^◌};
 ghost use Rattle.wf_farm.specs.Progress.{next, outcome};
 ghost use Rattle.wf_farm.specs.Pump.{begun};
 
-use crate::fault::FarmFault;
+use crate::carrier::CarrierFault;
+use crate::fault::{FarmFault, fault_after};
 
 /// The progress of a pump: whole rounds, deliveries of the next round, and deliveries in total.
 #[derive(Clone, Copy)]
@@ -19,8 +20,8 @@ pub enum End {
     Done,
     /// The limit of deliveries was reached, and some are left.
     Stopped,
-    /// An allocation failed.
-    NoMemory,
+    /// A delivery wasn't made, for this reason.
+    Failed(CarrierFault),
 }
 
 impl Progress {
@@ -77,7 +78,7 @@ impl Progress {
         match end {
             End::Done => Ok(false),
             End::Stopped => Ok(true),
-            End::NoMemory => Err(FarmFault::Memory(self.done)),
+            End::Failed(fault) => Err(fault_after(fault, self.done)),
         }
     }
 }

@@ -2,11 +2,14 @@
 
 ghost use Rattle.std.specs.Prelude.{◌≡◌, ◌<◌, ◌≤◌, length, IfOk, IfErr};
 ghost use Rattle.wf_farm.specs.Agreement.{HistoriesGrow};
+ghost use Rattle.wf_farm.specs.Carrying.{IsMemory};
 ghost use Rattle.wf_farm.specs.Cluster.{AreMembers, KeepMembers};
 ghost use Rattle.wf_farm.specs.Farm.{size};
 ghost use Rattle.wf_farm.specs.Progress.{HasCome, IsEnd, MayEnd};
 ghost use Rattle.wf_farm.specs.Pump.{IsPumped, IsPumpedPart};
+ghost use Rattle.wf_farm.specs.Round.{IsForMemory};
 
+use crate::carrier::{Carrier, Copies};
 use crate::cluster::Cluster;
 use crate::farm::Farm;
 use crate::fault::FarmFault;
@@ -27,6 +30,28 @@ impl Farm {
     pub fn pump(&mut self, alloc: Global, nodes: &[usize]) -> Result<bool, FarmFault>
         ensures done { IfOk result (IsPumped nodes.now self.old self.new) }
         ensures part { IfErr result (IsPumpedPart nodes.now self.old self.new) }
+        ensures memory { IfErr result IsMemory }
+        ensures grows { HistoriesGrow self.old self.new }
+        ensures size { size self.new ≡ size self.old }
+        ensures refused { self.new.refused ≡ self.old.refused }
+    {
+        let mut copies = Copies;
+        self.pump_by(alloc, &mut copies, nodes)
+    }
+
+    /// A pump by the carrier: each delivery that has an effect is made of what it brings. Err: F1 as for a pump; F3 with the number of
+    /// deliveries done if the carrier fails or brings another message: the farm is then the world after these, and the next
+    /// delivery would have an effect. Of a faithful carrier, F1 is the only error.
+    #[tactic(auto, using(crate::proofs::Carried::pump_for_memory))]
+    pub fn pump_by<C: Carrier>(
+        &mut self,
+        alloc: Global,
+        carrier: &mut C,
+        nodes: &[usize],
+    ) -> Result<bool, FarmFault>
+        ensures done { IfOk result (IsPumped nodes.now self.old self.new) }
+        ensures part { IfErr result (IsPumpedPart nodes.now self.old self.new) }
+        ensures memory { C.faithful → IfErr result IsMemory }
         ensures grows { HistoriesGrow self.old self.new }
         ensures size { size self.new ≡ size self.old }
         ensures refused { self.new.refused ≡ self.old.refused }
@@ -39,22 +64,29 @@ impl Farm {
         let Ok(targets) = targets_of(alloc, nodes, self.cluster.places.len()) else {
             return Err(FarmFault::Memory(0));
         };
-        let (progress, end) = self.cluster.pump(alloc, &targets, self.pumped);
+        let (progress, end) = self.cluster.pump(alloc, carrier, &targets, self.pumped);
         self.pumped = progress.pumped(self.pumped);
         progress.told(end)
     }
 }
 
 impl Cluster {
-    /// Delivers the messages from number `first` on to each target, until none is left, the limit of deliveries is reached, or an
-    /// allocation fails.
-    fn pump(&mut self, alloc: Global, targets: &[usize], first: usize) -> (Progress, End)
+    /// Delivers the messages from number `first` on to each target by the carrier, until none is left, the limit of deliveries is
+    /// reached, or one isn't made.
+    fn pump<C: Carrier>(
+        &mut self,
+        alloc: Global,
+        carrier: &mut C,
+        targets: &[usize],
+        first: usize,
+    ) -> (Progress, End)
         requires members { AreMembers self.old.places.items }
         requires some { 0 < length targets.now }
         requires within { first ≤ length self.old.sent.items }
         ensures come { HasCome targets.now first result.0 self.old.places.items self.old.sent.items self.new.places.items self.new.sent.items }
         ensures end { IsEnd first (length self.new.sent.items) result.0 result.1 }
         ensures may { MayEnd targets.now first result.0 self.old.places.items self.old.sent.items result.1 }
+        ensures memory { C.faithful → IsForMemory result.1 }
         ensures members { KeepMembers self.old.places.items self.new.places.items }
     {
         let Round {
@@ -63,6 +95,7 @@ impl Cluster {
             end,
         } = deliver_rounds(
             alloc,
+            carrier,
             &mut self.places,
             &mut self.sent,
             targets,

@@ -1,16 +1,19 @@
 //! Steps of, and deliveries to, the entries of a farm.
 
-ghost use Rattle.std.specs.Prelude.{◌≡◌, ◌<◌, ◌≤◌, ℕ, true, is_some, length, map, slice_get, None, IfOk, IsSome, OnErr};
+ghost use Rattle.std.specs.Prelude.{◌≡◌, ◌<◌, ◌≤◌, ℕ, true, is_some, length, map, slice_get, None, Some, IfErr, IfOk, IsSome, OnErr};
 ghost use Rattle.wf_codec.specs.Message.{view as view_message};
 ghost use Rattle.wf_def.specs.Definition.{Definition};
 ghost use Rattle.wf_model.specs.Table.{Action as ModelAction, Deliver};
 ghost use Rattle.wf_model.specs.World.{input_of};
 ghost use Rattle.wf_node.specs.Input.{view as view_input};
 ghost use Rattle.wf_farm.specs.Allocating.{TakesStep};
+ghost use Rattle.wf_farm.specs.Carrying.{ChangesByStep};
 ghost use Rattle.wf_farm.specs.Cluster.{AreMembers, IsActed, KeepMembers, StayShown};
 ghost use Rattle.wf_farm.specs.Farm.{running_in};
 ghost use Rattle.wf_farm.specs.Place.{number_in};
+ghost use Rattle.wf_farm.specs.declared.carrier.CarrierFault.TheVariants as carriers;
 
+use crate::carrier::{Carrier, CarrierFault, carried};
 use crate::fault::refusal_number;
 use crate::happening::{MOST_SAID, send};
 use crate::place::Place;
@@ -19,7 +22,7 @@ use std::alloc::{AllocError, Global};
 use wf_codec::Message;
 use wf_node::{Input, NodeFault};
 
-impl Receiver for Place {
+impl<C: Carrier> Receiver<C> for Place {
     ghost use Rattle.wf_farm.specs.Progress.{CanTake, IsGiven, IsWithheld};
 
     ghost takes = { CanTake };
@@ -28,35 +31,42 @@ impl Receiver for Place {
 
     ghost stays = { IsWithheld };
 
-    /// Nothing is lost: an allocation failure is reported.
+    ghost certain = { C.faithful };
+
+    /// Nothing is lost: a delivery that isn't made is reported.
     fn deliver(
         alloc: Global,
+        carrier: &mut C,
         receivers: &mut [Place],
         sent: &mut Vec<Message>,
         node: usize,
         number: usize,
-    ) -> Result<bool, AllocError> {
-        match deliver_to(alloc, receivers, sent, node, number) {
+    ) -> Result<bool, CarrierFault> {
+        match deliver_to(alloc, carrier, receivers, sent, node, number) {
             Ok(_) => Ok(false),
             Err(fault) => Err(fault),
         }
     }
 }
 
-/// Delivers a message to a node, if both exist and the node runs.
-#[tactic(auto, using(crate::proofs::Events::same_members))]
-pub(crate) fn deliver_to(
+/// Delivers to a node what the carrier brings of a message, if both exist and the node runs; the carrier isn't used otherwise. Err:
+/// an allocation failed; or the carrier failed or brought another message.
+#[tactic(auto, using(crate::proofs::Events::same_members, crate::proofs::Carried::unused))]
+pub(crate) fn deliver_to<C: Carrier>(
     alloc: Global,
+    carrier: &mut C,
     places: &mut [Place],
     sent: &mut Vec<Message>,
     node: usize,
     number: usize,
-) -> Result<Option<u8>, AllocError>
+) -> Result<Option<u8>, CarrierFault>
     requires members { AreMembers places.old }
     ensures grows { length sent.old.items ≤ length sent.new.items }
     ensures done { IfOk result (λ refused. IsActed node (Deliver number) refused places.old sent.old.items places.new sent.new.items) }
     ensures err { OnErr result (StayShown places.old sent.old.items places.new sent.new.items) }
     ensures taken { OnErr result (TakesStep node (Deliver number) places.old sent.old.items) }
+    ensures idle { ChangesByStep node (Deliver number) places.old sent.old.items carrier.old carrier.new }
+    ensures memory { C.faithful → IfErr result (λ fault. fault ≡ carriers.Memory) }
     ensures members { KeepMembers places.old places.new }
 {
     if !runs(places, node) {
@@ -65,9 +75,31 @@ pub(crate) fn deliver_to(
     if number >= sent.len() {
         return Ok(None);
     }
-    match sent[number].copy() {
-        Ok(copy) => step(alloc, places, sent, node, Input::Deliver(copy)),
-        Err(fault) => Err(fault),
+    match carried(alloc, carrier, &sent[number]) {
+        Ok(message) => take(alloc, places, sent, node, message),
+        Err(loss) => Err(loss),
+    }
+}
+
+/// The node takes the message, if it exists and runs. The only error is allocation failure.
+fn take(
+    alloc: Global,
+    places: &mut [Place],
+    sent: &mut Vec<Message>,
+    node: usize,
+    message: Message,
+) -> Result<Option<u8>, CarrierFault>
+    requires members { AreMembers places.old }
+    ensures grows { length sent.old.items ≤ length sent.new.items }
+    ensures done { (action : ModelAction Definition ℕ) → input_of (map view_message sent.old.items) action ≡ Some (Deliver (view_message message)) →
+        IfOk result (λ refused. IsActed node action refused places.old sent.old.items places.new sent.new.items) }
+    ensures err { OnErr result (StayShown places.old sent.old.items places.new sent.new.items) }
+    ensures memory { IfErr result (λ fault. fault ≡ carriers.Memory) }
+    ensures members { KeepMembers places.old places.new }
+{
+    match step(alloc, places, sent, node, Input::Deliver(message)) {
+        Ok(refused) => Ok(refused),
+        Err(_) => Err(CarrierFault::Memory),
     }
 }
 

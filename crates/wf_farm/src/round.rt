@@ -1,42 +1,49 @@
 //! The one loop that delivers: each message, by number, to each target in turn.
 
-ghost use Rattle.std.specs.Prelude.{◌≡◌, ◌<◌, ◌≤◌, ◌+◌, ◌^◌, ℕ, Bool, List, length, get_or, IfOk, OnErr};
+ghost use Rattle.std.specs.Prelude.{◌≡◌, ◌<◌, ◌≤◌, ◌+◌, ◌^◌, ℕ, Bool, List, length, get_or, IfErr, IfOk, OnErr};
 ghost use Rattle.wf_codec.specs.declared.message.Message.{Message};
 ghost use Rattle.wf_farm.specs.Progress.{IsEnd};
 ghost use Rattle.wf_farm.specs.Delivering.{counted};
-ghost use Rattle.wf_farm.specs.Round.{AreCounted, HaveEnded, last_end};
+ghost use Rattle.wf_farm.specs.Round.{AreCounted, HaveEnded, IsForMemory, last_end};
+ghost use Rattle.wf_farm.specs.declared.carrier.CarrierFault.TheVariants as carriers;
 
+use crate::carrier::CarrierFault;
 use crate::progress::{End, Progress};
-use std::alloc::{AllocError, Global};
+use std::alloc::Global;
 use wf_codec::Message;
 
 /// The most deliveries of one call.
 pub(crate) const MOST_DELIVERIES: usize = 100_000;
 
-/// What messages are delivered to: the nodes of a farm, or those that a caller holds.
-pub(crate) trait Receiver: Sized {
+/// What messages are delivered to: the nodes of a farm, by a carrier `C`; or those that a caller holds, to which nothing has to carry.
+pub(crate) trait Receiver<C>: Sized {
     /// A message can be delivered to the receiver of that number.
     ghost takes: { List Self → ℕ → Type 0 };
 
     /// To the receiver of that number the message of that number was delivered; whether that was lost.
     ghost delivered: { ℕ → ℕ → Bool → List Self → List Message → List Self → List Message → Type 0 };
 
-    /// That delivery wasn't made, since an allocation failed.
+    /// That delivery wasn't made.
     ghost stays: { ℕ → ℕ → List Self → List Message → List Self → List Message → Type 0 };
 
+    /// A delivery is made unless an allocation fails.
+    ghost certain: { Type 0 };
+
     /// Delivers a message to a receiver, and appends the messages that it sends; returns whether the delivery was lost. Err if
-    /// an allocation fails: the delivery isn't made.
+    /// an allocation fails, or the message isn't carried: the delivery isn't made.
     fn deliver(
         alloc: Global,
+        carrier: &mut C,
         receivers: &mut [Self],
         sent: &mut Vec<Message>,
         node: usize,
         number: usize,
-    ) -> Result<bool, AllocError>
+    ) -> Result<bool, CarrierFault>
         requires takes { takes receivers.old node }
         requires number { number < length sent.old.items }
         ensures done { IfOk result (λ lost. delivered node number lost receivers.old sent.old.items receivers.new sent.new.items) }
         ensures left { OnErr result (stays node number receivers.old sent.old.items receivers.new sent.new.items) }
+        ensures memory { certain → IfErr result (λ fault. fault ≡ carriers.Memory) }
         ensures takes { (i : ℕ) → takes receivers.old i → takes receivers.new i }
         ensures grows { length sent.old.items ≤ length sent.new.items };
 }
@@ -51,10 +58,10 @@ pub(crate) struct Round {
 }
 
 /// Delivers the messages from number `first` on, and those sent meanwhile, to each of `round` targets in turn, until none is left,
-/// the limit of deliveries is reached, or an allocation fails. The targets are those listed, or each receiver from 0 on if none is
-/// listed.
-pub(crate) fn deliver_rounds<R: Receiver>(
+/// the limit of deliveries is reached, or one isn't made. The targets are those listed, or each receiver from 0 on if none is listed.
+pub(crate) fn deliver_rounds<C, R: Receiver<C>>(
     alloc: Global,
+    carrier: &mut C,
     receivers: &mut [R],
     sent: &mut Vec<Message>,
     targets: &[usize],
@@ -67,6 +74,7 @@ pub(crate) fn deliver_rounds<R: Receiver>(
     ensures ended { HaveEnded R.delivered R.stays targets.now round first receivers.old sent.old.items result.progress result.lost result.end receivers.new sent.new.items }
     ensures end { IsEnd first (length sent.new.items) result.progress result.end }
     ensures counts { AreCounted round first result.progress result.lost (length sent.new.items) }
+    ensures memory { R.certain → IsForMemory result.end }
     ensures takes { (i : ℕ) → R.takes receivers.old i → R.takes receivers.new i }
 {
     let mut progress = Progress::start();
@@ -81,16 +89,16 @@ pub(crate) fn deliver_rounds<R: Receiver>(
             };
         }
         let node = target(targets, progress.some);
-        match R::deliver(alloc, receivers, sent, node, number) {
+        match R::deliver(alloc, carrier, receivers, sent, node, number) {
             Ok(loses) => {
                 lost = count_lost(lost, loses);
                 progress = progress.next(round);
             }
-            Err(_) => {
+            Err(fault) => {
                 return Round {
                     progress,
                     lost,
-                    end: End::NoMemory,
+                    end: End::Failed(fault),
                 };
             }
         }

@@ -1,17 +1,20 @@
 -- A canvas as a picture: the index of a column of a row, and the effect on a canvas in terms of its pixels.
-use Rattle.std.proofs.Common.{◌≡◌, ◌≢◌, ℕ, ◌+◌, ◌-◌, ◌*◌, ◌/◌, ◌%◌, ◌<◌, ◌≤◌, inl, inr, Bool, true, false, List, length, replicate, Option, Some, None, is_some, refl, sym, ap, ◌∙◌, arith}
+use Rattle.std.proofs.Common.{◌≡◌, ◌≢◌, ℕ, ◌+◌, ◌-◌, ◌*◌, ◌/◌, ◌%◌, ◌<◌, ◌≤◌, inl, inr, Bool, true, false, List, length, get_or, set, replicate, Option, Some, None, is_some, refl, sym, ap, ◌∙◌, arith}
+use Rattle.std.specs.List.{All}
 use Rattle.std.specs.Option.{option_or}
 use Rattle.std.proofs.Math.Nat.{div-lt_iff_lt-mul, div-add-mod, mul_comm}
 use Rattle.std.proofs.lemmas.Nat.{div-mul-add, mod-mul-add}
 use Rattle.std.proofs.lemmas.List.{get_or-replicate}
+use Rattle.std.proofs.lemmas.List.Elements.{All-get_or, All-set, All-weaker}
 use Rattle.std.proofs.lemmas.Bool.{cases_lt, cases_eq}
 use Rattle.std.proofs.lemmas.Bool.Decides.{nat_tests}
 use Rattle.wf_def.specs.declared.color.Color.{Color}
 use Rattle.wf_paint.specs.Pixmap.{column_of, row_of}
-use Rattle.wf_paint.specs.Cells.{IsCells, IsRangePainted, IsFilled, is_free, painted_in}
+use Rattle.wf_paint.specs.Cells.{IsCells, IsRun, IsRangePainted, IsFilled, is_free, painted_in}
+use Rattle.wf_paint.specs.declared.span.Span.{Span}
 use Rattle.wf_paint.specs.Canvas.{CanvasValue, IsCanvas, IsBlank, IsFull, HasFree, IsAlike, IsFinished, painted_at}
 use Rattle.wf_paint.specs.Shown.{IsColored, is_in_run, color_where}
-use Rattle.wf_paint.proofs.CellsLemmas.{range_keeps, is_free-none, painted_in-free, painted_in-painted, painted_in-same}
+use Rattle.wf_paint.proofs.CellsLemmas.{range_keeps, range_run, range_in_run, run_kept, is_free-none, painted_in-free, painted_in-painted, painted_in-same}
 
 -- ---- the index of a pixel
 
@@ -69,17 +72,17 @@ or_none None = refl
 or_none (Some color) = refl
 
 -- the same canvas with other pixels
-abbrev pub with_cells : CanvasValue → List ℕ → List ℕ → CanvasValue
-with_cells c skip bytes = record { width = c.width; height = c.height; bytes = bytes; skip = skip; known = c.known }
+abbrev pub with_cells : CanvasValue → List ℕ → List ℕ → List Span → CanvasValue
+with_cells c skip bytes runs = record { width = c.width; height = c.height; bytes = bytes; skip = skip; runs = runs; known = c.known }
 
-module _ (c : CanvasValue) (row from to : ℕ) (color : Color) (skip bytes : List ℕ) where
+module _ (c : CanvasValue) (row from to : ℕ) (color : Color) (skip bytes : List ℕ) (runs : List Span) where
   -- how many pixels lie in the rows above
   abbrev left : ℕ
   left = (c.height - 1 - row) * c.width
 
   -- a range of indices in one row is a run of its columns
   pub run_colored : IsCanvas c → row < c.height → to ≤ c.width → IsRangePainted (left + from) (left + to) color c.skip c.bytes skip bytes →
-      IsColored (is_in_run row from to) color c (with_cells c skip bytes)
+      IsColored (is_in_run row from to) color c (with_cells c skip bytes runs)
   unfolding painted_at
   run_colored is within inside range =
       let some : 0 < c.width = omega (arith, is.width_least) in
@@ -117,14 +120,17 @@ module _ (c : CanvasValue) (row from to : ℕ) (color : Color) (skip bytes : Lis
       }
 
   -- what was painted stays painted
-  pub canvas_covered : (start end : ℕ) → IsCanvas c → IsRangePainted start end color c.skip c.bytes skip bytes → IsCells skip bytes → IsCanvas (with_cells c skip bytes)
-  canvas_covered start end is range cells = record {
+  pub canvas_covered : (start end : ℕ) → IsCanvas c → IsRangePainted start end color c.skip c.bytes skip bytes → IsCells skip bytes →
+      length runs ≡ length c.runs → All (IsRun skip) runs → IsCanvas (with_cells c skip bytes runs)
+  canvas_covered start end is range cells count painted = record {
     width_least = is.width_least;
     width_most = is.width_most;
     height_least = is.height_least;
     height_most = is.height_most;
     size = range.skip_size ∙ is.size;
     cells = cells;
+    runs_count = count ∙ is.runs_count;
+    runs_painted = painted;
     known_within = omega (arith, is.known_within, range.skip_size);
     known_painted = λ i before. range_keeps start end color c.skip c.bytes skip bytes range i (is.known_painted i before);
   }
@@ -144,11 +150,35 @@ module _ (c : CanvasValue) (row from to : ℕ) (color : Color) (skip bytes : Lis
         sym (ap (option_or (painted_at c i)) (color_where-false _ color outside) ∙ or_none (painted_at c i));
   }
 
+module _ (c : CanvasValue) (row from to : ℕ) (color : Color) (run : Span) where
+  -- columns within a run of painted pixels stay as they are
+  pub run_hidden : IsCanvas c → row < c.height → to ≤ c.width → run.from ≤ (c.height - 1 - row) * c.width + from → (c.height - 1 - row) * c.width + to ≤ run.to →
+      IsRun c.skip run → IsColored (is_in_run row from to) color c c
+  run_hidden is within inside first last painted = run_colored c row from to color c.skip c.bytes c.runs is within inside
+      (range_in_run ((c.height - 1 - row) * c.width + from) ((c.height - 1 - row) * c.width + to) color c.skip c.bytes run first last painted)
+
+-- ---- the runs of the rows
+
+module _ (skip : List ℕ) (runs : List Span) (row : ℕ) (run : Span) where
+  -- a row's run
+  pub row_run : row < length runs → run ≡ get_or runs row (record { from = 0; to = 0 }) → All (IsRun skip) runs → IsRun skip run
+  row_run within is painted = rw is (All-get_or (IsRun skip) runs row (record { from = 0; to = 0 }) within painted)
+
+module _ (row start end : ℕ) (color : Color) (old_skip old_bytes skip bytes : List ℕ) (runs : List Span) (run joined : Span) where
+  -- the runs, after a row's was joined with the painted range
+  pub runs_joined : row < length runs → run ≡ get_or runs row (record { from = 0; to = 0 }) → All (IsRun old_skip) runs →
+      IsRangePainted start end color old_skip old_bytes skip bytes →
+      ((s : List ℕ) → IsRun s run → IsRun s (record { from = start; to = end }) → IsRun s joined) → All (IsRun skip) (set runs row joined)
+  runs_joined within is painted range join =
+      let kept : All (IsRun skip) runs = All-weaker (IsRun old_skip) (IsRun skip) (run_kept start end color old_skip old_bytes skip bytes range) runs painted in
+      let now : IsRun skip (record { from = start; to = end }) = range_run start end color old_skip old_bytes skip bytes range in
+      All-set (IsRun skip) runs row joined (join skip (row_run skip runs row run within is kept) now) kept
+
 -- ---- the whole canvas
 
-pub blank_pixels : (width height : ℕ) (bytes : List ℕ) → IsBlank width height (record { width = width; height = height; bytes = bytes; skip = replicate (width * height) 0; known = 0 })
+pub blank_pixels : (width height : ℕ) (bytes : List ℕ) (runs : List Span) → IsBlank width height (record { width = width; height = height; bytes = bytes; skip = replicate (width * height) 0; runs = runs; known = 0 })
 unfolding painted_at
-blank_pixels width height bytes =
+blank_pixels width height bytes runs =
     let skip : List ℕ = replicate (width * height) 0 in
     record {
       wide = refl;
@@ -158,7 +188,7 @@ blank_pixels width height bytes =
 
 -- the same canvas, of whose first pixels so many are known to be painted
 abbrev pub with_known : CanvasValue → ℕ → CanvasValue
-with_known c known = record { width = c.width; height = c.height; bytes = c.bytes; skip = c.skip; known = known }
+with_known c known = record { width = c.width; height = c.height; bytes = c.bytes; skip = c.skip; runs = c.runs; known = known }
 
 module _ (c : CanvasValue) (known : ℕ) where
   -- to know more changes no pixel
@@ -174,6 +204,8 @@ module _ (c : CanvasValue) (known : ℕ) where
     height_most = is.height_most;
     size = is.size;
     cells = is.cells;
+    runs_count = is.runs_count;
+    runs_painted = is.runs_painted;
     known_within = within;
     known_painted = painted;
   }

@@ -6,7 +6,8 @@ use Rattle.std.proofs.lemmas.Bool.{cases_lt, cases_eq}
 use Rattle.std.proofs.lemmas.Bool.Decides.{nat_tests}
 use Rattle.wf_def.specs.declared.color.Color.{Color}
 use Rattle.wf_paint.specs.Pixmap.{pixel_at}
-use Rattle.wf_paint.specs.Cells.{IsCells, IsJump, AreJumps, IsWritten, IsRangePainted, IsStep, IsFilled, is_free, painted_in}
+use Rattle.wf_paint.specs.Cells.{IsCells, IsJump, AreJumps, IsRun, IsWritten, IsRangePainted, IsStep, IsFilled, is_free, painted_in}
+use Rattle.wf_paint.specs.declared.span.Span.{Span}
 
 -- ---- free and painted pixels
 
@@ -286,3 +287,27 @@ module _ (skip : List ℕ) (here : ℕ) (free : is_free skip here ≡ true) wher
 
 pub filled_none : (background : Color) (skip bytes : List ℕ) → IsFilled 0 background skip bytes bytes
 filled_none background skip bytes = record { size = refl; filled = λ i before. absurd (omega arith); left = λ i later. refl }
+
+-- ---- runs of painted pixels
+
+module _ (start end : ℕ) (color : Color) (old_skip old_bytes skip bytes : List ℕ) (range : IsRangePainted start end color old_skip old_bytes skip bytes) where
+  -- a run stays one
+  pub run_kept : (run : Span) → IsRun old_skip run → IsRun skip run
+  run_kept run painted = λ i from to. range_keeps start end color old_skip old_bytes skip bytes range i (painted i from to)
+
+  -- and the painted range is one
+  pub range_run : IsRun skip (record { from = start; to = end })
+  range_run = λ i from to. range_painted start end color old_skip old_bytes skip bytes range i from to
+
+-- to paint a range within a run changes nothing
+pub range_in_run : (start end : ℕ) (color : Color) (skip bytes : List ℕ) (run : Span) → run.from ≤ start → end ≤ run.to → IsRun skip run →
+    IsRangePainted start end color skip bytes skip bytes
+range_in_run start end color skip bytes run first last painted = record {
+  skip_size = refl;
+  bytes_size = refl;
+  painted = λ i from before.
+      let was : painted_in skip bytes i ≡ Some (pixel_at bytes i) = painted_in-painted skip bytes i (painted i (omega arith) (omega arith)) in
+      was ∙ ap (λ (o : Option Color). option_or o (Some color)) (sym was);
+  before = λ i earlier. refl;
+  after = λ i later. refl;
+}

@@ -108,14 +108,14 @@ strip_mirrored l m rows columns u v same is =
 pub record IsEdge (bound start change : ℤ) (step row : ℕ) (q : Quotient) : Type 0 where
   pub value : plus (number_of step q) (pos 1) ≡ difference bound (level start change (pos row))
   pub rest : q.rest < step
-  pub within : nat_abs q.whole ≤ (row + 1) * 2 ^ 114
+  pub within : nat_abs q.whole ≤ (row + 1) * 2 ^ 51
 
 one_more : (n bound z : ℤ) → n ≡ difference (difference bound z) (pos 1) → plus n (pos 1) ≡ difference bound z
 unfolding plus difference
 one_more n bound z is = omega (arith, ints)
 
 pub edge_begins : (bound start change here : ℤ) (step row : ℕ) (q : Quotient) → here ≡ level start change (pos row) →
-    number_of step q ≡ difference (difference bound here) (pos 1) → q.rest < step → nat_abs q.whole ≤ 2 ^ 112 → IsEdge bound start change step row q
+    number_of step q ≡ difference (difference bound here) (pos 1) → q.rest < step → nat_abs q.whole ≤ 2 ^ 50 → IsEdge bound start change step row q
 edge_begins bound start change here step row q is value rest within = record {
   value = one_more (number_of step q) bound here value ∙ ap (difference bound) is;
   rest = rest;
@@ -128,7 +128,7 @@ unfolding plus difference opposite
 lowered n c next bound z change further first second third fourth = omega (arith, ints)
 
 pub edge_moves : (bound start change : ℤ) (step row : ℕ) (q c next : Quotient) → IsEdge bound start change step row q → number_of step c ≡ opposite change →
-    number_of step next ≡ plus (number_of step q) (number_of step c) → next.rest < step → nat_abs next.whole ≤ nat_abs q.whole + 2 ^ 113 →
+    number_of step next ≡ plus (number_of step q) (number_of step c) → next.rest < step → nat_abs next.whole ≤ nat_abs q.whole + 2 ^ 51 →
     IsEdge bound start change step (row + 1) next
 edge_moves bound start change step row q c next edge moves sum rest within = record {
   value = lowered (number_of step q) (number_of step c) (number_of step next) bound (level start change (pos row)) change (level start change (pos (row + 1)))
@@ -156,6 +156,20 @@ rising_row l margin step row most low high span same lower upper from to within 
     rising_span (level l.origin (product (pos 16) l.up) (pos row)) (product (pos 16) l.across) margin most span within
     (edge_counts (opposite margin) l.origin (product (pos 16) l.up) (product (pos 16) l.across) step row most span.from low lower same from)
     (edge_counts margin l.origin (product (pos 16) l.up) (product (pos 16) l.across) step row most span.to high upper same to)
+
+-- the same where the multiples below both borders are counted
+pub counted_row : (l : Levels) (step start lower upper : ℤ) (row most : ℕ) (span : Span) → span.to ≤ most → step ≡ product (pos 16) l.across → start ≡ row_level l row →
+    lower ≡ difference (opposite l.margin) start → upper ≡ difference l.margin start →
+    ((u : ℕ) → u < most → is_less (product step (pos u)) lower ≡ nat_lt u span.from) →
+    ((u : ℕ) → u < most → is_less (product step (pos u)) upper ≡ nat_lt u span.to) →
+    IsSpanOf (λ u. is_in_margin l.margin (level_at l u row)) most span
+unfolding level_at
+counted_row l step start lower upper row most span within same here low high from to =
+    let stepped : (u : ℕ) (bound : ℤ) → is_less (product (product (pos 16) l.across) (pos u)) bound ≡ is_less (product step (pos u)) bound =
+    λ u bound. ap (λ (z : ℤ). is_less (product z (pos u)) bound) (sym same) in
+    rising_span (row_level l row) (product (pos 16) l.across) l.margin most span within
+    (λ u below. stepped u _ ∙ ap (is_less (product step (pos u))) (sym (low ∙ ap (difference (opposite l.margin)) here)) ∙ from u below)
+    (λ u below. stepped u _ ∙ ap (is_less (product step (pos u))) (sym (high ∙ ap (difference l.margin) here)) ∙ to u below)
 
 still_at : (z : ℤ) (u : ℕ) → level z (product (pos 16) (pos 0)) (pos u) ≡ z
 unfolding product

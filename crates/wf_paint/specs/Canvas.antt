@@ -1,18 +1,21 @@
 -- A picture while it is painted, from the last operation to the first. A painted pixel keeps its colour; a free one has none yet.
 use Rattle.std.specs.Prelude.{◌≡◌, ℕ, ◌*◌, ◌<◌, ◌≤◌, true, false, List, length, Option, None, is_some}
+use Rattle.std.specs.List.{All}
 use Rattle.std.specs.Option.{unwrap_or}
 use Rattle.wf_def.specs.declared.color.Color.{Color}
 use Rattle.wf_paint.specs.View.{most_pixels}
 use Rattle.wf_paint.specs.Pixmap.{PixmapValue, pixel_at}
-use Rattle.wf_paint.specs.Cells.{IsCells, is_free, painted_in}
+use Rattle.wf_paint.specs.Cells.{IsCells, IsRun, is_free, painted_in}
+use Rattle.wf_paint.specs.declared.span.Span.{Span}
 
--- a size in pixels, three bytes a pixel, for each pixel the distance to the next one that may be free, 0 if it is free itself, and
--- how many of the first pixels are known to be painted
+-- a size in pixels, three bytes a pixel, for each pixel the distance to the next one that may be free, 0 if it is free itself, for
+-- each row a run of painted pixels, and how many of the first pixels are known to be painted
 pub record CanvasValue : Type 0 where
   pub width : ℕ
   pub height : ℕ
   pub bytes : List ℕ
   pub skip : List ℕ
+  pub runs : List Span
   pub known : ℕ
 
 -- the colour of a painted pixel
@@ -26,6 +29,8 @@ pub record IsCanvas (c : CanvasValue) : Type 0 where
   pub height_most : c.height ≤ most_pixels
   pub size : length c.skip ≡ c.width * c.height
   pub cells : IsCells c.skip c.bytes
+  pub runs_count : length c.runs ≡ c.height
+  pub runs_painted : All (IsRun c.skip) c.runs
   pub known_within : c.known ≤ length c.skip
   pub known_painted : (i : ℕ) → i < c.known → is_free c.skip i ≡ false
 

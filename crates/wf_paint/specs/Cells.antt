@@ -3,6 +3,7 @@ use Rattle.std.specs.Prelude.{◌≡◌, ◌≢◌, ℕ, ◌+◌, ◌*◌, ◌^�
 use Rattle.std.specs.Option.{option_or, unwrap_or}
 use Rattle.wf_def.specs.declared.color.Color.{Color}
 use Rattle.wf_paint.specs.Pixmap.{pixel_at}
+use Rattle.wf_paint.specs.declared.span.Span.{Span}
 
 -- the pixel is free: its jump is 0
 unfoldable pub is_free : List ℕ → ℕ → Bool
@@ -19,6 +20,10 @@ pub record IsJump (skip : List ℕ) (index : ℕ) : Type 0 where
 
 pub record AreJumps (skip : List ℕ) : Type 0 where
   pub each : (i : ℕ) → i < length skip → IsJump skip i
+
+-- the pixels of the span are painted
+abbrev pub IsRun : List ℕ → Span → Type 0
+IsRun skip span = (i : ℕ) → span.from ≤ i → i < span.to → is_free skip i ≡ false
 
 -- a picture's pixels, at most 2^20
 pub record IsCells (skip bytes : List ℕ) : Type 0 where

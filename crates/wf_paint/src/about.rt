@@ -11,6 +11,7 @@ use crate::canvas::Canvas;
 use crate::place::Place;
 use crate::span::Span;
 use crate::square::{square_end, square_start};
+use crate::steps::integers_below;
 use wf_def::color::Color;
 
 /// Paints a square of `size` pixels about a position; nothing if `color` is None.
@@ -50,22 +51,7 @@ fn span_about(size: u8, place: i64, most: u32) -> Span
 {
     let start = square_start(size, place);
     Span {
-        from: cut(start, most),
-        to: cut(square_end(start, size), most),
-    }
-}
-
-/// The number of integers in 0..most below the bound.
-#[tactic(auto, unfolding(crate::specs::Exact::is_less))]
-fn cut(bound: i64, most: u32) -> u32
-    ensures within { result ≤ most }
-    ensures below { (u : ℕ) → u < most → is_less (pos u) bound ≡ nat_lt u result }
-{
-    if bound <= 0 {
-        0
-    } else if bound < i64::from(most) {
-        bound as u32
-    } else {
-        most
+        from: integers_below(start, most),
+        to: integers_below(square_end(start, size), most),
     }
 }

@@ -1,11 +1,12 @@
 //! A picture while it is painted, from the last operation to the first.
-ghost use Rattle.std.specs.Prelude.{◌≡◌, ◌≤◌, ◌<◌, ◌*◌, ◌+◌, ◌^◌, ◌↔◌, ℕ, true, false, length, slice_index, IfOk};
+ghost use Rattle.std.specs.Prelude.{◌≡◌, ◌≤◌, ◌<◌, ◌*◌, ◌+◌, ◌^◌, ◌↔◌, ℕ, true, false, List, length, slice_index, IfOk};
 ghost use Rattle.wf_paint.specs.View.{most_pixels};
-ghost use Rattle.wf_paint.specs.Cells.{IsCells, IsJump, AreJumps, IsStep, IsRangePainted, IsWritten, IsFilled, is_free};
+ghost use Rattle.wf_paint.specs.Cells.{IsCells, IsJump, AreJumps, IsRun, IsStep, IsRangePainted, IsWritten, IsFilled, is_free};
 ghost use Rattle.wf_paint.specs.Canvas.{IsCanvas, IsBlank, IsFull, HasFree, IsAlike, IsFinished};
 ghost use Rattle.wf_paint.specs.Shown.{IsColored, is_in_run};
 
 use crate::pixmap::Pixmap;
+use crate::span::Span;
 use std::alloc::{AllocError, Global};
 use std::marker::Model;
 use wf_def::color::Color;
@@ -16,9 +17,11 @@ pub(crate) struct Canvas {
     width: u32,
     height: u32,
     bytes: Vec<u8>,
-    /// For each pixel, the length of a jump from it over painted pixels of its row; 0 where the pixel is free. Lines that go over
-    /// painted pixels read little else, so it is as small as a row's length allows.
+    /// For each pixel, the length of a jump from it over painted pixels of its row; 0 where the pixel is free.
     skip: Vec<u16>,
+    /// For each row, a run of painted pixels, as indices. Lines that go over painted pixels mostly lie within them, and then read
+    /// nothing else: all runs together are small enough to stay near the processor.
+    runs: Vec<Span>,
     /// So many of the first pixels are known to be painted.
     known: u32,
 }
@@ -28,9 +31,9 @@ impl Model for Canvas {
 
     ghost Value = { CanvasValue };
 
-    ghost view = { λ c. record { width = c.width; height = c.height; bytes = c.bytes.items; skip = c.skip.items; known = c.known } };
+    ghost view = { λ c. record { width = c.width; height = c.height; bytes = c.bytes.items; skip = c.skip.items; runs = c.runs.items; known = c.known } };
 
-    ghost invariant = { λ c. IsCanvas (record { width = c.width; height = c.height; bytes = c.bytes.items; skip = c.skip.items; known = c.known }) };
+    ghost invariant = { λ c. IsCanvas (record { width = c.width; height = c.height; bytes = c.bytes.items; skip = c.skip.items; runs = c.runs.items; known = c.known }) };
 }
 
 impl Canvas {
@@ -48,6 +51,7 @@ impl Canvas {
             height,
             bytes: vec![in alloc; 0; 3 * area]?,
             skip: vec![in alloc; 0; area]?,
+            runs: vec![in alloc; Span { from: 0, to: 0 }; height as usize]?,
             known: 0,
         })
     }
@@ -76,13 +80,18 @@ impl Canvas {
     {
         if from < to {
             let left = (self.height - 1 - row) * self.width;
-            paint_range(
-                &mut self.bytes,
-                &mut self.skip,
-                left + from,
-                left + to,
-                color,
-            );
+            let (start, end) = (left + from, left + to);
+            let run = self.runs[row as usize];
+            if start < run.from || run.to < end {
+                paint_range(&mut self.bytes, &mut self.skip, start, end, color);
+                self.runs[row as usize] = joined(
+                    run,
+                    Span {
+                        from: start,
+                        to: end,
+                    },
+                );
+            }
         }
     }
 
@@ -105,11 +114,28 @@ impl Canvas {
             height,
             bytes,
             skip,
+            runs: _,
             known: _,
         } = self;
         let mut bytes = bytes;
         fill_free(&mut bytes, &skip, background);
         Pixmap::of(width, height, bytes)
+    }
+}
+
+/// The union of two runs of painted pixels if they touch, else the longer one.
+fn joined(a: Span, b: Span) -> Span
+    ensures { (skip : List ℕ) → IsRun skip a → IsRun skip b → IsRun skip result }
+{
+    if b.from <= a.to && a.from <= b.to {
+        Span {
+            from: a.from.min(b.from),
+            to: a.to.max(b.to),
+        }
+    } else if a.to.saturating_sub(a.from) < b.to.saturating_sub(b.from) {
+        b
+    } else {
+        a
     }
 }
 

@@ -3,6 +3,6 @@
 /// A number as a multiple of a divisor and a rest: `whole * divisor + rest`.
 #[derive(Clone, Copy)]
 pub(crate) struct Quotient {
-    pub whole: i128,
+    pub whole: i64,
     pub rest: u64,
 }

@@ -1,12 +1,15 @@
 //! The number of multiples of a step below a bound. Every boundary of a shape in a row is computed by it: by a division, or from the
 //! row before by a sum.
-ghost use Rattle.std.specs.Prelude.{◌≡◌, ℕ, ◌+◌, ◌*◌, ◌/◌, ◌^◌, ◌<◌, ◌≤◌, nat_lt, nat_abs, pos, ◌≤ℤ◌};
+ghost use Rattle.std.specs.Prelude.{◌≡◌, ℕ, ◌+◌, ◌*◌, ◌/◌, ◌^◌, ◌<◌, ◌≤◌, nat_lt, nat_abs, pos, ◌≤ℤ◌, IfSome, IfNone};
 ghost use Rattle.std.specs.Int.{int_rem_euclid};
 ghost use Rattle.wf_paint.specs.Exact.{plus, product, quotient, is_less};
 ghost use Rattle.wf_paint.specs.Place.{middle};
 ghost use Rattle.wf_paint.specs.Quotient.{number_of};
 
 use crate::quotient::Quotient;
+
+/// How far from 0 the whole part of a quotient may lie. The sum of a thousand, one for each row, is still far from what 64 bits hold.
+const FARTHEST: u128 = 1 << 50;
 
 /// The number of the first `most` pixels of an axis whose centre lies below the position, in sixteenths of a pixel.
 pub(crate) fn centres_below(place: i64, most: u32) -> u32
@@ -58,19 +61,23 @@ fn divided(number: u128, divisor: u128) -> u128
     }
 }
 
-/// The number as a quotient by the divisor, rounded down, with its rest.
-#[tactic(auto, using(crate::proofs::QuotientLemmas::divided_again), unfolding(crate::specs::Quotient::number_of))]
-pub(crate) fn quotient(number: i128, divisor: u64) -> Quotient
+/// The number as a quotient by the divisor, rounded down, with its rest. None iff its whole part is more than `FARTHEST` away from 0.
+pub(crate) fn quotient(number: i128, divisor: u64) -> Option<Quotient>
     requires divisor { 1 ≤ divisor }
     requires number { nat_abs number ≤ 2 ^ 112 }
-    ensures value { number_of divisor result ≡ number }
-    ensures rest { result.rest < divisor }
-    ensures within { nat_abs result.whole ≤ 2 ^ 112 }
+    ensures value { IfSome result (λ q. number_of divisor q ≡ number) }
+    ensures rest { IfSome result (λ q. q.rest < divisor) }
+    ensures within { IfSome result (λ q. nat_abs q.whole ≤ 2 ^ 50) }
+    ensures none { IfNone result (2 ^ 50 < nat_abs (quotient number (pos divisor))) }
 {
-    Quotient {
-        whole: whole(number, divisor),
-        rest: rest(number, divisor),
+    let whole = whole(number, divisor);
+    if whole.unsigned_abs() > FARTHEST {
+        return None;
     }
+    Some(Quotient {
+        whole: whole as i64,
+        rest: rest(number, divisor),
+    })
 }
 
 /// How often the divisor goes into the number, rounded down.
@@ -99,11 +106,11 @@ pub(crate) fn sum(a: Quotient, b: Quotient, divisor: u64) -> Quotient
     requires divisor { divisor ≤ 2 ^ 60 }
     requires first { a.rest < divisor }
     requires second { b.rest < divisor }
-    requires first_within { nat_abs a.whole ≤ 2 ^ 125 }
-    requires second_within { nat_abs b.whole ≤ 2 ^ 112 }
+    requires first_within { nat_abs a.whole ≤ 2 ^ 62 }
+    requires second_within { nat_abs b.whole ≤ 2 ^ 50 }
     ensures value { number_of divisor result ≡ plus (number_of divisor a) (number_of divisor b) }
     ensures rest { result.rest < divisor }
-    ensures within { nat_abs result.whole ≤ nat_abs a.whole + 2 ^ 113 }
+    ensures within { nat_abs result.whole ≤ nat_abs a.whole + 2 ^ 51 }
 {
     let whole = a.whole + b.whole;
     let rest = a.rest + b.rest;
@@ -120,7 +127,7 @@ pub(crate) fn sum(a: Quotient, b: Quotient, divisor: u64) -> Quotient
 /// The number of the first `most` multiples of the divisor, from 0 on, that aren't greater than the number.
 #[inline(always)]
 pub(crate) fn multiples_up_to(number: Quotient, most: u32) -> u32
-    requires { nat_abs number.whole ≤ 2 ^ 125 }
+    requires { nat_abs number.whole ≤ 2 ^ 62 }
     ensures within { result ≤ most }
     ensures below { (divisor u : ℕ) → number.rest < divisor → u < most → is_less (product (pos divisor) (pos u)) (plus (number_of divisor number) (pos 1)) ≡ nat_lt u result }
 {
@@ -129,13 +136,13 @@ pub(crate) fn multiples_up_to(number: Quotient, most: u32) -> u32
 
 /// The number of integers in 0..most below the bound.
 #[tactic(auto, unfolding(crate::specs::Exact::is_less))]
-fn integers_below(bound: i128, most: u32) -> u32
+pub(crate) fn integers_below(bound: i64, most: u32) -> u32
     ensures within { result ≤ most }
     ensures below { (u : ℕ) → u < most → is_less (pos u) bound ≡ nat_lt u result }
 {
     if bound <= 0 {
         0
-    } else if bound < i128::from(most) {
+    } else if bound < i64::from(most) {
         bound as u32
     } else {
         most

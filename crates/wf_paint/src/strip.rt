@@ -1,11 +1,11 @@
 //! Strips: the pixels whose level lies within a margin, painted row by row. The ends of a row's pixels are those of the row before,
-//! moved by a constant, so no row but the first takes a division.
+//! moved by a constant, so no row but the first takes a division. Only lines whose numbers are too large for it take one in each row.
 ghost use Rattle.std.specs.Prelude.{◌≡◌, ℕ, ◌*◌, ◌^◌, ◌<◌, ◌≤◌, nat_abs, pos, ◌≤ℤ◌};
 ghost use Rattle.wf_paint.specs.Near.{IsReach, IsArea};
 ghost use Rattle.wf_paint.specs.Exact.{difference, product, opposite};
-ghost use Rattle.wf_paint.specs.Level.{level_at, row_level};
+ghost use Rattle.wf_paint.specs.Level.{level_at, row_level, is_in_margin};
 ghost use Rattle.wf_paint.specs.Shown.{IsColored};
-ghost use Rattle.wf_paint.specs.Span.{shared};
+ghost use Rattle.wf_paint.specs.Span.{IsSpanOf, shared};
 ghost use Rattle.wf_paint.specs.Strip.{is_in_strip};
 ghost use Rattle.wf_paint.specs.View.{most_pixels};
 
@@ -14,7 +14,7 @@ use crate::exact::{opposite, product};
 use crate::level::level_within;
 use crate::levels::Levels;
 use crate::span::Span;
-use crate::steps::{multiples_up_to, quotient, sum};
+use crate::steps::{multiples_up_to, quotient, steps_below, sum};
 use wf_def::color::Color;
 
 /// Paints the pixels of these rows and columns whose level lies within the margin about 0.
@@ -95,10 +95,16 @@ fn draw_rising(canvas: &mut Canvas, levels: Levels, rows: Span, columns: Span, c
     ensures { IsColored (is_in_strip levels rows columns) color canvas.old canvas.new }
 {
     let step = step(levels.across);
-    let change = quotient(opposite(product(16, levels.up)), step);
     let start = row_level(levels, rows.from);
-    let mut low = quotient(room(opposite(levels.margin), start), step);
-    let mut high = quotient(room(levels.margin, start), step);
+    let Some(change) = quotient(opposite(product(16, levels.up)), step) else {
+        return draw_far(canvas, levels, rows, columns, color);
+    };
+    let Some(mut low) = quotient(room(opposite(levels.margin), start), step) else {
+        return draw_far(canvas, levels, rows, columns, color);
+    };
+    let Some(mut high) = quotient(room(levels.margin, start), step) else {
+        return draw_far(canvas, levels, rows, columns, color);
+    };
     for row in rows.from..rows.to {
         let within = Span {
             from: multiples_up_to(low, columns.to),
@@ -108,6 +114,45 @@ fn draw_rising(canvas: &mut Canvas, levels: Levels, rows: Span, columns: Span, c
         canvas.cover(row, span.from, span.to, color);
         low = sum(low, change, step);
         high = sum(high, change, step);
+    }
+}
+
+/// The same for a line that is so long, far away or close to level that 64 bits don't hold its quotients: each row takes divisions.
+/// Such a line visits few rows.
+fn draw_far(canvas: &mut Canvas, levels: Levels, rows: Span, columns: Span, color: Color)
+    requires origin { nat_abs levels.origin ≤ 2 ^ 110 }
+    requires across { IsReach levels.across }
+    requires rising { pos 1 ≤ℤ levels.across }
+    requires up { IsReach levels.up }
+    requires margin { IsArea levels.margin }
+    requires order { rows.from ≤ rows.to }
+    requires rows { rows.to ≤ canvas.old.height }
+    requires most_rows { rows.to ≤ most_pixels }
+    requires columns { columns.to ≤ canvas.old.width }
+    ensures { IsColored (is_in_strip levels rows columns) color canvas.old canvas.new }
+{
+    for row in rows.from..rows.to {
+        let within = rising_within(levels, row, columns.to);
+        let span = both(columns, within);
+        canvas.cover(row, span.from, span.to, color);
+    }
+}
+
+/// The pixels, of the first `most` of a row, whose level lies within the margin about 0, if levels rise from column to column.
+fn rising_within(levels: Levels, row: u32, most: u32) -> Span
+    requires origin { nat_abs levels.origin ≤ 2 ^ 110 }
+    requires across { IsReach levels.across }
+    requires rising { pos 1 ≤ℤ levels.across }
+    requires up { IsReach levels.up }
+    requires margin { IsArea levels.margin }
+    requires row { row ≤ most_pixels }
+    ensures { IsSpanOf (λ u. is_in_margin levels.margin (level_at levels u row)) most result }
+{
+    let step = i128::from(step(levels.across));
+    let start = row_level(levels, row);
+    Span {
+        from: steps_below(step, gap(opposite(levels.margin), start), most),
+        to: steps_below(step, gap(levels.margin, start), most),
     }
 }
 
@@ -152,6 +197,16 @@ fn room(bound: i128, level: i128) -> i128
     ensures within { nat_abs result ≤ 2 ^ 112 }
 {
     bound - level - 1
+}
+
+/// How far the bound lies above the level.
+#[tactic(auto, unfolding(crate::specs::Exact::difference))]
+fn gap(bound: i128, level: i128) -> i128
+    requires bound { IsArea bound }
+    requires level { nat_abs level ≤ 2 ^ 111 }
+    ensures { result ≡ difference bound level }
+{
+    bound - level
 }
 
 /// The same for levels that don't change from column to column.

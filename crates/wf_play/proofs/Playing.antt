@@ -17,7 +17,7 @@ use Rattle.wf_farm.specs.Pump.{IsPumped, IsPumpedPart}
 use Rattle.wf_farm.specs.declared.place.Place.{Place}
 use Rattle.wf_farm.specs.declared.place.Place.TheVariants.{Running, Stopped}
 use Rattle.wf_farm.specs.declared.fault.FarmFault.{FarmFault}
-use Rattle.wf_farm.specs.declared.fault.FarmFault.TheVariants.{Memory, NoNode}
+use Rattle.wf_farm.specs.declared.fault.FarmFault.TheVariants.{Memory, NoNode, Carried}
 use Rattle.wf_play.specs.Session.{Plays, IsPublished}
 
 -- nothing
@@ -37,6 +37,7 @@ run_played events before after runs same grows = record { events = events; runs 
 pub part_played : (fault : FarmFault) (events : List (Event Definition)) (before after : Farm) → RunsPart fault events before after → size after ≡ size before → HistoriesGrow before after → Plays before after
 part_played (Memory done) events before after part same grows = run_played (take done events) before after part.1 same grows
 part_played NoNode events before after part same grows = absurd part
+part_played (Carried done) events before after part same grows = absurd part
 
 -- a pump
 pub pump_played : (names : List ℕ) (before after : Farm) (stopped : Bool) → IsPumped names before after stopped → size after ≡ size before → HistoriesGrow before after → Plays before after
@@ -49,6 +50,7 @@ pump_part_played names before after (Memory done) part same grows =
       | inr some ↦ record { events = _; runs = some.0.runs; size = same; grows = inr grows }
     ]
 pump_part_played names before after NoNode part same grows = absurd part
+pump_part_played names before after (Carried done) part same grows = record { events = _; runs = part.0.runs; size = same; grows = inr grows }
 
 -- what is published under one sequence is one definition
 pub published_once : (farm : Farm) (s : ℕ) (c d : Definition) → HasOneHistory farm → IsPublished farm s c → IsPublished farm s d → c ≡ d

@@ -16,7 +16,7 @@ use Rattle.wf_farm.specs.declared.fault.FarmFault.TheVariants.{NoNode}
 use Rattle.wf_farm.specs.declared.place.Place.{Place}
 use Rattle.wf_play.specs.Comparison.{IsUncompared}
 use Rattle.wf_script.specs.Script.{Numbered, Script}
-use Rattle.wf_play.specs.Telling.{Adds, IsToldAbsent, TellsAnswer, TellsEqual, TellsPump, Writes, WritesAt, no_node, published_word, pump_line}
+use Rattle.wf_play.specs.Telling.{Adds, IsOfAnswer, IsToldAbsent, TellsAnswer, TellsEqual, TellsPump, Writes, WritesAt, no_node, published_word, pump_line}
 
 -- a consequence of a property holds where the property is reported
 pub also_ok : {T E P Q : Type 0} → (result : Result T E) → (P → Q) → OnOk result P → OnOk result Q
@@ -55,6 +55,19 @@ pub unpublished : (history : List Definition) (s : ℕ) → length history < s �
 unfolding map_at definition_at
 unpublished history zero above = absurd (omega arith)
 unpublished history (suc k) above = sym (slice_get_past history k (omega arith))
+
+-- why no node answers is an error of an answer
+pub of_answer : (place : Option (Node Kept)) (fault : FarmFault) → IsNoAnswer place fault → IsOfAnswer fault
+of_answer None fault why = subst IsOfAnswer (sym why) tt
+of_answer (Some node) fault why = subst IsOfAnswer (sym why) tt
+
+-- and so is why no answers are compared
+pub of_comparison : (farm : Farm) (i j : ℕ) (fault : FarmFault) → IsUncompared farm i j fault → IsOfAnswer fault
+of_comparison farm i j fault why =
+    elim why [
+      | inl first ↦ of_answer (running_in (slice_get farm.places i)) fault first
+      | inr second ↦ of_answer (running_in (slice_get farm.places j)) fault second
+    ]
 
 -- no node answers where none runs
 is_absent : (place : Option (Node Kept)) → IsNoAnswer place NoNode → place ≡ None

@@ -1,5 +1,5 @@
 -- What an order writes about the farm after it.
-use Rattle.std.specs.Prelude.{◌≡◌, ◌⊎◌, ◌++◌, ℕ, Bool, true, false, List, [], codes, decimal, flat_map, length, slice_get, Option, Some, None, if◌then◌else◌}
+use Rattle.std.specs.Prelude.{◌≡◌, ◌⊎◌, ◌++◌, ℕ, ⊤, Bool, true, false, List, [], codes, decimal, flat_map, length, slice_get, Option, Some, None, if◌then◌else◌}
 use Rattle.wf_def.specs.Definition.{Definition}
 use Rattle.wf_learner.specs.History.{map_at}
 use Rattle.wf_node.specs.Node.{Node, working_of}
@@ -16,7 +16,7 @@ use Rattle.wf_farm.specs.Answering.{Answers, sequence_at}
 use Rattle.wf_farm.specs.Farm.{Farm, running_in}
 use Rattle.wf_farm.specs.Pump.{IsPumped}
 use Rattle.wf_farm.specs.declared.fault.FarmFault.{FarmFault}
-use Rattle.wf_farm.specs.declared.fault.FarmFault.TheVariants.{NoNode}
+use Rattle.wf_farm.specs.declared.fault.FarmFault.TheVariants.{Memory, NoNode, Carried}
 use Rattle.wf_farm.specs.declared.place.Place.{Place}
 use Rattle.wf_play.specs.Comparison.{Compares}
 use Rattle.wf_script.specs.Order as order
@@ -104,6 +104,12 @@ kind_line i (kind.Exception e) size = exception_line i e size
 -- no node runs there
 abbrev pub IsAbsent : Farm → ℕ → Type 0
 IsAbsent farm i = running_in (slice_get farm.places i) ≡ None
+
+-- an error of an answer: nothing is carried for one
+abbrev pub IsOfAnswer : FarmFault → Type 0
+IsOfAnswer NoNode = ⊤
+IsOfAnswer (Memory done) = ⊤
+IsOfAnswer (Carried done) = ⊥
 
 -- that there is no such node is written for that cause alone
 abbrev pub IsToldAbsent : FarmFault → List ℕ → List ℕ → Type 0

@@ -4,7 +4,7 @@ ghost use Rattle.std.specs.Prelude.{◌≡◌, ◌++◌, IfOk, IfErr, OnOk};
 ghost use Rattle.std.specs.String.{string_bytes};
 ghost use Rattle.wf_farm.specs.Answering.{Answers, sequence_at};
 ghost use Rattle.wf_play.specs.Comparison.{Compares, IsTrueWhereOne, IsUncompared, is_same_answer, is_same_kind};
-ghost use Rattle.wf_play.specs.Telling.{Adds, IsToldAbsent, TellsAnswer, TellsEqual, exception_line, kind_line, number_of};
+ghost use Rattle.wf_play.specs.Telling.{Adds, IsOfAnswer, IsToldAbsent, TellsAnswer, TellsEqual, exception_line, kind_line, number_of};
 
 use crate::answer::tell_no_node;
 use crate::session::Session;
@@ -28,6 +28,7 @@ impl<'s> Session<'s> {
     }
 
     /// Whether the two nodes answer the query equally.
+    #[tactic(auto, using(crate::proofs::Telling::of_comparison))]
     pub(crate) fn tell_equal(
         &self,
         alloc: Global,
@@ -147,7 +148,7 @@ fn is_same_kind(kind: Kind, other: Kind) -> bool
 }
 
 /// What the node answers to the query.
-#[tactic(auto, using(crate::proofs::Telling::no_answer_told))]
+#[tactic(auto, using(crate::proofs::Telling::no_answer_told, crate::proofs::Telling::of_answer))]
 fn tell_answer(
     alloc: Global,
     farm: &Farm,
@@ -192,11 +193,13 @@ fn tell_exception(
 
 /// Appends that there is no such node, or returns the allocation failure.
 fn tell_no_answer(fault: FarmFault, out: &mut String) -> Result<(), AllocError>
+    requires { IsOfAnswer fault }
     ensures { OnOk result (IsToldAbsent fault (string_bytes out.old) (string_bytes out.new)) }
 {
     match fault {
         FarmFault::NoNode => tell_no_node(out),
         FarmFault::Memory(_) => Err(AllocError),
+        FarmFault::Carried(_) => unreachable!(),
     }
 }
 

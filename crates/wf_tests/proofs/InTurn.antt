@@ -1,4 +1,4 @@
--- Three nodes, each at the index of its number.
+-- Three nodes, or one, each at the index of its number.
 use Rattle.std.proofs.Common.{◌≡◌, ℕ, zero, suc, List, [], ◌∷◌, slice_get, Some, subst}
 use Rattle.std.proofs.lemmas.Option.{none-some, same_Some}
 use Rattle.wf_farm.specs.Delivering.{StandAmong, StandInTurn}
@@ -14,3 +14,12 @@ module _ {T : Type 0} (first second third : Node T) (first_id : first.id ≡ 0) 
   pub three_in_turn : StandInTurn (first ∷ second ∷ third ∷ [])
   unfolding StandAmong
   three_in_turn = λ i node e. at_place i node e
+
+module _ {T : Type 0} (first : Node T) (first_id : first.id ≡ 0) (first_of : first.n ≡ 1) where
+  at_first : (i : ℕ) (node : Node T) → slice_get (first ∷ []) i ≡ Some node → (node.id ≡ i) × (node.n ≡ 1)
+  at_first zero node e = subst (λ x. (x.id ≡ 0) × (x.n ≡ 1)) (same_Some first node e) (first_id, first_of)
+  at_first (suc i) node e = absurd (none-some node e)
+
+  pub one_in_turn : StandInTurn (first ∷ [])
+  unfolding StandAmong
+  one_in_turn = λ i node e. at_first i node e

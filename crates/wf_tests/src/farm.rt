@@ -1,10 +1,10 @@
 //! Three new nodes agree on a first map.
-ghost use Rattle.std.specs.Prelude.{◌≡◌, ◌<◌, IfSome};
+ghost use Rattle.std.specs.Prelude.{◌≡◌, ◌<◌, ◌≤◌, IfSome};
 
 use crate::value::{MAP_A, map};
 use std::alloc::Global;
 use std::process::Abort;
-use wf_ballot::NodeId;
+use wf_ballot::{NodeId, Slot};
 use wf_canon::Canon;
 use wf_codec::Message;
 use wf_farm::{Pumped, deliver_all};
@@ -18,14 +18,15 @@ const FIRST_PUBLISH: Pumped = Pumped {
     stopped: false,
 };
 
-/// A new node of three.
-fn node(alloc: Global, number: u8) -> Option<Node<MemoryTape>>
-    requires { number < 3 }
+/// A new node of so many.
+fn node(alloc: Global, number: u8, of: u8) -> Option<Node<MemoryTape>>
+    requires number { number < of }
+    requires of { of ≤ 64 }
     ensures id { IfSome result (λ node. node.id ≡ number) }
-    ensures of { IfSome result (λ node. node.n ≡ 3) }
+    ensures of { IfSome result (λ node. node.n ≡ of) }
 {
     let id = NodeId::new(number)?;
-    match Node::open(alloc, MemoryTape::new(Vec::new(alloc)), id, 3) {
+    match Node::open(alloc, MemoryTape::new(Vec::new(alloc)), id, of) {
         Ok(node) => Some(node),
         Err(refused) => {
             drop(refused);
@@ -70,12 +71,12 @@ fn hear(
 
 /// The result for a map that node 0 of three new ones proposes. None if an allocation fails.
 fn published(rt: &impl Abort, alloc: Global) -> Option<(Pumped, bool)> {
-    let mut first = node(alloc, 0)?;
-    let Some(second) = node(alloc, 1) else {
+    let mut first = node(alloc, 0, 3)?;
+    let Some(second) = node(alloc, 1, 3) else {
         drop(first);
         return None;
     };
-    let Some(third) = node(alloc, 2) else {
+    let Some(third) = node(alloc, 2, 3) else {
         drop(first);
         drop(second);
         return None;
@@ -89,4 +90,49 @@ fn three_nodes_publish_a_first_map_by_27_deliveries(rt: HostRuntime) {
     let expected = Some((FIRST_PUBLISH, true));
     // If an allocation failed, everything is repeated once.
     assert!(rt; published(&rt, rt.alloc()) == expected || published(&rt, rt.alloc()) == expected);
+}
+
+/// One message more than `deliver_all` makes deliveries.
+const MESSAGES: usize = 100_001;
+
+/// As many requests for the first definition, which no new node answers; fewer if an allocation fails.
+fn requests(alloc: Global) -> Vec<Message> {
+    let mut messages = Vec::new(alloc);
+    if let Some(first) = Slot::new(1) {
+        for _ in 0..MESSAGES {
+            if messages.push(Message::Ask(first)).is_err() {
+                return messages;
+            }
+        }
+    }
+    messages
+}
+
+/// The result of delivering the messages to the only node of a farm.
+#[tactic(auto, using(crate::proofs::InTurn::one_in_turn))]
+fn hear_alone(alloc: Global, node: Node<MemoryTape>, messages: Vec<Message>) -> Pumped
+    requires id { node.id ≡ 0 }
+    requires alone { node.n ≡ 1 }
+{
+    let mut nodes = [node];
+    let pumped = deliver_all(alloc, &mut nodes, messages);
+    drop(nodes);
+    pumped
+}
+
+/// The result where there is a message more than a list of deliveries may be long.
+fn stopped_early(alloc: Global) -> Option<Pumped> {
+    let alone = node(alloc, 0, 1)?;
+    Some(hear_alone(alloc, alone, requests(alloc)))
+}
+
+#[test]
+fn deliveries_stop_at_100000_and_say_so(rt: HostRuntime) {
+    let expected = Some(Pumped {
+        deliveries: 100_000,
+        lost: 0,
+        stopped: true,
+    });
+    // If an allocation failed, everything is repeated once.
+    assert!(rt; stopped_early(rt.alloc()) == expected || stopped_early(rt.alloc()) == expected);
 }

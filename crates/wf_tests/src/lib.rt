@@ -6,6 +6,8 @@
 #![tactic(auto)]
 
 #[cfg(test)]
+mod carrier;
+#[cfg(test)]
 mod edge;
 #[cfg(test)]
 mod farm;

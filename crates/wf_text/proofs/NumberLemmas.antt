@@ -36,3 +36,12 @@ fraction_room spelled whole fraction bound nine many =
     let spelled_most : spelled + 23 ≤ 23_000_000_000 = omega arith in
     let scaled_most : (spelled + 23) * 10 ^ fraction ≤ (spelled + 23) * 10 ^ 25 = mul-le-mul_left (spelled + 23) behind in
     omega arith
+
+-- a few digits after the point fit into 64 bits together with those before it
+pub few_room : (spelled whole fraction : ℕ) → spelled + 23 ≤ (0 + 23) * 10 ^ whole → whole ≤ 9 → fraction ≤ 8 → (spelled + 23) * 10 ^ fraction ≤ 2 ^ 64
+few_room spelled whole fraction bound nine few =
+    let before : 10 ^ whole ≤ 10 ^ 9 = pow-le-pow_right (omega arith) nine in
+    let behind : 10 ^ fraction ≤ 10 ^ 8 = pow-le-pow_right (omega arith) few in
+    let spelled_most : spelled + 23 ≤ 23_000_000_000 = omega arith in
+    let scaled_most : (spelled + 23) * 10 ^ fraction ≤ (spelled + 23) * 10 ^ 8 = mul-le-mul_left (spelled + 23) behind in
+    omega arith

@@ -10,6 +10,9 @@ use crate::fault::NumberFault;
 use crate::limits::{MOST_FRACTION_DIGITS, MOST_MILLIONTHS, MOST_POWER_DIGITS, MOST_WHOLE_DIGITS};
 use std::marker::Model;
 
+/// Digits after a point that fit into 64 bits behind the most digits before it.
+const FEW_FRACTION_DIGITS: usize = 8;
+
 /// A number's text in parts: the digits as written, and the power of ten.
 #[derive(Drop)]
 pub(crate) struct Numeral<'a> {
@@ -169,13 +172,26 @@ fn spelled_onto(value: u128, digits: &[u8]) -> u128
     spelled
 }
 
+/// The value that the digits spell, appended to the digits of a value, in 64 bits.
+fn few_spelled_onto(value: u64, digits: &[u8]) -> u64
+    requires { (value + 23) * 10 ^ length digits.now ≤ 2 ^ 64 }
+    ensures value { result ≡ spelled_onto value digits.now }
+    ensures bound { result + 23 ≤ (value + 23) * 10 ^ length digits.now }
+{
+    let mut spelled = value;
+    for byte in digits {
+        spelled = spelled * 10 + u64::from(byte.saturating_sub(b'0'));
+    }
+    spelled
+}
+
 /// What at most three digits spell.
 fn small_value(digits: &[u8]) -> i16
     requires { length digits.now ≤ most_power_digits }
     ensures value { result ≡ pos (spelled_onto 0 digits.now) }
     ensures within { spelled_onto 0 digits.now < 2 ^ 15 }
 {
-    spelled_onto(0, digits) as i16
+    few_spelled_onto(0, digits) as i16
 }
 
 /// The value times 10 ^ `times`, or the first number over the limit if that is less.
@@ -246,13 +262,18 @@ impl<'a> Numeral<'a> {
     }
 }
 
-/// The value that the digits before and after the point spell together.
+/// The value that the digits before and after the point spell together. Few digits are spelled in 64 bits, more in 128.
 fn all_digits(whole: &[u8], fraction: &[u8]) -> u128
     requires whole { length whole.now ≤ most_whole_digits }
     requires fraction { length fraction.now ≤ most_fraction_digits }
     ensures { result ≡ spelled_onto 0 (whole.now ++ fraction.now) }
 {
-    spelled_onto(spelled_onto(0, whole), fraction)
+    let units = few_spelled_onto(0, whole);
+    if fraction.len() <= FEW_FRACTION_DIGITS {
+        u128::from(few_spelled_onto(units, fraction))
+    } else {
+        spelled_onto(u128::from(units), fraction)
+    }
 }
 
 /// The power of ten that turns all digits, read as one integer, into millionths.

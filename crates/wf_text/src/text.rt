@@ -105,6 +105,10 @@ pub fn checked(bytes: &[u8]) -> Result<&str, TextFault>
     ensures refused { IfErr result (λ fault. is_text bytes.now ≡ false) }
     ensures first { IfErr result (λ fault. IsFirstFault fault bytes.now) }
 {
+    // A canonical text writes each absent text as an empty one, so most texts are empty.
+    if bytes.is_empty() {
+        return Ok("");
+    }
     if bytes.len() > MOST_TEXT_BYTES {
         return Err(TextFault::TooLong);
     }

@@ -15,6 +15,17 @@ use wf_text::text::{checked, is_text_character};
 /// U+FEFF in UTF-8.
 const BYTE_ORDER_MARK: [u8; 3] = [0xEF, 0xBB, 0xBF];
 
+/// Each byte of a word at its own index, and a `#` at every other index.
+static WORD_BYTES: [u8; 256] = *b"\
+    ################################\
+    #!##$%&###*+,-./0123456789:;<=>?\
+    @ABCDEFGHIJKLMNOPQRSTUVWXYZ###^_\
+    `abcdefghijklmnopqrstuvwxyz#|#~#\
+    ################################\
+    ################################\
+    ################################\
+    ################################";
+
 #[tactic(auto, unfolding(crate::specs::Token::is_white))]
 fn is_white(byte: u8) -> bool
     ensures { result ≡ is_white byte }
@@ -57,14 +68,11 @@ fn is_star(byte: u8) -> bool
     byte == b'*'
 }
 
-#[tactic(auto, unfolding(crate::specs::Token::is_plain, crate::specs::Token::is_quote, crate::specs::Token::is_hash))]
+/// Whether the byte may stand in a word.
 fn is_plain(byte: u8) -> bool
     ensures { result ≡ is_plain byte }
 {
-    match byte {
-        b'"' | b'\'' | b'#' | b'\\' | b'(' | b')' | b'[' | b']' | b'{' | b'}' => false,
-        _ => byte.is_ascii_graphic(),
-    }
+    WORD_BYTES[byte as usize] != b'#'
 }
 
 /// The number of bytes of the word at the front.

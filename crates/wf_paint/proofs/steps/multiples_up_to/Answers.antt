@@ -1,5 +1,5 @@
 use Rattle.std.proofs.Common.{◌≡◌, ◌+ℤ◌, ℤ, pos, to_z, of_z, ap, sym, ◌∙◌, arith}
-use Rattle.std.specs.Int.{w128}
+use Rattle.std.specs.Int.{w64}
 use Rattle.std.proofs.lemmas.Int.{ints}
 use Rattle.wf_paint.specs.Exact.{plus, is_less}
 use Rattle.wf_paint.specs.Quotient.{number_of}
@@ -10,5 +10,5 @@ pub returns-clause-below : goal.returns-clause-below
 unfolding number_of plus
 returns-clause-below c = λ divisor u rest within.
     let whole : ℤ = c.args.number.whole in
-    let same : to_z w128 (of_z w128 (to_z w128 (of_z w128 whole) +ℤ pos 1)) ≡ whole +ℤ pos 1 = omega (arith, ints) in
+    let same : to_z w64 (of_z w64 (to_z w64 (of_z w64 whole) +ℤ pos 1)) ≡ whole +ℤ pos 1 = omega (arith, ints) in
     multiples_to divisor c.args.number.rest u whole rest ∙ ap (is_less (pos u)) (sym same) ∙ c.integers_below.ensures.below u within

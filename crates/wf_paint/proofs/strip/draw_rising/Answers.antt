@@ -20,15 +20,15 @@ loop-row-init c =
     let lower : c.opposite-2.result ≡ opposite levels.margin = simp to_z-of_z at c.opposite-2.ensures.value in
     let low_room : c.room.result ≡ difference (difference c.opposite-2.result c.row_level-start.result) (pos 1) = simp to_z-of_z at c.room.ensures.value in
     let high_room : c.room-2.result ≡ difference (difference levels.margin c.row_level-start.result) (pos 1) = simp to_z-of_z at c.room-2.ensures.value in
-    let low : number_of c.step-step.result c.quotient-low.result ≡ c.room.result = simp to_z-of_z at c.quotient-low.ensures.value in
-    let high : number_of c.step-step.result c.quotient-high.result ≡ c.room-2.result = simp to_z-of_z at c.quotient-high.ensures.value in (
+    let low : number_of c.step-step.result c.in-Some-quotient.low ≡ c.room.result = simp to_z-of_z at c.in-Some-quotient.ensures.value in
+    let high : number_of c.step-step.result c.in-Some-quotient-2.high ≡ c.room-2.result = simp to_z-of_z at c.in-Some-quotient-2.ensures.value in (
       rows_start (is_in_strip levels c.args.rows c.args.columns) c.args.rows.from c.args.color c.args.canvas.now
           (λ column row wide high before. strip_before levels c.args.rows c.args.columns column row before),
       (
-        edge_begins (opposite levels.margin) levels.origin (product (pos 16) levels.up) c.row_level-start.result c.step-step.result c.args.rows.from c.quotient-low.result
-            c.row_level-start.ensures.value (rw lower at (low ∙ low_room)) c.quotient-low.ensures.rest c.quotient-low.ensures.within,
-        edge_begins levels.margin levels.origin (product (pos 16) levels.up) c.row_level-start.result c.step-step.result c.args.rows.from c.quotient-high.result
-            c.row_level-start.ensures.value (high ∙ high_room) c.quotient-high.ensures.rest c.quotient-high.ensures.within,
+        edge_begins (opposite levels.margin) levels.origin (product (pos 16) levels.up) c.row_level-start.result c.step-step.result c.args.rows.from c.in-Some-quotient.low
+            c.row_level-start.ensures.value (rw lower at (low ∙ low_room)) c.in-Some-quotient.ensures.rest c.in-Some-quotient.ensures.within,
+        edge_begins levels.margin levels.origin (product (pos 16) levels.up) c.row_level-start.result c.step-step.result c.args.rows.from c.in-Some-quotient-2.high
+            c.row_level-start.ensures.value (high ∙ high_room) c.in-Some-quotient-2.ensures.rest c.in-Some-quotient-2.ensures.within,
       ),
     )
 
@@ -43,8 +43,8 @@ loop-row-preserved c =
     let step : pos c.step-step.result ≡ product (pos 16) levels.across = simp to_z-of_z at c.step-step.ensures.value in
     let product_value : c.product.result ≡ product (pos 16) levels.up = simp to_z-of_z at c.product.ensures.value in
     let opposite_value : c.opposite.result ≡ opposite c.product.result = simp to_z-of_z at c.opposite.ensures.value in
-    let moved : number_of c.step-step.result c.quotient-change.result ≡ c.opposite.result = simp to_z-of_z at c.quotient-change.ensures.value in
-    let change : number_of c.step-step.result c.quotient-change.result ≡ opposite (product (pos 16) levels.up) = moved ∙ opposite_value ∙ ap opposite product_value in (
+    let moved : number_of c.step-step.result c.in-Some.change ≡ c.opposite.result = simp to_z-of_z at c.in-Some.ensures.value in
+    let change : number_of c.step-step.result c.in-Some.change ≡ opposite (product (pos 16) levels.up) = moved ∙ opposite_value ∙ ap opposite product_value in (
       rows_more (is_in_strip levels c.args.rows c.args.columns) c.loop-row.row c.both-span.result c.args.color
           c.args.canvas.now c.loop-row.canvas c.cover.new.self c.loop-row.invariant.0
           (rw c.both-span.ensures (strip_row levels c.args.rows c.args.columns _ c.args.canvas.now.width c.loop-row.row
@@ -53,9 +53,9 @@ loop-row-preserved c =
           c.multiples_up_to.ensures.below c.multiples_up_to-in-loop-row.ensures.below c.multiples_up_to-in-loop-row.ensures.within)))
           c.cover.ensures,
       (
-        edge_moves (opposite levels.margin) levels.origin (product (pos 16) levels.up) c.step-step.result c.loop-row.row c.loop-row.low c.quotient-change.result c.sum-low.result
+        edge_moves (opposite levels.margin) levels.origin (product (pos 16) levels.up) c.step-step.result c.loop-row.row c.loop-row.low c.in-Some.change c.sum-low.result
             edges.0 change c.sum-low.ensures.value c.sum-low.ensures.rest c.sum-low.ensures.within,
-        edge_moves levels.margin levels.origin (product (pos 16) levels.up) c.step-step.result c.loop-row.row c.loop-row.high c.quotient-change.result c.sum-high.result
+        edge_moves levels.margin levels.origin (product (pos 16) levels.up) c.step-step.result c.loop-row.row c.loop-row.high c.in-Some.change c.sum-high.result
             edges.1 change c.sum-high.ensures.value c.sum-high.ensures.rest c.sum-high.ensures.within,
       ),
     )

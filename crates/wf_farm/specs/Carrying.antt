@@ -1,0 +1,32 @@
+-- Deliveries by a carrier: why one isn't made, and that the carrier is used only where a delivery has an effect.
+use Rattle.std.specs.Prelude.{◌≡◌, ◌⊎◌, ℕ, ⊤, false, List}
+use Rattle.wf_codec.specs.declared.message.Message.{Message}
+use Rattle.wf_def.specs.Definition.{Definition}
+use Rattle.wf_model.specs.Table.{Action}
+use Rattle.wf_model.specs.World.{World}
+use Rattle.wf_farm.specs.declared.carrier.CarrierFault.{CarrierFault}
+use Rattle.wf_farm.specs.declared.carrier.CarrierFault.TheVariants as carrier
+use Rattle.wf_farm.specs.declared.fault.FarmFault.{FarmFault}
+use Rattle.wf_farm.specs.declared.fault.FarmFault.TheVariants.{Memory, NoNode, Carried}
+use Rattle.wf_farm.specs.declared.place.Place.{Place}
+use Rattle.wf_farm.specs.Allocating.{is_taken}
+use Rattle.wf_farm.specs.Cluster.{Shows}
+
+-- the farm's error after this number of deliveries, by why the next one wasn't made
+abbrev pub fault_after : CarrierFault → ℕ → FarmFault
+fault_after carrier.Memory done = Memory done
+fault_after carrier.Lost done = Carried done
+
+-- the error is allocation failure, after whatever number of deliveries
+abbrev pub IsMemory : FarmFault → Type 0
+IsMemory (Memory done) = ⊤
+IsMemory NoNode = ⊥
+IsMemory (Carried done) = ⊥
+
+-- why a delivery wasn't made: an allocation failed, or the message wasn't carried
+abbrev pub IsUndelivered : FarmFault → Type 0
+IsUndelivered fault = (fault ≡ Memory 0) ⊎ (fault ≡ Carried 0)
+
+-- Only a step that node i takes changes this: it is unchanged from a world in which the node doesn't take the step.
+unfoldable pub ChangesByStep : {C : Type 0} → ℕ → Action Definition ℕ → List Place → List Message → C → C → Type 0
+ChangesByStep i action places sent before after = (w : World Definition) → Shows places sent w → is_taken w i action ≡ false → after ≡ before

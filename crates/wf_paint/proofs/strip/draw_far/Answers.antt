@@ -1,0 +1,24 @@
+use Rattle.std.proofs.Common.{arith}
+use Rattle.wf_paint.specs.Strip.{is_in_strip}
+use Rattle.wf_paint.proofs.SpanLemmas.{rows_start, rows_end, rows_more}
+use Rattle.wf_paint.proofs.StripLemmas.{strip_row, strip_before, strip_after}
+use Rattle.wf_paint.proofs.strip.draw_far.Goals as goal
+
+pub loop-row-init : goal.loop-row-init
+loop-row-init c =
+    rows_start (is_in_strip c.args.levels c.args.rows c.args.columns) c.args.rows.from c.args.color c.args.canvas.now
+    (λ column row wide high before. strip_before c.args.levels c.args.rows c.args.columns column row before)
+
+pub loop-row-preserved : goal.loop-row-preserved
+loop-row-preserved c =
+    rows_more (is_in_strip c.args.levels c.args.rows c.args.columns) c.loop-row.row c.both-span.result c.args.color
+    c.args.canvas.now c.loop-row.canvas c.cover.new.self c.loop-row.invariant
+    (rw c.both-span.ensures (strip_row c.args.levels c.args.rows c.args.columns c.rising_within-within.result c.args.canvas.now.width c.loop-row.row
+    c.requires.columns c.loop-row.auto.row c.loop-row-test.true c.rising_within-within.ensures))
+    c.cover.ensures
+
+pub returns : goal.returns
+returns c =
+    rows_end (is_in_strip c.args.levels c.args.rows c.args.columns) c.loop-row.row c.args.color c.args.canvas.now c.loop-row.canvas
+    (λ column row wide high after. strip_after c.args.levels c.args.rows c.args.columns column row (omega arith))
+    c.loop-row.invariant

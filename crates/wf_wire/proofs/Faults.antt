@@ -1,0 +1,221 @@
+-- The decoder's error of bytes remains, whatever follows, unless more bytes are needed; part of a message has no error but that.
+use Rattle.std.proofs.Common.{◌≡◌, ℕ, Bool, true, false, cond, ltb, List, [], ◌∷◌, ◌++◌, length, take, Option, Some, None, refl, sym, ap, subst, ◌∙◌, length-append, append_assoc, arith, inl, inr}
+use Rattle.std.proofs.lemmas.Bool.{ltb-false, lt-ltb, le-ltb}
+use Rattle.std.proofs.lemmas.List.{take-append-le}
+use Rattle.std.specs.Prelude.{IsSomeAnd}
+use Rattle.std.specs.Int.{w32, from_be_bytes}
+use Rattle.wf_codec.specs.declared.kind.Kind.{Kind}
+use Rattle.wf_codec.specs.declared.kind.Kind.TheVariants as kinds
+use Rattle.wf_codec.specs.declared.fault.DecodeFault.{DecodeFault}
+use Rattle.wf_codec.specs.declared.fault.DecodeFault.TheVariants as decoder
+use Rattle.wf_codec.specs.Kind.{most_body_bytes, kind_byte, kind_of_byte}
+use Rattle.wf_codec.specs.Fault.{kind_in, length_in, behind_header, body_in, check_version, check_kind, check_longest, check_length, check_whole, check_fields, first_failing, first_fault, text_of_kind, text_in, HasFault, IsNoText}
+use Rattle.wf_codec.specs.Law.{IsLongestBody, IsUnfinished, LacksBody, IsRefusal, BeginsWithNone}
+use Rattle.wf_wire.specs.declared.fault.InboxFault.{InboxFault}
+use Rattle.wf_wire.specs.declared.fault.InboxFault.TheVariants as inbox
+use Rattle.wf_wire.specs.InboxFault.{decode_fault}
+use Rattle.wf_wire.specs.Stream.{IsWrong}
+
+abbrev short : Option DecodeFault
+short = Some decoder.Short
+
+-- ---- the first failing check of more bytes
+
+-- one check is the same, and those after it want more bytes
+one_same : (p : Option DecodeFault) (checks others : List (Option DecodeFault)) (o : Option DecodeFault) → first_failing checks ≡ short → first_failing (p ∷ checks) ≡ o → (o ≡ short → ⊥) →
+    first_failing (p ∷ others) ≡ o
+one_same None checks others o wants e not_short = absurd (not_short (sym e ∙ wants))
+one_same (Some x) checks others o wants e not_short = e
+
+-- two checks are the same
+two_same : (p q : Option DecodeFault) (checks others : List (Option DecodeFault)) (o : Option DecodeFault) → first_failing checks ≡ short → first_failing (p ∷ q ∷ checks) ≡ o → (o ≡ short → ⊥) →
+    first_failing (p ∷ q ∷ others) ≡ o
+two_same None q checks others o wants e not_short = one_same q checks others o wants e not_short
+two_same (Some x) q checks others o wants e not_short = e
+
+-- the header isn't whole
+header_lacks : (kind : Option Kind) (fields : Option DecodeFault) → first_failing (None ∷ check_length kind None ∷ short ∷ fields ∷ []) ≡ short
+header_lacks None fields = refl
+header_lacks (Some kind) fields = refl
+
+last_same : (few few_on : Bool) (fields fields_on o : Option DecodeFault) → (few ≡ false → few_on ≡ false) → (few ≡ false → fields_on ≡ fields) →
+    first_failing (cond few short None ∷ fields ∷ []) ≡ o → (o ≡ short → ⊥) → first_failing (cond few_on short None ∷ fields_on ∷ []) ≡ o
+last_same true few_on fields fields_on o stays same e not_short = absurd (not_short (sym e))
+last_same false few_on fields fields_on o stays same e not_short = rw (stays refl, same refl) e
+
+-- all checks of the header are the same, and the body is whole
+four_same : (p q r s : Option DecodeFault) (few few_on : Bool) (fields fields_on o : Option DecodeFault) → (few ≡ false → few_on ≡ false) → (few ≡ false → fields_on ≡ fields) →
+    first_failing (p ∷ q ∷ r ∷ s ∷ cond few short None ∷ fields ∷ []) ≡ o → (o ≡ short → ⊥) → first_failing (p ∷ q ∷ r ∷ s ∷ cond few_on short None ∷ fields_on ∷ []) ≡ o
+four_same (Some x) q r s few few_on fields fields_on o stays same e not_short = e
+four_same None (Some x) r s few few_on fields fields_on o stays same e not_short = e
+four_same None None (Some x) s few few_on fields fields_on o stays same e not_short = e
+four_same None None None (Some x) few few_on fields fields_on o stays same e not_short = e
+four_same None None None None few few_on fields fields_on o stays same e not_short = last_same few few_on fields fields_on o stays same e not_short
+
+-- a whole body stays whole, and the same
+whole_stays : (n : ℕ) (bytes more : List ℕ) → ltb (length bytes) n ≡ false → ltb (length (bytes ++ more)) n ≡ false
+whole_stays n bytes more few = le-ltb (length (bytes ++ more)) n (omega (arith, ltb-false (length bytes) n few, length-append bytes more))
+
+same_body : (n : ℕ) (bytes more : List ℕ) → ltb (length bytes) n ≡ false → take n (bytes ++ more) ≡ take n bytes
+same_body n bytes more few = take-append-le n bytes more (ltb-false (length bytes) n few)
+
+-- Whatever follows, the first failing check is the same, or still none, unless it was that more bytes are needed.
+first_on : (bytes more : List ℕ) (o : Option DecodeFault) → first_fault bytes ≡ o → (o ≡ short → ⊥) → first_fault (bytes ++ more) ≡ o
+unfolding first_fault kind_in length_in
+first_on [] more o e not_short = absurd (not_short (sym e))
+first_on (v ∷ []) more o e not_short = one_same (check_version (v ∷ [])) _ _ o refl e not_short
+first_on (v ∷ k ∷ []) more o e not_short = two_same (check_version (v ∷ [])) (check_kind (v ∷ k ∷ [])) _ _ o (header_lacks (kind_of_byte k) _) e not_short
+first_on (v ∷ k ∷ a ∷ []) more o e not_short = two_same (check_version (v ∷ [])) (check_kind (v ∷ k ∷ [])) _ _ o (header_lacks (kind_of_byte k) _) e not_short
+first_on (v ∷ k ∷ a ∷ b ∷ []) more o e not_short = two_same (check_version (v ∷ [])) (check_kind (v ∷ k ∷ [])) _ _ o (header_lacks (kind_of_byte k) _) e not_short
+first_on (v ∷ k ∷ a ∷ b ∷ c ∷ []) more o e not_short = two_same (check_version (v ∷ [])) (check_kind (v ∷ k ∷ [])) _ _ o (header_lacks (kind_of_byte k) _) e not_short
+first_on (v ∷ k ∷ a ∷ b ∷ c ∷ d ∷ bytes) more o e not_short =
+    let n : ℕ = from_be_bytes w32 (a ∷ b ∷ c ∷ d ∷ []) in
+    four_same (check_version (v ∷ [])) (check_kind (v ∷ k ∷ [])) (check_longest (Some n)) (check_length (kind_of_byte k) (Some n)) (ltb (length bytes) n) (ltb (length (bytes ++ more)) n)
+    (check_fields (kind_of_byte k) (take n bytes)) (check_fields (kind_of_byte k) (take n (bytes ++ more))) o
+    (whole_stays n bytes more) (λ few. ap (check_fields (kind_of_byte k)) (same_body n bytes more few)) e not_short
+
+-- ---- the text of more bytes
+
+-- the check of the body's length didn't fail
+fifth : (p q r s : Option DecodeFault) (few : Bool) (fields : Option DecodeFault) → first_failing (p ∷ q ∷ r ∷ s ∷ cond few short None ∷ fields ∷ []) ≡ None → few ≡ false
+fifth (Some x) q r s few fields e = absurd cc
+fifth None (Some x) r s few fields e = absurd cc
+fifth None None (Some x) s few fields e = absurd cc
+fifth None None None (Some x) few fields e = absurd cc
+fifth None None None None true fields e = absurd cc
+fifth None None None None false fields e = refl
+
+one_fails : (p : Option DecodeFault) (checks : List (Option DecodeFault)) → first_failing checks ≡ short → first_failing (p ∷ checks) ≡ None → ⊥
+one_fails None checks wants e = let no : short ≡ None = sym wants ∙ e in absurd cc
+one_fails (Some x) checks wants e = absurd cc
+
+two_fail : (p q : Option DecodeFault) (checks : List (Option DecodeFault)) → first_failing checks ≡ short → first_failing (p ∷ q ∷ checks) ≡ None → ⊥
+two_fail None q checks wants e = one_fails q checks wants e
+two_fail (Some x) q checks wants e = absurd cc
+
+-- if no check fails, the text is the same, whatever follows
+text_on : (bytes more : List ℕ) → first_fault bytes ≡ None → text_in (bytes ++ more) ≡ text_in bytes
+unfolding first_fault kind_in length_in
+text_on [] more e = absurd cc
+text_on (v ∷ []) more e = absurd (one_fails (check_version (v ∷ [])) _ refl e)
+text_on (v ∷ k ∷ []) more e = absurd (two_fail (check_version (v ∷ [])) (check_kind (v ∷ k ∷ [])) _ (header_lacks (kind_of_byte k) _) e)
+text_on (v ∷ k ∷ a ∷ []) more e = absurd (two_fail (check_version (v ∷ [])) (check_kind (v ∷ k ∷ [])) _ (header_lacks (kind_of_byte k) _) e)
+text_on (v ∷ k ∷ a ∷ b ∷ []) more e = absurd (two_fail (check_version (v ∷ [])) (check_kind (v ∷ k ∷ [])) _ (header_lacks (kind_of_byte k) _) e)
+text_on (v ∷ k ∷ a ∷ b ∷ c ∷ []) more e = absurd (two_fail (check_version (v ∷ [])) (check_kind (v ∷ k ∷ [])) _ (header_lacks (kind_of_byte k) _) e)
+text_on (v ∷ k ∷ a ∷ b ∷ c ∷ d ∷ bytes) more e =
+    let n : ℕ = from_be_bytes w32 (a ∷ b ∷ c ∷ d ∷ []) in
+    let few = fifth (check_version (v ∷ [])) (check_kind (v ∷ k ∷ [])) (check_longest (Some n)) (check_length (kind_of_byte k) (Some n)) (ltb (length bytes) n) (check_fields (kind_of_byte k) (take n bytes)) e in
+    ap (text_of_kind (kind_of_byte k)) (same_body n bytes more few)
+
+-- ---- an error remains
+
+fault_on : (fault : InboxFault) (bytes more : List ℕ) → IsRefusal (decode_fault fault) → HasFault bytes (decode_fault fault) → HasFault (bytes ++ more) (decode_fault fault)
+fault_on inbox.BadVersion bytes more refusal e = first_on bytes more (Some decoder.BadVersion) e (λ is. absurd cc)
+fault_on inbox.BadKind bytes more refusal e = first_on bytes more (Some decoder.BadKind) e (λ is. absurd cc)
+fault_on inbox.BadField bytes more refusal e = first_on bytes more (Some decoder.BadField) e (λ is. absurd cc)
+fault_on inbox.TooLong bytes more refusal e = first_on bytes more (Some decoder.TooLong) e (λ is. absurd cc)
+fault_on inbox.NotCanonical bytes more refusal carries = record {
+  no_fault = first_on bytes more None carries.no_fault (λ is. absurd cc);
+  no_text = subst (λ (text : Option (List ℕ)). IsSomeAnd text IsNoText) (sym (text_on bytes more carries.no_fault)) carries.no_text;
+}
+fault_on inbox.Memory bytes more refusal e = absurd refusal
+
+pub wrong_on : (bytes more : List ℕ) (fault : InboxFault) → IsWrong bytes fault → IsWrong (bytes ++ more) fault
+wrong_on bytes more fault wrong = record {
+  has_fault = fault_on fault bytes more wrong.refusal wrong.has_fault;
+  refusal = wrong.refusal;
+  never = λ later. subst (λ (t : List ℕ). BeginsWithNone t) (sym (append_assoc bytes more later)) (wrong.never (more ++ later));
+}
+
+-- ---- bytes have one error
+
+-- the first failing check of bytes with this error
+told : InboxFault → Option DecodeFault
+told inbox.NotCanonical = None
+told inbox.BadVersion = Some decoder.BadVersion
+told inbox.BadKind = Some decoder.BadKind
+told inbox.BadField = Some decoder.BadField
+told inbox.TooLong = Some decoder.TooLong
+told inbox.Memory = Some decoder.Memory
+
+-- the error with this first failing check
+back : Option DecodeFault → InboxFault
+back None = inbox.NotCanonical
+back (Some decoder.BadVersion) = inbox.BadVersion
+back (Some decoder.BadKind) = inbox.BadKind
+back (Some decoder.BadField) = inbox.BadField
+back (Some decoder.TooLong) = inbox.TooLong
+back (Some decoder.NotCanonical) = inbox.Memory
+back (Some decoder.Short) = inbox.Memory
+back (Some decoder.Memory) = inbox.Memory
+
+told_back : (fault : InboxFault) → back (told fault) ≡ fault
+unfolding back told
+told_back inbox.NotCanonical = refl
+told_back inbox.BadVersion = refl
+told_back inbox.BadKind = refl
+told_back inbox.BadField = refl
+told_back inbox.TooLong = refl
+told_back inbox.Memory = refl
+
+is_told : (fault : InboxFault) (bytes : List ℕ) → IsRefusal (decode_fault fault) → HasFault bytes (decode_fault fault) → first_fault bytes ≡ told fault
+unfolding told
+is_told inbox.NotCanonical bytes refusal carries = carries.no_fault
+is_told inbox.BadVersion bytes refusal e = e
+is_told inbox.BadKind bytes refusal e = e
+is_told inbox.BadField bytes refusal e = e
+is_told inbox.TooLong bytes refusal e = e
+is_told inbox.Memory bytes refusal e = absurd refusal
+
+pub one_error : (bytes : List ℕ) (fault other : InboxFault) → IsWrong bytes fault → IsWrong bytes other → fault ≡ other
+one_error bytes fault other wrong again =
+    let same : told fault ≡ told other = sym (is_told fault bytes wrong.refusal wrong.has_fault) ∙ is_told other bytes again.refusal again.has_fault in
+    sym (told_back fault) ∙ ap back same ∙ told_back other
+
+-- ---- part of a message has no error
+
+kind_again : (kind : Kind) → kind_of_byte (kind_byte kind) ≡ Some kind
+unfolding kind_of_byte
+kind_again kinds.Prepare = refl
+kind_again kinds.Promise = refl
+kind_again kinds.Accept = refl
+kind_again kinds.Accepted = refl
+kind_again kinds.Nack = refl
+kind_again kinds.Chosen = refl
+kind_again kinds.Ask = refl
+
+-- the checks after that of the kind, of part of a message
+lacks_is_short : (v k : ℕ) (kind : Kind) (bytes : List ℕ) → IsLongestBody most_body_bytes → LacksBody kind bytes →
+    first_failing (check_longest (length_in (v ∷ k ∷ bytes)) ∷ check_length (Some kind) (length_in (v ∷ k ∷ bytes)) ∷ check_whole (length_in (v ∷ k ∷ bytes)) (behind_header (v ∷ k ∷ bytes))
+    ∷ check_fields (Some kind) (body_in (v ∷ k ∷ bytes)) ∷ []) ≡ short
+unfolding length_in
+lacks_is_short v k kind [] longest lacks = refl
+lacks_is_short v k kind (a ∷ []) longest lacks = refl
+lacks_is_short v k kind (a ∷ b ∷ []) longest lacks = refl
+lacks_is_short v k kind (a ∷ b ∷ c ∷ []) longest lacks = refl
+lacks_is_short v k kind (a ∷ b ∷ c ∷ d ∷ bytes) longest (inl few) = absurd (omega (arith, few))
+lacks_is_short v k kind (a ∷ b ∷ c ∷ d ∷ bytes) longest (inr lacks) =
+    let n : ℕ = from_be_bytes w32 (a ∷ b ∷ c ∷ d ∷ []) in
+    rw (le-ltb most_body_bytes n (longest.within kind n lacks.0), lacks.0, lt-ltb (length bytes) n (omega (arith, lacks.1))) refl
+
+part_is_short : (bytes : List ℕ) → IsLongestBody most_body_bytes → IsUnfinished bytes → first_fault bytes ≡ short
+unfolding first_fault kind_in length_in
+part_is_short [] longest unfinished = refl
+part_is_short (v ∷ []) longest same = rw same refl
+part_is_short (v ∷ k ∷ bytes) longest unfinished =
+    let kind : Kind = unfinished.1.0 in
+    let is : kind_of_byte k ≡ Some kind = ap kind_of_byte unfinished.1.1 ∙ kind_again kind in
+    rw (unfinished.0, is) (lacks_is_short v k kind bytes longest unfinished.1.2)
+
+not_short : (fault : InboxFault) → told fault ≡ short → ⊥
+unfolding told
+not_short inbox.NotCanonical e = absurd cc
+not_short inbox.BadVersion e = absurd cc
+not_short inbox.BadKind e = absurd cc
+not_short inbox.BadField e = absurd cc
+not_short inbox.TooLong e = absurd cc
+not_short inbox.Memory e = absurd cc
+
+pub no_error_in_part : (bytes : List ℕ) (fault : InboxFault) → IsLongestBody most_body_bytes → IsUnfinished bytes → IsWrong bytes fault → ⊥
+no_error_in_part bytes fault longest unfinished wrong =
+    not_short fault (sym (is_told fault bytes wrong.refusal wrong.has_fault) ∙ part_is_short bytes longest unfinished)

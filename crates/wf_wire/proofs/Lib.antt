@@ -1,0 +1,5 @@
+pub mod Faults
+pub mod Headers
+pub mod Streams
+pub mod Joined
+pub mod Splitting

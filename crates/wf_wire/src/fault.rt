@@ -1,0 +1,44 @@
+ghost use Rattle.std.specs.Prelude.{◌≡◌};
+ghost use Rattle.wf_wire.specs.declared.fault.InboxFault.TheVariants.{Memory};
+
+use std::alloc::{AllocError, AllocFailed};
+use thiserror::Error;
+
+/// Why an inbox returns no messages.
+#[derive(Clone, Copy, Debug, PartialEq, Eq, Error)]
+pub enum InboxFault {
+    /// C1: a message's version isn't the one that wf_codec reads.
+    #[error("C1: another version")]
+    BadVersion,
+    /// C2: no kind of message has this byte.
+    #[error("C2: no kind of message")]
+    BadKind,
+    /// C3: a field is outside its range, or the kind can't have that length.
+    #[error("C3: a field out of range")]
+    BadField,
+    /// C4: the text of a definition isn't canonical.
+    #[error("C4: a text that isn't canonical")]
+    NotCanonical,
+    /// C5: the length is over that of the longest message.
+    #[error("C5: too long")]
+    TooLong,
+    /// C6: allocation failed; the inbox is unchanged.
+    #[error("C6: out of memory")]
+    Memory,
+}
+
+impl From<AllocError> for InboxFault {
+    ghost from_gives = { λ _ fault. fault ≡ Memory };
+
+    fn from(_: AllocError) -> Self {
+        InboxFault::Memory
+    }
+}
+
+impl<T: Drop> From<AllocFailed<T>> for InboxFault {
+    ghost from_gives = { λ _ fault. fault ≡ Memory };
+
+    fn from(_: AllocFailed<T>) -> Self {
+        InboxFault::Memory
+    }
+}
