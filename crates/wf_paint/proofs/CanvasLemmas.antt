@@ -1,20 +1,16 @@
 -- A canvas as a picture: the index of a column of a row, and the effect on a canvas in terms of its pixels.
-use Rattle.std.proofs.Common.{◌≡◌, ◌≢◌, ℕ, ◌+◌, ◌-◌, ◌*◌, ◌/◌, ◌%◌, ◌<◌, ◌≤◌, inl, inr, Bool, true, false, List, length, get_or, set, replicate, Option, Some, None, is_some, refl, sym, ap, ◌∙◌, arith}
-use Rattle.std.specs.List.{All}
+use Rattle.std.proofs.Common.{◌≡◌, ◌≢◌, ℕ, ◌+◌, ◌-◌, ◌*◌, ◌/◌, ◌%◌, ◌^◌, ◌<◌, ◌≤◌, inl, inr, Bool, true, false, nat_lt, List, length, Option, Some, None, is_some, refl, sym, ap, ◌∙◌, arith}
 use Rattle.std.specs.Option.{option_or}
 use Rattle.std.proofs.Math.Nat.{div-lt_iff_lt-mul, div-add-mod, mul_comm}
 use Rattle.std.proofs.lemmas.Nat.{div-mul-add, mod-mul-add}
-use Rattle.std.proofs.lemmas.List.{get_or-replicate}
-use Rattle.std.proofs.lemmas.List.Elements.{All-get_or, All-set, All-weaker}
-use Rattle.std.proofs.lemmas.Bool.{cases_lt, cases_eq}
+use Rattle.std.proofs.lemmas.Bool.{cases_lt, cases_eq, false≢true, lt-ltb, le-ltb}
 use Rattle.std.proofs.lemmas.Bool.Decides.{nat_tests}
 use Rattle.wf_def.specs.declared.color.Color.{Color}
 use Rattle.wf_paint.specs.Pixmap.{column_of, row_of}
-use Rattle.wf_paint.specs.Cells.{IsCells, IsRun, IsRangePainted, IsFilled, is_free, painted_in}
-use Rattle.wf_paint.specs.declared.span.Span.{Span}
+use Rattle.wf_paint.specs.Cells.{IsCells, HasFreeBit, IsRangePainted, IsFilled, is_free, painted_in}
 use Rattle.wf_paint.specs.Canvas.{CanvasValue, IsCanvas, IsBlank, IsFull, HasFree, IsAlike, IsFinished, painted_at}
 use Rattle.wf_paint.specs.Shown.{IsColored, is_in_run, color_where}
-use Rattle.wf_paint.proofs.CellsLemmas.{range_keeps, range_run, range_in_run, run_kept, is_free-none, painted_in-free, painted_in-painted, painted_in-same}
+use Rattle.wf_paint.proofs.CellsLemmas.{range_keeps, cells_kept, painted_in-free, painted_in-painted}
 
 -- ---- the index of a pixel
 
@@ -72,23 +68,23 @@ or_none None = refl
 or_none (Some color) = refl
 
 -- the same canvas with other pixels
-abbrev pub with_cells : CanvasValue → List ℕ → List ℕ → List Span → CanvasValue
-with_cells c skip bytes runs = record { width = c.width; height = c.height; bytes = bytes; skip = skip; runs = runs; known = c.known }
+abbrev pub with_cells : CanvasValue → List ℕ → List ℕ → CanvasValue
+with_cells c free bytes = record { width = c.width; height = c.height; bytes = bytes; free = free; known = c.known }
 
-module _ (c : CanvasValue) (row from to : ℕ) (color : Color) (skip bytes : List ℕ) (runs : List Span) where
+module _ (c : CanvasValue) (row from to : ℕ) (color : Color) (free bytes : List ℕ) where
   -- how many pixels lie in the rows above
   abbrev left : ℕ
   left = (c.height - 1 - row) * c.width
 
   -- a range of indices in one row is a run of its columns
-  pub run_colored : IsCanvas c → row < c.height → to ≤ c.width → IsRangePainted (left + from) (left + to) color c.skip c.bytes skip bytes →
-      IsColored (is_in_run row from to) color c (with_cells c skip bytes runs)
+  pub run_colored : IsCanvas c → row < c.height → to ≤ c.width → IsRangePainted (left + from) (left + to) color c.free c.bytes free bytes →
+      IsColored (is_in_run row from to) color c (with_cells c free bytes)
   unfolding painted_at
   run_colored is within inside range =
       let some : 0 < c.width = omega (arith, is.width_least) in
-      let kept : (i : ℕ) → painted_in skip bytes i ≡ painted_in c.skip c.bytes i → is_in_run row from to (column_of c.width i) (row_of c.width c.height i) ≡ false →
-      painted_in skip bytes i ≡ option_or (painted_in c.skip c.bytes i) (color_where (is_in_run row from to (column_of c.width i) (row_of c.width c.height i)) color) =
-      λ i same outside. same ∙ sym (ap (option_or (painted_in c.skip c.bytes i)) (color_where-false _ color outside) ∙ or_none (painted_in c.skip c.bytes i)) in
+      let kept : (i : ℕ) → painted_in free bytes i ≡ painted_in c.free c.bytes i → is_in_run row from to (column_of c.width i) (row_of c.width c.height i) ≡ false →
+      painted_in free bytes i ≡ option_or (painted_in c.free c.bytes i) (color_where (is_in_run row from to (column_of c.width i) (row_of c.width c.height i)) color) =
+      λ i same outside. same ∙ sym (ap (option_or (painted_in c.free c.bytes i)) (color_where-false _ color outside) ∙ or_none (painted_in c.free c.bytes i)) in
       record {
         width = refl;
         height = refl;
@@ -101,7 +97,7 @@ module _ (c : CanvasValue) (row from to : ℕ) (color : Color) (skip bytes : Lis
                     | inl earlier ↦ kept i (range.before i (omega arith)) (before_run row from to column _ earlier)
                     | inr later ↦ elim (cases_lt column to) [
                       | inl before ↦ range.painted i (omega arith) (omega arith)
-                          ∙ ap (option_or (painted_in c.skip c.bytes i)) (sym (color_where-true _ color (in_run row from to column _ same later before)))
+                          ∙ ap (option_or (painted_in c.free c.bytes i)) (sym (color_where-true _ color (in_run row from to column _ same later before)))
                       | inr after ↦ kept i (range.after i (omega arith)) (after_run row from to column _ after)
                     ]
                   ]
@@ -120,19 +116,17 @@ module _ (c : CanvasValue) (row from to : ℕ) (color : Color) (skip bytes : Lis
       }
 
   -- what was painted stays painted
-  pub canvas_covered : (start end : ℕ) → IsCanvas c → IsRangePainted start end color c.skip c.bytes skip bytes → IsCells skip bytes →
-      length runs ≡ length c.runs → All (IsRun skip) runs → IsCanvas (with_cells c skip bytes runs)
-  canvas_covered start end is range cells count painted = record {
+  pub canvas_covered : (start end : ℕ) → IsCanvas c → IsRangePainted start end color c.free c.bytes free bytes → IsCanvas (with_cells c free bytes)
+  canvas_covered start end is range = record {
     width_least = is.width_least;
     width_most = is.width_most;
     height_least = is.height_least;
     height_most = is.height_most;
-    size = range.skip_size ∙ is.size;
-    cells = cells;
-    runs_count = count ∙ is.runs_count;
-    runs_painted = painted;
-    known_within = omega (arith, is.known_within, range.skip_size);
-    known_painted = λ i before. range_keeps start end color c.skip c.bytes skip bytes range i (is.known_painted i before);
+    size = range.bytes_size ∙ is.size;
+    words = range.free_size ∙ is.words;
+    cells = cells_kept start end color c.free c.bytes free bytes range is.cells;
+    known_within = omega (arith, is.known_within, range.free_size);
+    known_painted = λ i before. range_keeps start end color c.free c.bytes free bytes range i (is.known_painted i before);
   }
 
   -- no column lies between two in the wrong order
@@ -150,45 +144,31 @@ module _ (c : CanvasValue) (row from to : ℕ) (color : Color) (skip bytes : Lis
         sym (ap (option_or (painted_at c i)) (color_where-false _ color outside) ∙ or_none (painted_at c i));
   }
 
-module _ (c : CanvasValue) (row from to : ℕ) (color : Color) (run : Span) where
-  -- columns within a run of painted pixels stay as they are
-  pub run_hidden : IsCanvas c → row < c.height → to ≤ c.width → run.from ≤ (c.height - 1 - row) * c.width + from → (c.height - 1 - row) * c.width + to ≤ run.to →
-      IsRun c.skip run → IsColored (is_in_run row from to) color c c
-  run_hidden is within inside first last painted = run_colored c row from to color c.skip c.bytes c.runs is within inside
-      (range_in_run ((c.height - 1 - row) * c.width + from) ((c.height - 1 - row) * c.width + to) color c.skip c.bytes run first last painted)
-
--- ---- the runs of the rows
-
-module _ (skip : List ℕ) (runs : List Span) (row : ℕ) (run : Span) where
-  -- a row's run
-  pub row_run : row < length runs → run ≡ get_or runs row (record { from = 0; to = 0 }) → All (IsRun skip) runs → IsRun skip run
-  row_run within is painted = rw is (All-get_or (IsRun skip) runs row (record { from = 0; to = 0 }) within painted)
-
-module _ (row start end : ℕ) (color : Color) (old_skip old_bytes skip bytes : List ℕ) (runs : List Span) (run joined : Span) where
-  -- the runs, after a row's was joined with the painted range
-  pub runs_joined : row < length runs → run ≡ get_or runs row (record { from = 0; to = 0 }) → All (IsRun old_skip) runs →
-      IsRangePainted start end color old_skip old_bytes skip bytes →
-      ((s : List ℕ) → IsRun s run → IsRun s (record { from = start; to = end }) → IsRun s joined) → All (IsRun skip) (set runs row joined)
-  runs_joined within is painted range join =
-      let kept : All (IsRun skip) runs = All-weaker (IsRun old_skip) (IsRun skip) (run_kept start end color old_skip old_bytes skip bytes range) runs painted in
-      let now : IsRun skip (record { from = start; to = end }) = range_run start end color old_skip old_bytes skip bytes range in
-      All-set (IsRun skip) runs row joined (join skip (row_run skip runs row run within is kept) now) kept
-
 -- ---- the whole canvas
 
-pub blank_pixels : (width height : ℕ) (bytes : List ℕ) (runs : List Span) → IsBlank width height (record { width = width; height = height; bytes = bytes; skip = replicate (width * height) 0; runs = runs; known = 0 })
+pub blank_pixels : (width height : ℕ) (bytes free : List ℕ) → ((i : ℕ) → is_free free i ≡ nat_lt i (width * height)) →
+    IsBlank width height (record { width = width; height = height; bytes = bytes; free = free; known = 0 })
 unfolding painted_at
-blank_pixels width height bytes runs =
-    let skip : List ℕ = replicate (width * height) 0 in
-    record {
-      wide = refl;
-      high = refl;
-      pixels = λ i area. painted_in-free skip bytes i (is_free-none skip i (get_or-replicate (width * height) i 0 0 area));
-    }
+blank_pixels width height bytes free all = record {
+  wide = refl;
+  high = refl;
+  pixels = λ i area. painted_in-free free bytes i (all i ∙ lt-ltb i (width * height) area);
+}
 
--- the same canvas, of whose first pixels so many are known to be painted
+-- free pixels are those of the picture, and each has three bytes
+pub blank_cells : (area : ℕ) (bytes free : List ℕ) → area ≤ 2 ^ 20 → length bytes ≡ 3 * area → length free ≡ area / 64 + 1 →
+    ((i : ℕ) → is_free free i ≡ nat_lt i area) → IsCells free bytes
+blank_cells area bytes free small sized words all = record {
+  most = omega arith;
+  within = λ i is. elim (cases_lt i area) [
+    | inl inside ↦ omega arith
+    | inr outside ↦ absurd (false≢true (sym (le-ltb i area outside) ∙ sym (all i) ∙ is))
+  ];
+}
+
+-- the same canvas, of whose first words so many are known to have no free pixel
 abbrev pub with_known : CanvasValue → ℕ → CanvasValue
-with_known c known = record { width = c.width; height = c.height; bytes = c.bytes; skip = c.skip; runs = c.runs; known = known }
+with_known c known = record { width = c.width; height = c.height; bytes = c.bytes; free = c.free; known = known }
 
 module _ (c : CanvasValue) (known : ℕ) where
   -- to know more changes no pixel
@@ -196,36 +176,38 @@ module _ (c : CanvasValue) (known : ℕ) where
   unfolding painted_at
   canvas_alike = record { width = refl; height = refl; pixels = λ i area. refl }
 
-  pub canvas_known : IsCanvas c → known ≤ length c.skip → ((i : ℕ) → i < known → is_free c.skip i ≡ false) → IsCanvas (with_known c known)
+  pub canvas_known : IsCanvas c → known ≤ length c.free → ((i : ℕ) → i < 64 * known → is_free c.free i ≡ false) → IsCanvas (with_known c known)
   canvas_known is within painted = record {
     width_least = is.width_least;
     width_most = is.width_most;
     height_least = is.height_least;
     height_most = is.height_most;
     size = is.size;
+    words = is.words;
     cells = is.cells;
-    runs_count = is.runs_count;
-    runs_painted = is.runs_painted;
     known_within = within;
     known_painted = painted;
   }
 
-  pub canvas_full : ((i : ℕ) → i < c.width * c.height → is_free c.skip i ≡ false) → IsFull (with_known c known)
+  -- no word has a free pixel
+  pub canvas_full : IsCanvas c → ((i : ℕ) → i < 64 * length c.free → is_free c.free i ≡ false) → IsFull (with_known c known)
   unfolding painted_at
-  canvas_full painted = record {
-    pixels = λ i area. ap (λ (o : Option Color). is_some o) (painted_in-painted c.skip c.bytes i (painted i area));
+  canvas_full is painted = record {
+    pixels = λ i area. ap (λ (o : Option Color). is_some o) (painted_in-painted c.free c.bytes i (painted i (omega (arith, is.words))));
   }
 
-  pub canvas_free : (i : ℕ) → i < c.width * c.height → is_free c.skip i ≡ true → HasFree (with_known c known)
+  pub canvas_free : IsCanvas c → (word : ℕ) → HasFreeBit c.free word → HasFree (with_known c known)
   unfolding painted_at
-  canvas_free i area free = record { free = i; within = area; unpainted = painted_in-free c.skip c.bytes i free }
+  canvas_free is word some =
+      let i : ℕ = 64 * word + some.bit in
+      record { free = i; within = omega (arith, is.size, is.cells.within i some.unpainted); unpainted = painted_in-free c.free c.bytes i some.unpainted }
 
 -- the background in the free pixels
-pub canvas_finished : (background : Color) (c : CanvasValue) (bytes : List ℕ) → IsCanvas c → IsFilled (length c.skip) background c.skip c.bytes bytes →
+pub canvas_finished : (background : Color) (c : CanvasValue) (bytes : List ℕ) → IsCanvas c → IsFilled (64 * length c.free) background c.free c.bytes bytes →
     IsFinished background c (record { width = c.width; height = c.height; bytes = bytes })
 unfolding painted_at
 canvas_finished background c bytes is filled = record {
   width = refl;
   height = refl;
-  pixels = λ i area. filled.filled i (omega (arith, is.size));
+  pixels = λ i area. filled.filled i (omega (arith, is.words));
 }

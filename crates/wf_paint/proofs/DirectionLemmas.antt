@@ -4,7 +4,7 @@ use Rattle.std.proofs.lemmas.Bool.{cases_Bool}
 use Rattle.std.proofs.lemmas.Int.{ints}
 use Rattle.wf_paint.specs.Exact.{difference, is_less}
 use Rattle.wf_paint.specs.Place.{PlaceValue, turned}
-use Rattle.wf_paint.specs.Coverage.{run, rise, meets, crosses, is_across, is_on_flat, is_steep, is_on}
+use Rattle.wf_paint.specs.Coverage.{run, rise, meets, crosses, is_on_flat, is_steep, is_on}
 use Rattle.wf_paint.specs.Direction.{reversed}
 use Rattle.wf_paint.specs.declared.segment.Segment.{Segment}
 use Rattle.wf_paint.proofs.AlongLemmas.{flat_back, flat_forth, on_steep, on_flat}

@@ -1,7 +1,9 @@
 -- Strips: where the pixels of a row begin and end, and how that changes from row to row.
-use Rattle.std.proofs.Common.{◌≡◌, Bool, true, false, ℕ, ◌+◌, ◌*◌, ◌^◌, ◌<◌, ◌≤◌, ◌&&◌, not, nat_lt, ⊎_elim, ℤ, pos, ◌+ℤ◌, ◌-ℤ◌, ◌*ℤ◌, neg_ℤ, nat_abs, refl, sym, ap, ◌∙◌, arith}
+use Rattle.std.proofs.Common.{◌≡◌, Bool, true, false, ℕ, ◌+◌, ◌*◌, ◌^◌, ◌<◌, ◌≤◌, ◌&&◌, not, nat_lt, ⊎_elim, ℤ, pos, ◌+ℤ◌, ◌*ℤ◌, neg_ℤ, nat_abs, ◌≤ℤ◌, negsuc, refl, sym, ap, ◌∙◌, arith}
 use Rattle.std.proofs.lemmas.Bool.{and_left, and_right, cases_lt}
 use Rattle.std.proofs.lemmas.Int.{ints}
+use Rattle.std.proofs.Math.IntN.{pos-*ℤ-pos}
+use Rattle.std.proofs.Math.Nat.{mul_assoc, mul_comm}
 use Rattle.wf_paint.specs.Exact.{plus, difference, product, opposite, is_less}
 use Rattle.wf_paint.specs.Level.{level, row_level, level_at, is_in_margin}
 use Rattle.wf_paint.specs.Quotient.{number_of}
@@ -105,9 +107,13 @@ strip_mirrored l m rows columns u v same is =
 -- ---- the ends of a row's pixels
 
 -- a quotient that tells which pixels of a row lie below a bound
-pub record IsEdge (bound start change : ℤ) (step row : ℕ) (q : Quotient) : Type 0 where
+pub record IsEnd (bound start change : ℤ) (step row : ℕ) (q : Quotient) : Type 0 where
   pub value : plus (number_of step q) (pos 1) ≡ difference bound (level start change (pos row))
   pub rest : q.rest < step
+
+-- and is near enough to 0 for the sums that follow
+pub record IsEdge (bound start change : ℤ) (step row : ℕ) (q : Quotient) : Type 0 where
+  pub ends : IsEnd bound start change step row q
   pub within : nat_abs q.whole ≤ (row + 1) * 2 ^ 51
 
 one_more : (n bound z : ℤ) → n ≡ difference (difference bound z) (pos 1) → plus n (pos 1) ≡ difference bound z
@@ -117,8 +123,7 @@ one_more n bound z is = omega (arith, ints)
 pub edge_begins : (bound start change here : ℤ) (step row : ℕ) (q : Quotient) → here ≡ level start change (pos row) →
     number_of step q ≡ difference (difference bound here) (pos 1) → q.rest < step → nat_abs q.whole ≤ 2 ^ 50 → IsEdge bound start change step row q
 edge_begins bound start change here step row q is value rest within = record {
-  value = one_more (number_of step q) bound here value ∙ ap (difference bound) is;
-  rest = rest;
+  ends = record { value = one_more (number_of step q) bound here value ∙ ap (difference bound) is; rest = rest };
   within = omega arith;
 }
 
@@ -131,9 +136,11 @@ pub edge_moves : (bound start change : ℤ) (step row : ℕ) (q c next : Quotien
     number_of step next ≡ plus (number_of step q) (number_of step c) → next.rest < step → nat_abs next.whole ≤ nat_abs q.whole + 2 ^ 51 →
     IsEdge bound start change step (row + 1) next
 edge_moves bound start change step row q c next edge moves sum rest within = record {
-  value = lowered (number_of step q) (number_of step c) (number_of step next) bound (level start change (pos row)) change (level start change (pos (row + 1)))
-      edge.value moves sum (level_next start change row);
-  rest = rest;
+  ends = record {
+    value = lowered (number_of step q) (number_of step c) (number_of step next) bound (level start change (pos row)) change (level start change (pos (row + 1)))
+        edge.ends.value moves sum (level_next start change row);
+    rest = rest;
+  };
   within = omega (arith, edge.within);
 }
 
@@ -141,7 +148,7 @@ edge_moves bound start change step row q c next edge moves sum rest within = rec
 abbrev pub Counts : Quotient → ℕ → ℕ → Type 0
 Counts q most n = (divisor u : ℕ) → q.rest < divisor → u < most → is_less (product (pos divisor) (pos u)) (plus (number_of divisor q) (pos 1)) ≡ nat_lt u n
 
-edge_counts : (bound start change s : ℤ) (step row most n : ℕ) (q : Quotient) → IsEdge bound start change step row q → pos step ≡ s → Counts q most n →
+edge_counts : (bound start change s : ℤ) (step row most n : ℕ) (q : Quotient) → IsEnd bound start change step row q → pos step ≡ s → Counts q most n →
     (u : ℕ) → u < most → is_less (product s (pos u)) (difference bound (level start change (pos row))) ≡ nat_lt u n
 edge_counts bound start change s step row most n q edge same counts u below =
     ap (λ (z : ℤ). is_less (product z (pos u)) (difference bound (level start change (pos row)))) (sym same)
@@ -149,13 +156,45 @@ edge_counts bound start change s step row most n q edge same counts u below =
     ∙ counts step u edge.rest below
 
 pub rising_row : (l : Levels) (margin : ℤ) (step row most : ℕ) (low high : Quotient) (span : Span) → pos step ≡ product (pos 16) l.across →
-    IsEdge (opposite margin) l.origin (product (pos 16) l.up) step row low → IsEdge margin l.origin (product (pos 16) l.up) step row high →
+    IsEnd (opposite margin) l.origin (product (pos 16) l.up) step row low → IsEnd margin l.origin (product (pos 16) l.up) step row high →
     Counts low most span.from → Counts high most span.to → span.to ≤ most → IsSpanOf (λ u. is_in_margin margin (level_at l u row)) most span
 unfolding level_at row_level
 rising_row l margin step row most low high span same lower upper from to within =
     rising_span (level l.origin (product (pos 16) l.up) (pos row)) (product (pos 16) l.across) margin most span within
     (edge_counts (opposite margin) l.origin (product (pos 16) l.up) (product (pos 16) l.across) step row most span.from low lower same from)
     (edge_counts margin l.origin (product (pos 16) l.up) (product (pos 16) l.across) step row most span.to high upper same to)
+
+-- ---- rows whose pixels are all as many
+
+rearranged : (t a b r : ℤ) → t ≡ a +ℤ b → t +ℤ r ≡ (a +ℤ r) +ℤ b
+rearranged t a b r is = omega (arith, ints)
+
+pub further_sum : (d r : ℕ) (v w whole : ℤ) → whole ≡ v +ℤ w → plus (product whole (pos d)) (pos r) ≡ plus (plus (product v (pos d)) (pos r)) (product w (pos d))
+unfolding plus product
+further_sum d r v w whole is =
+    rearranged (whole *ℤ pos d) (v *ℤ pos d) (w *ℤ pos d) (pos r) (ap (λ (z : ℤ). z *ℤ pos d) is ∙ times_sum v w (pos d))
+
+-- twice the margin is the change of the level over as many columns as the line is wide
+pub even_margin : (w step : ℕ) (a m : ℤ) → pos 1 ≤ℤ a → m ≡ product (pos (8 * w)) a → pos step ≡ product (pos 16) a → product (pos w) (pos step) ≡ plus m m
+unfolding product plus
+even_margin w step (pos n) m rising margin same =
+    let stepped : step ≡ 16 * n = omega (arith, ints, pos-*ℤ-pos 16 n) in
+    let whole : w * (16 * n) ≡ 16 * (w * n) = sym (mul_assoc w 16 n) ∙ ap (λ (k : ℕ). k * n) (mul_comm w 16) ∙ mul_assoc 16 w n in
+    let half : m ≡ pos (8 * (w * n)) = margin ∙ pos-*ℤ-pos (8 * w) n ∙ ap pos (mul_assoc 8 w n) in
+    pos-*ℤ-pos w step ∙ ap (λ (k : ℕ). pos (w * k)) stepped ∙ ap pos whole ∙ omega (arith, ints)
+even_margin w step (negsuc n) m rising margin same = absurd (omega (arith, ints))
+
+raised : (n h w m z : ℤ) → plus n (pos 1) ≡ difference (opposite m) z → h ≡ plus n w → w ≡ plus m m → plus h (pos 1) ≡ difference m z
+unfolding plus difference opposite
+raised n h w m z first second third = omega (arith, ints)
+
+-- so the lower end tells the upper
+pub end_further : (m start change w : ℤ) (step row : ℕ) (low high : Quotient) → IsEnd (opposite m) start change step row low →
+    number_of step high ≡ plus (number_of step low) w → w ≡ plus m m → high.rest ≡ low.rest → IsEnd m start change step row high
+end_further m start change w step row low high is sum twice rest = record {
+  value = raised (number_of step low) (number_of step high) w m (level start change (pos row)) is.value sum twice;
+  rest = omega (arith, is.rest, rest);
+}
 
 -- the same where the multiples below both borders are counted
 pub counted_row : (l : Levels) (step start lower upper : ℤ) (row most : ℕ) (span : Span) → span.to ≤ most → step ≡ product (pos 16) l.across → start ≡ row_level l row →

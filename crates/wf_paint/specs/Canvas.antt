@@ -1,38 +1,34 @@
 -- A picture while it is painted, from the last operation to the first. A painted pixel keeps its colour; a free one has none yet.
-use Rattle.std.specs.Prelude.{◌≡◌, ℕ, ◌*◌, ◌<◌, ◌≤◌, true, false, List, length, Option, None, is_some}
-use Rattle.std.specs.List.{All}
+use Rattle.std.specs.Prelude.{◌≡◌, ℕ, ◌+◌, ◌*◌, ◌/◌, ◌<◌, ◌≤◌, true, false, List, length, Option, None, is_some}
 use Rattle.std.specs.Option.{unwrap_or}
 use Rattle.wf_def.specs.declared.color.Color.{Color}
 use Rattle.wf_paint.specs.View.{most_pixels}
 use Rattle.wf_paint.specs.Pixmap.{PixmapValue, pixel_at}
-use Rattle.wf_paint.specs.Cells.{IsCells, IsRun, is_free, painted_in}
-use Rattle.wf_paint.specs.declared.span.Span.{Span}
+use Rattle.wf_paint.specs.Cells.{IsCells, is_free, painted_in}
 
--- a size in pixels, three bytes a pixel, for each pixel the distance to the next one that may be free, 0 if it is free itself, for
--- each row a run of painted pixels, and how many of the first pixels are known to be painted
+-- a size in pixels, three bytes a pixel, words with a bit for each pixel, set where it is free, and how many of the first words are
+-- known to have no free pixel
 pub record CanvasValue : Type 0 where
   pub width : ℕ
   pub height : ℕ
   pub bytes : List ℕ
-  pub skip : List ℕ
-  pub runs : List Span
+  pub free : List ℕ
   pub known : ℕ
 
 -- the colour of a painted pixel
 unfoldable pub painted_at : CanvasValue → ℕ → Option Color
-painted_at c index = painted_in c.skip c.bytes index
+painted_at c index = painted_in c.free c.bytes index
 
 pub record IsCanvas (c : CanvasValue) : Type 0 where
   pub width_least : 1 ≤ c.width
   pub width_most : c.width ≤ most_pixels
   pub height_least : 1 ≤ c.height
   pub height_most : c.height ≤ most_pixels
-  pub size : length c.skip ≡ c.width * c.height
-  pub cells : IsCells c.skip c.bytes
-  pub runs_count : length c.runs ≡ c.height
-  pub runs_painted : All (IsRun c.skip) c.runs
-  pub known_within : c.known ≤ length c.skip
-  pub known_painted : (i : ℕ) → i < c.known → is_free c.skip i ≡ false
+  pub size : length c.bytes ≡ 3 * (c.width * c.height)
+  pub words : length c.free ≡ c.width * c.height / 64 + 1
+  pub cells : IsCells c.free c.bytes
+  pub known_within : c.known ≤ length c.free
+  pub known_painted : (i : ℕ) → i < 64 * c.known → is_free c.free i ≡ false
 
 -- a canvas of this size with all pixels free
 pub record IsBlank (width height : ℕ) (c : CanvasValue) : Type 0 where

@@ -1,6 +1,6 @@
 -- The tile grid: at level z the extent's width has 2^z cells. Cells count from the extent's lower left corner; those below it are
 -- negative.
-use Rattle.std.specs.Prelude.{ℕ, ◌*◌, ◌^◌, ◌≤◌, ◌&&◌, ◌==◌, Bool, nat_le, ℤ, pos, nat_abs}
+use Rattle.std.specs.Prelude.{◌≡◌, true, ℕ, ◌*◌, ◌^◌, ◌≤◌, ◌&&◌, ◌==◌, Bool, nat_le, ℤ, pos, nat_abs}
 use Rattle.wf_def.specs.Extent.{ExtentValue}
 use Rattle.wf_paint.specs.Exact.{plus, difference, product}
 use Rattle.wf_paint.specs.declared.cell.GridCell.{GridCell}
@@ -44,6 +44,10 @@ is_box e box cells col row = has_level (width_of e) cells
 unfoldable pub fits : ExtentValue → ExtentValue → ℕ → ℕ → GridCell → Bool
 fits e box width height cell = width == tile_pixels && height == tile_pixels && nat_le cell.z most_level
     && is_box e box (2 ^ cell.z) cell.col cell.row
+
+-- at most one cell fits: two that fit a picture of the same box at the same size are equal
+abbrev pub AtMostOneFits : Type 0
+AtMostOneFits = (e box : ExtentValue) (width height : ℕ) (c d : GridCell) → fits e box width height c ≡ true → fits e box width height d ≡ true → c ≡ d
 
 -- the level is one of the grid, and column and row lie in the range that boxes of map coordinates can reach
 pub record IsGridCell (cell : GridCell) : Type 0 where

@@ -1,7 +1,7 @@
 //! Lines of a given width along segments, drawn row by row.
 ghost use Rattle.std.specs.Prelude.{◌≡◌, ℕ, ◌*◌, ◌≤◌, ◌<◌, ◌^◌, false, pos, nat_abs};
 ghost use Rattle.wf_paint.specs.Near.{IsNear, IsReach, IsArea};
-ghost use Rattle.wf_paint.specs.Exact.{plus, difference, is_less};
+ghost use Rattle.wf_paint.specs.Exact.{plus, difference, product, is_less};
 ghost use Rattle.wf_paint.specs.Level.{level_at};
 ghost use Rattle.wf_paint.specs.Place.{centre, turned};
 ghost use Rattle.wf_paint.specs.Coverage.{deviation, margin, is_along, is_across, is_on_flat, is_on, is_on_any};
@@ -18,7 +18,7 @@ use crate::place::Place;
 use crate::segment::Segment;
 use crate::span::Span;
 use crate::steps::centres_below;
-use crate::strip::draw_strip;
+use crate::strip::{draw_strip, draw_upright};
 use wf_def::color::Color;
 
 /// Paints a line of `width` pixels along each segment; nothing if `color` is None.
@@ -172,9 +172,10 @@ fn draw_upward(canvas: &mut Canvas, width: u8, low: Place, high: Place, color: C
 {
     let rows = span_along(low, high, canvas.height());
     let columns = rows_near(width, low, high, canvas.width());
-    draw_strip(
+    draw_upright(
         canvas,
         turned_deviations(width, low, high),
+        width,
         rows,
         columns,
         color,
@@ -187,6 +188,7 @@ fn turned_deviations(width: u8, low: Place, high: Place) -> Levels
     ensures across { IsReach result.across }
     ensures up { IsReach result.up }
     ensures margin { result.margin ≡ margin width low high }
+    ensures even { result.margin ≡ product (pos (8 * width)) result.across }
     ensures margin_within { IsArea result.margin }
     ensures value { (u v : ℕ) → level_at result u v ≡ deviation (turned (centre (pos u) (pos v))) low high }
 {

@@ -1,12 +1,13 @@
-//! A picture while it is painted, from the last operation to the first.
-ghost use Rattle.std.specs.Prelude.{◌≡◌, ◌≤◌, ◌<◌, ◌*◌, ◌+◌, ◌^◌, ◌↔◌, ℕ, true, false, List, length, slice_index, IfOk};
+//! A picture while it is painted, from the last operation to the first. A word has a bit for each of 64 pixels, set where the pixel
+//! is free, so one test passes over all painted pixels of a word.
+ghost use Rattle.std.specs.Prelude.{◌≡◌, ◌≤◌, ◌<◌, ◌*◌, ◌+◌, ◌/◌, ◌^◌, ℕ, true, false, length, slice_index, nat_lt, IfOk};
+ghost use Rattle.std.specs.Int.{bit_at};
 ghost use Rattle.wf_paint.specs.View.{most_pixels};
-ghost use Rattle.wf_paint.specs.Cells.{IsCells, IsJump, AreJumps, IsRun, IsStep, IsRangePainted, IsWritten, IsFilled, is_free};
+ghost use Rattle.wf_paint.specs.Cells.{IsCells, HasFreeBit, IsRangePainted, IsWritten, AreWritten, IsFilled, is_free};
 ghost use Rattle.wf_paint.specs.Canvas.{IsCanvas, IsBlank, IsFull, HasFree, IsAlike, IsFinished};
 ghost use Rattle.wf_paint.specs.Shown.{IsColored, is_in_run};
 
 use crate::pixmap::Pixmap;
-use crate::span::Span;
 use std::alloc::{AllocError, Global};
 use std::marker::Model;
 use wf_def::color::Color;
@@ -17,12 +18,9 @@ pub(crate) struct Canvas {
     width: u32,
     height: u32,
     bytes: Vec<u8>,
-    /// For each pixel, the length of a jump from it over painted pixels of its row; 0 where the pixel is free.
-    skip: Vec<u16>,
-    /// For each row, a run of painted pixels, as indices. Lines that go over painted pixels mostly lie within them, and then read
-    /// nothing else: all runs together are small enough to stay near the processor.
-    runs: Vec<Span>,
-    /// So many of the first pixels are known to be painted.
+    /// A bit for each pixel, set where it is free, from the lowest bit of a word on. Bits after the last pixel are clear.
+    free: Vec<u64>,
+    /// So many of the first words have no free pixel.
     known: u32,
 }
 
@@ -31,9 +29,9 @@ impl Model for Canvas {
 
     ghost Value = { CanvasValue };
 
-    ghost view = { λ c. record { width = c.width; height = c.height; bytes = c.bytes.items; skip = c.skip.items; runs = c.runs.items; known = c.known } };
+    ghost view = { λ c. record { width = c.width; height = c.height; bytes = c.bytes.items; free = c.free.items; known = c.known } };
 
-    ghost invariant = { λ c. IsCanvas (record { width = c.width; height = c.height; bytes = c.bytes.items; skip = c.skip.items; runs = c.runs.items; known = c.known }) };
+    ghost invariant = { λ c. IsCanvas (record { width = c.width; height = c.height; bytes = c.bytes.items; free = c.free.items; known = c.known }) };
 }
 
 impl Canvas {
@@ -45,13 +43,12 @@ impl Canvas {
         requires height_most { height ≤ most_pixels }
         ensures { IfOk result (λ c. IsBlank width height c) }
     {
-        let area = (width * height) as usize;
+        let area = width * height;
         Ok(Canvas {
             width,
             height,
-            bytes: vec![in alloc; 0; 3 * area]?,
-            skip: vec![in alloc; 0; area]?,
-            runs: vec![in alloc; Span { from: 0, to: 0 }; height as usize]?,
+            bytes: vec![in alloc; 0; 3 * area as usize]?,
+            free: free_words(alloc, area)?,
             known: 0,
         })
     }
@@ -81,17 +78,7 @@ impl Canvas {
         if from < to {
             let left = (self.height - 1 - row) * self.width;
             let (start, end) = (left + from, left + to);
-            let run = self.runs[row as usize];
-            if start < run.from || run.to < end {
-                paint_range(&mut self.bytes, &mut self.skip, start, end, color);
-                self.runs[row as usize] = joined(
-                    run,
-                    Span {
-                        from: start,
-                        to: end,
-                    },
-                );
-            }
+            paint_range(&mut self.bytes, &mut self.free, start, end, color);
         }
     }
 
@@ -101,8 +88,8 @@ impl Canvas {
         ensures full { result ≡ true → IsFull self.new }
         ensures free { result ≡ false → HasFree self.new }
     {
-        self.known = first_free(&self.skip, self.known);
-        self.known == self.width * self.height
+        self.known = first_free(&self.free, self.known);
+        self.known == self.width * self.height / 64 + 1
     }
 
     /// The picture; free pixels get the background.
@@ -113,30 +100,25 @@ impl Canvas {
             width,
             height,
             bytes,
-            skip,
-            runs: _,
+            free,
             known: _,
         } = self;
         let mut bytes = bytes;
-        fill_free(&mut bytes, &skip, background);
+        fill_free(&mut bytes, &free, background);
         Pixmap::of(width, height, bytes)
     }
 }
 
-/// The union of two runs of painted pixels if they touch, else the longer one.
-fn joined(a: Span, b: Span) -> Span
-    ensures { (skip : List ℕ) → IsRun skip a → IsRun skip b → IsRun skip result }
+/// The words of so many pixels, all free.
+fn free_words(alloc: Global, area: u32) -> Result<Vec<u64>, AllocError>
+    requires { area ≤ 2 ^ 20 }
+    ensures size { IfOk result (λ free. length free.items ≡ area / 64 + 1) }
+    ensures free { IfOk result (λ free. (i : ℕ) → is_free free.items i ≡ nat_lt i area) }
 {
-    if b.from <= a.to && a.from <= b.to {
-        Span {
-            from: a.from.min(b.from),
-            to: a.to.max(b.to),
-        }
-    } else if a.to.saturating_sub(a.from) < b.to.saturating_sub(b.from) {
-        b
-    } else {
-        a
-    }
+    let last = (area / 64) as usize;
+    let mut free = vec![in alloc; u64::MAX; last + 1]?;
+    free[last] = (1 << (area % 64)) - 1;
+    Ok(free)
 }
 
 /// Writes the three bytes of a pixel.
@@ -150,82 +132,109 @@ fn write(bytes: &mut Vec<u8>, index: u32, color: Color)
     bytes[start + 2] = color.b;
 }
 
-/// Writes the colour to the free pixels in start..end, which are at most a row's.
-fn paint_range(bytes: &mut Vec<u8>, skip: &mut Vec<u16>, start: u32, end: u32, color: Color)
-    requires cells { IsCells skip.old.items bytes.old.items }
+/// Writes the three bytes of those of the 64 pixels from `first` on whose bit is set.
+fn write_set(bytes: &mut Vec<u8>, first: u32, bits: u64, color: Color)
+    requires first { first ≤ 2 ^ 20 }
+    requires room { (k : ℕ) → bit_at bits k ≡ 1 → 3 * (first + k) + 2 < length bytes.old.items }
+    ensures { AreWritten 64 first bits color bytes.old.items bytes.new.items }
+{
+    let mut here = 0;
+    while here < 64 {
+        let rest = bits >> here;
+        if rest == 0 {
+            return;
+        }
+        let set = here + rest.trailing_zeros();
+        write(bytes, first + set, color);
+        here = set + 1;
+    }
+}
+
+/// Writes the colour to the free pixels in start..end.
+fn paint_range(bytes: &mut Vec<u8>, free: &mut Vec<u64>, start: u32, end: u32, color: Color)
+    requires cells { IsCells free.old.items bytes.old.items }
     requires order { start ≤ end }
-    requires short { end ≤ start + most_pixels }
-    requires within { end ≤ length skip.old.items }
-    ensures range { IsRangePainted start end color skip.old.items bytes.old.items skip.new.items bytes.new.items }
-    ensures cells { IsCells skip.new.items bytes.new.items }
+    requires within { end ≤ 64 * length free.old.items }
+    ensures { IsRangePainted start end color free.old.items bytes.old.items free.new.items bytes.new.items }
 {
     let mut here = start;
     while here < end {
-        here = paint_next(bytes, skip, here, end, color);
+        let next = end.min(64 * (here / 64 + 1));
+        paint_word(bytes, free, here, next, color);
+        here = next;
     }
 }
 
-/// Paints this pixel if it is free, else jumps over the painted pixels that start here, at most to `end`. A later jump from here
-/// goes at least to `end`. Returns the next index.
-fn paint_next(bytes: &mut Vec<u8>, skip: &mut Vec<u16>, here: u32, end: u32, color: Color) -> u32
-    requires order { here < end }
-    requires short { end ≤ here + most_pixels }
-    requires within { end ≤ length skip.old.items }
-    requires most { length skip.old.items ≤ 2 ^ 20 }
-    requires bytes { length bytes.old.items ≡ 3 * length skip.old.items }
-    requires jump { IsJump skip.old.items here }
-    ensures { IsStep here result end color skip.old.items bytes.old.items skip.new.items bytes.new.items }
+/// The same for pixels of one word.
+fn paint_word(bytes: &mut Vec<u8>, free: &mut Vec<u64>, from: u32, to: u32, color: Color)
+    requires cells { IsCells free.old.items bytes.old.items }
+    requires order { from < to }
+    requires one { to ≤ 64 * (from / 64 + 1) }
+    requires within { to ≤ 64 * length free.old.items }
+    ensures { IsRangePainted from to color free.old.items bytes.old.items free.new.items bytes.new.items }
 {
-    let jump = skip[here as usize] as u32;
-    let rest = end - here;
-    if jump == 0 {
-        write(bytes, here, color);
-        skip[here as usize] = rest as u16;
-        return here + 1;
+    let word = from / 64;
+    let mask = ones(from % 64, to - 64 * word);
+    let left = word_at(free, word);
+    if left & mask != 0 {
+        free[word as usize] = left & !mask;
+        write_set(bytes, 64 * word, left & mask, color);
     }
-    if jump < rest {
-        skip[here as usize] = rest as u16;
-        return here + jump;
-    }
-    end
 }
 
-/// The index of the first free pixel, or the number of pixels if none is free. The first `known` pixels are painted.
-fn first_free(skip: &Vec<u16>, known: u32) -> u32
-    requires most { length skip.now.items ≤ 2 ^ 20 }
-    requires jumps { AreJumps skip.now.items }
-    requires within { known ≤ length skip.now.items }
-    requires known { (i : ℕ) → i < known → is_free skip.now.items i ≡ false }
-    ensures within { result ≤ length skip.now.items }
-    ensures painted { (i : ℕ) → i < result → is_free skip.now.items i ≡ false }
-    ensures free { result < length skip.now.items → is_free skip.now.items result ≡ true }
+/// The word at an index.
+#[inline(always)]
+fn word_at(free: &Vec<u64>, index: u32) -> u64
+    requires { index < length free.now.items }
+    ensures value { result ≡ slice_index free.now.items index }
+    ensures fits { result < 2 ^ 64 }
 {
-    let end = skip.len() as u32;
+    free[index as usize]
+}
+
+/// The word with the bits from `from` on and before `to` set.
+#[inline(always)]
+fn ones(from: u32, to: u32) -> u64
+    requires from { from < 64 }
+    requires least { 1 ≤ to }
+    requires most { to ≤ 64 }
+    ensures below { (k : ℕ) → k < from → bit_at result k ≡ 0 }
+    ensures within { (k : ℕ) → from ≤ k → k < to → bit_at result k ≡ 1 }
+    ensures above { (k : ℕ) → to ≤ k → bit_at result k ≡ 0 }
+    ensures fits { result < 2 ^ 64 }
+{
+    (u64::MAX << from) & (u64::MAX >> (64 - to))
+}
+
+/// The index of the first word with a free pixel, or the number of words if there is none. The first `known` words have none.
+fn first_free(free: &Vec<u64>, known: u32) -> u32
+    requires most { length free.now.items ≤ 2 ^ 14 + 1 }
+    requires within { known ≤ length free.now.items }
+    requires known { (i : ℕ) → i < 64 * known → is_free free.now.items i ≡ false }
+    ensures within { result ≤ length free.now.items }
+    ensures painted { (i : ℕ) → i < 64 * result → is_free free.now.items i ≡ false }
+    ensures free { result < length free.now.items → HasFreeBit free.now.items result }
+{
+    let end = free.len() as u32;
     let mut here = known;
     while here < end {
-        let jump = skip[here as usize] as u32;
-        if jump == 0 {
+        let bits = word_at(free, here);
+        if bits != 0 {
             return here;
         }
-        here += jump;
+        here += 1;
     }
     here
 }
 
 /// Writes the background to the free pixels.
-fn fill_free(bytes: &mut Vec<u8>, skip: &Vec<u16>, background: Color)
-    requires cells { IsCells skip.now.items bytes.old.items }
-    ensures { IsFilled (length skip.now.items) background skip.now.items bytes.old.items bytes.new.items }
+fn fill_free(bytes: &mut Vec<u8>, free: &Vec<u64>, background: Color)
+    requires { IsCells free.now.items bytes.old.items }
+    ensures { IsFilled (64 * length free.now.items) background free.now.items bytes.old.items bytes.new.items }
 {
-    let end = skip.len() as u32;
-    let mut here = 0;
-    while here < end {
-        let jump = skip[here as usize] as u32;
-        if jump == 0 {
-            write(bytes, here, background);
-            here += 1;
-        } else {
-            here += jump;
-        }
+    let end = free.len() as u32;
+    for word in 0..end {
+        let bits = word_at(free, word);
+        write_set(bytes, 64 * word, bits, background);
     }
 }

@@ -1,6 +1,13 @@
-//! Theorems about the definitions: of tiles, and of segments.
+//! Theorems about the definitions: of cells and tiles, and of segments.
 ghost use Rattle.wf_paint.specs.Direction.{LinesHaveNoDirection, EdgesHaveNoDirection};
 ghost use Rattle.wf_paint.specs.Drawing.{IsPartOfTheDrawing};
+ghost use Rattle.wf_paint.specs.Grid.{AtMostOneFits};
+
+/// At most one cell of the grid fits a request: a cell is at least 1,000 millionths wide, and each side of its box lies within 2 of
+/// its own. So [`GridCell::of`](crate::cell::GridCell::of) returns the only one. A theorem: the call does nothing.
+pub fn there_is_one_cell()
+    ensures { AtMostOneFits }
+{}
 
 /// Each tile's view is a part of one drawing over the whole grid of its level. A pixel has the same colour whichever tile's view
 /// paints it, so fills and lines continue across neighbouring tiles. A theorem: the call does nothing.

@@ -7,14 +7,15 @@
 //! (`specs/Coverage.antt`); a square consists of whole pixels (`specs/Square.antt`). Contracts model positions, views and
 //! pictures as records of `specs/`.
 //!
-//! [`painter::paint`] goes from the last operation to the first, row by row, and writes only pixels that are still free: so
-//! hidden operations cost little. It skips operations that later ones hide: those of a layer that is listed again later; a fill
+//! [`painter::paint`] goes from the last operation to the first, row by row, and writes only pixels that are still free, which a
+//! bit for each pixel tells: so hidden operations cost little. It skips operations that later ones hide: those of a layer that is listed again later; a fill
 //! of a feature that a later style fills; a line of a feature, if a later style has one at least as wide along the same segments.
 //!
 //! It promises:
 //! - each pixel of a painted picture has the colour of the last operation in painter's order that covers it, else the background;
 //!   the only error is allocation failure
-//! - a request that is a tile of the map's grid has a view that sixteen tiles share, any other that of its box
+//! - a request that is a tile of the map's grid has a view that sixteen tiles share, any other that of its box; it is a tile of at
+//!   most one cell ([`law::there_is_one_cell`])
 //! - all tiles of a level are parts of one drawing ([`law::tiles_are_parts_of_one_drawing`])
 //!
 //! It draws no labels, knows no projection but the map's own, and writes no image format: a picture is three bytes a pixel, the

@@ -124,6 +124,21 @@ pub(crate) fn sum(a: Quotient, b: Quotient, divisor: u64) -> Quotient
     }
 }
 
+/// The number, and so many times the divisor more.
+#[inline(always)]
+#[tactic(auto, using(crate::proofs::StripLemmas::further_sum), unfolding(crate::specs::Quotient::number_of))]
+pub(crate) fn further(number: Quotient, times: u8) -> Quotient
+    requires { nat_abs number.whole ≤ 2 ^ 61 }
+    ensures value { (divisor : ℕ) → number_of divisor result ≡ plus (number_of divisor number) (product (pos times) (pos divisor)) }
+    ensures rest { result.rest ≡ number.rest }
+    ensures within { nat_abs result.whole ≤ 2 ^ 62 }
+{
+    Quotient {
+        whole: number.whole + i64::from(times),
+        rest: number.rest,
+    }
+}
+
 /// The number of the first `most` multiples of the divisor, from 0 on, that aren't greater than the number.
 #[inline(always)]
 pub(crate) fn multiples_up_to(number: Quotient, most: u32) -> u32

@@ -14,7 +14,7 @@ use crate::exact::{opposite, product};
 use crate::level::level_within;
 use crate::levels::Levels;
 use crate::span::Span;
-use crate::steps::{multiples_up_to, quotient, steps_below, sum};
+use crate::steps::{further, multiples_up_to, quotient, steps_below, sum};
 use wf_def::color::Color;
 
 /// Paints the pixels of these rows and columns whose level lies within the margin about 0.
@@ -41,7 +41,73 @@ pub(crate) fn draw_strip(
     }
 }
 
-/// The same for at least one row.
+/// The same for levels whose margin is half the change over `width` columns: a row's pixels are exactly so many.
+pub(crate) fn draw_upright(
+    canvas: &mut Canvas,
+    levels: Levels,
+    width: u8,
+    rows: Span,
+    columns: Span,
+    color: Color,
+)
+    requires origin { nat_abs levels.origin ≤ 2 ^ 109 }
+    requires across { IsReach levels.across }
+    requires up { IsReach levels.up }
+    requires margin { IsArea levels.margin }
+    requires even { levels.margin ≡ product (pos (8 * width)) levels.across }
+    requires rows { rows.to ≤ canvas.old.height }
+    requires columns { columns.to ≤ canvas.old.width }
+    ensures { IsColored (is_in_strip levels rows columns) color canvas.old canvas.new }
+{
+    let _ = canvas.height();
+    if levels.across > 0 && rows.from < rows.to && columns.from < columns.to {
+        draw_even(canvas, levels, width, rows, columns, color);
+    } else {
+        draw_strip(canvas, levels, rows, columns, color);
+    }
+}
+
+/// The same for levels that rise from column to column, in at least one row. One quotient tells both ends of a row's pixels.
+fn draw_even(
+    canvas: &mut Canvas,
+    levels: Levels,
+    width: u8,
+    rows: Span,
+    columns: Span,
+    color: Color,
+)
+    requires origin { nat_abs levels.origin ≤ 2 ^ 109 }
+    requires across { IsReach levels.across }
+    requires rising { pos 1 ≤ℤ levels.across }
+    requires up { IsReach levels.up }
+    requires margin { IsArea levels.margin }
+    requires even { levels.margin ≡ product (pos (8 * width)) levels.across }
+    requires order { rows.from ≤ rows.to }
+    requires rows { rows.to ≤ canvas.old.height }
+    requires most_rows { rows.to ≤ most_pixels }
+    requires columns { columns.to ≤ canvas.old.width }
+    ensures { IsColored (is_in_strip levels rows columns) color canvas.old canvas.new }
+{
+    let step = step(levels.across);
+    let start = row_level(levels, rows.from);
+    let Some(change) = quotient(opposite(product(16, levels.up)), step) else {
+        return draw_far(canvas, levels, rows, columns, color);
+    };
+    let Some(mut low) = quotient(room(opposite(levels.margin), start), step) else {
+        return draw_far(canvas, levels, rows, columns, color);
+    };
+    for row in rows.from..rows.to {
+        let within = Span {
+            from: multiples_up_to(low, columns.to),
+            to: multiples_up_to(further(low, width), columns.to),
+        };
+        let span = both(columns, within);
+        canvas.cover(row, span.from, span.to, color);
+        low = sum(low, change, step);
+    }
+}
+
+/// The same as `draw_strip` for at least one row.
 fn draw_rows(canvas: &mut Canvas, levels: Levels, rows: Span, columns: Span, color: Color)
     requires origin { nat_abs levels.origin ≤ 2 ^ 109 }
     requires across { IsReach levels.across }

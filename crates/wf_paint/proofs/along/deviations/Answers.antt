@@ -1,8 +1,8 @@
-use Rattle.std.proofs.Common.{◌≡◌, pos, FitsSigned, w64, to_z-of_z, rules, ap, sym, ◌∙◌}
+use Rattle.std.proofs.Common.{◌≡◌, pos, FitsSigned, w64, to_z-of_z, rules, ap, ◌∙◌}
 use Rattle.std.specs.Int.{w128}
 use Rattle.wf_paint.specs.Level.{level_at, row_level}
 use Rattle.wf_paint.specs.Place.{PlaceValue, centre}
-use Rattle.wf_paint.specs.Coverage.{deviation, run, rise}
+use Rattle.wf_paint.specs.Coverage.{deviation}
 use Rattle.wf_paint.proofs.AlongLemmas.{across_levels}
 use Rattle.wf_paint.proofs.along.deviations.Goals as goal
 

@@ -1,5 +1,5 @@
-use Rattle.std.proofs.Common.{◌≡◌, ℕ, ◌<◌, ◌≤◌, false, pos, sym, arith}
-use Rattle.wf_paint.specs.Coverage.{is_along, is_across, margin}
+use Rattle.std.proofs.Common.{pos, arith}
+use Rattle.wf_paint.specs.Coverage.{is_across}
 use Rattle.wf_paint.specs.Place.{centre}
 use Rattle.wf_paint.specs.Span.{is_within}
 use Rattle.wf_paint.specs.Strip.{is_in_strip}

@@ -1,5 +1,5 @@
-use Rattle.std.proofs.Common.{◌≡◌, ℕ, ◌<◌, ◌≤◌, false, pos, sym, arith}
-use Rattle.wf_paint.specs.Coverage.{is_along, is_across, margin}
+use Rattle.std.proofs.Common.{pos, arith}
+use Rattle.wf_paint.specs.Coverage.{is_across}
 use Rattle.wf_paint.specs.Place.{centre, turned}
 use Rattle.wf_paint.specs.Span.{is_within}
 use Rattle.wf_paint.specs.Strip.{is_in_strip}
@@ -18,7 +18,7 @@ returns c =
     let columns = c.rows_near-columns.result in
     let rows = c.span_along-rows.result in
     IsColored-alike (is_in_strip levels rows columns) (λ column row. is_across width (turned (centre (pos column) (pos row))) low high)
-    c.args.color c.args.canvas.now c.draw_strip.new.canvas
+    c.args.color c.args.canvas.now c.draw_upright.new.canvas
     (λ column row wide inside.
     strip_of_rows levels rows columns column row (is_across width (turned (centre (pos column) (pos row))) low high)
     (across_level width (turned (centre (pos column) (pos row))) low high (is_within rows row) _ _
@@ -26,7 +26,7 @@ returns c =
     (outside_none columns column (λ u. is_across width (turned (centre (pos u) (pos row))) low high)
     (λ before. c.rows_near-columns.ensures.below row column (rw c.width.ensures.value wide) before)
     (λ after. c.rows_near-columns.ensures.above row column (rw c.width.ensures.value wide) after)))
-    c.draw_strip.ensures
+    c.draw_upright.ensures
 
-pub draw_strip-requires-clause-rows : goal.draw_strip-requires-clause-rows
-draw_strip-requires-clause-rows c = let rows = c.span_along-rows.ensures 0 in omega (arith, rows.within)
+pub draw_upright-requires-clause-rows : goal.draw_upright-requires-clause-rows
+draw_upright-requires-clause-rows c = let rows = c.span_along-rows.ensures 0 in omega (arith, rows.within)

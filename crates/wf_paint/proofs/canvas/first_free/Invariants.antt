@@ -1,10 +1,10 @@
-use Rattle.std.proofs.Common.{◌≡◌, ℕ, ◌-◌, ◌<◌, ◌≤◌, false}
+use Rattle.std.proofs.Common.{◌≡◌, ℕ, ◌-◌, ◌*◌, ◌<◌, ◌≤◌, false}
 use Rattle.wf_paint.specs.Cells.{is_free}
 use Rattle.wf_paint.proofs.canvas.first_free.Given as goal
 
--- no pixel before this one is free
+-- no word before this one has a free pixel
 abbrev pub invariant-loop-here : goal.invariant-loop-here
-invariant-loop-here l = (l.here ≤ l.end) × ((i : ℕ) → i < l.here → is_free l.skip.items i ≡ false)
+invariant-loop-here l = (l.here ≤ l.end) × ((i : ℕ) → i < 64 * l.here → is_free l.free.items i ≡ false)
 
 abbrev pub decreases-loop-here : goal.decreases-loop-here
 decreases-loop-here l = l.end - l.here

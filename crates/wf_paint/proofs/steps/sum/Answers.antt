@@ -1,4 +1,4 @@
-use Rattle.std.proofs.Common.{◌+◌, arith}
+use Rattle.std.proofs.Common.{arith}
 use Rattle.std.proofs.lemmas.Int.{ints}
 use Rattle.wf_paint.specs.Quotient.{number_of}
 use Rattle.wf_paint.proofs.StripLemmas.{sum_kept, sum_carried}

@@ -1,6 +1,6 @@
-use Rattle.std.proofs.Common.{◌≡◌, ℕ, pos, FitsSigned, to_z-of_z, rules, ap, arith}
+use Rattle.std.proofs.Common.{FitsSigned, to_z-of_z, rules, arith}
 use Rattle.std.specs.Int.{w128}
-use Rattle.wf_paint.specs.Level.{row_level, is_in_margin}
+use Rattle.wf_paint.specs.Level.{is_in_margin}
 use Rattle.wf_paint.specs.Span.{IsSpanOf}
 use Rattle.wf_paint.specs.Strip.{is_in_strip}
 use Rattle.wf_paint.proofs.SpanLemmas.{rows_start, rows_end, rows_more}

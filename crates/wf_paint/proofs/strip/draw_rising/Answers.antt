@@ -1,7 +1,7 @@
-use Rattle.std.proofs.Common.{◌≡◌, pos, FitsSigned, w64, to_z-of_z, rules, ap, sym, ◌∙◌, arith}
+use Rattle.std.proofs.Common.{◌≡◌, pos, FitsSigned, w64, to_z-of_z, rules, ap, ◌∙◌, arith}
 use Rattle.std.specs.Int.{w128}
 use Rattle.wf_paint.specs.Exact.{opposite, product, difference}
-use Rattle.wf_paint.specs.Level.{level, row_level}
+use Rattle.wf_paint.specs.Level.{row_level}
 use Rattle.wf_paint.specs.Quotient.{number_of}
 use Rattle.wf_paint.specs.Strip.{is_in_strip}
 use Rattle.wf_paint.proofs.SpanLemmas.{rows_start, rows_end, rows_more}
@@ -49,7 +49,7 @@ loop-row-preserved c =
           c.args.canvas.now c.loop-row.canvas c.cover.new.self c.loop-row.invariant.0
           (rw c.both-span.ensures (strip_row levels c.args.rows c.args.columns _ c.args.canvas.now.width c.loop-row.row
           c.requires.columns c.loop-row.auto.row c.loop-row-test.true
-          (rising_row levels levels.margin c.step-step.result c.loop-row.row c.args.columns.to c.loop-row.low c.loop-row.high _ step edges.0 edges.1
+          (rising_row levels levels.margin c.step-step.result c.loop-row.row c.args.columns.to c.loop-row.low c.loop-row.high _ step edges.0.ends edges.1.ends
           c.multiples_up_to.ensures.below c.multiples_up_to-in-loop-row.ensures.below c.multiples_up_to-in-loop-row.ensures.within)))
           c.cover.ensures,
       (
