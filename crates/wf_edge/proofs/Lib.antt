@@ -1,5 +1,6 @@
 mod BodyLaw
 mod CheckLaw
+mod EndingLaw
 mod FieldLaw
 mod HeadLaw
 mod HearingLaw

@@ -1,5 +1,5 @@
 -- From a body to the step Propose, or to the reason why there is none.
-use Rattle.std.proofs.Common.{◌≡◌, ◌≢◌, ◌∙◌, ℕ, ◌≤◌, ◌<◌, Bool, true, false, cond, ◌&&◌, nat_le, List, length, Vec, IsSome, refl, sym, ap, subst, inl, inr}
+use Rattle.std.proofs.Common.{◌≡◌, ◌≢◌, ◌∙◌, ◌++◌, ℕ, ◌≤◌, ◌<◌, Bool, true, false, cond, ◌&&◌, nat_le, List, length, Vec, IsSome, refl, sym, ap, subst, inl, inr}
 use Rattle.std.specs.Prelude.{Result, Ok, Err, IfOk, IfErr, OnOk, Option, Some, None}
 use Rattle.std.specs.Str.{is_utf8}
 use Rattle.std.proofs.lemmas.Bool.{cases_lt, leb-true}
@@ -19,9 +19,10 @@ use Rattle.wf_node.specs.Fault.{refused_by}
 use Rattle.wf_node.specs.Images.{AllStandFor, EachStandsFor}
 use Rattle.wf_node.specs.Node.{Node, stored_of}
 use Rattle.wf_node.specs.Step.{IsRow, IsSameNode, TakesMemory, row_of, refusal_at}
+use Rattle.wf_node.specs.Storing.{bytes_of}
 use Rattle.wf_node.specs.declared.fault.NodeFault.{NodeFault}
 use Rattle.wf_node.specs.declared.fault.NodeFault.TheVariants as node
-use Rattle.wf_tape.specs.Tape.{IsUnchanged, HasRisen}
+use Rattle.wf_tape.specs.Tape.{IsUnchanged, IsExtended, HasRisen}
 use Rattle.wf_edge.specs.Response.{Response}
 use Rattle.wf_edge.specs.Page.{accepted_page}
 use Rattle.wf_edge.specs.Publish.{IsMapOf, IsText, IsWhyNoMap, IsProposed, IsPublished, unwritten}
@@ -121,6 +122,7 @@ module _ {T A : Type 0} (honest : Type 0) (content : T → List ℕ) (images : T
       → (before.halted ≡ false → refused_by result ≡ refusal_at before (Propose d))
       → IfOk result (λ messages. IsRow before (row_of before (Propose d)) messages.items after)
       → (honest → OnOk result (AllStandFor (stored_of after) (images after.tape)))
+      → (honest → OnOk result (content after.tape ≡ content before.tape ++ bytes_of (row_of before (Propose d)).entry))
       → IfErr result (λ why. why ≢ node.Memory → why ≢ node.TapeFailed → after ≡ before)
       → IfErr result (λ why. IsSameNode before after)
       → (result ≡ Err node.Memory → after.halted ≡ false)
@@ -129,15 +131,17 @@ module _ {T A : Type 0} (honest : Type 0) (content : T → List ℕ) (images : T
       → (result ≡ Err node.TapeFailed → HasRisen (failures before.tape) (failures after.tape))
       → (result ≡ Err node.TapeFailed → IsSome (row_of before (Propose d)).entry)
       → (result ≡ Err node.TapeFailed → after.halted ≡ true)
+      → (honest → result ≡ Err node.TapeFailed → IsExtended (content before.tape) (bytes_of (row_of before (Propose d)).entry) (content after.tape))
       → (honest → result ≡ Err node.TapeFailed → EachStandsFor (stored_of before) (store (stored_of before) (row_of before (Propose d)).entry) (images after.tape))
       → IsProposed honest content images failures before d result after
-  proposed before after d result halted running refused row on_tape unchanged same memory same_tape takes failed writes halts torn = record {
+  proposed before after d result halted running refused row on_tape grown unchanged same memory same_tape takes failed writes halts part torn = record {
     refused = λ is. (halted is, stays before after result (halted is) unchanged);
     steps = λ is. record {
       running = not_halted before result running is;
       refused = refused is;
       done = row;
       on_tape = on_tape;
+      grown = grown;
       unchanged = unchanged;
       same = same;
       still_running = memory;
@@ -146,6 +150,7 @@ module _ {T A : Type 0} (honest : Type 0) (content : T → List ℕ) (images : T
       failed = failed;
       writes = writes;
       halts = halts;
+      part = part;
       torn = torn;
     };
   }

@@ -1,5 +1,6 @@
 pub mod Checks
 pub mod Contents
+pub mod Ending
 pub mod Fields
 pub mod Growth
 pub mod Head

@@ -5,6 +5,7 @@ use Rattle.wf_codec.specs.declared.message.Message.{Message}
 use Rattle.wf_def.specs.Definition.{Definition}
 use Rattle.wf_node.specs.Node.{Node}
 use Rattle.wf_node.specs.declared.fault.NodeFault.{NodeFault}
+use Rattle.wf_edge.specs.Ending.{BreaksOff, IsEnded}
 use Rattle.wf_edge.specs.Request.{Request, BeginsWith, IsRequestFault}
 use Rattle.wf_edge.specs.Response.{Response, response_bytes, IsCount, WritesPart}
 use Rattle.wf_edge.specs.Target.{query_of}
@@ -114,3 +115,26 @@ module _ {T A : Type 0} (honest : Type 0) (content : T → List ℕ) (images : T
   IsOutcome input old new before sent after (outcome.WriteFailed status count) = SendsPart input old new before sent after status count
   IsOutcome input old new before sent after outcome.ReadFailed = IsUnmoved before sent after × Keeps old new
   IsOutcome input old new before sent after outcome.NoRequest = IfSome input (λ bytes. bytes ≡ []) × IsUnmoved before sent after × Keeps old new
+
+  -- ---- how the writing ended, of any writer
+
+  module _ {K : Type 0} (written : K → Option (List ℕ)) (failed_writes : K → ℕ) (fails : K → K → Type 0) where
+    -- for the crate's own contracts: a request was answered, and this is how its response ended
+    pub record EndsServed (request : Request) (old new : K) (before : Node T) (sent : Vec Message A) (after : Node T) (said : Outcome) : Type 0 where
+      pub answer : Result Response Notice
+      pub gives : GivesTo request.asked request before answer sent after
+      pub ended : IsEnded written failed_writes fails (response_of answer) old new said
+
+    -- this many first bytes of a response were written without a failure; then a call failed, and no call came after it
+    pub record StopsAtFailure (input : Option (List ℕ)) (old new : K) (before : Node T) (sent : Vec Message A) (after : Node T) (status count : ℕ) : Type 0 where
+      pub response : Response
+      pub responds : Responds input before response sent after
+      pub breaks : BreaksOff written failed_writes fails (response_bytes response) old new count
+      pub status_is : status ≡ response.status
+
+    -- A failed write is the last call. Where the input is empty or the reader failed, the writer isn't called.
+    abbrev pub IsEnding : Option (List ℕ) → K → K → Node T → Vec Message A → Node T → Outcome → Type 0
+    IsEnding input old new before sent after (outcome.Sent status count) = Unit {0}
+    IsEnding input old new before sent after (outcome.WriteFailed status count) = StopsAtFailure input old new before sent after status count
+    IsEnding input old new before sent after outcome.ReadFailed = new ≡ old
+    IsEnding input old new before sent after outcome.NoRequest = new ≡ old

@@ -1,6 +1,7 @@
 //! A request is read, or rejected at once.
 ghost use Rattle.std.specs.Prelude.{◌≡◌, Ok, IfOk, IfErr, OnOk, IfSome};
 ghost use Rattle.wf_edge.specs.Checks.{judged};
+ghost use Rattle.wf_edge.specs.Ending.{EndsUnheard};
 ghost use Rattle.wf_edge.specs.Request.{BeginsWith, TakesRequest};
 ghost use Rattle.wf_edge.specs.Saying.{CountsSaying};
 ghost use Rattle.wf_edge.specs.Hearing.{IsUnheard, CountsHearing};
@@ -13,8 +14,8 @@ use wf_stream::{Sink, Source};
 
 /// Reads the request at the front of the input, and nothing after it but what came in one piece with the last of its head. Err:
 /// the outcome of the response if there is no request to answer: its rejection, or 503 if an allocation for its body fails;
-/// nothing is written if the input is empty or a read failed.
-#[tactic(auto, using(crate::proofs::HearingLaw::unheard, crate::proofs::HearingLaw::fault_reads))]
+/// the writer isn't called if the input is empty or a read failed.
+#[tactic(auto, using(crate::proofs::HearingLaw::unheard, crate::proofs::EndingLaw::unheard_ends, crate::proofs::HearingLaw::fault_reads))]
 pub fn hear<S: Source, K: Sink>(
     alloc: Global,
     source: &mut S,
@@ -28,6 +29,7 @@ pub fn hear<S: Source, K: Sink>(
     ensures heard { OnOk result (S.failures source.new ≡ S.failures source.old) }
     ensures reads { IfErr result (λ said. CountsHearing said (S.failures source.old) (S.failures source.new)) }
     ensures writes { IfErr result (λ said. CountsSaying said (K.failures sink.old) (K.failures sink.new)) }
+    ensures last { IfErr result (EndsUnheard K.written K.failures K.fails (S.left source.old) sink.old sink.new) }
 {
     match Request::read(alloc, source) {
         Ok(request) => Ok(request),

@@ -18,12 +18,13 @@
 //! - [`request::Request::read`]: the request is the one at the front of the input; a rejection is for its head, for the first
 //!   check that fails, or for a truncated body; a failed read is reported iff one has failed; and nothing after the request is
 //!   consumed but what came in one piece with the last of its head: no read is made once the request is complete.
-//! - [`response::Response::write`]: exactly the bytes of the response are written, or a prefix of them if the writer failed.
+//! - [`response::Response::write`]: exactly the bytes of the response are written, or a prefix of them if the writer failed; the
+//!   failed write is the last call (`specs/Ending.antt`).
 //! - [`hearing::hear`]: either the request is the one at the front of the input and nothing is written yet, or the response for
 //!   the reason why there is none is written (`specs/Notice.antt`), and nothing if the input is empty or a read failed.
 //! - [`serve::serve_one`]: a response to the input is written, or a prefix of it, and the number of bytes written is reported;
-//!   and, even for readers and writers whose bytes aren't known, the node is unchanged or made one step Propose, whose messages
-//!   are returned whether or not the write succeeds.
+//!   and, even for readers and writers whose bytes aren't known, a failed write is the last call, and the node is unchanged or made
+//!   one step Propose, whose messages are returned whether or not the write succeeds.
 //! - [`serve::serve_one_cached`]: the same, and the cache's pictures are still those of the node's maps.
 //! - [`law`]: equal requests to the map service have equal responses, at two nodes too.
 //!

@@ -2,6 +2,7 @@
 ghost use Rattle.std.specs.Prelude.{◌≡◌, ◌≤◌, ◌++◌, ℕ, false, List, [], Option, length, take, IfOk, IfErr, OnOk, OnErr};
 ghost use Rattle.std.specs.Io.KnownBytes.{Appends};
 ghost use Rattle.wf_stream.specs.Reading.{Rises};
+ghost use Rattle.wf_edge.specs.Ending.{BreaksOff, IsWriting};
 ghost use Rattle.wf_edge.specs.Response.{reason, allow_line, head_bytes, response_bytes, IsCount, WritesPart, IsProgress, CountsProgress};
 
 use crate::gathered::Gathered;
@@ -44,6 +45,8 @@ fn put<K: Sink>(sink: &mut K, progress: &mut Progress, piece: &[u8])
         → IsProgress start (bytes ++ piece.now) (K.written sink.new) progress.new.written progress.new.failed }
     ensures failures { (first : ℕ) → CountsProgress first (K.failures sink.old) progress.old.failed
         → CountsProgress first (K.failures sink.new) progress.new.failed }
+    ensures last { (first : K) (bytes : List ℕ) → IsWriting K.written K.failures K.fails first bytes sink.old progress.old.written progress.old.failed
+        → IsWriting K.written K.failures K.fails first (bytes ++ piece.now) sink.new progress.new.written progress.new.failed }
 {
     if progress.failed {
         return;
@@ -122,6 +125,8 @@ impl<'b> Response<'b> {
             → IsProgress start (head_bytes self.now) (K.written sink.new) progress.new.written progress.new.failed }
         ensures failures { (first : ℕ) → CountsProgress first (K.failures sink.old) progress.old.failed
             → CountsProgress first (K.failures sink.new) progress.new.failed }
+        ensures last { (first : K) → IsWriting K.written K.failures K.fails first [] sink.old progress.old.written progress.old.failed
+            → IsWriting K.written K.failures K.fails first (head_bytes self.now) sink.new progress.new.written progress.new.failed }
     {
         let mut digits = Buffer::new();
         put(sink, progress, b"HTTP/1.1 ");
@@ -143,6 +148,8 @@ impl<'b> Response<'b> {
             → IsProgress start (head_bytes self.now) (K.written sink.new) progress.new.written progress.new.failed }
         ensures failures { (first : ℕ) → CountsProgress first (K.failures sink.old) progress.old.failed
             → CountsProgress first (K.failures sink.new) progress.new.failed }
+        ensures last { (first : K) → IsWriting K.written K.failures K.fails first [] sink.old progress.old.written progress.old.failed
+            → IsWriting K.written K.failures K.fails first (head_bytes self.now) sink.new progress.new.written progress.new.failed }
     {
         let mut head = Gathered::new();
         let mut gathering = Progress::start();
@@ -155,13 +162,15 @@ impl<'b> Response<'b> {
     }
 
     /// Writes the response without allocating, its head in one piece and its body in another, and returns its number of bytes. If
-    /// the writer fails, a prefix of the response is written.
+    /// the writer fails, a prefix of the response is written, and the failed call is the last.
     pub fn write<K: Sink>(&self, sink: &mut K) -> Result<u64, CutShort>
         ensures whole { OnOk result (Appends (K.written sink.old) (K.written sink.new) (response_bytes self.now)) }
         ensures count { IfOk result (IsCount (length (response_bytes self.now))) }
         ensures part { IfErr result (λ cut. WritesPart (response_bytes self.now) (K.written sink.old) (K.written sink.new) cut.written) }
         ensures calm { OnOk result (K.failures sink.new ≡ K.failures sink.old) }
         ensures cause { OnErr result (Rises (K.failures sink.old) (K.failures sink.new)) }
+        // No call comes after one that failed.
+        ensures last { IfErr result (λ cut. BreaksOff K.written K.failures K.fails (response_bytes self.now) sink.old sink.new cut.written) }
     {
         let mut progress = Progress::start();
         self.put_head(sink, &mut progress);

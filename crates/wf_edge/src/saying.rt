@@ -1,4 +1,5 @@
 //! Writing a response, and its outcome.
+ghost use Rattle.wf_edge.specs.Ending.{IsEnded, IsFaultEnded};
 ghost use Rattle.wf_edge.specs.Saying.{IsSaid, IsFaultSaid, CountsSaying};
 
 use crate::fault::RequestFault;
@@ -8,10 +9,12 @@ use crate::response::Response;
 use crate::telling::told;
 use wf_stream::Sink;
 
-/// Writes a response: all of it if `Sent`, otherwise a prefix. Both report the response's status and the number of bytes written.
+/// Writes a response: all of it if `Sent`, otherwise a prefix, and no call comes after the failed one. Both report the response's
+/// status and the number of bytes written.
 pub fn say<K: Sink>(sink: &mut K, response: &Response<'_>) -> Outcome
     ensures said { IsSaid response.now (K.written sink.old) (K.written sink.new) result }
     ensures writes { CountsSaying result (K.failures sink.old) (K.failures sink.new) }
+    ensures last { IsEnded K.written K.failures K.fails response.now sink.old sink.new result }
 {
     match response.write(sink) {
         Ok(count) => Outcome::Sent(response.status(), count),
@@ -19,12 +22,13 @@ pub fn say<K: Sink>(sink: &mut K, response: &Response<'_>) -> Outcome
     }
 }
 
-/// Responds if there is no request: writes the rejection, or 503 if an allocation failed. Nothing is written if the input is
+/// Responds if there is no request: writes the rejection, or 503 if an allocation failed. The writer isn't called if the input is
 /// empty or a read failed. Allocates nothing.
 #[tactic(auto, using(wf_stream::specs::KnownLaws::keeps_same))]
 pub fn say_fault<K: Sink>(sink: &mut K, fault: RequestFault) -> Outcome
     ensures said { IsFaultSaid fault (K.written sink.old) (K.written sink.new) result }
     ensures writes { CountsSaying result (K.failures sink.old) (K.failures sink.new) }
+    ensures last { IsFaultEnded K.written K.failures K.fails fault sink.old sink.new result }
 {
     match fault {
         RequestFault::NoRequest => Outcome::NoRequest,

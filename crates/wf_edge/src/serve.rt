@@ -1,10 +1,11 @@
 //! Serving one request.
 ghost use Rattle.std.specs.Prelude.{◌≡◌};
+ghost use Rattle.wf_edge.specs.Ending.{IsEnded};
 ghost use Rattle.wf_edge.specs.Hearing.{CountsHearing};
 ghost use Rattle.wf_edge.specs.Notice.{response_of};
 ghost use Rattle.wf_edge.specs.Request.{TakesRequest};
 ghost use Rattle.wf_edge.specs.Saying.{IsSaid, CountsSaying};
-ghost use Rattle.wf_edge.specs.Serving.{IsServed, IsOutcome, MovesOnce};
+ghost use Rattle.wf_edge.specs.Serving.{EndsServed, IsEnding, IsOutcome, IsServed, MovesOnce};
 ghost use Rattle.wf_wms.specs.Kept.{AllKept};
 
 use crate::hearing::hear;
@@ -35,6 +36,7 @@ pub struct Served {
 fn say_answer<K: Sink>(sink: &mut K, answer: &Result<Page, Notice>) -> Outcome
     ensures said { IsSaid (response_of answer.now) (K.written sink.old) (K.written sink.new) result }
     ensures writes { CountsSaying result (K.failures sink.old) (K.failures sink.new) }
+    ensures last { IsEnded K.written K.failures K.fails (response_of answer.now) sink.old sink.new result }
 {
     match answer {
         Ok(page) => say(sink, &page.response()),
@@ -43,7 +45,7 @@ fn say_answer<K: Sink>(sink: &mut K, answer: &Result<Page, Notice>) -> Outcome
 }
 
 // Answers a request and writes the response. The messages are returned whether or not the write succeeds.
-#[tactic(auto, using(crate::proofs::ServingLaw::request_served))]
+#[tactic(auto, using(crate::proofs::ServingLaw::request_served, crate::proofs::EndingLaw::request_ended))]
 fn serve_request<K: Sink, T: Tape>(
     alloc: Global,
     sink: &mut K,
@@ -52,6 +54,7 @@ fn serve_request<K: Sink, T: Tape>(
 ) -> Served
     ensures served { IsServed T.honest T.content T.images T.failed request.now (K.written sink.old) (K.written sink.new) node.old result.messages node.new result.outcome }
     ensures writes { CountsSaying result.outcome (K.failures sink.old) (K.failures sink.new) }
+    ensures last { EndsServed T.honest T.content T.images T.failed K.written K.failures K.fails request.now sink.old sink.new node.old result.messages node.new result.outcome }
 {
     let Reply { answer, messages } = reply_to(alloc, node, request.asked(), request);
     let outcome = say_answer(sink, &answer);
@@ -60,11 +63,12 @@ fn serve_request<K: Sink, T: Tape>(
 }
 
 /// Serves one request: reads it, and nothing after it but what came in one piece with the last of its head, answers it by the
-/// node, and writes the response. A prefix of the response is written, all of it if `Sent`; nothing if the reader failed or the
-/// input is empty. POST /publish is the node's step Propose if its checks pass, its body is a map with a canonical text, and no
-/// allocation fails before the step; the step's messages are returned whether or not the write succeeds. Any other request leaves
-/// the node unchanged. Allocation failure is answered with 503; nothing is allocated after the step of a publish.
-#[tactic(auto, using(crate::proofs::ServingLaw::served_outcome, crate::proofs::ServingLaw::unheard_outcome, crate::proofs::ServingLaw::served_reads, crate::proofs::ServingLaw::unheard_moves))]
+/// node, and writes the response. A prefix of the response is written, all of it if `Sent`; a failed write is the last call of the
+/// writer, which isn't called at all if the reader failed or the input is empty. POST /publish is the node's step Propose if its
+/// checks pass, its body is a map with a canonical text, and no allocation fails before the step; the step's messages are returned
+/// whether or not the write succeeds. Any other request leaves the node unchanged. Allocation failure is answered with 503;
+/// nothing is allocated after the step of a publish.
+#[tactic(auto, using(crate::proofs::ServingLaw::served_outcome, crate::proofs::ServingLaw::unheard_outcome, crate::proofs::ServingLaw::served_reads, crate::proofs::ServingLaw::unheard_moves, crate::proofs::EndingLaw::served_ending, crate::proofs::EndingLaw::unheard_ending))]
 pub fn serve_one<S: Source, K: Sink, T: Tape>(
     alloc: Global,
     source: &mut S,
@@ -76,6 +80,7 @@ pub fn serve_one<S: Source, K: Sink, T: Tape>(
     ensures takes { TakesRequest (S.piece source.old) (S.left source.old) (S.left source.new) }
     ensures reads { CountsHearing result.outcome (S.failures source.old) (S.failures source.new) }
     ensures writes { CountsSaying result.outcome (K.failures sink.old) (K.failures sink.new) }
+    ensures last { IsEnding T.honest T.content T.images T.failed K.written K.failures K.fails (S.left source.old) sink.old sink.new node.old result.messages node.new result.outcome }
 {
     match hear(alloc, source, sink) {
         Ok(request) => {
@@ -91,7 +96,7 @@ pub fn serve_one<S: Source, K: Sink, T: Tape>(
 }
 
 // Answers a request with a cache of pictures of the node's maps, and writes the response.
-#[tactic(auto, using(crate::proofs::ServingLaw::request_served))]
+#[tactic(auto, using(crate::proofs::ServingLaw::request_served, crate::proofs::EndingLaw::request_ended))]
 fn serve_request_by<K: Sink, T: Tape>(
     alloc: Global,
     sink: &mut K,
@@ -102,6 +107,7 @@ fn serve_request_by<K: Sink, T: Tape>(
     requires { AllKept node.old.parts.history cache.old }
     ensures served { IsServed T.honest T.content T.images T.failed request.now (K.written sink.old) (K.written sink.new) node.old result.messages node.new result.outcome }
     ensures writes { CountsSaying result.outcome (K.failures sink.old) (K.failures sink.new) }
+    ensures last { EndsServed T.honest T.content T.images T.failed K.written K.failures K.fails request.now sink.old sink.new node.old result.messages node.new result.outcome }
     ensures kept { AllKept node.old.parts.history cache.new }
     ensures capacity { cache.new.cap ≡ cache.old.cap }
 {
@@ -116,7 +122,7 @@ fn serve_request_by<K: Sink, T: Tape>(
 
 /// The same as [`serve_one`], with a cache of pictures of the node's maps, which stays valid: a publish only adds to the node's
 /// history.
-#[tactic(auto, using(crate::proofs::ServingLaw::served_outcome, crate::proofs::ServingLaw::unheard_outcome, crate::proofs::ServingLaw::served_reads, crate::proofs::ServingLaw::unheard_moves))]
+#[tactic(auto, using(crate::proofs::ServingLaw::served_outcome, crate::proofs::ServingLaw::unheard_outcome, crate::proofs::ServingLaw::served_reads, crate::proofs::ServingLaw::unheard_moves, crate::proofs::EndingLaw::served_ending, crate::proofs::EndingLaw::unheard_ending))]
 pub fn serve_one_cached<S: Source, K: Sink, T: Tape>(
     alloc: Global,
     source: &mut S,
@@ -130,6 +136,7 @@ pub fn serve_one_cached<S: Source, K: Sink, T: Tape>(
     ensures takes { TakesRequest (S.piece source.old) (S.left source.old) (S.left source.new) }
     ensures reads { CountsHearing result.outcome (S.failures source.old) (S.failures source.new) }
     ensures writes { CountsSaying result.outcome (K.failures sink.old) (K.failures sink.new) }
+    ensures last { IsEnding T.honest T.content T.images T.failed K.written K.failures K.fails (S.left source.old) sink.old sink.new node.old result.messages node.new result.outcome }
     ensures kept { AllKept node.new.parts.history cache.new }
     ensures capacity { cache.new.cap ≡ cache.old.cap }
 {

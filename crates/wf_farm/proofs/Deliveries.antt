@@ -1,5 +1,5 @@
 -- A step of one of the nodes that a caller holds is an event of the world that they are; so is a delivery, and so are many.
-use Rattle.std.proofs.Common.{◌≡◌, ◌≢◌, ◌⊎◌, ℕ, ◌+◌, ◌≤◌, nat_lt, Bool, true, false, List, [], ◌∷◌, ◌++◌, map, length, slice_get, slice_set, Option, Some, None, Result, Ok, Err, IfOk, IfErr, refl, sym, ap, subst, ◌∙◌, inl, inr, arith, length-append, length-set, Vec}
+use Rattle.std.proofs.Common.{◌≡◌, ◌≢◌, ◌⊎◌, ℕ, ◌+◌, ◌≤◌, nat_lt, Bool, true, false, List, [], ◌∷◌, ◌++◌, map, length, slice_get, slice_set, Option, Some, None, Result, Ok, Err, IfOk, IfErr, OnOk, refl, sym, ap, subst, ◌∙◌, inl, inr, arith, length-append, length-set, Vec}
 use Rattle.std.proofs.lemmas.Bool.{both_ways, cases_eq, false≢true}
 use Rattle.std.proofs.lemmas.List.{append-nil, get_or_past, length-map, map-append}
 use Rattle.std.proofs.lemmas.Option.{same_Some}
@@ -22,8 +22,10 @@ use Rattle.wf_node.specs.Growth.{IsGrown, grown_itself, row_grown, same_grown}
 use Rattle.wf_node.specs.Images.{EachStandsFor}
 use Rattle.wf_node.specs.Node.{Node, stored_of, working_of}
 use Rattle.wf_node.specs.Step.{row_of, refusal_at, IsRow, IsSameNode}
+use Rattle.wf_node.specs.Storing.{bytes_of}
 use Rattle.wf_node.specs.declared.fault.NodeFault.{NodeFault}
 use Rattle.wf_node.specs.declared.fault.NodeFault.TheVariants as fault_case
+use Rattle.wf_tape.specs.Tape.{IsExtended, IsUnchanged}
 use Rattle.wf_farm.specs.declared.progress.End.{End}
 use Rattle.wf_farm.specs.declared.progress.End.TheVariants.{Done, Stopped, Failed}
 use Rattle.wf_farm.specs.declared.progress.Progress.{Progress}
@@ -83,44 +85,46 @@ halt_told false why (Some fault_case.TapeFailed) halts runs = refl
 halt_told false why (Some fault_case.Nothing) halts runs = refl
 
 -- Without an input that is lost a step is an answer.
-module _ {T : Type 0} (honest : Type 0) (images : T → List ℕ → Type 0) (node after : Node T) (input : Input Definition) where
+module _ {T : Type 0} (honest : Type 0) (content : T → List ℕ) (images : T → List ℕ → Type 0) (node after : Node T) (input : Input Definition) where
   rejects : (f : NodeFault) (why : Refusal) → fault.refusal_of f ≡ Some why → is_memory f ≡ false → is_failure f ≡ false → node.halted ≡ false →
-      (node.halted ≡ false → fault.refusal_of f ≡ refusal_at node input) → (f ≢ fault_case.Memory → f ≢ fault_case.TapeFailed → after ≡ node) → Answers honest images input node after []
+      (node.halted ≡ false → fault.refusal_of f ≡ refusal_at node input) → (f ≢ fault_case.Memory → f ≢ fault_case.TapeFailed → after ≡ node) → Answers honest content images input node after []
   rejects f why tells memory failure runs refused unchanged =
       let other = neither f memory failure in
       giving.Rejects why runs (sym (refused runs) ∙ tells) (unchanged other.0 other.1) refl
 
-module _ {T A : Type 0} (honest : Type 0) (images : T → List ℕ → Type 0) (node after : Node T) (input : Input Definition) where
+module _ {T A : Type 0} (honest : Type 0) (content : T → List ℕ) (images : T → List ℕ → Type 0) (node after : Node T) (input : Input Definition) where
   pub any_answered : (result : Result (Vec Message A) NodeFault) → (node.halted ≡ true → result ≡ Err fault_case.Halted) → (node.halted ≡ false → fault.refused_by result ≡ refusal_at node input) →
-      IfOk result (λ said. IsRow node (row_of node input) said.items after) → IfOk result (λ said. Answers honest images input node after said.items)
-  any_answered (Ok said) halted refused is =
+      IfOk result (λ said. IsRow node (row_of node input) said.items after) → (honest → OnOk result (content after.tape ≡ content node.tape ++ bytes_of (row_of node input).entry)) →
+      IfOk result (λ said. Answers honest content images input node after said.items)
+  any_answered (Ok said) halted refused is grown =
       let runs = runs_by {A = Vec Message A} (Ok said) node.halted refl halted in
-      giving.Steps runs (sym (refused runs)) is
-  any_answered (Err f) halted refused is = tt
+      giving.Steps runs (sym (refused runs)) is grown
+  any_answered (Err f) halted refused is grown = tt
 
   -- An error is an answer, unless it is allocation failure: then the input is lost.
   pub any_rejected : (result : Result (Vec Message A) NodeFault) → (node.halted ≡ true → result ≡ Err fault_case.Halted) → (result ≡ Err fault_case.Halted → node.halted ≡ true) →
       (node.halted ≡ false → fault.refused_by result ≡ refusal_at node input) →
       IfErr result (λ f. f ≢ fault_case.Memory → f ≢ fault_case.TapeFailed → after ≡ node) → IfErr result (λ f. IsSameNode node after) → (result ≡ Err fault_case.Memory → after.halted ≡ false) →
-      (result ≡ Err fault_case.TapeFailed → after.halted ≡ true) →
+      (honest → result ≡ Err fault_case.Memory → IsUnchanged (content node.tape) (content after.tape) (images node.tape) (images after.tape)) → (result ≡ Err fault_case.TapeFailed → after.halted ≡ true) →
+      (honest → result ≡ Err fault_case.TapeFailed → IsExtended (content node.tape) (bytes_of (row_of node input).entry) (content after.tape)) →
       (honest → result ≡ Err fault_case.TapeFailed → EachStandsFor (stored_of node) (store (stored_of node) (row_of node input).entry) (images after.tape)) →
-      IfErr result (λ f. Takes honest images (is_memory f) input node after [])
-  any_rejected (Ok said) halted running refused unchanged same spares halts torn = tt
-  any_rejected (Err fault_case.Memory) halted running refused unchanged same spares halts torn =
-      record { runs = runs_by {A = Vec Message A} (Err fault_case.Memory) node.halted refl halted; still = spares refl; same = same; quiet = refl }
-  any_rejected (Err fault_case.TapeFailed) halted running refused unchanged same spares halts torn =
+      IfErr result (λ f. Takes honest content images (is_memory f) input node after [])
+  any_rejected (Ok said) halted running refused unchanged same spares spared halts part torn = tt
+  any_rejected (Err fault_case.Memory) halted running refused unchanged same spares spared halts part torn =
+      record { runs = runs_by {A = Vec Message A} (Err fault_case.Memory) node.halted refl halted; still = spares refl; same = same; kept = λ h. (spared h refl).content; quiet = refl }
+  any_rejected (Err fault_case.TapeFailed) halted running refused unchanged same spares spared halts part torn =
       let runs = runs_by {A = Vec Message A} (Err fault_case.TapeFailed) node.halted refl halted in
-      giving.Fails runs (sym (refused runs)) (halts refl) same (λ h. torn h refl) refl
-  any_rejected (Err fault_case.Halted) halted running refused unchanged same spares halts torn =
+      giving.Fails runs (sym (refused runs)) (halts refl) same (λ h. part h refl) (λ h. torn h refl) refl
+  any_rejected (Err fault_case.Halted) halted running refused unchanged same spares spared halts part torn =
       let other = neither fault_case.Halted refl refl in giving.Halts (running refl) (unchanged other.0 other.1) refl
-  any_rejected (Err fault_case.Busy) halted running refused unchanged same spares halts torn =
-      rejects honest images node after input fault_case.Busy table.Busy refl refl refl (runs_by {A = Vec Message A} (Err fault_case.Busy) node.halted refl halted) refused unchanged
-  any_rejected (Err fault_case.SequenceFull) halted running refused unchanged same spares halts torn =
-      rejects honest images node after input fault_case.SequenceFull table.SequenceFull refl refl refl (runs_by {A = Vec Message A} (Err fault_case.SequenceFull) node.halted refl halted) refused unchanged
-  any_rejected (Err fault_case.RoundsFull) halted running refused unchanged same spares halts torn =
-      rejects honest images node after input fault_case.RoundsFull table.RoundsFull refl refl refl (runs_by {A = Vec Message A} (Err fault_case.RoundsFull) node.halted refl halted) refused unchanged
-  any_rejected (Err fault_case.Nothing) halted running refused unchanged same spares halts torn =
-      rejects honest images node after input fault_case.Nothing table.NothingToRetry refl refl refl (runs_by {A = Vec Message A} (Err fault_case.Nothing) node.halted refl halted) refused unchanged
+  any_rejected (Err fault_case.Busy) halted running refused unchanged same spares spared halts part torn =
+      rejects honest content images node after input fault_case.Busy table.Busy refl refl refl (runs_by {A = Vec Message A} (Err fault_case.Busy) node.halted refl halted) refused unchanged
+  any_rejected (Err fault_case.SequenceFull) halted running refused unchanged same spares spared halts part torn =
+      rejects honest content images node after input fault_case.SequenceFull table.SequenceFull refl refl refl (runs_by {A = Vec Message A} (Err fault_case.SequenceFull) node.halted refl halted) refused unchanged
+  any_rejected (Err fault_case.RoundsFull) halted running refused unchanged same spares spared halts part torn =
+      rejects honest content images node after input fault_case.RoundsFull table.RoundsFull refl refl refl (runs_by {A = Vec Message A} (Err fault_case.RoundsFull) node.halted refl halted) refused unchanged
+  any_rejected (Err fault_case.Nothing) halted running refused unchanged same spares spared halts part torn =
+      rejects honest content images node after input fault_case.Nothing table.NothingToRetry refl refl refl (runs_by {A = Vec Message A} (Err fault_case.Nothing) node.halted refl halted) refused unchanged
 
 -- No step sends more than eight messages.
 module _ {T A : Type 0} (node after : Node T) (input : Input Definition) where
@@ -133,18 +137,18 @@ pub none_few : (said : List Message) → said ≡ [] → length said ≤ most_to
 none_few said quiet = let none : length said ≡ 0 = ap length quiet in omega (arith, none)
 
 -- Nothing is sent: by a halted node, and if the input is lost before the node is asked.
-module _ {T : Type 0} (honest : Type 0) (images : T → List ℕ → Type 0) (input : Input Definition) (node : Node T) (said : List Message) (quiet : said ≡ []) where
-  pub halted_takes : (lost : Bool) → lost ≡ false → node.halted ≡ true → Takes honest images lost input node node said
-  halted_takes lost is halted = subst (λ b. Takes honest images b input node node said) (sym is) (giving.Halts halted refl quiet)
+module _ {T : Type 0} (honest : Type 0) (content : T → List ℕ) (images : T → List ℕ → Type 0) (input : Input Definition) (node : Node T) (said : List Message) (quiet : said ≡ []) where
+  pub halted_takes : (lost : Bool) → lost ≡ false → node.halted ≡ true → Takes honest content images lost input node node said
+  halted_takes lost is halted = subst (λ b. Takes honest content images b input node node said) (sym is) (giving.Halts halted refl quiet)
 
-  pub unheard_takes : (lost : Bool) → lost ≡ true → node.halted ≡ false → Takes honest images lost input node node said
-  unheard_takes lost is runs = subst (λ b. Takes honest images b input node node said) (sym is) (record { runs = runs; still = runs; same = refl; quiet = quiet })
+  pub unheard_takes : (lost : Bool) → lost ≡ true → node.halted ≡ false → Takes honest content images lost input node node said
+  unheard_takes lost is runs = subst (λ b. Takes honest content images b input node node said) (sym is) (record { runs = runs; still = runs; same = refl; kept = λ h. refl; quiet = quiet })
 
 -- The same result by other names.
-pub takes_as : {T : Type 0} (honest : Type 0) (images : T → List ℕ → Type 0) (input : Input Definition) (node after : Node T) (lost now : Bool) (said sent : List Message) → now ≡ lost → sent ≡ said →
-    Takes honest images lost input node after said → Takes honest images now input node after sent
-takes_as honest images input node after lost now said sent is same takes =
-    subst (λ b. Takes honest images b input node after sent) (sym is) (subst (λ ms. Takes honest images lost input node after ms) (sym same) takes)
+pub takes_as : {T : Type 0} (honest : Type 0) (content : T → List ℕ) (images : T → List ℕ → Type 0) (input : Input Definition) (node after : Node T) (lost now : Bool) (said sent : List Message) → now ≡ lost → sent ≡ said →
+    Takes honest content images lost input node after said → Takes honest content images now input node after sent
+takes_as honest content images input node after lost now said sent is same takes =
+    subst (λ b. Takes honest content images b input node after sent) (sym is) (subst (λ ms. Takes honest content images lost input node after ms) (sym same) takes)
 
 -- ---- prefixes of published lists
 
@@ -321,25 +325,25 @@ module _ {T : Type 0} (stands : ℕ → Stored Definition → Type 0) (nodes : L
         Tears After (nothing_more quiet (torn_shown w After runs goes halts same (store_begins (stored_of node) (row_of node input).entry) later shows))
 
     -- Whatever a node does with the action's input, the world is unchanged, or acts so.
-    pub takes_acts : (honest : Type 0) (images : T → List ℕ → Type 0) (said : List Message) (lost : Bool) → Takes honest images lost input node after said →
+    pub takes_acts : (honest : Type 0) (content : T → List ℕ) (images : T → List ℕ → Type 0) (said : List Message) (lost : Bool) → Takes honest content images lost input node after said →
         (after.halted ≡ true → (honest → EachStandsFor (stored_of node) (store (stored_of node) (row_of node input).entry) (images after.tape)) → stands i (stored_of node) ⊎ stands i (store (stored_of node) (row_of node input).entry)) →
         (w : World Definition) → Shows stands nodes sent w → IsActed stands i action w (slice_set nodes i after) (sent ++ said)
-    takes_acts honest images said true is torn w shows =
+    takes_acts honest content images said true is torn w shows =
         Stays (nothing_more is.quiet (keeps_shown w (λ x was. spared_is (stands i) node after x is.runs is.still is.same was) shows))
-    takes_acts honest images said false (giving.Halts halted same quiet) torn w shows = unchanged_shown w said same quiet shows
-    takes_acts honest images said false (giving.Rejects why runs refused same quiet) torn w shows = unchanged_shown w said same quiet shows
-    takes_acts honest images said false (giving.Steps runs goes is) torn w shows = Acts (steps_shown w said runs goes is shows)
-    takes_acts honest images said false (giving.Fails runs goes halts same each quiet) torn w shows = fails_shown w said runs goes halts same quiet (torn halts each) shows
+    takes_acts honest content images said false (giving.Halts halted same quiet) torn w shows = unchanged_shown w said same quiet shows
+    takes_acts honest content images said false (giving.Rejects why runs refused same quiet) torn w shows = unchanged_shown w said same quiet shows
+    takes_acts honest content images said false (giving.Steps runs goes is grown) torn w shows = Acts (steps_shown w said runs goes is shows)
+    takes_acts honest content images said false (giving.Fails runs goes halts same part each quiet) torn w shows = fails_shown w said runs goes halts same quiet (torn halts each) shows
 
 -- ---- what is unchanged
 
-module _ {T : Type 0} (honest : Type 0) (images : T → List ℕ → Type 0) (node after : Node T) (input : Input Definition) (said : List Message) where
-  pub stays_halted : (lost : Bool) → Takes honest images lost input node after said → node.halted ≡ true → after ≡ node
+module _ {T : Type 0} (honest : Type 0) (content : T → List ℕ) (images : T → List ℕ → Type 0) (node after : Node T) (input : Input Definition) (said : List Message) where
+  pub stays_halted : (lost : Bool) → Takes honest content images lost input node after said → node.halted ≡ true → after ≡ node
   stays_halted true is halted = absurd (both_ways node.halted is.runs halted)
   stays_halted false (giving.Halts was same quiet) halted = same
   stays_halted false (giving.Rejects why runs refused same quiet) halted = same
-  stays_halted false (giving.Steps runs goes is) halted = absurd (both_ways node.halted runs halted)
-  stays_halted false (giving.Fails runs goes halts same each quiet) halted = absurd (both_ways node.halted runs halted)
+  stays_halted false (giving.Steps runs goes is grown) halted = absurd (both_ways node.halted runs halted)
+  stays_halted false (giving.Fails runs goes halts same part each quiet) halted = absurd (both_ways node.halted runs halted)
 
   by_itself : after ≡ node → (after.id ≡ node.id) × (after.n ≡ node.n) × IsGrown node.parts.history after.parts.history
   by_itself same =
@@ -348,12 +352,12 @@ module _ {T : Type 0} (honest : Type 0) (images : T → List ℕ → Type 0) (no
   but_for_tape : IsSameNode node after → (after.id ≡ node.id) × (after.n ≡ node.n) × IsGrown node.parts.history after.parts.history
   but_for_tape same = (ap (λ (y : Node T). y.id) same, ap (λ (y : Node T). y.n) same, same_grown node after same)
 
-  pub stays_itself : (lost : Bool) → Takes honest images lost input node after said → (after.id ≡ node.id) × (after.n ≡ node.n) × IsGrown node.parts.history after.parts.history
+  pub stays_itself : (lost : Bool) → Takes honest content images lost input node after said → (after.id ≡ node.id) × (after.n ≡ node.n) × IsGrown node.parts.history after.parts.history
   stays_itself true is = but_for_tape is.same
   stays_itself false (giving.Halts halted same quiet) = by_itself same
   stays_itself false (giving.Rejects why runs refused same quiet) = by_itself same
-  stays_itself false (giving.Steps runs goes is) = (is.id, is.n, row_grown node after (row_of node input) said is)
-  stays_itself false (giving.Fails runs goes halts same each quiet) = but_for_tape same
+  stays_itself false (giving.Steps runs goes is grown) = (is.id, is.n, row_grown node after (row_of node input) said is)
+  stays_itself false (giving.Fails runs goes halts same part each quiet) = but_for_tape same
 
 module _ {T : Type 0} (nodes : List (Node T)) (i : ℕ) (node after : Node T) (at : slice_get nodes i ≡ Some node) where
   pub keeps_halted : (node.halted ≡ true → after ≡ node) → KeepHalted nodes (slice_set nodes i after)
@@ -382,26 +386,26 @@ delivered_one stands i k w nodes sent (Stays shows) = inl shows
 delivered_one stands i k w nodes sent (Acts shows) = inr (Deliver i k, tt, shows)
 delivered_one stands i k w nodes sent (Tears kept shows) = inr (Torn i (table.Deliver k) kept, tt, shows)
 
-module _ {T : Type 0} (honest : Type 0) (images : T → List ℕ → Type 0) (nodes : List (Node T)) (sent : List Message) (i k : ℕ) (node after : Node T) (m : Message) (said : List Message)
+module _ {T : Type 0} (honest : Type 0) (content : T → List ℕ) (images : T → List ℕ → Type 0) (nodes : List (Node T)) (sent : List Message) (i k : ℕ) (node after : Node T) (m : Message) (said : List Message)
     (at : slice_get nodes i ≡ Some node) (there : slice_get sent k ≡ Some m) (turns : StandInTurn nodes) where
   abbrev heard : Input Definition
   heard = table.Deliver (message.view m)
 
-  takes_one : (stands : ℕ → Stored Definition → Type 0) (lost : Bool) → Takes honest images lost heard node after said →
+  takes_one : (stands : ℕ → Stored Definition → Type 0) (lost : Bool) → Takes honest content images lost heard node after said →
       (after.halted ≡ true → (honest → EachStandsFor (stored_of node) (store (stored_of node) (row_of node heard).entry) (images after.tape)) → stands i (stored_of node) ⊎ stands i (store (stored_of node) (row_of node heard).entry)) →
       TakeOne stands nodes sent (slice_set nodes i after) (sent ++ said)
   unfolding TakeOne
   takes_one stands lost takes torn = λ w shows.
       delivered_one stands i k w (slice_set nodes i after) (sent ++ said)
-      (takes_acts stands nodes sent i node after (table.Deliver k) heard at (sent_message sent k m there) turns honest images said lost takes torn w shows)
+      (takes_acts stands nodes sent i node after (table.Deliver k) heard at (sent_message sent k m there) turns honest content images said lost takes torn w shows)
 
   -- One delivery to one of the nodes.
-  pub one_delivery : (lost : Bool) → Takes honest images lost heard node after said → IsOne honest images nodes sent (slice_set nodes i after) (sent ++ said)
+  pub one_delivery : (lost : Bool) → Takes honest content images lost heard node after said → IsOne honest images nodes sent (slice_set nodes i after) (sent ++ said)
   one_delivery lost takes = record {
     any = takes_one AnyPart lost takes (λ halts each. inl tt);
     on_tape = λ h left may. takes_one (StandFor left) lost takes (λ halts each. each h (left i) (left_here images nodes left i node after at may halts));
-    halted = keeps_halted nodes i node after at (stays_halted honest images node after heard said lost takes);
-    turn = keeps_turn nodes i node after at (stays_itself honest images node after heard said lost takes);
+    halted = keeps_halted nodes i node after at (stays_halted honest content images node after heard said lost takes);
+    turn = keeps_turn nodes i node after at (stays_itself honest content images node after heard said lost takes);
   }
 
 -- No delivery at all.
@@ -468,9 +472,9 @@ ended_early p Done node middle after said more left ended = (ended.0, omega (ari
 ended_early p Stopped node middle after said more left ended = omega (arith, ended.1, ap length left.1)
 ended_early p (Failed fault) node middle after said more left ended = omega (arith, left.0)
 
-module _ {T : Type 0} (honest : Type 0) (images : T → List ℕ → Type 0) (nodes : List (Node T)) (messages : List Message) where
+module _ {T : Type 0} (honest : Type 0) (content : T → List ℕ) (images : T → List ℕ → Type 0) (nodes : List (Node T)) (messages : List Message) where
   -- Nothing is delivered yet.
-  come_start : HaveCome honest images nodes messages (record { whole = 0; some = 0; done = 0 }) 0 nodes messages
+  come_start : HaveCome honest content images nodes messages (record { whole = 0; some = 0; done = 0 }) 0 nodes messages
   come_start = record {
     any = leads_nowhere AnyPart nodes messages;
     on_tape = λ h left may. leads_nowhere (StandFor left) nodes messages;
@@ -481,8 +485,8 @@ module _ {T : Type 0} (honest : Type 0) (images : T → List ℕ → Type 0) (no
 
   module _ (p : Progress) (lost : ℕ) (loses : Bool) (middle after : List (Node T)) (said more : List Message) where
     -- One more delivery.
-    come_on : HaveCome honest images nodes messages p lost middle said → IsOne honest images middle said after more → IsHanded honest images p.some p.whole loses middle said after more →
-        HaveCome honest images nodes messages (next (length nodes) p) (counted lost loses) after more
+    come_on : HaveCome honest content images nodes messages p lost middle said → IsOne honest images middle said after more → IsHanded honest content images p.some p.whole loses middle said after more →
+        HaveCome honest content images nodes messages (next (length nodes) p) (counted lost loses) after more
     come_on come one handed = record {
       any = subst (λ d. Lead AnyPart d nodes messages after more) (sym (done_on (length nodes) p)) (leads_on AnyPart p.done nodes middle after messages said more come.any one.any);
       on_tape = λ h left left_after.
@@ -494,17 +498,17 @@ module _ {T : Type 0} (honest : Type 0) (images : T → List ℕ → Type 0) (no
     }
 
   -- What the rounds delivered, as the world and the nodes see it.
-  come_along : (p : Progress) (lost : ℕ) (after : List (Node T)) (more : List Message) → HaveGone (IsGiven honest images) [] (length nodes) 0 nodes messages p lost after more →
-      HaveCome honest images nodes messages p lost after more
+  come_along : (p : Progress) (lost : ℕ) (after : List (Node T)) (more : List Message) → HaveGone (IsGiven honest content images) [] (length nodes) 0 nodes messages p lost after more →
+      HaveCome honest content images nodes messages p lost after more
   come_along _ _ _ _ Begin = come_start
   come_along _ _ _ _ (Go p lost loses middle after said more gone left one) = come_on p lost loses middle after said more (come_along p lost middle said gone) one.0
-      (subst (λ k. IsHanded honest images p.some k loses middle said after more) (omega arith)
-      (subst (λ i. IsHanded honest images i (0 + p.whole) loses middle said after more) (get_or_past [] p.some p.some (omega arith)) one.1))
+      (subst (λ k. IsHanded honest content images p.some k loses middle said after more) (omega arith)
+      (subst (λ i. IsHanded honest content images i (0 + p.whole) loses middle said after more) (get_or_past [] p.some p.some (omega arith)) one.1))
 
-  module _ (p : Progress) (lost : ℕ) (end : End) (after : List (Node T)) (more : List Message) (ended : HaveEnded (IsGiven honest images) AreKept [] (length nodes) 0 nodes messages p lost end after more) where
-    come_to : HaveCome honest images nodes messages p lost after ended.said
+  module _ (p : Progress) (lost : ℕ) (end : End) (after : List (Node T)) (more : List Message) (ended : HaveEnded (IsGiven honest content images) AreKept [] (length nodes) 0 nodes messages p lost end after more) where
+    come_to : HaveCome honest content images nodes messages p lost after ended.said
     come_to =
-        subst (λ ns. HaveCome honest images nodes messages p lost ns ended.said) (sym (kept_left end _ _ ended.middle after ended.said more ended.left)) (come_along p lost ended.middle ended.said ended.gone)
+        subst (λ ns. HaveCome honest content images nodes messages p lost ns ended.said) (sym (kept_left end _ _ ended.middle after ended.said more ended.left)) (come_along p lost ended.middle ended.said ended.gone)
 
     -- The rounds lead to what they left.
     pub come_done : p.done ≤ most_deliveries → IsDelivered honest images nodes messages p.done after
@@ -517,5 +521,5 @@ module _ {T : Type 0} (honest : Type 0) (images : T → List ℕ → Type 0) (no
     }
 
     -- The deliveries were those of the rounds.
-    pub handed_out : goes.IsEnd 0 (length more) p end → AreHandedOut honest images nodes messages p.done lost (is_early end) after
+    pub handed_out : goes.IsEnd 0 (length more) p end → AreHandedOut honest content images nodes messages p.done lost (is_early end) after
     handed_out is = record { come = p; sent = ended.said; handed = come_to.order; count = refl; ended = ended_early p end _ ended.middle after ended.said more ended.left is }

@@ -69,24 +69,24 @@ module _ {T : Type 0} (stands : ℕ → Stored Definition → Type 0) (w : World
   asked_once i input is (Acts shows) = one_event is.event (subst (Shows stands nodes sent) (sym (is.acts w)) shows)
   asked_once i input is (Tears kept shows) = torn_event i is.action kept shows
 
-module _ {T : Type 0} (honest : Type 0) (images : T → List ℕ → Type 0) (nodes : List (Node T)) (i : ℕ) (node after : Node T) (input : Input Definition) (said : List Message)
+module _ {T : Type 0} (honest : Type 0) (content : T → List ℕ) (images : T → List ℕ → Type 0) (nodes : List (Node T)) (i : ℕ) (node after : Node T) (input : Input Definition) (said : List Message)
     (at : slice_get nodes i ≡ Some node) (turns : StandInTurn nodes) (own : IsOwn input) where
-  takes_leads : (stands : ℕ → Stored Definition → Type 0) (lost : Bool) → Takes honest images lost input node after said →
+  takes_leads : (stands : ℕ → Stored Definition → Type 0) (lost : Bool) → Takes honest content images lost input node after said →
       (after.halted ≡ true → (honest → EachStandsFor (stored_of node) (store (stored_of node) (row_of node input).entry) (images after.tape)) → stands i (stored_of node) ⊎ stands i (store (stored_of node) (row_of node input).entry)) →
       LeadSaying stands nodes said (slice_set nodes i after)
   unfolding LeadSaying
   takes_leads stands lost takes torn = λ w sent shows.
       let is = asked i input own in
       asked_once stands w (slice_set nodes i after) (sent ++ said) i input is
-      (takes_acts stands nodes sent i node after is.action input at (is.given (map message.view sent)) turns honest images said lost takes torn w shows)
+      (takes_acts stands nodes sent i node after is.action input at (is.given (map message.view sent)) turns honest content images said lost takes torn w shows)
 
   -- Whatever a node does that is asked to step, it leads the nodes on.
-  pub takes_led : (lost : Bool) → Takes honest images lost input node after said → AreLedSaying honest images nodes said (slice_set nodes i after)
+  pub takes_led : (lost : Bool) → Takes honest content images lost input node after said → AreLedSaying honest images nodes said (slice_set nodes i after)
   takes_led lost takes = record {
     any = takes_leads AnyPart lost takes (λ halts each. inl tt);
     on_tape = λ h left may. takes_leads (StandFor left) lost takes (λ halts each. each h (left i) (left_here images nodes left i node after at may halts));
-    halted = keeps_halted nodes i node after at (stays_halted honest images node after input said lost takes);
-    turn = keeps_turn nodes i node after at (stays_itself honest images node after input said lost takes);
+    halted = keeps_halted nodes i node after at (stays_halted honest content images node after input said lost takes);
+    turn = keeps_turn nodes i node after at (stays_itself honest content images node after input said lost takes);
   }
 
 -- What a node returns is what it does; the input is lost if it returns allocation failure.
@@ -96,9 +96,9 @@ module _ {T : Type 0} (honest : Type 0) (content : T → List ℕ) (images : T �
   is_lost (Err f) = is_memory f
 
   abbrev TakesBy : Result (Vec Message Global) NodeFault → Type 0
-  TakesBy answer = Takes honest images (is_lost answer) input before after (said_by answer)
+  TakesBy answer = Takes honest content images (is_lost answer) input before after (said_by answer)
 
-  takes_either : (answer : Result (Vec Message Global) NodeFault) → IfOk answer (λ said. Answers honest images input before after said.items) → IfErr answer (λ f. Takes honest images (is_memory f) input before after []) →
+  takes_either : (answer : Result (Vec Message Global) NodeFault) → IfOk answer (λ said. Answers honest content images input before after said.items) → IfErr answer (λ f. Takes honest content images (is_memory f) input before after []) →
       TakesBy answer
   takes_either (Ok said) answered lost = answered
   takes_either (Err f) answered lost = lost
@@ -107,8 +107,8 @@ module _ {T : Type 0} (honest : Type 0) (content : T → List ℕ) (images : T �
   takes_running answer runs step =
       let halted : before.halted ≡ true → answer ≡ Err fault_case.Halted = λ is. absurd (both_ways before.halted runs is) in
       takes_either answer
-      (any_answered honest images before after input answer halted (λ is. step.refused) step.done)
-      (any_rejected honest images before after input answer halted (λ is. absurd (step.running is)) (λ is. step.refused) step.unchanged step.same step.still_running step.halts step.torn)
+      (any_answered honest content images before after input answer halted (λ is. step.refused) step.done step.grown)
+      (any_rejected honest content images before after input answer halted (λ is. absurd (step.running is)) (λ is. step.refused) step.unchanged step.same step.still_running step.same_tape step.halts step.part step.torn)
 
   takes_halted : (answer : Result (Vec Message Global) NodeFault) → before.halted ≡ true → answer ≡ Err fault_case.Halted → after ≡ before → TakesBy answer
   takes_halted answer is halted same = subst TakesBy (sym halted) (giving.Halts is same refl)
@@ -124,7 +124,7 @@ module _ {T : Type 0} (honest : Type 0) (content : T → List ℕ) (images : T �
 
 pub step_leads_on : {T : Type 0} (honest : Type 0) (content : T → List ℕ) (images : T → List ℕ → Type 0) (failures : T → ℕ) → StepLeadsOn honest content images failures
 step_leads_on honest content images failures = λ nodes i before after input answer at turns own refused steps.
-    takes_led honest images nodes i before after input (said_by answer) at turns own (is_lost honest content images failures before after input answer)
+    takes_led honest content images nodes i before after input (said_by answer) at turns own (is_lost honest content images failures before after input answer)
     (takes_answered honest content images failures before after input answer refused steps)
 
 -- ---- one run

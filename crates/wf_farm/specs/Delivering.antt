@@ -118,7 +118,7 @@ abbrev pub counted : ℕ → Bool → ℕ
 counted lost true = lost + 1
 counted lost false = lost
 
-module _ {T : Type 0} (honest : Type 0) (images : T → List ℕ → Type 0) where
+module _ {T : Type 0} (honest : Type 0) (content : T → List ℕ) (images : T → List ℕ → Type 0) where
   -- Message k was delivered to node i, and the node's messages were sent; or an allocation failed, and the delivery was lost.
   pub record IsHanded (i k : ℕ) (lost : Bool) (nodes : List (Node T)) (sent : List Message) (nodes_after : List (Node T)) (sent_after : List Message) : Type 0 where
     pub node : Node T
@@ -127,7 +127,7 @@ module _ {T : Type 0} (honest : Type 0) (images : T → List ℕ → Type 0) whe
     pub said : List Message
     pub at : slice_get nodes i ≡ Some node
     pub there : slice_get sent k ≡ Some handed
-    pub takes : Takes honest images lost (table.Deliver (message.view handed)) node after said
+    pub takes : Takes honest content images lost (table.Deliver (message.view handed)) node after said
     pub nodes_are : nodes_after ≡ slice_set nodes i after
     pub sent_are : sent_after ≡ sent ++ said
 
@@ -184,18 +184,6 @@ module _ {T : Type 0} (honest : Type 0) (images : T → List ℕ → Type 0) whe
     pub halted : KeepHalted nodes nodes_after
     pub turn : KeepTurn nodes nodes_after
 
-  -- for the crate's own contracts: one delivery, as the world and the node see it
-  abbrev pub IsGiven : ℕ → ℕ → Bool → List (Node T) → List Message → List (Node T) → List Message → Type 0
-  IsGiven i k lost nodes sent nodes_after sent_after = IsOne nodes sent nodes_after sent_after × IsHanded honest images i k lost nodes sent nodes_after sent_after
-
-  -- for the crate's own contracts: the deliveries have come this far
-  pub record HaveCome (nodes : List (Node T)) (messages : List Message) (p : Progress) (lost : ℕ) (nodes_after : List (Node T)) (sent : List Message) : Type 0 where
-    pub any : Lead AnyPart p.done nodes messages nodes_after sent
-    pub on_tape : honest → (left : ℕ → List ℕ) → MayLeave images nodes_after left → Lead (StandFor left) p.done nodes messages nodes_after sent
-    pub halted : KeepHalted nodes nodes_after
-    pub turn : KeepTurn nodes nodes_after
-    pub order : AreHanded honest images nodes messages p lost nodes_after sent
-
   -- the result of the deliveries: `done` were made
   pub record IsDelivered (nodes : List (Node T)) (messages : List Message) (done : ℕ) (nodes_after : List (Node T)) : Type 0 where
     pub any : AreDelivered AnyPart done nodes messages nodes_after
@@ -203,3 +191,16 @@ module _ {T : Type 0} (honest : Type 0) (images : T → List ℕ → Type 0) whe
     pub halted : KeepHalted nodes nodes_after
     pub turn : KeepTurn nodes nodes_after
     pub most : done ≤ most_deliveries
+
+module _ {T : Type 0} (honest : Type 0) (content : T → List ℕ) (images : T → List ℕ → Type 0) where
+  -- for the crate's own contracts: one delivery, as the world and the node see it
+  abbrev pub IsGiven : ℕ → ℕ → Bool → List (Node T) → List Message → List (Node T) → List Message → Type 0
+  IsGiven i k lost nodes sent nodes_after sent_after = IsOne honest images nodes sent nodes_after sent_after × IsHanded honest content images i k lost nodes sent nodes_after sent_after
+
+  -- for the crate's own contracts: the deliveries have come this far
+  pub record HaveCome (nodes : List (Node T)) (messages : List Message) (p : Progress) (lost : ℕ) (nodes_after : List (Node T)) (sent : List Message) : Type 0 where
+    pub any : Lead AnyPart p.done nodes messages nodes_after sent
+    pub on_tape : honest → (left : ℕ → List ℕ) → MayLeave images nodes_after left → Lead (StandFor left) p.done nodes messages nodes_after sent
+    pub halted : KeepHalted nodes nodes_after
+    pub turn : KeepTurn nodes nodes_after
+    pub order : AreHanded honest content images nodes messages p lost nodes_after sent

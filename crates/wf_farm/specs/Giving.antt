@@ -1,11 +1,13 @@
 -- What a node does with an input that a caller gives it, over any kind of tape.
-use Rattle.std.specs.Prelude.{◌≡◌, ℕ, Bool, true, false, List, [], Option, Some, None}
+use Rattle.std.specs.Prelude.{◌≡◌, ◌++◌, ℕ, Bool, true, false, List, [], Option, Some, None}
 use Rattle.wf_codec.specs.declared.message.Message.{Message}
 use Rattle.wf_def.specs.Definition.{Definition}
 use Rattle.wf_model.specs.Table.{Input, Refusal, store}
 use Rattle.wf_node.specs.Images.{EachStandsFor}
 use Rattle.wf_node.specs.Node.{Node, stored_of}
 use Rattle.wf_node.specs.Step.{row_of, refusal_at, IsRow, IsSameNode}
+use Rattle.wf_node.specs.Storing.{bytes_of}
+use Rattle.wf_tape.specs.Tape.{IsExtended}
 use Rattle.wf_node.specs.declared.fault.NodeFault.{NodeFault}
 use Rattle.wf_node.specs.declared.fault.NodeFault.TheVariants as fault
 
@@ -32,23 +34,26 @@ abbrev pub tells_halt : Option NodeFault → Bool
 tells_halt None = false
 tells_halt (Some f) = is_halt f
 
--- An allocation failed before the node had done anything, so the input is lost: the node, which isn't halted, is unchanged but for
--- its tape, and sends nothing.
-pub record IsLost {T : Type 0} (before after : Node T) (said : List Message) : Type 0 where
-  pub runs : before.halted ≡ false
-  pub still : after.halted ≡ false
-  pub same : IsSameNode before after
-  pub quiet : said ≡ []
+module _ {T : Type 0} (honest : Type 0) (content : T → List ℕ) (images : T → List ℕ → Type 0) where
+  -- An allocation failed before the node had done anything, so the input is lost: the node, which isn't halted, is unchanged but
+  -- for its tape, whose content is unchanged too, and sends nothing.
+  pub record IsLost (before after : Node T) (said : List Message) : Type 0 where
+    pub runs : before.halted ≡ false
+    pub still : after.halted ≡ false
+    pub same : IsSameNode before after
+    pub kept : honest → content after.tape ≡ content before.tape
+    pub quiet : said ≡ []
 
-module _ {T : Type 0} (honest : Type 0) (images : T → List ℕ → Type 0) where
   -- What a node does with an input that isn't lost. A halted node rejects it, and so does one whose step table rejects it: either
-  -- is unchanged. Otherwise the node steps; or its tape fails within the step, nothing is sent, and each image stands for what was
-  -- stored before or after.
+  -- is unchanged. Otherwise the node steps, and its tape holds the bytes of the step's record too; or its tape fails within the
+  -- step: nothing is sent, the tape holds a prefix of these bytes too, and each image stands for what was stored before or after.
   pub data Answers (input : Input Definition) (before after : Node T) (said : List Message) : Type 0 where
     Halts : before.halted ≡ true → after ≡ before → said ≡ [] → Answers input before after said
     Rejects : (why : Refusal) → before.halted ≡ false → refusal_at before input ≡ Some why → after ≡ before → said ≡ [] → Answers input before after said
-    Steps : before.halted ≡ false → refusal_at before input ≡ None → IsRow before (row_of before input) said after → Answers input before after said
+    Steps : before.halted ≡ false → refusal_at before input ≡ None → IsRow before (row_of before input) said after
+        → (honest → content after.tape ≡ content before.tape ++ bytes_of (row_of before input).entry) → Answers input before after said
     Fails : before.halted ≡ false → refusal_at before input ≡ None → after.halted ≡ true → IsSameNode before after
+        → (honest → IsExtended (content before.tape) (bytes_of (row_of before input).entry) (content after.tape))
         → (honest → EachStandsFor (stored_of before) (store (stored_of before) (row_of before input).entry) (images after.tape)) → said ≡ [] → Answers input before after said
 
   -- What it does with an input, by whether that is lost.

@@ -12,7 +12,8 @@ use Rattle.wf_proposer.specs.Proposer.{Proposer, row_of, working_of}
 use Rattle.wf_tape.specs.Journal.{Journal, Follows, IsAdded, ReadsOneMore, ReadsSameOrOneMore}
 use Rattle.wf_tape.specs.Record.{view}
 use Rattle.wf_tape.specs.declared.record.Record as tape
-use Rattle.wf_tape.specs.Tape.{IsUnchanged, HasRisen}
+use Rattle.wf_tape.specs.Spelling.{spelling}
+use Rattle.wf_tape.specs.Tape.{IsUnchanged, IsExtended, HasRisen}
 use Rattle.wf_node.specs.declared.fault.NodeFault.{NodeFault}
 use Rattle.wf_node.specs.declared.fault.NodeFault.TheVariants.{Memory, Busy, SequenceFull, RoundsFull, Halted, TapeFailed, Nothing}
 use Rattle.wf_node.specs.Act.{IsChange, IsReply}
@@ -121,11 +122,13 @@ module _ {T : Type 0} (honest : Type 0) (content : T → List ℕ) (images : T �
   }
 
   pub broken : (r : Record Definition) (journal journal_after : Journal T) → journal_after.halted ≡ true → HasRisen (failures journal.tape) (failures journal_after.tape) →
+      (honest → IsExtended (content journal.tape) (spelling r) (content journal_after.tape)) →
       (honest → Follows (ReadsSameOrOneMore r) (images journal.tape) (images journal_after.tape)) → IsBroken honest content images failures (Some r) journal journal_after
-  broken r journal journal_after halted risen either = record {
+  broken r journal journal_after halted risen part either = record {
     entry_is = refl;
     halted = halted;
     risen = risen;
+    part = part;
     torn = λ h. torn_at r (images journal.tape) (images journal_after.tape) (either h);
   }
 

@@ -9,6 +9,7 @@ use Rattle.wf_model.specs.Fits.{IsForNext, RowFits, RecordsFit}
 use Rattle.wf_model.specs.Table.{Row, Input, Refusal, row, refusal, store}
 use Rattle.wf_proposer.specs.Proposer.{Proposer, working_of}
 use Rattle.wf_tape.specs.Journal.{Journal}
+use Rattle.wf_tape.specs.Tape.{IsExtended}
 use Rattle.wf_node.specs.declared.fault.NodeFault.{NodeFault}
 use Rattle.wf_node.specs.declared.fault.NodeFault.TheVariants.{Memory, Busy, SequenceFull, RoundsFull, Halted, TapeFailed, Nothing}
 use Rattle.wf_node.specs.Act.{IsAct, IsChange, IsRefusedOr, IsSame}
@@ -95,6 +96,7 @@ module _ {T : Type 0} (honest : Type 0) (content : T → List ℕ) (images : T �
       messages = change.1.messages ∙ ap (λ r. r.messages) (row_shown journal parts proposer input);
     };
     on_tape = λ h. subst (λ s. AllStandFor s (images journal_after.tape)) (sym change.1.stored) (change.0.stored h (stored_of parts) fits.fits (stands h));
+    grown = λ h. change.0.grown h ∙ ap (λ r. content journal.tape ++ bytes_of r.entry) (row_shown journal parts proposer input);
     unchanged = tt;
     same = tt;
     still_running = λ e. absurd (differ _ _ (λ n. omega (arith, n)) e);
@@ -103,6 +105,7 @@ module _ {T : Type 0} (honest : Type 0) (content : T → List ℕ) (images : T �
     failed = λ e. absurd (differ _ _ (λ n. omega (arith, n)) e);
     writes = λ e. absurd (differ _ _ (λ n. omega (arith, n)) e);
     halts = λ e. absurd (differ _ _ (λ n. omega (arith, n)) e);
+    part = λ h e. absurd (differ _ _ (λ n. omega (arith, n)) e);
     torn = λ h e. absurd (differ _ _ (λ n. omega (arith, n)) e);
   }
   done_step journal journal_after parts parts_after proposer proposer_after input (Err Memory) stands none fits change = record {
@@ -110,6 +113,7 @@ module _ {T : Type 0} (honest : Type 0) (content : T → List ℕ) (images : T �
     refused = sym (sym (refusal_shown journal parts proposer input) ∙ none);
     done = tt;
     on_tape = λ h. tt;
+    grown = λ h. tt;
     unchanged = λ not_memory not_tape. absurd (not_memory refl);
     same = same_view journal journal_after parts parts_after proposer proposer_after change.1;
     still_running = λ e. change.0.running;
@@ -118,6 +122,7 @@ module _ {T : Type 0} (honest : Type 0) (content : T → List ℕ) (images : T �
     failed = λ e. absurd (differ _ _ (λ n. omega (arith, n)) e);
     writes = λ e. absurd (differ _ _ (λ n. omega (arith, n)) e);
     halts = λ e. absurd (differ _ _ (λ n. omega (arith, n)) e);
+    part = λ h e. absurd (differ _ _ (λ n. omega (arith, n)) e);
     torn = λ h e. absurd (differ _ _ (λ n. omega (arith, n)) e);
   }
   done_step journal journal_after parts parts_after proposer proposer_after input (Err TapeFailed) stands none fits change = record {
@@ -125,6 +130,7 @@ module _ {T : Type 0} (honest : Type 0) (content : T → List ℕ) (images : T �
     refused = sym (sym (refusal_shown journal parts proposer input) ∙ none);
     done = tt;
     on_tape = λ h. tt;
+    grown = λ h. tt;
     unchanged = λ not_memory not_tape. absurd (not_tape refl);
     same = same_view journal journal_after parts parts_after proposer proposer_after change.1;
     still_running = λ e. absurd (differ _ _ (λ n. omega (arith, n)) e);
@@ -133,6 +139,7 @@ module _ {T : Type 0} (honest : Type 0) (content : T → List ℕ) (images : T �
     failed = λ e. change.0.risen;
     writes = λ e. subst (λ r. IsSome r.entry) (row_shown journal parts proposer input) change.0.entry_is;
     halts = λ e. change.0.halted;
+    part = λ h e. subst (λ r. IsExtended (content journal.tape) (bytes_of r.entry) (content journal_after.tape)) (row_shown journal parts proposer input) (change.0.part h);
     torn = λ h e.
         subst (λ r. EachStandsFor (stored_of parts) (store (stored_of parts) r.entry) (images journal_after.tape)) (row_shown journal parts proposer input)
         (change.0.torn h (stored_of parts) fits.fits (stands h));
@@ -151,6 +158,7 @@ module _ {T : Type 0} (honest : Type 0) (content : T → List ℕ) (images : T �
     refused = answered ∙ sym (sym (refusal_shown journal parts proposer input) ∙ is);
     done = refused_if_ok result why _ answered;
     on_tape = λ h. refused_on_ok result why _ answered;
+    grown = λ h. refused_on_ok result why _ answered;
     unchanged = if_err result _ (λ fault not_memory not_tape. λ i. view_of (same_journal i) (same.parts i) (same.proposer i));
     same = if_err result _ (λ fault. same_view journal journal_after parts parts_after proposer proposer_after same);
     still_running = λ e. absurd (refused_is result why Memory answered refl e);
@@ -159,6 +167,7 @@ module _ {T : Type 0} (honest : Type 0) (content : T → List ℕ) (images : T �
     failed = λ e. absurd (refused_is result why TapeFailed answered refl e);
     writes = λ e. absurd (refused_is result why TapeFailed answered refl e);
     halts = λ e. absurd (refused_is result why TapeFailed answered refl e);
+    part = λ h e. absurd (refused_is result why TapeFailed answered refl e);
     torn = λ h e. absurd (refused_is result why TapeFailed answered refl e);
   }
 
@@ -177,25 +186,6 @@ module _ {T : Type 0} (honest : Type 0) (content : T → List ℕ) (images : T �
         | None ↦ λ none change. done_step journal journal_after kept.parts kept_after.parts proposer proposer_after input result (λ h. is.stands h running) none fits change
         | Some why ↦ λ some refused. refused_step journal journal_after kept.parts kept_after.parts proposer proposer_after input result why some refused.0 refused.1 refused.2
       ] refl act
-
-  change_grows : {A : Type 0} (journal journal_after : Journal T) (parts parts_after : Parts) (proposer proposer_after : Proposer) (input : Input Definition) (result : Result (Vec Message A) NodeFault) →
-      IsChange honest content images failures (proposer_row proposer parts input) journal parts proposer result journal_after parts_after proposer_after →
-      honest → OnOk result (content journal_after.tape ≡ content journal.tape ++ bytes_of (row_of (view_of journal parts proposer) input).entry)
-  change_grows journal journal_after parts parts_after proposer proposer_after input (Ok messages) change h =
-      change.0.grown h ∙ ap (λ r. content journal.tape ++ bytes_of r.entry) (row_shown journal parts proposer input)
-  change_grows journal journal_after parts parts_after proposer proposer_after input (Err fault) change h = tt
-
-  -- If the step is made, the tape's content grows by exactly the bytes of its record.
-  pub act_grows : {A : Type 0} (journal journal_after : Journal T) (parts parts_after : Parts) (proposer proposer_after : Proposer) (input : Input Definition) (result : Result (Vec Message A) NodeFault) →
-      IsAct honest content images failures input journal parts proposer result journal_after parts_after proposer_after →
-      honest → OnOk result (content journal_after.tape ≡ content journal.tape ++ bytes_of (row_of (view_of journal parts proposer) input).entry)
-  act_grows journal journal_after parts parts_after proposer proposer_after input result act =
-      elim (refusal (stored_of parts) (working_of proposer) input) as (λ why.
-      IsRefusedOr honest content images failures why (proposer_row proposer parts input) journal parts proposer result journal_after parts_after proposer_after →
-      honest → OnOk result (content journal_after.tape ≡ content journal.tape ++ bytes_of (row_of (view_of journal parts proposer) input).entry)) [
-        | None ↦ λ change. change_grows journal journal_after parts parts_after proposer proposer_after input result change
-        | Some why ↦ λ refused h. refused_on_ok result why _ refused.0
-      ] act
 
   done_node : {A : Type 0} (journal journal_after : Journal T) (kept kept_after : Kept) (proposer proposer_after : Proposer) (input : Input Definition) (result : Result (Vec Message A) NodeFault) →
       IsNode honest images journal kept proposer → journal.halted ≡ false →

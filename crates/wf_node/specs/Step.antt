@@ -1,17 +1,18 @@
 -- The effect of a step on a node.
-use Rattle.std.specs.Prelude.{◌≡◌, ◌≢◌, ℕ, true, false, List, map, Option, Result, Err, IfOk, IfErr, OnOk, IsSome, Vec}
+use Rattle.std.specs.Prelude.{◌≡◌, ◌≢◌, ◌++◌, ℕ, true, false, List, map, Option, Result, Err, IfOk, IfErr, OnOk, IsSome, Vec}
 use Rattle.wf_codec.specs.Message as message
 use Rattle.wf_codec.specs.declared.message.Message.{Message}
 use Rattle.wf_def.specs.Definition.{Definition}
 use Rattle.wf_def.specs.Equality.{definition_eq}
 use Rattle.wf_model.specs.Table.{Row, Input, Refusal, row, refusal, store}
-use Rattle.wf_tape.specs.Tape.{IsUnchanged, HasRisen}
+use Rattle.wf_tape.specs.Tape.{IsUnchanged, IsExtended, HasRisen}
 use Rattle.wf_node.specs.declared.fault.NodeFault.{NodeFault}
 use Rattle.wf_node.specs.declared.fault.NodeFault.TheVariants.{Memory, Halted, TapeFailed}
 use Rattle.wf_node.specs.Fault.{refused_by}
 use Rattle.wf_node.specs.Images.{AllStandFor, EachStandsFor}
 use Rattle.wf_node.specs.Memory as memory
 use Rattle.wf_node.specs.Node.{Node, stored_of, working_of}
+use Rattle.wf_node.specs.Storing.{bytes_of}
 
 -- the table's transition of the input at this node, and the table's rejection
 abbrev pub row_of : {T : Type 0} → Node T → Input Definition → Row Definition
@@ -45,6 +46,7 @@ module _ {T : Type 0} (honest : Type 0) (content : T → List ℕ) (images : T �
     pub refused : refused_by result ≡ refusal_at before input
     pub done : IfOk result (λ messages. IsRow before (row_of before input) messages.items after)
     pub on_tape : honest → OnOk result (AllStandFor (stored_of after) (images after.tape))
+    pub grown : honest → OnOk result (content after.tape ≡ content before.tape ++ bytes_of (row_of before input).entry)
     pub unchanged : IfErr result (λ fault. fault ≢ Memory → fault ≢ TapeFailed → after ≡ before)
     pub same : IfErr result (λ fault. IsSameNode before after)
     pub still_running : result ≡ Err Memory → after.halted ≡ false
@@ -53,4 +55,5 @@ module _ {T : Type 0} (honest : Type 0) (content : T → List ℕ) (images : T �
     pub failed : result ≡ Err TapeFailed → HasRisen (failures before.tape) (failures after.tape)
     pub writes : result ≡ Err TapeFailed → IsSome (row_of before input).entry
     pub halts : result ≡ Err TapeFailed → after.halted ≡ true
+    pub part : honest → result ≡ Err TapeFailed → IsExtended (content before.tape) (bytes_of (row_of before input).entry) (content after.tape)
     pub torn : honest → result ≡ Err TapeFailed → EachStandsFor (stored_of before) (store (stored_of before) (row_of before input).entry) (images after.tape)

@@ -6,7 +6,7 @@ use Rattle.wf_model.specs.Stored.{Stored, Record}
 use Rattle.wf_model.specs.Table.{store}
 use Rattle.wf_tape.specs.Journal.{Journal, Holds, Follows, IsSameOrReads}
 use Rattle.wf_tape.specs.Spelling.{spelling}
-use Rattle.wf_tape.specs.Tape.{IsUnchanged, HasRisen}
+use Rattle.wf_tape.specs.Tape.{IsUnchanged, IsExtended, HasRisen}
 use Rattle.wf_node.specs.declared.fault.NodeFault.{NodeFault}
 use Rattle.wf_node.specs.declared.fault.NodeFault.TheVariants.{Memory, Busy, SequenceFull, RoundsFull, Halted, TapeFailed, Nothing}
 use Rattle.wf_node.specs.Images.{AllStandFor, EachStandsFor}
@@ -36,11 +36,12 @@ module _ {T : Type 0} (honest : Type 0) (content : T → List ℕ) (images : T �
     pub running : new.halted ≡ false
     pub same : honest → IsUnchanged (content old.tape) (content new.tape) (images old.tape) (images new.tape)
 
-  -- the tape failed, and there was a record to write
+  -- the tape failed, and there was a record to write: a prefix of its bytes is on the tape
   pub record IsBroken (entry : Option (Record Definition)) (old new : Journal T) : Type 0 where
     pub entry_is : IsSome entry
     pub halted : new.halted ≡ true
     pub risen : HasRisen (failures old.tape) (failures new.tape)
+    pub part : honest → IsExtended (content old.tape) (bytes_of entry) (content new.tape)
     pub torn : honest → IsTornAt entry (images old.tape) (images new.tape)
 
   -- If there is no record, allocation doesn't fail.

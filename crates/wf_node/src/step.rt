@@ -18,14 +18,14 @@ impl<T: Tape> Node<T> {
     ghost use Rattle.wf_node.specs.Step.{row_of, refusal_at, IsRow, IsSameNode, IsStep, TakesMemory};
     ghost use Rattle.wf_node.specs.Storing.{bytes_of};
     ghost use Rattle.wf_model.specs.Table.{store as store_entry};
-    ghost use Rattle.wf_tape.specs.Tape.{HasRisen, IsUnchanged};
+    ghost use Rattle.wf_tape.specs.Tape.{HasRisen, IsExtended, IsUnchanged};
 
     /// One step: the step table's transition for the input, whose messages are returned once its record is on the tape, after
     /// what was there. A halted node returns N5. A step that the table rejects changes nothing: N2 if a proposal is requested
     /// while one is running, N7 if a retry is while none is, then N3 if the last sequence is published, then N4 if there is no
     /// higher round. Then N1 if allocation failed, which changes nothing either; a transition that stores and sends nothing, as
-    /// that of an answer that leaves no majority, doesn't allocate. And N6 if the tape failed, which halts the node: its record
-    /// is on the tape or not, and no message is returned.
+    /// that of an answer that leaves no majority, doesn't allocate. And N6 if the tape failed, which halts the node: a prefix of
+    /// its record's bytes is on the tape, after what was there, and no message is returned.
     pub fn step(&mut self, alloc: Global, input: Input) -> Result<Vec<Message>, NodeFault>
         ensures halted { self.old.halted ≡ true → result ≡ Err NodeFault.Halted }
         ensures running { result ≡ Err NodeFault.Halted → self.old.halted ≡ true }
@@ -41,6 +41,7 @@ impl<T: Tape> Node<T> {
         ensures failed { result ≡ Err NodeFault.TapeFailed → HasRisen (T.failed self.old.tape) (T.failed self.new.tape) }
         ensures writes { result ≡ Err NodeFault.TapeFailed → IsSome (row_of self.old (view input)).entry }
         ensures halts { result ≡ Err NodeFault.TapeFailed → self.new.halted ≡ true }
+        ensures part { T.honest → result ≡ Err NodeFault.TapeFailed → IsExtended (T.content self.old.tape) (bytes_of (row_of self.old (view input)).entry) (T.content self.new.tape) }
         ensures torn { T.honest → result ≡ Err NodeFault.TapeFailed → EachStandsFor (stored_of self.old) (store_entry (stored_of self.old) (row_of self.old (view input)).entry) (T.images self.new.tape) }
     {
         if self.is_halted() {
@@ -60,8 +61,7 @@ impl<T: Tape> Node<T> {
     /// A step of a node that isn't halted.
     fn advance(&mut self, alloc: Global, input: Input) -> Result<Vec<Message>, NodeFault>
         requires { self.old.halted ≡ false }
-        ensures step { IsStep T.honest T.content T.images T.failed self.old (view input) result self.new }
-        ensures content { T.honest → OnOk result (T.content self.new.tape ≡ T.content self.old.tape ++ bytes_of (row_of self.old (view input)).entry) }
+        ensures { IsStep T.honest T.content T.images T.failed self.old (view input) result self.new }
     {
         // The model's theorem: each transition's record fits the stored state.
         records_fit::<Canon>();

@@ -6,6 +6,7 @@ use Rattle.std.specs.Net.Socket.{v4_ip, v4_port}
 use Rattle.std.specs.declared.net.socket_addr.SocketAddr.{SocketAddr}
 use Rattle.std.specs.declared.net.socket_addr.SocketAddr.TheVariants.{V4, V6}
 use Rattle.wf_service.specs.Service.{last_port}
+use Rattle.wf_stream.specs.Reading.{EndsByFailing}
 use Rattle.wf_serve.specs.declared.fault.ServeFault.{ServeFault}
 use Rattle.wf_serve.specs.declared.fault.ServeFault.TheVariants as faults
 
@@ -36,3 +37,18 @@ abbrev pub IsTold : ℕ → Option (List ℕ) → Option (List ℕ) → Result (
 IsTold asked old new (Ok done) = (port : ℕ) × IsPortFor asked port × Appends old new (port_line port)
 IsTold asked old new (Err faults.Write) = (port : ℕ) × IsPortFor asked port × ((count : ℕ) × Appends old new (take count (port_line port)))
 IsTold asked old new (Err faults.Start) = Keeps old new
+
+-- How the writing ended, of any writer: a failed write is the last call, and a prefix of the bytes was written without a failure
+-- before it.
+module _ {K : Type 0} (written : K → Option (List ℕ)) (failures : K → ℕ) (fails : K → K → Type 0) where
+  -- for the crate's own contracts: of these bytes
+  abbrev pub HasEnded : List ℕ → K → K → Result (Unit {0}) ServeFault → Type 0
+  HasEnded bytes old new (Ok done) = Unit {0}
+  HasEnded bytes old new (Err faults.Write) = (count : ℕ) × EndsByFailing written failures fails (take count bytes) old new
+  HasEnded bytes old new (Err faults.Start) = ⊥
+
+  -- Of the line with such a port. If the nodes didn't start, the writer isn't called.
+  abbrev pub IsEnded : ℕ → K → K → Result (Unit {0}) ServeFault → Type 0
+  IsEnded asked old new (Ok done) = Unit {0}
+  IsEnded asked old new (Err faults.Write) = (port : ℕ) × IsPortFor asked port × ((count : ℕ) × EndsByFailing written failures fails (take count (port_line port)) old new)
+  IsEnded asked old new (Err faults.Start) = new ≡ old

@@ -7,6 +7,7 @@ use Rattle.wf_def.specs.Definition.{Definition}
 use Rattle.wf_edge.specs.Page.{standing_at}
 use Rattle.wf_edge.specs.Serving.{HandsOut, IsOutcome, MovesOnce}
 use Rattle.wf_edge.specs.declared.outcome.Outcome.{Outcome}
+use Rattle.wf_edge.specs.declared.outcome.Outcome.TheVariants as outcome
 use Rattle.wf_farm.specs.Delivering.{AreHandedOut, IsDelivered}
 use Rattle.wf_model.specs.Table.{CatchUp, Input, Retry}
 use Rattle.wf_node.specs.Node.{Node}
@@ -14,6 +15,7 @@ use Rattle.wf_node.specs.Step.{IsStep}
 use Rattle.wf_node.specs.declared.fault.NodeFault.{NodeFault}
 use Rattle.wf_node.specs.declared.fault.NodeFault.TheVariants.{Halted}
 use Rattle.wf_proposer.specs.declared.standing.Standing.TheVariants.{Running}
+use Rattle.wf_stream.specs.Reading.{EndsByFailing}
 
 -- At index `place` was the one node and is the other afterwards; each other node is unchanged.
 pub record IsChangedAt {T : Type 0} (place : ℕ) (nodes : List (Node T)) (before after : Node T) (nodes_after : List (Node T)) : Type 0 where
@@ -28,7 +30,7 @@ RunsAt {T} place nodes = (node : Node T) × (slice_get nodes place ≡ Some node
 abbrev pub RestsAt : {T : Type 0} → ℕ → List (Node T) → Type 0
 RestsAt {T} place nodes = (node : Node T) × (slice_get nodes place ≡ Some node) × (standing_at node ≢ Running)
 
-module _ {T : Type 0} (honest : Type 0) (images : T → List ℕ → Type 0) where
+module _ {T : Type 0} (honest : Type 0) (content : T → List ℕ) (images : T → List ℕ → Type 0) where
   -- These messages were delivered to the nodes, and so were the messages that they sent in reply.
   pub record AreHeard (nodes : List (Node T)) (said : Vec Message Global) (nodes_after : List (Node T)) : Type 0 where
     -- the number of deliveries made, and how many of them an allocation failure lost
@@ -37,7 +39,7 @@ module _ {T : Type 0} (honest : Type 0) (images : T → List ℕ → Type 0) whe
     pub delivered : IsDelivered honest images nodes said.items deliveries nodes_after
     -- each message was delivered to each node, until none was left, or the deliveries stopped early
     pub stopped : Bool
-    pub handed : 0 < length nodes → AreHandedOut honest images nodes said.items deliveries lost stopped nodes_after
+    pub handed : 0 < length nodes → AreHandedOut honest content images nodes said.items deliveries lost stopped nodes_after
 
 module _ {T : Type 0} (honest : Type 0) (content : T → List ℕ) (images : T → List ℕ → Type 0) (failures : T → ℕ) where
   -- The node at index `place` served the request that was received, and sent these messages.
@@ -76,7 +78,7 @@ module _ {T : Type 0} (honest : Type 0) (content : T → List ℕ) (images : T �
     pub said : Vec Message Global
     pub asked : List (Node T)
     pub step : IsAskedAt place input nodes said asked
-    pub heard : AreHeard honest images asked said nodes_after
+    pub heard : AreHeard honest content images asked said nodes_after
 
   -- The first nodes, this many, were asked to catch up, one after the other, and the messages of each were delivered before the
   -- next was asked.
@@ -102,5 +104,13 @@ module _ {T : Type 0} (honest : Type 0) (content : T → List ℕ) (images : T �
     -- the nodes after the deliveries
     pub heard : List (Node T)
     pub request : IsServedAt place input old new nodes said served outcome
-    pub hearing : AreHeard honest images served said heard
+    pub hearing : AreHeard honest content images served said heard
     pub retry : IsRetried place heard nodes_after
+
+-- How writing the response ended, of any writer: a failed write is the last call, and some bytes were written without a failure
+-- before it. If the input is empty or the reader failed, the writer isn't called.
+abbrev pub EndsWriting : {K : Type 0} → (K → Option (List ℕ)) → (K → ℕ) → (K → K → Type 0) → K → K → Outcome → Type 0
+EndsWriting written failures fails old new (outcome.Sent status count) = Unit {0}
+EndsWriting written failures fails old new (outcome.WriteFailed status count) = (bytes : List ℕ) × EndsByFailing written failures fails bytes old new
+EndsWriting written failures fails old new outcome.ReadFailed = new ≡ old
+EndsWriting written failures fails old new outcome.NoRequest = new ≡ old

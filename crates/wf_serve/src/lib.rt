@@ -23,6 +23,7 @@
 //! - Node i of n is at index i throughout, and its tape in a folder is `node-i.tape` (`specs/Folder.antt`).
 //! - The port: the line that is written names it, and it is the requested one unless that is 0. An error reports why the nodes
 //!   aren't served, and what is written of that line by then (`specs/Listening.antt`).
+//! - Of that line and of each response a failed write is the last call of its writer.
 //! - All of this is one run of the farm's model: whatever world of it the nodes were, some of its events lead to what they are
 //!   afterwards. If they are reached from its start, as new nodes in memory are, no two of them have published different maps
 //!   under one sequence, whatever the connections sent (`led`, `reached` and `agree` of [`serve_nodes`], [`serve_connections`]

@@ -5,7 +5,7 @@ ghost use Rattle.wf_farm.specs.Leading.{AreLedOn, AreReached, HaveOneHistory};
 ghost use Rattle.wf_serve.specs.Caching.{AreKept};
 ghost use Rattle.wf_serve.specs.Connections.{IfTold, IsServing};
 ghost use Rattle.wf_serve.specs.Fault.{CountsWrites};
-ghost use Rattle.wf_serve.specs.Listening.{IsTold};
+ghost use Rattle.wf_serve.specs.Listening.{IsEnded, IsTold};
 ghost use Rattle.wf_service.specs.Service.{IsService};
 
 use crate::caching::caches_for;
@@ -29,9 +29,9 @@ use wf_wms::cache::Cache;
 /// Serves nodes at a port of 127.0.0.1, to the service's number of connections, one after the other: connection c, counted from
 /// 0, by node c mod N. The port is bound first: if that fails, no tape is opened. Then it goes on as [`serve_at`].
 ///
-/// Err: `Start` if the port can't be bound, the folder can't be locked, a tape doesn't open or an allocation fails; nothing of
-/// the line is written then. `Write` if the line can't be written; a prefix of it may be. The port is the service's, or one
-/// chosen by the system if that is 0.
+/// Err: `Start` if the port can't be bound, the folder can't be locked, a tape doesn't open or an allocation fails; the writer
+/// isn't called then. `Write` if the line can't be written; a prefix of it may be, and the failed write is the last call. The
+/// port is the service's, or one chosen by the system if that is 0.
 pub fn serve<
     R: Files<File = File>
         + Eprint
@@ -43,6 +43,7 @@ pub fn serve<
     requires { IsService service }
     ensures told { IsTold service.entry.port (K.written sink.old) (K.written sink.new) result }
     ensures writes { CountsWrites result (K.failures sink.old) (K.failures sink.new) }
+    ensures last { IsEnded K.written K.failures K.fails service.entry.port sink.old sink.new result }
 {
     let Ok(listener) = listen(rt, service.port) else {
         return Err(ServeFault::Start);
@@ -65,6 +66,7 @@ pub fn serve_at<R: Files<File = File> + Eprint + Clock + AllocGlobal, K: Sink>(
     requires { IsService service }
     ensures told { IsTold service.entry.port (K.written sink.old) (K.written sink.new) result }
     ensures writes { CountsWrites result (K.failures sink.old) (K.failures sink.new) }
+    ensures last { IsEnded K.written K.failures K.fails service.entry.port sink.old sink.new result }
 {
     match service.state {
         Some(folder) => serve_files(rt, listener, service, folder, sink),
@@ -83,6 +85,7 @@ fn serve_memory<R: Clock + AllocGlobal, K: Sink>(
     requires memory { service.state ≡ None }
     ensures told { IsTold service.entry.port (K.written sink.old) (K.written sink.new) result }
     ensures writes { CountsWrites result (K.failures sink.old) (K.failures sink.new) }
+    ensures last { IsEnded K.written K.failures K.fails service.entry.port sink.old sink.new result }
 {
     match in_memory(rt.alloc(), service.nodes) {
         Ok(nodes) => serve_opened(rt, listener, service, nodes, sink),
@@ -102,6 +105,7 @@ fn serve_files<R: Files<File = File> + Eprint + Clock + AllocGlobal, K: Sink>(
     requires files { service.state ≡ Some folder }
     ensures told { IsTold service.entry.port (K.written sink.old) (K.written sink.new) result }
     ensures writes { CountsWrites result (K.failures sink.old) (K.failures sink.new) }
+    ensures last { IsEnded K.written K.failures K.fails service.entry.port sink.old sink.new result }
 {
     let Ok(held) = hold(rt, folder) else {
         return Err(ServeFault::Start);
@@ -123,6 +127,7 @@ fn serve_tapes<R: Files + Eprint + Clock + AllocGlobal, K: Sink>(
     requires files { service.state ≡ Some folder }
     ensures told { IsTold service.entry.port (K.written sink.old) (K.written sink.new) result }
     ensures writes { CountsWrites result (K.failures sink.old) (K.failures sink.new) }
+    ensures last { IsEnded K.written K.failures K.fails service.entry.port sink.old sink.new result }
 {
     match in_files(rt, service.nodes, folder) {
         Ok(nodes) => serve_opened(rt, listener, service, nodes, sink),
@@ -143,6 +148,7 @@ fn serve_opened<R: Clock + AllocGlobal, K: Sink, T: Tape + Drop>(
     requires in_turn { StandInTurn nodes.items }
     ensures told { IsTold service.entry.port (K.written sink.old) (K.written sink.new) result }
     ensures writes { CountsWrites result (K.failures sink.old) (K.failures sink.new) }
+    ensures last { IsEnded K.written K.failures K.fails service.entry.port sink.old sink.new result }
 {
     let outcome = serve_nodes(rt, listener, service, nodes.as_mut_slice(), sink);
     drop(nodes);
@@ -153,8 +159,9 @@ fn serve_opened<R: Clock + AllocGlobal, K: Sink, T: Tape + Drop>(
 /// the line `listening P` with the listener's port is written; and then connections are served as by [`serve_connections`]. The
 /// service gives the number of pictures cached for each node; its number of nodes and its folder are ignored.
 ///
-/// Err: `Start` if the listener's port isn't the service's, unless that is 0, or an allocation fails; nothing of the line is
-/// written then. `Write` if the line can't be written; a prefix of it may be. In both cases no connection is served.
+/// Err: `Start` if the listener's port isn't the service's, unless that is 0, or an allocation fails; the writer isn't called
+/// then. `Write` if the line can't be written; a prefix of it may be, and the failed write is the last call. In both cases no
+/// connection is served.
 pub fn serve_nodes<R: Clock + AllocGlobal, K: Sink, T: Tape>(
     rt: &R,
     listener: &TcpListener,
@@ -167,6 +174,7 @@ pub fn serve_nodes<R: Clock + AllocGlobal, K: Sink, T: Tape>(
     requires in_turn { StandInTurn nodes.old }
     ensures told { IsTold service.entry.port (K.written sink.old) (K.written sink.new) result }
     ensures writes { CountsWrites result (K.failures sink.old) (K.failures sink.new) }
+    ensures last { IsEnded K.written K.failures K.fails service.entry.port sink.old sink.new result }
     ensures served { IsServing T.honest T.content T.images T.failed service.entry.requests nodes.old result nodes.new }
     ensures led { AreLedOn T.honest T.images nodes.old nodes.new }
     ensures reached { AreReached AnyPart nodes.old → AreReached AnyPart nodes.new }
@@ -198,6 +206,7 @@ fn serve_kept<R: Clock + AllocGlobal, K: Sink, T: Tape>(
     requires kept { AreKept nodes.old caches.old }
     ensures told { IsTold service.entry.port (K.written sink.old) (K.written sink.new) result }
     ensures writes { CountsWrites result (K.failures sink.old) (K.failures sink.new) }
+    ensures last { IsEnded K.written K.failures K.fails service.entry.port sink.old sink.new result }
     ensures come { IfTold T.honest T.content T.images T.failed service.entry.requests nodes.old result nodes.new }
     ensures led { AreLedOn T.honest T.images nodes.old nodes.new }
 {

@@ -8,7 +8,7 @@ ghost use Rattle.wf_farm.specs.Leading.{AreLedOn, AreLedSaying, AreReached, Have
 ghost use Rattle.wf_node.specs.Input.{view};
 ghost use Rattle.wf_serve.specs.Agreeing.{AgreeStill};
 ghost use Rattle.wf_serve.specs.Caching.{AreKept};
-ghost use Rattle.wf_serve.specs.Serving.{AreHeard, HaveCaughtUp, IsAnswer, IsAsked, IsAskedAndHeard, IsAskedAt, IsConnection, IsRetried, IsServedAt};
+ghost use Rattle.wf_serve.specs.Serving.{AreHeard, EndsWriting, HaveCaughtUp, IsAnswer, IsAsked, IsAskedAndHeard, IsAskedAt, IsConnection, IsRetried, IsServedAt};
 
 use std::alloc::Global;
 use wf_codec::Message;
@@ -40,7 +40,7 @@ pub fn catch_up<T: Tape>(alloc: Global, nodes: &mut [Node<T>])
 /// Serves one connection, over any reader and writer, by the node at index `place` and its cache, as `serve_one_cached` of
 /// `wf_edge` does. Then the node's messages are delivered, whether or not the response was written; and if its proposal still
 /// runs, the node is asked once to restart it, and its messages are delivered again. A step that the node rejects, or for which
-/// an allocation fails, is skipped.
+/// an allocation fails, is skipped. A failed write is the last call of the writer.
 pub fn serve_connection<S: Source, K: Sink, T: Tape>(
     alloc: Global,
     source: &mut S,
@@ -55,6 +55,7 @@ pub fn serve_connection<S: Source, K: Sink, T: Tape>(
     ensures connection { IsConnection T.honest T.content T.images T.failed place (S.left source.old) (K.written sink.old) (K.written sink.new) nodes.old result nodes.new }
     ensures reads { CountsHearing result (S.failures source.old) (S.failures source.new) }
     ensures writes { CountsSaying result (K.failures sink.old) (K.failures sink.new) }
+    ensures last { EndsWriting K.written K.failures K.fails sink.old sink.new result }
     ensures led { AreLedOn T.honest T.images nodes.old nodes.new }
     ensures reached { AreReached AnyPart nodes.old → AreReached AnyPart nodes.new }
     ensures agree { AreReached AnyPart nodes.old → HaveOneHistory nodes.new }
@@ -93,6 +94,7 @@ fn served_at<S: Source, K: Sink, T: Tape>(
     ensures served { IsServedAt T.honest T.content T.images T.failed place (S.left source.old) (K.written sink.old) (K.written sink.new) nodes.old result.messages nodes.new result.outcome }
     ensures reads { CountsHearing result.outcome (S.failures source.old) (S.failures source.new) }
     ensures writes { CountsSaying result.outcome (K.failures sink.old) (K.failures sink.new) }
+    ensures last { EndsWriting K.written K.failures K.fails sink.old sink.new result.outcome }
     ensures says { AreLedSaying T.honest T.images nodes.old result.messages.items nodes.new }
     ensures kept { AreKept nodes.new caches.new }
 {
@@ -104,7 +106,7 @@ fn served_at<S: Source, K: Sink, T: Tape>(
 /// Delivers messages to the nodes, and the messages that they send in reply.
 fn hear<T: Tape>(alloc: Global, nodes: &mut [Node<T>], said: Vec<Message>)
     requires { StandInTurn nodes.old }
-    ensures heard { AreHeard T.honest T.images nodes.old said nodes.new }
+    ensures heard { AreHeard T.honest T.content T.images nodes.old said nodes.new }
     ensures turn { KeepTurn nodes.old nodes.new }
 {
     let _ = deliver_all(alloc, nodes, said);

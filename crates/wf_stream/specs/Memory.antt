@@ -1,5 +1,6 @@
 -- The state of a reader and of a writer over memory.
-use Rattle.std.specs.Prelude.{ℕ, ◌-◌, ◌==◌, Bool, false, List, Option, Some, None}
+use Rattle.std.specs.Prelude.{◌≡◌, ℕ, ◌-◌, ◌==◌, Bool, false, List, Option, Some, None}
+use Rattle.wf_stream.specs.Reading.{IsOneMore}
 
 -- a reader: the bytes still to be read, the most bytes that a call returns, the number of calls before those that fail, if any
 -- do, and the number of failed calls
@@ -24,3 +25,9 @@ pub record Writer : Type 0 where
   pub written : List ℕ
   pub room : ℕ
   pub failures : ℕ
+
+-- one call failed: nothing was written, and the writer accepts as many bytes as before
+pub record FailsOnce (before after : Writer) : Type 0 where
+  pub written : after.written ≡ before.written
+  pub room : after.room ≡ before.room
+  pub failures : IsOneMore before.failures after.failures

@@ -9,7 +9,7 @@
 //!
 //! **Promises.**
 //! - What is read is a prefix of what is left, of at most the requested length.
-//! - What is written is all of the bytes, or the reported number of them if a call failed.
+//! - What is written is all of the bytes, or the reported number of them if a call failed. No call comes after one that failed.
 //! - The count of failures increases iff a call fails. A call interrupted by a signal isn't reported as failed, and a reader's
 //!   own error is never reported as allocation failure.
 //!

@@ -1,7 +1,6 @@
 //! A reader and a writer over memory.
 ghost use Rattle.std.specs.Prelude.{◌≡◌, ◌<◌, [], length, min, take, drop, Some};
-ghost use Rattle.wf_stream.specs.Memory.{is_due, one_fewer};
-ghost use Rattle.wf_stream.specs.Reading.{Rises};
+ghost use Rattle.wf_stream.specs.Memory.{FailsOnce, is_due, one_fewer};
 
 use crate::stream::{Sink, Source};
 use std::alloc::Global;
@@ -129,8 +128,7 @@ impl Output {
     }
 
     fn fail(&mut self, kind: ErrorKind) -> io::Error
-        ensures written { self.new.written ≡ self.old.written }
-        ensures failures { Rises self.old.failures self.new.failures }
+        ensures { FailsOnce self.old self.new }
     {
         self.failures = self.failures.saturating_add(1);
         io::Error::from(kind)
@@ -141,6 +139,8 @@ impl Sink for Output {
     ghost written = { λ o. Some o.written };
 
     ghost failures = { λ o. o.failures };
+
+    ghost fails = { λ before after. FailsOnce before after };
 
     fn write(&mut self, buf: &[u8]) -> io::Result<usize> {
         let count = buf.len().min(self.room);

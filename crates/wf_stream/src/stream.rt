@@ -1,9 +1,9 @@
 //! Readers and writers that count their failures.
 ghost use Rattle.std.specs.Prelude.{◌≡◌, ◌≢◌, ◌<◌, ◌≤◌, ℕ, List, None, Option, IfErr, IfOk, IfSome, OnErr, OnOk, length, take};
 ghost use Rattle.std.specs.Io.{ReadsAtMost, WritesAtMost};
-ghost use Rattle.std.specs.Io.KnownBytes.{Appends, Consumes, IsAtEnd, ReadConsumes, WriteAppends};
+ghost use Rattle.std.specs.Io.KnownBytes.{Appends, Consumes, IsAtEnd, Keeps, ReadConsumes, WriteAppends};
 ghost use Rattle.std.specs.IoError.{error_kind};
-ghost use Rattle.wf_stream.specs.Reading.{Counts, GivesUpTo, IsMemoryAlone, IsReadError, ReadsPiece, Rises, TakesUpTo};
+ghost use Rattle.wf_stream.specs.Reading.{Counts, EndsByFailing, GivesUpTo, IsMemoryAlone, IsOneMore, IsReadError, ReadsPiece, Rises, TakesUpTo};
 
 use std::alloc::Global;
 use std::io;
@@ -36,12 +36,16 @@ pub trait Sink {
     /// The number of failed calls.
     ghost failures: { Self → ℕ };
 
+    /// The effect of one failed call, if known: of the writer before it and after it.
+    ghost fails: { Self → Self → Type 0 } = { λ _ _. Unit {0} };
+
     /// Writes some bytes from the front of a buffer and returns their number: at least one, unless the buffer is empty.
     fn write(&mut self, buf: &[u8]) -> io::Result<usize>
         ensures bound { WritesAtMost result buf.now }
         ensures some { IfOk result (λ count. 0 < length buf.now → 0 < count) }
         ensures bytes { WriteAppends (written self.old) (written self.new) result buf.now }
-        ensures cause { Counts result (failures self.old) (failures self.new) };
+        ensures cause { Counts result (failures self.old) (failures self.new) }
+        ensures failed { OnErr result (fails self.old self.new) };
 }
 
 /// Any reader or writer of std, with a count of its failed calls.
@@ -125,6 +129,9 @@ impl<W: Write> Sink for Stream<W> {
 
     ghost failures = { λ stream. stream.failures };
 
+    // one more failed call, and no byte written
+    ghost fails = { λ before after. IsOneMore before.failures after.failures × Keeps (W.contents before.inner) (W.contents after.inner) };
+
     fn write(&mut self, buf: &[u8]) -> io::Result<usize> {
         match write_again(&mut self.inner, buf) {
             Ok(count) => Ok(count),
@@ -202,6 +209,8 @@ pub fn write_all<S: Sink>(sink: &mut S, bytes: &[u8]) -> Result<(), usize>
     ensures part { IfErr result (λ count. (count ≤ length bytes.now) × Appends (S.written sink.old) (S.written sink.new) (take count bytes.now)) }
     ensures calm { OnOk result (S.failures sink.new ≡ S.failures sink.old) }
     ensures cause { OnErr result (Rises (S.failures sink.old) (S.failures sink.new)) }
+    // The first call that fails is the last one: nothing is written once more.
+    ensures last { IfErr result (λ count. EndsByFailing S.written S.failures S.fails (take count bytes.now) sink.old sink.new) }
 {
     let mut rest = bytes;
     while !rest.is_empty() {

@@ -1,6 +1,6 @@
 -- What a crash may leave while a journal is opened, and while a record is added.
 use Rattle.std.proofs.Common.{◌≡◌, ◌⊎◌, ℕ, ◌≤◌, arith, List, [], ◌∷◌, ◌++◌, take, drop, refl, sym, ap, subst, ◌∙◌, append_assoc, inl, inr}
-use Rattle.std.proofs.lemmas.List.{append_cancel_left}
+use Rattle.std.proofs.lemmas.List.{append-nil, append_cancel_left}
 use Rattle.std.proofs.lemmas.Bool.{cases_lt}
 use Rattle.wf_def.specs.Definition.{Definition}
 use Rattle.wf_canon.specs.Saying.{OneTextOneMap}
@@ -22,6 +22,10 @@ cut_shorter content bytes new old images extended cut image left =
     let begins = (cut image left).0 in
     let front : List ℕ = extended.0 in
     ((begins.0 ++ extended.1.0, ap (λ (t : List ℕ). content ++ t) extended.1.1 ∙ sym (append_assoc content front extended.1.0) ∙ ap (λ (t : List ℕ). t ++ extended.1.0) (sym extended.2 ∙ begins.1) ∙ append_assoc image begins.0 extended.1.0), (cut image left).1)
+
+-- appending all of the bytes is appending a prefix of them
+pub extended_whole : (content bytes new : List ℕ) → new ≡ content ++ bytes → IsExtended content bytes new
+extended_whole content bytes new is = (bytes, ([], sym (append-nil bytes)), is)
 
 -- a sync after it adds no image
 pub cut_synced : (content : List ℕ) (old mid new : List ℕ → Type 0) → IsCutShort content old mid → LeavesNoOther mid new → IsCutShort content old new

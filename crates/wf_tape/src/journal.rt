@@ -1,10 +1,11 @@
 //! The journal: whole records on a tape, each written and synced before it is acknowledged.
 
-ghost use Rattle.std.specs.Prelude.{◌≡◌, ◌≢◌, ◌++◌, ◌∷◌, [], false, true, map, IfOk, IfErr, OnOk, IsErrOf};
+ghost use Rattle.std.specs.Prelude.{◌≡◌, ◌≢◌, ◌++◌, ◌∷◌, [], false, true, map, IfOk, IfErr, OnOk, OnErr, IsErrOf};
 ghost use Rattle.wf_tape.specs.declared.fault.TapeFault.TheVariants.{Memory};
 ghost use Rattle.wf_tape.specs.Record.{view};
 ghost use Rattle.wf_tape.specs.Records.{IsTapeOf};
-ghost use Rattle.wf_tape.specs.Tape.{IsOnlyImage, IsUnchanged, IsCutShort, HasCause, HasRisen, IsNotMemory};
+ghost use Rattle.wf_tape.specs.Spelling.{spelling};
+ghost use Rattle.wf_tape.specs.Tape.{IsOnlyImage, IsUnchanged, IsExtended, IsCutShort, HasCause, HasRisen, IsNotMemory};
 ghost use Rattle.wf_tape.specs.Journal.{Holds, IsSettled, Follows, ReadsSame, ReadsOneMore, ReadsSameOrOneMore, IsAdded, IsWhereBad, IsWhyFailed};
 
 use crate::encoder::encode;
@@ -74,7 +75,7 @@ impl<T: Tape> Journal<T> {
     }
 
     /// Adds a record: after Ok it is on the tape and synced. After a failure of the tape the journal is halted until it is opened
-    /// again, since part of the record may be on the tape.
+    /// again, since a prefix of the record's bytes may be on the tape, after what was there.
     #[tactic(auto, using(crate::proofs::Settling::same_or_more, crate::proofs::Settling::same_kept, crate::proofs::Settling::now_more, crate::proofs::Settling::settled_more, crate::proofs::Settling::settled_same))]
     pub fn add(&mut self, alloc: Global, entry: &Record) -> Result<(), AddFault>
         requires { self.old.halted ≡ false }
@@ -83,6 +84,7 @@ impl<T: Tape> Journal<T> {
         ensures images { T.honest → Follows (ReadsSameOrOneMore (view entry.now)) (T.images self.old.tape) (T.images self.new.tape) }
         ensures running { OnOk result (self.new.halted ≡ false) }
         ensures failed { IsErrOf result AddFault.TapeFailed → HasRisen (T.failed self.old.tape) (T.failed self.new.tape) }
+        ensures part { T.honest → IsErrOf result AddFault.TapeFailed → IsExtended (T.content self.old.tape) (spelling (view entry.now)) (T.content self.new.tape) }
         ensures halted { IsErrOf result AddFault.TapeFailed → self.new.halted ≡ true }
         ensures memory { T.honest → IsErrOf result AddFault.Memory → IsUnchanged (T.content self.old.tape) (T.content self.new.tape) (T.images self.old.tape) (T.images self.new.tape) }
         ensures still_running { IsErrOf result AddFault.Memory → self.new.halted ≡ false }
@@ -120,10 +122,11 @@ impl<T: Tape> Journal<T> {
 }
 
 /// Appends the bytes and syncs them.
-#[tactic(auto, using(crate::proofs::Settling::cut_shorter, crate::proofs::Settling::cut_synced))]
+#[tactic(auto, using(crate::proofs::Settling::cut_shorter, crate::proofs::Settling::cut_synced, crate::proofs::Settling::extended_whole))]
 fn write<T: Tape>(tape: &mut T, bytes: &[u8]) -> Result<(), TapeFault>
     ensures ok { T.honest → OnOk result (T.content tape.new ≡ T.content tape.old ++ bytes.now) }
     ensures only { T.honest → OnOk result (IsOnlyImage (T.content tape.new) (T.images tape.new)) }
+    ensures part { T.honest → OnErr result (IsExtended (T.content tape.old) bytes.now (T.content tape.new)) }
     ensures images { T.honest → IsNotMemory result → IsCutShort (T.content tape.old ++ bytes.now) (T.images tape.old) (T.images tape.new) }
     ensures memory { T.honest → IsErrOf result Memory → IsUnchanged (T.content tape.old) (T.content tape.new) (T.images tape.old) (T.images tape.new) }
     ensures cause { HasCause (T.failed tape.old) (T.failed tape.new) result }

@@ -1,4 +1,5 @@
 use Rattle.wf_edge.specs.Growth.{kept_on, moved_grown}
+use Rattle.wf_edge.proofs.EndingLaw.{served_ending}
 use Rattle.wf_edge.proofs.ServingLaw.{served_moves}
 use Rattle.wf_edge.proofs.serve.serve_one_cached.Goals as goal
 
@@ -16,3 +17,9 @@ returns-in-Ok-clause-kept g c =
     kept_on c.kept_pictures_outlast_growth.ensures c.args.node.now.parts.history c.serve_request_by-served.new.node.parts.history c.serve_request_by-served.new.cache
     (moved_grown g.T.Tape.honest g.T.Tape.content g.T.Tape.images g.T.Tape.failed c.args.node.now c.serve_request_by-served.new.node c.serve_request_by-served.result.messages moves)
     c.serve_request_by-served.ensures.kept
+
+pub returns-in-Ok-clause-last : goal.returns-in-Ok-clause-last
+returns-in-Ok-clause-last g c =
+    served_ending g.K.Sink.written g.K.Sink.failures g.K.Sink.fails g.T.Tape.honest g.T.Tape.content g.T.Tape.images g.T.Tape.failed
+    (g.S.Source.left c.args.source.now) c.args.sink.now c.hear.new.sink c.serve_request_by-served.new.sink c.in-Ok.request c.args.node.now c.serve_request_by-served.new.node
+    c.serve_request_by-served.result.messages c.serve_request_by-served.result.outcome c.in-Ok.ensures.ok c.in-Ok.ensures.quiet c.serve_request_by-served.ensures.last

@@ -12,4 +12,4 @@ pub returns-in-Err-TapeFailed : goal.returns-in-Err-TapeFailed
 returns-in-Err-TapeFailed g c =
     broken g.T.Tape.honest g.T.Tape.content g.T.Tape.images g.T.Tape.failed (view c.args.entry.now) c.args.journal.now c.add.new.self
     (c.in-Err-TapeFailed.ensures.halted (cc (c.in-Err-TapeFailed.field-0-is))) (c.in-Err-TapeFailed.ensures.failed (cc (c.in-Err-TapeFailed.field-0-is)))
-    c.in-Err-TapeFailed.ensures.images
+    (λ h. c.in-Err-TapeFailed.ensures.part h (cc (c.in-Err-TapeFailed.field-0-is))) c.in-Err-TapeFailed.ensures.images

@@ -5,6 +5,7 @@ use Rattle.wf_edge.specs.Serving.{IsOutcome, MovesOnce}
 use Rattle.wf_node.specs.Node.{Node}
 use Rattle.wf_wms.specs.Kept.{AllKept, CacheValue}
 use Rattle.wf_serve.proofs.Caches.{kept_set}
+use Rattle.wf_serve.proofs.Ended.{ends}
 use Rattle.wf_serve.proofs.Led.{moved_leads}
 use Rattle.wf_serve.proofs.serving.served_at.Goals as goal
 
@@ -19,6 +20,11 @@ returns-clause-served g c = record {
   served = subst (λ n. IsOutcome g.T.Tape.honest g.T.Tape.content g.T.Tape.images g.T.Tape.failed (g.S.Source.left c.args.source.now) (g.K.Sink.written c.args.sink.now) (g.K.Sink.written c.serve_one_cached.new.sink) n c.serve_one_cached.result.messages c.serve_one_cached.new.node c.serve_one_cached.result.outcome) (sym c.index-nodes-place.is) c.serve_one_cached.ensures.outcome;
   moves = subst (λ n. MovesOnce g.T.Tape.honest g.T.Tape.content g.T.Tape.images g.T.Tape.failed n c.serve_one_cached.result.messages c.serve_one_cached.new.node) (sym c.index-nodes-place.is) c.serve_one_cached.ensures.moves;
 }
+
+pub returns-clause-last : goal.returns-clause-last
+returns-clause-last g c =
+    ends g.T.Tape.honest g.T.Tape.content g.T.Tape.images g.T.Tape.failed g.K.Sink.written g.K.Sink.failures g.K.Sink.fails (g.S.Source.left c.args.source.now) c.args.sink.now c.serve_one_cached.new.sink
+    _ c.serve_one_cached.new.node c.serve_one_cached.result.messages c.serve_one_cached.result.outcome c.serve_one_cached.ensures.last
 
 pub returns-clause-says : goal.returns-clause-says
 returns-clause-says g c =

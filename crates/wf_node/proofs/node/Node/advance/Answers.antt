@@ -1,10 +1,9 @@
 -- The step of the parts is the node's step, and preserves the invariant of nodes.
-use Rattle.std.proofs.Common.{◌≡◌, ◌++◌, OnOk, subst, ap, ◌∙◌}
+use Rattle.std.proofs.Common.{subst, ap, ◌∙◌}
 use Rattle.wf_node.specs.Input.{view}
 use Rattle.wf_node.specs.Node.{view_of}
-use Rattle.wf_node.specs.Step.{IsStep, row_of}
-use Rattle.wf_node.specs.Storing.{bytes_of}
-use Rattle.wf_node.proofs.Steps.{act_grows, act_keeps, act_steps}
+use Rattle.wf_node.specs.Step.{IsStep}
+use Rattle.wf_node.proofs.Steps.{act_keeps, act_steps}
 use Rattle.wf_node.proofs.node.Node.advance.Goals as goal
 
 pub act-requires : goal.act-requires
@@ -21,14 +20,8 @@ invariant_of-self g c =
     act_keeps g.T.Tape.honest g.T.Tape.content g.T.Tape.images g.T.Tape.failed c.self.inside.machine.journal c.act.new.self.journal c.self.inside.machine.kept c.act.new.self.kept c.self.inside.machine.proposer c.act.new.self.proposer
     (view c.args.input) c.act.result c.self.invariant (ap (λ node. node.halted) c.self.view_is ∙ c.requires) c.records_fit.ensures c.act.ensures.id c.act.ensures.act
 
-pub returns-clause-step : goal.returns-clause-step
-returns-clause-step g c =
+pub returns : goal.returns
+returns g c =
     subst (λ before. IsStep g.T.Tape.honest g.T.Tape.content g.T.Tape.images g.T.Tape.failed before (view c.args.input) c.act.result (view_of c.act.new.self.journal c.act.new.self.kept.parts c.act.new.self.proposer)) c.self.view_is
     (act_steps g.T.Tape.honest g.T.Tape.content g.T.Tape.images g.T.Tape.failed c.self.inside.machine.journal c.act.new.self.journal c.self.inside.machine.kept c.act.new.self.kept c.self.inside.machine.proposer c.act.new.self.proposer
     (view c.args.input) c.act.result c.self.invariant (ap (λ node. node.halted) c.self.view_is ∙ c.requires) c.records_fit.ensures c.act.ensures.act)
-
-pub returns-clause-content : goal.returns-clause-content
-returns-clause-content g c =
-    subst (λ before. g.T.Tape.honest → OnOk c.act.result (g.T.Tape.content c.act.new.self.journal.tape ≡ g.T.Tape.content before.tape ++ bytes_of (row_of before (view c.args.input)).entry)) c.self.view_is
-    (act_grows g.T.Tape.honest g.T.Tape.content g.T.Tape.images g.T.Tape.failed c.self.inside.machine.journal c.act.new.self.journal c.self.inside.machine.kept.parts c.act.new.self.kept.parts c.self.inside.machine.proposer c.act.new.self.proposer
-    (view c.args.input) c.act.result c.act.ensures.act)

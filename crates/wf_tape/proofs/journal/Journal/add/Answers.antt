@@ -2,6 +2,7 @@ use Rattle.std.proofs.Common.{◌≡◌, ℕ, false, List, sym, ap, subst, ◌�
 use Rattle.wf_tape.specs.Record.{view}
 use Rattle.wf_tape.specs.Spelling.{Spells}
 use Rattle.wf_tape.specs.Journal.{Follows, ReadsOneMore, ReadsSameOrOneMore}
+use Rattle.wf_tape.specs.Tape.{IsExtended}
 use Rattle.wf_tape.proofs.Settling.{same_or_more, same_kept, now_more, settled_more}
 use Rattle.wf_tape.proofs.journal.Journal.add.Goals as goal
 
@@ -43,3 +44,10 @@ returns-clause-images g c = λ honest.
     subst (λ tape. Follows (ReadsSameOrOneMore (view c.args.entry.now)) (g.T.Tape.images tape) (g.T.Tape.images c.write.new.tape)) same
     (same_or_more c.one_text_one_map.ensures (g.T.Tape.content c.self.inside.tape) c.deref.result.now (view c.args.entry.now) (g.T.Tape.images c.self.inside.tape) (g.T.Tape.images c.write.new.tape)
     (c.self.invariant honest running) spells (c.in-Err-Device.ensures.images honest (λ e. absurd (cc (c.in-Err-Device.field-0-is, e)))))
+
+pub returns-clause-part : goal.returns-clause-part
+returns-clause-part g c = λ honest failed.
+    let same : c.self.inside.tape ≡ c.args.self.now.tape = ap (λ j. j.tape) c.self.view_is in
+    let spells = subst (λ (t : List ℕ). Spells (view c.args.entry.now) t) (sym c.deref.ensures.value) c.in-Ok.ensures in
+    subst (λ bytes. IsExtended (g.T.Tape.content c.args.self.now.tape) bytes (g.T.Tape.content c.write.new.tape)) spells.spelled
+    (subst (λ tape. IsExtended (g.T.Tape.content tape) c.deref.result.now (g.T.Tape.content c.write.new.tape)) same (c.in-Err-Device.ensures.part honest))

@@ -1,0 +1,18 @@
+-- How the response ended is how the connection's writing did.
+use Rattle.std.proofs.Common.{ℕ, List, Vec, take}
+use Rattle.std.specs.Prelude.{Option}
+use Rattle.wf_codec.specs.declared.message.Message.{Message}
+use Rattle.wf_edge.specs.Response.{response_bytes}
+use Rattle.wf_edge.specs.Serving.{IsEnding}
+use Rattle.wf_edge.specs.declared.outcome.Outcome.{Outcome}
+use Rattle.wf_edge.specs.declared.outcome.Outcome.TheVariants as outcome
+use Rattle.wf_node.specs.Node.{Node}
+use Rattle.wf_serve.specs.Serving.{EndsWriting}
+
+module _ {T A K : Type 0} (honest : Type 0) (content : T → List ℕ) (images : T → List ℕ → Type 0) (failed : T → ℕ) (written : K → Option (List ℕ)) (failures : K → ℕ) (fails : K → K → Type 0) where
+  pub ends : (input : Option (List ℕ)) (old new : K) (before after : Node T) (sent : Vec Message A) (said : Outcome)
+      → IsEnding honest content images failed written failures fails input old new before sent after said → EndsWriting written failures fails old new said
+  ends input old new before after sent (outcome.Sent status count) ending = tt
+  ends input old new before after sent (outcome.WriteFailed status count) ending = (take ending.breaks.part (response_bytes ending.response), ending.breaks.ends)
+  ends input old new before after sent outcome.ReadFailed ending = ending
+  ends input old new before after sent outcome.NoRequest ending = ending
