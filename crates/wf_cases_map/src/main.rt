@@ -2,33 +2,23 @@
 //! node: requests as bytes, what is read of them or answered at once, and what a node answers.
 //!
 //! Standard input is a table of cases (`wf_table` defines its format); standard output is the report, whose last line has the
-//! counts. Each question is one function, by subject: `numbers`, `texts`, `definitions`, `tokens`, `mapfiles`, `canonical`,
-//! `requests`, `maps`, `reports`, `edge`. `shown` has how definitions are shown.
+//! counts. The questions that need no node and no request are those of `wf_questions`; each of the others is one function, by
+//! subject: `requests`, `maps`, `kept`, `reports`, `edge`.
 //!
 //! The program is proved to be safe and to return, and nothing more: what the cases show is in the table.
 #![tactic(auto)]
 
 mod broken;
-mod canonical;
-mod definitions;
 mod edge;
 mod exchange;
 mod faltering;
 mod kept;
-mod mapfiles;
 mod maps;
-mod numbers;
 mod published;
 mod questions;
 mod reports;
 mod requests;
 mod serving;
-mod shown;
-mod spellings;
-mod tables;
-mod texts;
-mod tokens;
-mod wrapping;
 
 use questions::MapQuestions;
 use std::process::ExitCode;

@@ -4,9 +4,11 @@ ghost use Rattle.std.specs.Prelude.{◌≤◌};
 ghost use Rattle.wf_service.specs.Service.{IsService};
 
 use crate::tape::{TORN, holds, new_folder};
+use std::alloc::Global;
+use std::fs;
 use std::io::{Read, Write};
-use std::net::{IpAddr, Ipv4Addr, TcpStream};
-use std::{fs, io};
+use std::net::{IpAddr, Ipv4Addr, Net, TcpListener, TcpStream};
+use std::process::Abort;
 use wf_serve::{ServeFault, Service, listen, serve, serve_at};
 use wf_stream::Output;
 
@@ -38,53 +40,78 @@ fn three_nodes(port: u16, requests: u32, state: Option<&str>) -> Service<'_>
 }
 
 /// A client that has sent a request.
-fn client(rt: &HostRuntime, port: u16, request: &[u8]) -> io::Result<TcpStream> {
-    let mut stream = TcpStream::connect(rt, (Ipv4Addr::LOCALHOST, port))?;
-    stream.write_all(request)?;
-    Ok(stream)
+fn client<R: Abort + Net<Stream = TcpStream>>(rt: &R, port: u16, request: &[u8]) -> TcpStream {
+    let mut stream = TcpStream::connect(rt, (Ipv4Addr::LOCALHOST, port)).expect(rt, "a connection");
+    stream.write_all(request).expect(rt, "a request");
+    stream
 }
 
-/// The responses to three clients of nodes that open in a folder.
-fn answers(rt: &HostRuntime, folder: &str, first_request: &[u8]) -> io::Result<Vec<u8>> {
-    let listener = listen(rt, 0)?;
-    let port = listener.local_addr()?.port();
-    let mut first = client(rt, port, first_request)?;
-    let mut second = client(rt, port, STATUS)?;
-    let mut third = client(rt, port, STATUS)?;
+/// A listener, and three clients that wait at it.
+type Waiting = (TcpListener, [TcpStream; 3]);
+
+/// The first client has sent this request, the others ask for the status.
+fn waiting<R: Abort + Net<Listener = TcpListener, Stream = TcpStream>>(
+    rt: &R,
+    first_request: &[u8],
+) -> Waiting {
+    let listener = listen(rt, 0).expect(rt, "a port");
+    let port = listener.local_addr().expect(rt, "its address").port();
+    let clients = [
+        client(rt, port, first_request),
+        client(rt, port, STATUS),
+        client(rt, port, STATUS),
+    ];
+    (listener, clients)
+}
+
+/// Serves nodes that open in a folder to three connections.
+fn serve_three(rt: &HostRuntime, listener: TcpListener, folder: &str) {
     let mut sink = Output::new(rt.alloc(), 64);
     let _ = serve_at(rt, &listener, three_nodes(0, 3, Some(folder)), &mut sink);
     drop(sink);
     drop(listener);
-    let mut answers = Vec::new(rt.alloc());
-    first.read_to_end(&mut answers)?;
-    second.read_to_end(&mut answers)?;
-    third.read_to_end(&mut answers)?;
-    Ok(answers)
 }
 
-/// Whether these are the responses to these clients.
-fn are_answered(rt: &HostRuntime, folder: &str, first_request: &[u8], expected: &[u8]) -> bool {
-    match answers(rt, folder, first_request) {
-        Ok(answers) => {
-            let same = answers.as_slice() == expected;
-            drop(answers);
-            same
-        }
-        Err(_) => false,
-    }
+/// Appends the response that a client gets, and returns whether it could be read to its end.
+fn is_read(mut client: TcpStream, answers: &mut Vec<u8>) -> bool {
+    let is_read = client.read_to_end(answers).is_ok();
+    drop(client);
+    is_read
 }
 
-/// Whether a map that is published in an empty folder is there after a restart.
-fn outlasts_a_new_start(rt: &HostRuntime, folder: &str) -> bool {
-    are_answered(rt, folder, PUBLISH, AFTER_PUBLISH)
-        && are_answered(rt, folder, STATUS, AFTER_START)
+/// Whether the clients read these responses and nothing else.
+fn are_read(alloc: Global, [first, second, third]: [TcpStream; 3], expected: &[u8]) -> bool {
+    let mut answers = Vec::new(alloc);
+    let is_whole = is_read(first, &mut answers)
+        & is_read(second, &mut answers)
+        & is_read(third, &mut answers);
+    let is_expected = answers.as_slice() == expected;
+    drop(answers);
+    is_whole && is_expected
+}
+
+/// Whether nodes that open in a folder give these responses to the clients.
+fn are_answered(
+    rt: &HostRuntime,
+    (listener, clients): Waiting,
+    folder: &str,
+    expected: &[u8],
+) -> bool {
+    serve_three(rt, listener, folder);
+    are_read(rt.alloc(), clients, expected)
 }
 
 #[test]
 fn a_published_map_is_there_after_a_new_start(rt: HostRuntime) {
     new_folder(&rt, "farm");
     new_folder(&rt, "again");
-    assert!(rt; outlasts_a_new_start(&rt, "farm") || outlasts_a_new_start(&rt, "again"));
+    let is_there = are_answered(&rt, waiting(&rt, PUBLISH), "farm", AFTER_PUBLISH)
+        && are_answered(&rt, waiting(&rt, STATUS), "farm", AFTER_START);
+    assert!(rt;
+        is_there
+            || are_answered(&rt, waiting(&rt, PUBLISH), "again", AFTER_PUBLISH)
+                && are_answered(&rt, waiting(&rt, STATUS), "again", AFTER_START)
+    );
 }
 
 /// Why nodes in a folder aren't served at this port, None if they are, and whether the port is printed.
