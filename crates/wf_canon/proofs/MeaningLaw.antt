@@ -17,7 +17,7 @@ use Rattle.wf_block.specs.Reading.{IsNotUtf8, is_memory}
 use Rattle.wf_block.specs.declared.fault.MapFault.{MapFault}
 use Rattle.wf_block.specs.declared.fault.MapFault.TheVariants as reading
 use Rattle.wf_token.specs.Spelling.{is_written, are_written, line}
-use Rattle.wf_canon.specs.Canon.{map_lines, canon}
+use Rattle.wf_canon.specs.Canon.{map_lines, canon, IsCanon}
 use Rattle.wf_canon.specs.declared.fault.CanonFault.{CanonFault}
 use Rattle.wf_canon.specs.declared.fault.CanonFault.TheVariants.{TooBig, NotCanonical, Memory}
 use Rattle.wf_canon.specs.Saying.{Says}
@@ -56,7 +56,7 @@ tokens_again d h = ap (tokens_from Between) (no_mark d) ∙ lex_text (map_lines 
 pub canon_again : (d : Definition) → IsWithinLimits d → (tokens (canon d) >>= file) ≡ Some d
 canon_again d h = ap (λ (ts : Option (List Token)). ts >>= file) (tokens_again d h) ∙ file_again d h
 
-canon-is_utf8 : (d : Definition) → IsWithinLimits d → is_utf8 (canon d) ≡ true
+pub canon-is_utf8 : (d : Definition) → IsWithinLimits d → is_utf8 (canon d) ≡ true
 unfolding canon
 canon-is_utf8 d h = text_of-is_utf8 (map_lines d) (map_is_written d h)
 
@@ -140,3 +140,7 @@ pub why_unread : (unread : MapFault) (fault : CanonFault) (bytes : List ℕ) →
     → IsWhyRefused fault bytes
 why_unread unread fault bytes short is utf8 none =
     why_unread_by (is_memory unread) unread fault bytes short refl is (λ other. utf8 (omega arith) other) none
+
+-- bytes that are a canonical text are rejected only if allocation fails
+pub why_copy_fails : (bytes : List ℕ) (d : Definition) → IsCanon bytes d → IsWhyRefused Memory bytes
+why_copy_fails bytes d is = (is.short, ap is_utf8 is.spelled ∙ canon-is_utf8 d is.within)

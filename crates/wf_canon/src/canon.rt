@@ -10,6 +10,7 @@ ghost use Rattle.wf_canon.specs.Refusal.{IsCauseOf, IsWhyRefused, refused_again}
 
 use crate::draft::Draft;
 use crate::fault::CanonFault;
+use crate::scan::map::scan;
 use crate::writer::push_map;
 use std::alloc::{AllocError, Global};
 use std::marker::Model;
@@ -87,6 +88,10 @@ impl Canon {
         if bytes.len() > MOST_CANON_BYTES {
             return Err(CanonFault::TooBig);
         }
+        // The quick reader accepts canonical texts alone. What it leaves is decided by reading and writing again.
+        if let Some(def) = scan(alloc, bytes) {
+            return of_scanned(alloc, bytes, def);
+        }
         let def = definition_of(alloc, bytes)?;
         let text = same_text(alloc, &def, bytes)?;
         Ok(share(alloc, text, def)?)
@@ -127,6 +132,33 @@ fn share(alloc: Global, text: Vec<u8>, def: MapDef) -> Result<Canon, AllocError>
 {
     let shared = Rc::new(alloc, Written { text, def })?;
     Ok(Canon { shared })
+}
+
+/// A canonical text that was scanned, with its definition.
+fn of_scanned(alloc: Global, bytes: &[u8], def: MapDef) -> Result<Canon, CanonFault>
+    requires { IsCanon bytes.now def }
+    ensures value { IfOk result (λ canonical. canonical ≡ def) }
+    ensures cause { IfErr result (λ fault. IsWhyRefused fault bytes.now) }
+{
+    match copied(alloc, bytes) {
+        Ok(text) => match share(alloc, text, def) {
+            Ok(canonical) => Ok(canonical),
+            Err(AllocError) => Err(CanonFault::Memory),
+        },
+        Err(AllocError) => {
+            drop(def);
+            Err(CanonFault::Memory)
+        }
+    }
+}
+
+/// A copy of the bytes, in exactly as much memory.
+fn copied(alloc: Global, bytes: &[u8]) -> Result<Vec<u8>, AllocError>
+    ensures { IfOk result (λ text. text.items ≡ bytes.now) }
+{
+    let mut text = Vec::with_capacity(alloc, bytes.len())?;
+    text.extend_from_slice(bytes)?;
+    Ok(text)
 }
 
 /// The canonical text of a definition, within the limit, in a buffer that begins with this room. Beyond that room bytes are

@@ -38,7 +38,7 @@ fn push_styles(out: &mut Draft, styles: &[Style])
 }
 
 /// The word of a label size.
-fn size_word(size: LabelSize) -> &'static str
+pub fn size_word(size: LabelSize) -> &'static str
     ensures { result.now ≡ size_word size }
 {
     match size {
@@ -51,7 +51,7 @@ fn size_word(size: LabelSize) -> &'static str
 }
 
 /// The word of a label position.
-fn position_word(position: LabelPosition) -> &'static str
+pub fn position_word(position: LabelPosition) -> &'static str
     ensures { result.now ≡ position_word position }
 {
     match position {
@@ -68,7 +68,7 @@ fn position_word(position: LabelPosition) -> &'static str
 }
 
 /// The word of FORCE: whether a label is always drawn.
-fn force_word(force: bool) -> &'static str
+pub fn force_word(force: bool) -> &'static str
     ensures { result.now ≡ force_word force }
 {
     if force { "TRUE" } else { "FALSE" }

@@ -17,7 +17,7 @@ use wf_def::layer::Layer;
 use wf_def::text::Text;
 
 /// The word of a layer's kind.
-fn kind_word(kind: LayerKind) -> &'static str
+pub fn kind_word(kind: LayerKind) -> &'static str
     ensures { result.now ≡ kind_word kind }
 {
     match kind {

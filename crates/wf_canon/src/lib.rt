@@ -11,8 +11,12 @@
 //!
 //! Copies of a [`Canon`] share one text and one definition, so whoever needs one takes a copy: it allocates nothing.
 //!
+//! [`Canon::from_bytes`] first tries a quick reader, `scan`, which accepts canonical texts alone; only where it accepts nothing are the
+//! bytes read as any mapfile, written again and compared.
+//!
 //! Modules: `draft` is a text while it is written, `line` writes the lines of one item; `class`, `feature`, `layer` and `writer`
-//! write blocks of lines. wf_token defines how tokens are written on a line, wf_text how a number is written.
+//! write blocks of lines; `scan` reads them, in files of the same names. wf_token defines how tokens are written on a line, wf_text
+//! how a number is written.
 #![tactic(auto)]
 
 mod canon;
@@ -25,6 +29,7 @@ mod law;
 mod layer;
 mod line;
 mod number;
+mod scan;
 mod writer;
 
 pub use canon::{Canon, MOST_CANON_BYTES};

@@ -14,7 +14,7 @@ use wf_def::choice::Projection;
 use wf_def::map::MapDef;
 
 /// The text of a coordinate system.
-fn projection_text(projection: Projection) -> &'static str
+pub fn projection_text(projection: Projection) -> &'static str
     ensures { result.now ≡ projection_text projection }
 {
     match projection {

@@ -1,0 +1,12 @@
+use Rattle.std.proofs.Common.{[], ◌∷◌}
+use Rattle.std.specs.List.{flat_map}
+use Rattle.wf_canon.specs.Canon.{part_lines, end_line}
+use Rattle.wf_canon.proofs.Scanning.{both, lines, last_line}
+use Rattle.wf_canon.proofs.ScannedBlock.{feature_is}
+use Rattle.wf_canon.proofs.scan.feature.scan_feature.Goals as goal
+
+pub returns : goal.returns
+returns c =
+    feature_is c.in-Some-scan_parts.parts c.in_ok-items.items c.in-Some.text c.new.result c.new.ensures
+    (both c.scan_alone.ensures (both c.in_ok-items.ensures (both c.in-Some.ensures
+    (lines (flat_map part_lines c.in-Some-scan_parts.parts) (end_line ∷ []) c.in-Some-scan_parts.ensures (last_line end_line c.scan_alone-2.ensures)))))
