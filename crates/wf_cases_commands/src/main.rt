@@ -2,7 +2,7 @@
 //! with their error lines.
 //!
 //! Standard input is a table of cases (`wf_table` defines its format). The program compares each answer with the expected one and
-//! writes each difference, with the counts on the last line. [`played`] has the question about scripts, [`commands`] those about
+//! writes each difference, with the counts on the last line. [`played`] has the questions about scripts, [`commands`] those about
 //! the commands' output, [`lines`] those about command lines, and [`questions`] all by their names.
 //!
 //! It has no contract of its own: its answers are those of `wf_play` and `wf_commands`.

@@ -1,5 +1,6 @@
 //! The questions by their names.
 use crate::{broken, commands, lines, played};
+use wf_farm::Copies;
 use wf_table::{Answer, Answered, Asked, Questions, Unanswered};
 
 /// All questions of this program.
@@ -14,7 +15,8 @@ impl Questions for CommandQuestions {
             "caps" => commands::caps(asked, answer),
             "line" => lines::line_of(asked, answer),
             "run" => lines::run(asked, answer),
-            "script" => played::script(asked, answer),
+            "script" => played::script(asked, &mut Copies, answer),
+            "script_losing" => played::script_losing(asked, answer),
             _ => Err(Unanswered::UnknownQuestion),
         }
     }

@@ -19,6 +19,7 @@ use std::io::ErrorKind;
 use wf_ballot::SEQUENCES;
 use wf_canon::Canon;
 use wf_def::map::MapDef;
+use wf_farm::Copies;
 use wf_line::line::Line;
 use wf_mapfile::fault::MapFault;
 use wf_play::PlayFault;
@@ -218,7 +219,7 @@ pub fn run_canon<S: Source, K: Sink>(
 }
 
 /// Reads a script to its end, or to the byte that makes it too long, and plays it on a farm in memory. The contracts of `wf_play`
-/// define what its orders do and write.
+/// define what its orders do and write. Each message is copied to its node.
 pub fn run_script<S: Source, K: Sink>(
     alloc: Global,
     source: &mut S,
@@ -231,11 +232,14 @@ pub fn run_script<S: Source, K: Sink>(
     ensures reads { CountsReads result (S.failures source.old) (S.failures source.new) }
     ensures writes { CountsWrites result (K.failures sink.old) (K.failures sink.new) }
 {
-    match wf_play::run_script(alloc, source, sink) {
+    let mut copies = Copies;
+    match wf_play::run_script(alloc, &mut copies, source, sink) {
         Ok(()) => Ok(()),
         Err(PlayFault::Script(fault)) => Err(RunFault::Script(fault)),
         Err(PlayFault::Read) => Err(RunFault::Read),
         Err(PlayFault::Write) => Err(RunFault::Write),
+        // No copy is lost.
+        Err(PlayFault::Wire) => unreachable!(),
     }
 }
 

@@ -1,13 +1,13 @@
 -- A play that ends before its last order has written a beginning of its text.
-use Rattle.std.proofs.Common.{◌≡◌, ◌∙◌, ℕ, List, [], ◌++◌, slice_get, take, ap, subst, inl, inr}
+use Rattle.std.proofs.Common.{◌≡◌, ◌∙◌, ℕ, true, List, [], ◌++◌, slice_get, take, ap, subst, inl, inr}
 use Rattle.std.specs.Prelude.{Option, Some, Ok, Err, Result, IfErr, IfSome}
 use Rattle.std.specs.Io.KnownBytes.{Appends}
 use Rattle.wf_farm.specs.Farm.{Farm, Shows}
 use Rattle.wf_model.specs.World.{start}
 use Rattle.wf_stream.specs.KnownLaws.{appends_more, keeps_same}
-use Rattle.wf_play.specs.Ending.{BreaksOffAtOrder, IsEnded, MayBeBegun, StopsAtOrder, WritesBeginning}
-use Rattle.wf_play.specs.Fault.{IsPlayingFault}
-use Rattle.wf_play.specs.Performing.{PerformsAt, fault_at}
+use Rattle.wf_play.specs.Ending.{BreaksOffAtOrder, IsEnded, LosesAtOrder, MayBeBegun, StopsAtOrder, WritesBeginning}
+use Rattle.wf_play.specs.Fault.{IsOrderFault, IsPlayingFault}
+use Rattle.wf_play.specs.Performing.{PerformsAt, fault_at, may_use_at}
 use Rattle.wf_play.specs.Running.{HavePlayed, IsRefusalOf}
 use Rattle.wf_play.specs.Telling.{Adds, WritesAt}
 use Rattle.wf_play.specs.declared.fault.PlayFault.{PlayFault}
@@ -19,7 +19,7 @@ use Rattle.wf_script.specs.declared.fault.ScriptFault.TheVariants as script_faul
 
 module _ (n : ℕ) (script same : Script) (before between : Farm) (old now : Option (List ℕ)) (is : same ≡ script) (played : HavePlayed n script before between old now) where
   -- An allocation failed at the next order.
-  pub stops_there : (fault : ScriptFault) → fault_at (slice_get same.orders n) ≡ Some fault → StopsAtOrder script before old now fault
+  stops_there : (fault : ScriptFault) → fault_at (slice_get same.orders n) ≡ Some fault → StopsAtOrder script before old now fault
   stops_there fault line = record {
     count = n;
     between = between;
@@ -28,6 +28,24 @@ module _ (n : ℕ) (script same : Script) (before between : Farm) (old now : Opt
     line = subst (λ (s : Script). fault_at (slice_get s.orders n) ≡ Some fault) is line;
     written = played.2;
   }
+
+  -- A message wasn't carried at the next order.
+  loses_there : may_use_at (slice_get same.orders n) between ≡ true → LosesAtOrder script before old now
+  loses_there carries = record {
+    count = n;
+    between = between;
+    text = played.0;
+    performed = played.1;
+    carries = subst (λ (s : Script). may_use_at (slice_get s.orders n) between ≡ true) is carries;
+    written = played.2;
+  }
+
+  -- The next order ended with this error.
+  pub ends_there : (fault : PlayFault) → IsOrderFault (slice_get same.orders n) between fault → IsEnded script before old now fault
+  ends_there (play.Script fault) why = stops_there fault why
+  ends_there play.Wire why = loses_there why
+  ends_there play.Read why = absurd why
+  ends_there play.Write why = absurd why
 
   -- A write failed at the text of the next order.
   pub breaks_there : (after : Farm) (new : Option (List ℕ)) (out done : List ℕ) (some : ℕ) → PerformsAt same.maps (slice_get same.orders n) between after → out ≡ []
@@ -69,6 +87,9 @@ not_begun script written fault is = inl (ap (λ f. play.Script f) is, keeps_same
 both_begun : (fault : ScriptFault) → play.Write ≡ play.Script fault → ⊥
 both_begun fault is = absurd (cc)
 
+lost_begun : (fault : ScriptFault) → play.Wire ≡ play.Script fault → ⊥
+lost_begun fault is = absurd (cc)
+
 -- The play of the input's script.
 pub input_begun : (input old new : Option (List ℕ)) (script : Script) (fault : PlayFault) → IfSome input (λ text. script_of text ≡ Ok script) → IsPlayingFault fault → MayBeBegun script old new fault
     → WritesBeginning input old new fault
@@ -77,9 +98,12 @@ input_begun input old new script (play.Script fault) means why (inr some) = inr 
 input_begun input old new script play.Read means why begun = absurd why
 input_begun input old new script play.Write means why (inl none) = absurd (both_begun _ none.0)
 input_begun input old new script play.Write means why (inr some) = (script, means, some)
+input_begun input old new script play.Wire means why (inl none) = absurd (lost_begun _ none.0)
+input_begun input old new script play.Wire means why (inr some) = (script, means, some)
 
 -- Without a script nothing is written.
 pub nothing_begun : (input written : Option (List ℕ)) (fault : PlayFault) → IsRefusalOf input fault → WritesBeginning input written written fault
 nothing_begun input written (play.Script fault) why = inl (keeps_same written)
 nothing_begun input written play.Read why = keeps_same written
 nothing_begun input written play.Write why = absurd why
+nothing_begun input written play.Wire why = absurd why

@@ -1,3 +1,4 @@
+mod Carried
 mod Comparing
 mod Ending
 mod Faults

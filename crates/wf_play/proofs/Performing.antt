@@ -1,5 +1,5 @@
 -- What an order does, by its index among the orders of its script.
-use Rattle.std.proofs.Common.{◌≡◌, ℕ, Bool, List, [], ◌∷◌, subst, slice_get, Option, Some, None, refl}
+use Rattle.std.proofs.Common.{◌≡◌, ℕ, Bool, false, List, [], ◌∷◌, sym, subst, slice_get, Option, Some, None, refl}
 use Rattle.std.specs.Prelude.{option_map, Result, Ok, Err, OnOk}
 use Rattle.wf_def.specs.Definition.{Definition}
 use Rattle.wf_model.specs.World.{Event}
@@ -9,7 +9,7 @@ use Rattle.std.proofs.lemmas.Option.{same_Some}
 use Rattle.wf_script.specs.declared.fault.ScriptFault.{ScriptFault}
 use Rattle.wf_script.specs.declared.fault.ScriptFault.TheVariants.{Memory}
 use Rattle.wf_script.specs.Fault.{IsMemory}
-use Rattle.wf_play.specs.Performing.{ArePumped, Happens, HappensIf, Performs, PerformsAt, fault_at}
+use Rattle.wf_play.specs.Performing.{ArePumped, Happens, HappensIf, Performs, PerformsAt, fault_at, may_use, may_use_at}
 use Rattle.wf_script.specs.Script.{Numbered}
 
 -- where there is an order
@@ -49,3 +49,7 @@ on_ok (Err e) done = tt
 pub fault_is_memory : (there : Option Numbered) (fault : ScriptFault) → fault_at there ≡ Some fault → IsMemory fault
 fault_is_memory None fault is = absurd (cc)
 fault_is_memory (Some n) fault is = subst IsMemory (same_Some (Memory n.line) fault is) refl
+
+-- whether the order at an index may use the carrier
+pub used_there : (there : Option Numbered) (n : Numbered) (before : Farm) → Some n ≡ there → may_use_at there before ≡ false → may_use n.order before ≡ false
+used_there there n before is unused = subst (λ o. may_use_at o before ≡ false) (sym is) unused

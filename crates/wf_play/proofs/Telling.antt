@@ -27,6 +27,11 @@ also_ok (Err e) so is = tt
 pub just : {T E : Type 0} (result : Result T E) (old new text : List ℕ) → OnOk result (new ≡ old ++ text) → OnOk result (Adds (λ t. t ≡ text) old new)
 just result old new text is = also_ok result (λ is. (text, refl, is)) is
 
+-- no text after another
+pub nothing_more : {T E : Type 0} (result : Result T E) (old : List ℕ) → OnOk result (Adds (λ t. t ≡ []) old old)
+nothing_more (Ok x) old = ([], refl, sym (append-nil old))
+nothing_more (Err e) old = tt
+
 -- one index more is written
 abbrev pub word : Place → List ℕ
 word place = published_word (running_in (Some place))

@@ -44,11 +44,13 @@ pub no_input : (left : Option (List ℕ)) (fault : PlayFault) → IsInputFault f
 no_input left (play.Script fault) why = memory_is_none left fault why
 no_input left play.Read why = tt
 no_input left play.Write why = why
+no_input left play.Wire why = why
 
 -- once the script was read, however the play ends
 pub ends_whole : (input left : Option (List ℕ)) (result : Result (Unit {0}) PlayFault) → IfErr result IsPlayingFault → IfSome input IsScriptText → IsAtEnd left → ReadsWhole input left result
 ends_whole input left (Ok done) why whole end = (whole, end)
 ends_whole input left (Err play.Write) why whole end = (whole, end)
+ends_whole input left (Err play.Wire) why whole end = (whole, end)
 ends_whole input left (Err (play.Script fault)) why whole end = memory_is_none input fault why
 ends_whole input left (Err play.Read) why whole end = tt
 
@@ -57,3 +59,4 @@ pub no_script_ends : (input left : Option (List ℕ)) (fault : PlayFault) → Is
 no_script_ends input left (play.Script fault) why = why
 no_script_ends input left play.Read why = tt
 no_script_ends input left play.Write why = absurd why
+no_script_ends input left play.Wire why = absurd why

@@ -1,9 +1,9 @@
 -- How a play of a script ends before its last order, and what is written of it by then: a beginning of it.
 use Rattle.std.specs.Io.KnownBytes.{Appends, Keeps}
-use Rattle.std.specs.Prelude.{◌≡◌, ◌⊎◌, ◌++◌, ℕ, Option, Some, Ok, List, slice_get, take, IfSome}
+use Rattle.std.specs.Prelude.{◌≡◌, ◌⊎◌, ◌++◌, ℕ, true, Option, Some, Ok, List, slice_get, take, IfSome}
 use Rattle.wf_farm.specs.Farm.{Farm, Shows}
 use Rattle.wf_model.specs.World.{start}
-use Rattle.wf_play.specs.Performing.{PerformsAt, fault_at}
+use Rattle.wf_play.specs.Performing.{PerformsAt, fault_at, may_use_at}
 use Rattle.wf_play.specs.Running.{ArePerformed}
 use Rattle.wf_play.specs.Telling.{WritesAt}
 use Rattle.wf_play.specs.declared.fault.PlayFault.{PlayFault}
@@ -21,6 +21,16 @@ pub record StopsAtOrder (script : Script) (before : Farm) (old new : Option (Lis
   pub text : List ℕ
   pub performed : ArePerformed script count before between text
   pub line : fault_at (slice_get script.orders count) ≡ Some fault
+  pub written : Appends old new text
+
+-- A message wasn't carried at the order after the first `count` ones, which carries messages. What these wrote is written, and nothing
+-- more.
+pub record LosesAtOrder (script : Script) (before : Farm) (old new : Option (List ℕ)) : Type 0 where
+  pub count : ℕ
+  pub between : Farm
+  pub text : List ℕ
+  pub performed : ArePerformed script count before between text
+  pub carries : may_use_at (slice_get script.orders count) between ≡ true
   pub written : Appends old new text
 
 -- A write failed after the order after the first `count` ones. What these wrote is written, and then a beginning of what that order
@@ -43,6 +53,7 @@ abbrev pub IsEnded : Script → Farm → Option (List ℕ) → Option (List ℕ)
 IsEnded script before old new (play.Script fault) = StopsAtOrder script before old new fault
 IsEnded script before old new play.Read = ⊥
 IsEnded script before old new play.Write = BreaksOffAtOrder script before old new
+IsEnded script before old new play.Wire = LosesAtOrder script before old new
 
 -- A play of the script on a new farm, the model's start, ended with this error.
 pub record IsBegun (script : Script) (old new : Option (List ℕ)) (fault : PlayFault) : Type 0 where
@@ -59,9 +70,10 @@ MayBeBegun script old new fault = ((fault ≡ play.Script (script_fault.Memory 1
 abbrev pub IsInputBegun : Option (List ℕ) → Option (List ℕ) → Option (List ℕ) → PlayFault → Type 0
 IsInputBegun input old new fault = (script : Script) × IfSome input (λ text. script_of text ≡ Ok script) × IsBegun script old new fault
 
--- What is written before an error. Where a write failed, it is a beginning of the play of the input's script. Where an allocation
--- failed, likewise; or it is nothing, as where the input is no script or can't be read.
+-- What is written before an error. Where a write failed or a message wasn't carried, it is a beginning of the play of the input's
+-- script. Where an allocation failed, likewise; or it is nothing, as where the input is no script or can't be read.
 abbrev pub WritesBeginning : Option (List ℕ) → Option (List ℕ) → Option (List ℕ) → PlayFault → Type 0
 WritesBeginning input old new (play.Script fault) = Keeps old new ⊎ IsInputBegun input old new (play.Script fault)
 WritesBeginning input old new play.Read = Keeps old new
 WritesBeginning input old new play.Write = IsInputBegun input old new play.Write
+WritesBeginning input old new play.Wire = IsInputBegun input old new play.Wire

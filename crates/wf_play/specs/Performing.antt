@@ -1,12 +1,12 @@
 -- What an order of a script does to the farm on which it is played, by the order's kind.
-use Rattle.std.specs.Prelude.{◌≡◌, ℕ, Bool, List, [], ◌∷◌, length, map, slice_get, Option, Some, None, option_map}
+use Rattle.std.specs.Prelude.{◌≡◌, ℕ, Bool, true, false, ◌&&◌, List, [], ◌∷◌, length, map, slice_get, Option, Some, None, option_map, is_some}
 use Rattle.wf_def.specs.Definition.{Definition}
 use Rattle.wf_model.specs.Table as table
 use Rattle.wf_model.specs.World as world
-use Rattle.wf_model.specs.World.{Event}
+use Rattle.wf_model.specs.World.{Event, World}
 use Rattle.wf_farm.specs.Cluster.{TellsWhy, last_refused}
 use Rattle.wf_farm.specs.Event.{view_kept}
-use Rattle.wf_farm.specs.Farm.{Farm, Runs}
+use Rattle.wf_farm.specs.Farm.{Farm, Runs, Shows, running_in}
 use Rattle.wf_farm.specs.Pump.{IsPumped}
 use Rattle.wf_farm.specs.declared.event.Kept.{Kept}
 use Rattle.wf_farm.specs.declared.event.Kept.TheVariants as kept
@@ -51,15 +51,24 @@ abbrev pub HappensIf : Option (Event Definition) → Farm → Farm → Type 0
 HappensIf None before after = after ≡ before
 HappensIf (Some event) before after = Happens (event ∷ []) before after
 
+-- Exactly these messages were delivered to node i, in turn. No delivery is rejected; the farm reports the rejection that it reported
+-- before, and as many messages count as pumped as before.
+pub record Delivers (i : ℕ) (messages : List ℕ) (before after : Farm) : Type 0 where
+  pub runs : Runs (map (λ k. world.Deliver i k) messages) before after
+  pub rejected : (w : World Definition) → Shows before w → last_refused w (map (λ k. world.Deliver i k) messages) ≡ None
+  pub refused : after.refused ≡ before.refused
+  pub pumped : after.pumped ≡ before.pumped
+
 -- Messages were pumped to the nodes that are named, to the end or until a pump stops.
 pub record ArePumped (nodes : List ℕ) (before after : Farm) : Type 0 where
   pub stopped : Bool
   pub pumped : IsPumped nodes before after stopped
 
--- What each order does. A question leaves the farm as it is.
+-- What each order does. A question leaves the farm as it is, and so does a message that is cut off.
 abbrev pub Performs : List Definition → Order → Farm → Farm → Type 0
 Performs maps (order.Step i s) before after = HappensIf (option_map (event_of i) (action_of maps s)) before after
-Performs maps (order.Deliver i messages) before after = Happens (map (λ k. world.Deliver i k) messages) before after
+Performs maps (order.Deliver i messages) before after = Delivers i messages before after
+Performs maps (order.Cut i k bytes) before after = after ≡ before
 Performs maps (order.Stop i) before after = Happens (world.Stop i ∷ []) before after
 Performs maps (order.Restart i) before after = Happens (world.Restart i ∷ []) before after
 Performs maps (order.Torn i s side) before after = HappensIf (option_map (λ a. world.Torn i a (view_kept (kept_by side))) (action_of maps s)) before after
@@ -77,3 +86,27 @@ PerformsAt maps (Some numbered) before after = Performs maps numbered.order befo
 -- allocation failure at the line of that order; there is none where there is no order
 abbrev pub fault_at : Option Numbered → Option ScriptFault
 fault_at numbered = option_map (λ n. fault.Memory n.line) numbered
+
+-- whether the order is of a kind that carries messages
+abbrev pub carries : Order → Bool
+carries (order.Step i s) = false
+carries (order.Deliver i messages) = true
+carries (order.Cut i k bytes) = true
+carries (order.Stop i) = false
+carries (order.Restart i) = false
+carries (order.Torn i s side) = false
+carries (order.Pump nodes) = true
+carries order.Skip = false
+carries (order.Ask question) = false
+carries (order.Get i query) = false
+carries (order.Equal i j query) = false
+
+-- Whether the order may use the carrier: it carries messages. A message is cut off only if it was sent and its node runs.
+abbrev pub may_use : Order → Farm → Bool
+may_use (order.Cut i k bytes) farm = is_some (running_in (slice_get farm.places i)) && is_some (slice_get farm.sent k)
+may_use other farm = carries other
+
+-- the same for the order at an index
+abbrev pub may_use_at : Option Numbered → Farm → Bool
+may_use_at None farm = false
+may_use_at (Some numbered) farm = may_use numbered.order farm

@@ -29,12 +29,14 @@ abbrev pub IsRefusalOf : Option (List ℕ) → PlayFault → Type 0
 IsRefusalOf input (play.Script fault) = IsFaultOf input fault
 IsRefusalOf input play.Read = ⊤
 IsRefusalOf input play.Write = ⊥
+IsRefusalOf input play.Wire = ⊥
 
--- Where a run succeeds, or fails at a write, the input was read to its end: where it is known, nothing of it is left, and it is a
+-- Where a run succeeds, or fails at a write or at a message on its way, the input was read to its end: where it is known, nothing of it is left, and it is a
 -- script. An error of the script is the input's own.
 abbrev pub ReadsWhole : Option (List ℕ) → Option (List ℕ) → Result (Unit {0}) PlayFault → Type 0
 ReadsWhole input left (Ok done) = IfSome input IsScriptText × IsAtEnd left
 ReadsWhole input left (Err play.Write) = IfSome input IsScriptText × IsAtEnd left
+ReadsWhole input left (Err play.Wire) = IfSome input IsScriptText × IsAtEnd left
 ReadsWhole input left (Err (play.Script fault)) = IsFaultOf input fault
 ReadsWhole input left (Err play.Read) = ⊤
 

@@ -136,10 +136,12 @@ abbrev pub step_text : {A : Type 0} → Option A → Option ℕ → List ℕ
 step_text None refused = []
 step_text (Some action) refused = refusal_line refused
 
--- What an order writes. Of events it is the rejection of the last one, if it was rejected.
+-- What an order writes. Of a step, a stop, a restart or a crash it is the rejection, if it was rejected. A delivery writes nothing,
+-- since none is rejected.
 abbrev pub Writes : Script → Order → Farm → Farm → List ℕ → Type 0
 Writes script (order.Step i s) before after text = text ≡ step_text (action_of script.maps s) after.refused
-Writes script (order.Deliver i messages) before after text = text ≡ refusal_line after.refused
+Writes script (order.Deliver i messages) before after text = text ≡ []
+Writes script (order.Cut i k bytes) before after text = text ≡ []
 Writes script (order.Stop i) before after text = text ≡ refusal_line after.refused
 Writes script (order.Restart i) before after text = text ≡ refusal_line after.refused
 Writes script (order.Torn i s side) before after text = text ≡ step_text (action_of script.maps s) after.refused

@@ -1,6 +1,10 @@
 //! Why a run of a script ends before its end.
 
+ghost use Rattle.std.specs.Prelude.{◌≡◌};
+ghost use Rattle.wf_play.specs.Fault.{order_fault};
+
 use thiserror::Error;
+use wf_farm::CarrierFault;
 use wf_script::ScriptFault;
 
 /// Why a run of a script ended before its end. The text is the line for standard error.
@@ -15,4 +19,17 @@ pub enum PlayFault {
     /// The writer failed; a part of the output may be written.
     #[error("write fault")]
     Write,
+    /// A message wasn't carried to its node, or couldn't be cut off; the output of the orders before is written.
+    #[error("wire fault")]
+    Wire,
+}
+
+/// The error of the order at this line, by why it isn't performed to its end.
+pub(crate) fn fault_at_line(fault: CarrierFault, line: usize) -> PlayFault
+    ensures { result ≡ order_fault fault line }
+{
+    match fault {
+        CarrierFault::Memory => PlayFault::Script(ScriptFault::Memory(line)),
+        CarrierFault::Lost => PlayFault::Wire,
+    }
 }

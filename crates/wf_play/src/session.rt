@@ -3,15 +3,14 @@
 ghost use Rattle.std.specs.Prelude.{◌≡◌, ◌++◌, OnOk};
 ghost use Rattle.std.specs.String.{string_bytes};
 ghost use Rattle.wf_play.specs.Performing.{kept_by};
-ghost use Rattle.wf_play.specs.Telling.{pump_line};
 
-use crate::delivery::deliveries;
+use crate::fault::{PlayFault, fault_at_line};
 use crate::law::farm_obeys_laws;
 use std::alloc::{AllocError, Global};
 use std::fmt::Write;
 use std::marker::Model;
 use wf_canon::Canon;
-use wf_farm::{Action, Event, Farm, Kept};
+use wf_farm::{Action, Carrier, CarrierFault, Event, Farm, Kept};
 use wf_script::{Order, Script, ScriptFault, Side, Step};
 
 /// The farm on which a script is played. It is changed by the farm's own calls alone.
@@ -34,7 +33,7 @@ impl<'s> Model for Session<'s> {
 }
 
 impl<'s> Session<'s> {
-    ghost use Rattle.std.specs.Prelude.{Some, [], ◌∷◌, length, map, slice_get, option_map, option_copied, IfOk, IfErr};
+    ghost use Rattle.std.specs.Prelude.{[], ◌∷◌, false, length, map, slice_get, option_map, option_copied, true, IfOk, IfErr};
     ghost use Rattle.wf_def.specs.Definition.{Definition};
     ghost use Rattle.wf_model.specs.Table as table;
     ghost use Rattle.wf_model.specs.World as world;
@@ -45,9 +44,11 @@ impl<'s> Session<'s> {
     ghost use Rattle.wf_script.specs.Fault.{IsMemory};
     ghost use Rattle.wf_play.specs.Law.{HasKeptPromises, HasOwnBallots, HasPromisedMajorities};
     ghost use Rattle.wf_script.specs.Order.{view};
-    ghost use Rattle.wf_play.specs.Performing.{ArePumped, Happens, HappensIf, Performs, PerformsAt, action_of, event_of, fault_at};
+    ghost use Rattle.wf_farm.specs.declared.carrier.CarrierFault.TheVariants as faults;
+    ghost use Rattle.wf_play.specs.Fault.{IsOrderFault, LosesNone};
+    ghost use Rattle.wf_play.specs.Performing.{Happens, HappensIf, Performs, PerformsAt, action_of, carries, event_of, may_use, may_use_at};
     ghost use Rattle.wf_play.specs.Session.{Plays};
-    ghost use Rattle.wf_play.specs.Telling.{Adds, TellsPump, Writes, WritesAt, refusal_line, step_text};
+    ghost use Rattle.wf_play.specs.Telling.{Adds, Writes, WritesAt, refusal_line, step_text};
 
     /// The farm before the script's first order: the model's start. Returns S1 at line 1 where an allocation failed.
     pub fn new(alloc: Global, script: &'s Script) -> Result<Session<'s>, ScriptFault>
@@ -71,18 +72,25 @@ impl<'s> Session<'s> {
     }
 
     /// Performs the order of that number, counted from 0, and appends its output; nothing where there is no such
-    /// order. Whatever the order, the farm has made some events, and the theorems hold of it after them. Returns S1 at the
-    /// order's line where an allocation failed: then a part of the order may have happened, or be written.
-    pub fn perform(
+    /// order. The carrier brings the messages of a delivery and of a pump to their nodes, and sends those that are cut off; a step
+    /// within which a node crashes doesn't use it. Whatever the order and the carrier, the farm has made some events, and the
+    /// theorems hold of it after them.
+    ///
+    /// Returns S1 at the order's line where an allocation failed, and `Wire` where the carrier failed, or brought another message:
+    /// then a part of the order may have happened, or be written. Of a faithful carrier S1 is the only error.
+    pub fn perform<C: Carrier>(
         &mut self,
         alloc: Global,
+        carrier: &mut C,
         number: usize,
         out: &mut String,
-    ) -> Result<(), ScriptFault>
+    ) -> Result<(), PlayFault>
         ensures script { self.new.script ≡ self.old.script }
         ensures does { OnOk result (PerformsAt self.old.script.maps (slice_get self.old.script.orders number) self.old.farm self.new.farm) }
         ensures tells { OnOk result (Adds (WritesAt self.old.script (slice_get self.old.script.orders number) self.old.farm self.new.farm) (string_bytes out.old) (string_bytes out.new)) }
-        ensures memory { IfErr result (λ fault. fault_at (slice_get self.old.script.orders number) ≡ Some fault) }
+        ensures fault { IfErr result (IsOrderFault (slice_get self.old.script.orders number) self.old.farm) }
+        ensures faithful { C.faithful → IfErr result LosesNone }
+        ensures unused { may_use_at (slice_get self.old.script.orders number) self.old.farm ≡ false → carrier.new ≡ carrier.old }
         ensures plays { Plays self.old.farm self.new.farm }
         ensures agree { HasOneHistory self.new.farm }
         ensures world { IsOneWorld self.new.farm }
@@ -90,7 +98,7 @@ impl<'s> Session<'s> {
         ensures promises { HasKeptPromises self.new.farm }
         ensures majorities { HasPromisedMajorities self.new.farm }
     {
-        let performed = self.perform_order(alloc, number, out);
+        let performed = self.perform_order(alloc, carrier, number, out);
         self.obeys_laws();
         performed
     }
@@ -107,31 +115,86 @@ impl<'s> Session<'s> {
     }
 
     /// Performs the order, if there is one.
-    #[tactic(auto, using(crate::proofs::Playing::nothing_played, crate::proofs::Performing::nothing_performed, crate::proofs::Performing::fault_there, crate::proofs::Telling::nothing_written))]
-    fn perform_order(
+    #[tactic(auto, using(crate::proofs::Playing::nothing_played, crate::proofs::Performing::nothing_performed, crate::proofs::Faults::order_fault_there, crate::proofs::Faults::none_lost, crate::proofs::Performing::used_there, crate::proofs::Telling::nothing_written))]
+    fn perform_order<C: Carrier>(
         &mut self,
         alloc: Global,
+        carrier: &mut C,
         number: usize,
         out: &mut String,
-    ) -> Result<(), ScriptFault>
+    ) -> Result<(), PlayFault>
         ensures script { self.new.script ≡ self.old.script }
         ensures does { OnOk result (PerformsAt self.old.script.maps (slice_get self.old.script.orders number) self.old.farm self.new.farm) }
         ensures tells { OnOk result (Adds (WritesAt self.old.script (slice_get self.old.script.orders number) self.old.farm self.new.farm) (string_bytes out.old) (string_bytes out.new)) }
-        ensures memory { IfErr result (λ fault. fault_at (slice_get self.old.script.orders number) ≡ Some fault) }
+        ensures fault { IfErr result (IsOrderFault (slice_get self.old.script.orders number) self.old.farm) }
+        ensures faithful { C.faithful → IfErr result LosesNone }
+        ensures unused { may_use_at (slice_get self.old.script.orders number) self.old.farm ≡ false → carrier.new ≡ carrier.old }
         ensures plays { Plays self.old.farm self.new.farm }
     {
         let script = self.script;
         match script.order(number) {
-            Some(numbered) => match self.obey(alloc, &numbered.order, out) {
+            Some(numbered) => match self.obey(alloc, carrier, &numbered.order, out) {
                 Ok(()) => Ok(()),
-                Err(_) => Err(ScriptFault::Memory(numbered.line)),
+                Err(fault) => Err(fault_at_line(fault, numbered.line)),
             },
             None => Ok(()),
         }
     }
 
+    #[tactic(auto, using(crate::proofs::Playing::nothing_played, crate::proofs::Telling::nothing_more))]
+    fn obey<C: Carrier>(
+        &mut self,
+        alloc: Global,
+        carrier: &mut C,
+        order: &Order,
+        out: &mut String,
+    ) -> Result<(), CarrierFault>
+        ensures script { self.new.script ≡ self.old.script }
+        ensures does { OnOk result (Performs self.old.script.maps (view order.now) self.old.farm self.new.farm) }
+        ensures tells { OnOk result (Adds (Writes self.old.script (view order.now) self.old.farm self.new.farm) (string_bytes out.old) (string_bytes out.new)) }
+        ensures lost { IfErr result (λ fault. fault ≡ faults.Lost → may_use (view order.now) self.old.farm ≡ true) }
+        ensures faithful { C.faithful → IfErr result (λ fault. fault ≡ faults.Memory) }
+        ensures unused { may_use (view order.now) self.old.farm ≡ false → carrier.new ≡ carrier.old }
+        ensures plays { Plays self.old.farm self.new.farm }
+    {
+        match order {
+            Order::Deliver(node, messages) => self.deliver(alloc, carrier, *node, messages),
+            Order::Cut(node, message, bytes) => self.cut(alloc, carrier, *node, *message, *bytes),
+            Order::Pump(nodes) => self.pump(alloc, carrier, nodes, out),
+            Order::Step(..)
+            | Order::Stop(_)
+            | Order::Restart(_)
+            | Order::Torn(..)
+            | Order::Skip
+            | Order::Ask(_)
+            | Order::Get(..)
+            | Order::Equal(..) => self.obey_here(alloc, order, out),
+        }
+    }
+
+    /// Performs an order that carries no message.
+    fn obey_here(
+        &mut self,
+        alloc: Global,
+        order: &Order,
+        out: &mut String,
+    ) -> Result<(), CarrierFault>
+        requires { carries (view order.now) ≡ false }
+        ensures script { self.new.script ≡ self.old.script }
+        ensures does { OnOk result (Performs self.old.script.maps (view order.now) self.old.farm self.new.farm) }
+        ensures tells { OnOk result (Adds (Writes self.old.script (view order.now) self.old.farm self.new.farm) (string_bytes out.old) (string_bytes out.new)) }
+        ensures memory { IfErr result (λ fault. fault ≡ faults.Memory) }
+        ensures plays { Plays self.old.farm self.new.farm }
+    {
+        match self.act(alloc, order, out) {
+            Ok(()) => Ok(()),
+            Err(_) => Err(CarrierFault::Memory),
+        }
+    }
+
     #[tactic(auto, using(crate::proofs::Playing::nothing_played, crate::proofs::Playing::skipped_played, crate::proofs::Telling::just))]
-    fn obey(&mut self, alloc: Global, order: &Order, out: &mut String) -> Result<(), AllocError>
+    fn act(&mut self, alloc: Global, order: &Order, out: &mut String) -> Result<(), AllocError>
+        requires { carries (view order.now) ≡ false }
         ensures script { self.new.script ≡ self.old.script }
         ensures does { OnOk result (Performs self.old.script.maps (view order.now) self.old.farm self.new.farm) }
         ensures tells { OnOk result (Adds (Writes self.old.script (view order.now) self.old.farm self.new.farm) (string_bytes out.old) (string_bytes out.new)) }
@@ -139,11 +202,9 @@ impl<'s> Session<'s> {
     {
         match order {
             Order::Step(node, step) => self.step(alloc, *node, *step, out),
-            Order::Deliver(node, messages) => self.deliver(alloc, *node, messages, out),
             Order::Stop(node) => self.happen(alloc, Event::Stop(*node), out),
             Order::Restart(node) => self.happen(alloc, Event::Restart(*node), out),
             Order::Torn(node, step, side) => self.tear(alloc, *node, *step, kept_of(*side), out),
-            Order::Pump(nodes) => self.pump(alloc, nodes, out),
             Order::Skip => {
                 self.farm.skip();
                 Ok(())
@@ -151,6 +212,7 @@ impl<'s> Session<'s> {
             Order::Ask(question) => self.answer(*question, out),
             Order::Get(node, query) => self.tell_answer(alloc, *node, query, out),
             Order::Equal(node, other, query) => self.tell_equal(alloc, *node, *other, query, out),
+            Order::Deliver(..) | Order::Cut(..) | Order::Pump(_) => unreachable!(),
         }
     }
 
@@ -285,37 +347,6 @@ impl<'s> Session<'s> {
             None => Ok(None),
         }
     }
-
-    /// The messages go to the node, one after the other.
-    #[tactic(auto, using(crate::proofs::Playing::nothing_played))]
-    fn deliver(
-        &mut self,
-        alloc: Global,
-        node: usize,
-        messages: &[usize],
-        out: &mut String,
-    ) -> Result<(), AllocError>
-        ensures script { self.new.script ≡ self.old.script }
-        ensures does { OnOk result (Happens (map (λ k. world.Deliver node k) messages.now) self.old.farm self.new.farm) }
-        ensures tells { OnOk result (string_bytes out.new ≡ string_bytes out.old ++ refusal_line self.new.farm.refused) }
-        ensures plays { Plays self.old.farm self.new.farm }
-    {
-        let events = deliveries(alloc, node, messages)?;
-        self.run(alloc, &events, out)
-    }
-
-    #[tactic(auto, using(crate::proofs::Playing::pump_played, crate::proofs::Playing::pump_part_played))]
-    fn pump(&mut self, alloc: Global, nodes: &[usize], out: &mut String) -> Result<(), AllocError>
-        ensures script { self.new.script ≡ self.old.script }
-        ensures does { OnOk result (ArePumped nodes.now self.old.farm self.new.farm) }
-        ensures tells { OnOk result (Adds (TellsPump nodes.now self.old.farm self.new.farm) (string_bytes out.old) (string_bytes out.new)) }
-        ensures plays { Plays self.old.farm self.new.farm }
-    {
-        let Ok(stopped) = self.farm.pump(alloc, nodes) else {
-            return Err(AllocError);
-        };
-        tell_pump(stopped, out)
-    }
 }
 
 /// Which stored part a crash on that side of the record leaves.
@@ -326,14 +357,4 @@ fn kept_of(side: Side) -> Kept
         Side::Before => Kept::Before,
         Side::After => Kept::After,
     }
-}
-
-/// Appends that a pump stopped early, if it did.
-fn tell_pump(stopped: bool, out: &mut String) -> Result<(), AllocError>
-    ensures { OnOk result (string_bytes out.new ≡ string_bytes out.old ++ pump_line stopped) }
-{
-    if stopped {
-        return out.push_str("pump stopped\n");
-    }
-    Ok(())
 }

@@ -10,6 +10,7 @@ use Rattle.wf_script.specs.declared.order.Order.TheVariants as order
 pub data Order : Type 0 where
   Step : (node : ℕ) (step : step.Step) → Order
   Deliver : (node : ℕ) (messages : List ℕ) → Order
+  Cut : (node message bytes : ℕ) → Order
   Stop : (node : ℕ) → Order
   Restart : (node : ℕ) → Order
   Torn : (node : ℕ) (step : step.Step) (side : side.Side) → Order
@@ -23,6 +24,7 @@ pub data Order : Type 0 where
 abbrev pub view : code.Order → Order
 view (order.Step node step) = Step node step
 view (order.Deliver node messages) = Deliver node messages.items
+view (order.Cut node message bytes) = Cut node message bytes
 view (order.Stop node) = Stop node
 view (order.Restart node) = Restart node
 view (order.Torn node step side) = Torn node step side

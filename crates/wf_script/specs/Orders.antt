@@ -83,6 +83,13 @@ deliver_order words = do
   messages ← some_numbers node.1
   Ok (order.Deliver node.0 messages, [])
 
+unfoldable pub cut_order : List (List ℕ) → Result (Order × List (List ℕ)) Wrong
+cut_order words = do
+  node ← a_number words
+  message ← a_number node.1
+  bytes ← a_number message.1
+  Ok (order.Cut node.0 message.0 bytes.0, bytes.1)
+
 unfoldable pub torn_order : List (List ℕ) → List (List ℕ) → Result (Order × List (List ℕ)) Wrong
 torn_order names words = do
   node ← a_number words
@@ -136,6 +143,7 @@ order_by names verb.Propose words = step_order names verb.Propose words
 order_by names verb.Retry words = step_order names verb.Retry words
 order_by names verb.CatchUp words = step_order names verb.CatchUp words
 order_by names verb.Deliver words = deliver_order words
+order_by names verb.Cut words = cut_order words
 order_by names verb.Stop words = stop_order words
 order_by names verb.Restart words = restart_order words
 order_by names verb.Torn words = torn_order names words

@@ -12,6 +12,7 @@ verb_of word =
     else if bytes_eq word (codes "retry") then Some verb.Retry
     else if bytes_eq word (codes "catchup") then Some verb.CatchUp
     else if bytes_eq word (codes "deliver") then Some verb.Deliver
+    else if bytes_eq word (codes "cut") then Some verb.Cut
     else if bytes_eq word (codes "stop") then Some verb.Stop
     else if bytes_eq word (codes "restart") then Some verb.Restart
     else if bytes_eq word (codes "torn") then Some verb.Torn

@@ -3,7 +3,7 @@
 ghost use Rattle.std.specs.Prelude.{◌≡◌, [], OnOk, map};
 ghost use Rattle.wf_script.specs.Naming.{name};
 ghost use Rattle.wf_script.specs.Order.{view};
-ghost use Rattle.wf_script.specs.Orders.{a_map, a_side, a_step, definition_order, deliver_order, equal_order, get_order, numbers, order_by, order_of, proposal_order, pump_order, restart_order, some_numbers, step_by, step_order, stop_order, torn_order};
+ghost use Rattle.wf_script.specs.Orders.{a_map, a_side, a_step, cut_order, definition_order, deliver_order, equal_order, get_order, numbers, order_by, order_of, proposal_order, pump_order, restart_order, some_numbers, step_by, step_order, stop_order, torn_order};
 ghost use Rattle.wf_script.specs.Reading.{Gives};
 ghost use Rattle.wf_script.specs.Words.{a_word};
 
@@ -27,6 +27,8 @@ pub enum Order {
     Step(usize, Step),
     /// The messages go to the node, one after the other.
     Deliver(usize, Vec<usize>),
+    /// The message of the second number is cut off on its way to the node, after this many bytes: it doesn't arrive. No event.
+    Cut(usize, usize, usize),
     /// The node stops.
     Stop(usize),
     /// The stopped node comes back.
@@ -106,6 +108,7 @@ fn order_by(alloc: Global, maps: &Maps, verb: Verb, words: &mut Words<'_>) -> Re
         Verb::Map => Err(Wrong::BadLine),
         Verb::Propose | Verb::Retry | Verb::CatchUp => step_order(maps, verb, words),
         Verb::Deliver => deliver(alloc, words),
+        Verb::Cut => cut(words),
         Verb::Stop => stop(words),
         Verb::Restart => restart(words),
         Verb::Torn => torn(maps, words),
@@ -157,6 +160,17 @@ fn deliver(alloc: Global, words: &mut Words<'_>) -> Result<Order, Wrong>
     let node = words.number()?;
     let messages = some_numbers(alloc, words)?;
     Ok(Order::Deliver(node, messages))
+}
+
+/// `cut I K B`.
+#[tactic(auto, unfolding(crate::specs::Orders::cut_order))]
+fn cut(words: &mut Words<'_>) -> Result<Order, Wrong>
+    ensures { Gives (λ o. (view o, words.new)) result (cut_order words.old) }
+{
+    let node = words.number()?;
+    let message = words.number()?;
+    let bytes = words.number()?;
+    Ok(Order::Cut(node, message, bytes))
 }
 
 /// `pump`, or `pump I ..`.

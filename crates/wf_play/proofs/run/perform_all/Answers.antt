@@ -1,7 +1,7 @@
 -- Each order is performed on the farm that the ones before left, and its text is written after theirs.
 use Rattle.std.proofs.Common.{◌∙◌, refl}
 use Rattle.std.specs.String.{string_bytes}
-use Rattle.wf_play.proofs.Ending.{breaks_there, stops_there}
+use Rattle.wf_play.proofs.Ending.{breaks_there, ends_there}
 use Rattle.wf_play.proofs.Running.{none_played, one_played}
 use Rattle.wf_play.proofs.run.perform_all.Goals as goal
 
@@ -25,11 +25,11 @@ loop-number-preserved g c = record {
   writes = c.in-Ok.ensures.calm ∙ c.loop-number.invariant.writes;
 }
 
--- an allocation failed at the order
+-- an allocation failed at the order, or a message wasn't carried
 pub returns-in-Err-clause-ended : goal.returns-in-Err-clause-ended
 returns-in-Err-clause-ended g c =
-    stops_there c.loop-number.number c.args.session.now.script c.loop-number.session.script c.args.session.now.farm c.loop-number.session.farm (g.K.Sink.written c.args.sink.now) (g.K.Sink.written c.loop-number.sink) c.loop-number.invariant.script c.loop-number.invariant.plays
-    c.in-Err.fault c.in-Err.ensures.memory
+    ends_there c.loop-number.number c.args.session.now.script c.loop-number.session.script c.args.session.now.farm c.loop-number.session.farm (g.K.Sink.written c.args.sink.now) (g.K.Sink.written c.loop-number.sink) c.loop-number.invariant.script c.loop-number.invariant.plays
+    c.in-Err.fault c.in-Err.ensures.fault
 
 -- the write of its text failed
 pub returns-in-Err-write_all-clause-ended : goal.returns-in-Err-write_all-clause-ended

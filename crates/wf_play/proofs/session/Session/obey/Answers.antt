@@ -2,4 +2,4 @@
 use Rattle.wf_play.proofs.session.Session.obey.Goals as goal
 
 pub returns-in-Pump-clause-tells : goal.returns-in-Pump-clause-tells
-returns-in-Pump-clause-tells c = rw c.in-Pump.is (rw c.deref-in-Pump.ensures.value at c.pump.ensures.tells)
+returns-in-Pump-clause-tells g c = rw c.in-Pump.is (rw c.deref-in-Pump.ensures.value at c.pump.ensures.tells)

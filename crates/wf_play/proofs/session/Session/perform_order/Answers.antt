@@ -8,7 +8,7 @@ use Rattle.wf_play.proofs.Telling.{written_at}
 use Rattle.wf_play.proofs.session.Session.perform_order.Goals as goal
 
 pub returns-in-Ok-clause-does : goal.returns-in-Ok-clause-does
-returns-in-Ok-clause-does c =
+returns-in-Ok-clause-does g c =
     let script : c.self.inside.script.now ≡ c.args.self.now.script = ap (λ (s : Session). s.script) c.self.view_is in
     let there : Some (numbered c.in-Some.numbered.now) ≡ slice_get c.args.self.now.script.orders c.args.number =
     c.in-Some.ensures ∙ ap (λ (s : Script). slice_get s.orders c.args.number) script in
@@ -16,7 +16,7 @@ returns-in-Ok-clause-does c =
     c.args.self.now.farm c.obey.new.self.farm there c.in-Ok.ensures.does
 
 pub returns-in-Ok-clause-tells : goal.returns-in-Ok-clause-tells
-returns-in-Ok-clause-tells c =
+returns-in-Ok-clause-tells g c =
     let script : c.self.inside.script.now ≡ c.args.self.now.script = ap (λ (s : Session). s.script) c.self.view_is in
     let there : Some (numbered c.in-Some.numbered.now) ≡ slice_get c.args.self.now.script.orders c.args.number =
     c.in-Some.ensures ∙ ap (λ (s : Script). slice_get s.orders c.args.number) script in

@@ -8,11 +8,11 @@ use Rattle.wf_play.proofs.Telling.{also_ok, pump_told}
 use Rattle.wf_play.proofs.session.Session.pump.Goals as goal
 
 pub returns-clause-does : goal.returns-clause-does
-returns-clause-does c =
-    let done = subst (λ (farm : Farm). IsPumped c.args.nodes.now farm c.pump.new.self c.in-Ok.stopped) (ap (λ (s : Session). s.farm) c.self.view_is) c.in-Ok.ensures.done in
-    on_ok c.tell_pump.result (pump_performed c.args.nodes.now c.args.self.now.farm c.pump.new.self c.in-Ok.stopped done)
+returns-clause-does g c =
+    let done = subst (λ (farm : Farm). IsPumped c.args.nodes.now farm c.pump_by.new.self c.in-Ok.stopped) (ap (λ (s : Session). s.farm) c.self.view_is) c.in-Ok.ensures.done in
+    on_ok c.tell_pump.result (pump_performed c.args.nodes.now c.args.self.now.farm c.pump_by.new.self c.in-Ok.stopped done)
 
 pub returns-clause-tells : goal.returns-clause-tells
-returns-clause-tells c =
-    let done = subst (λ (farm : Farm). IsPumped c.args.nodes.now farm c.pump.new.self c.in-Ok.stopped) (ap (λ (s : Session). s.farm) c.self.view_is) c.in-Ok.ensures.done in
-    also_ok c.tell_pump.result (pump_told c.args.nodes.now c.args.self.now.farm c.pump.new.self c.in-Ok.stopped _ _ done) c.tell_pump.ensures
+returns-clause-tells g c =
+    let done = subst (λ (farm : Farm). IsPumped c.args.nodes.now farm c.pump_by.new.self c.in-Ok.stopped) (ap (λ (s : Session). s.farm) c.self.view_is) c.in-Ok.ensures.done in
+    also_ok c.tell_pump.result (pump_told c.args.nodes.now c.args.self.now.farm c.pump_by.new.self c.in-Ok.stopped _ _ done) c.tell_pump.ensures.told
