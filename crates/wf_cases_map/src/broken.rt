@@ -26,6 +26,10 @@ impl Tape for Broken {
 
     ghost failed = { λ t. t.failures };
 
+    ghost is_now = { λ no. absurd no };
+
+    ghost nested = { λ no. absurd no };
+
     fn read(&mut self, alloc: Global) -> Result<Vec<u8>, TapeFault> {
         Ok(Vec::new(alloc))
     }

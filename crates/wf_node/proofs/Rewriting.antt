@@ -15,10 +15,10 @@ use Rattle.wf_node.specs.Shortening.{IsShortening, shortened}
 use Rattle.wf_node.specs.Storing.{IsReplacement}
 use Rattle.wf_node.proofs.Shortened.{stands_on}
 
-module _ {T : Type 0} (honest : Type 0) (content : T → List ℕ) (images : T → List ℕ → Type 0) (failures : T → ℕ) where
+module _ {T : Type 0} (honest : Type 0) (content : T → List ℕ) (images : T → List ℕ → Type 0) (inside : T → T → List ℕ → Type 0) (failures : T → ℕ) where
   -- Whatever is returned, each image stands for the stored part.
   replacement_stands : {A : Type 0} (result : Result A NodeFault) (stored : Stored Definition) (journal after : Journal T) → FoldsAreOpen Definition → VotesArePromised Definition →
-      IsReplacement honest content images failures (shortened stored) journal result after → honest → AllStandFor stored (images journal.tape) → AllStandFor stored (images after.tape)
+      IsReplacement honest content images inside failures (shortened stored) journal result after → honest → AllStandFor stored (images journal.tape) → AllStandFor stored (images after.tape)
   replacement_stands (Ok x) stored journal after are_open are_promised replaced h stands =
       stands_on are_open are_promised stored (images journal.tape) (images after.tape) (replaced.follows h) stands
   replacement_stands (Err Memory) stored journal after are_open are_promised spared h stands = λ image left. stands image ((spared.same h).no_other image left)
@@ -33,7 +33,7 @@ module _ {T : Type 0} (honest : Type 0) (content : T → List ℕ) (images : T �
   -- So the node's invariant holds.
   pub rewriting_keeps : {A : Type 0} (journal after : Journal T) (kept kept_after : Kept) (proposer proposer_after : Proposer) (result : Result A NodeFault) →
       FoldsAreOpen Definition → VotesArePromised Definition → IsNode honest images journal kept proposer → journal.halted ≡ false →
-      IsReplacement honest content images failures (shortened (keeping.stored_of kept)) journal result after → kept_after ≡ kept → proposer_after ≡ proposer →
+      IsReplacement honest content images inside failures (shortened (keeping.stored_of kept)) journal result after → kept_after ≡ kept → proposer_after ≡ proposer →
       IsNode honest images after kept_after proposer_after
   rewriting_keeps journal after kept kept_after proposer proposer_after result are_open are_promised node running replaced same_kept same_proposer =
       subst (λ (p : Proposer). IsNode honest images after kept_after p) (sym same_proposer)
@@ -44,7 +44,7 @@ module _ {T : Type 0} (honest : Type 0) (content : T → List ℕ) (images : T �
       }))
 
   shortens_by : {A : Type 0} (journal after : Journal T) (kept : Kept) (proposer : Proposer) (result : Result A NodeFault) →
-      IsReplacement honest content images failures (shortened (keeping.stored_of kept)) journal result after → (honest → AllStandFor (keeping.stored_of kept) (images after.tape)) →
+      IsReplacement honest content images inside failures (shortened (keeping.stored_of kept)) journal result after → (honest → AllStandFor (keeping.stored_of kept) (images after.tape)) →
       IsShortening honest content images failures (view_of journal kept.parts proposer) result (view_of after kept.parts proposer)
   shortens_by journal after kept proposer (Ok x) replaced stands = record {
     running = λ e. absurd (cc e);
@@ -90,7 +90,7 @@ module _ {T : Type 0} (honest : Type 0) (content : T → List ℕ) (images : T �
 
   pub shortens : {A : Type 0} (journal after : Journal T) (kept kept_after : Kept) (proposer proposer_after : Proposer) (result : Result A NodeFault) →
       FoldsAreOpen Definition → VotesArePromised Definition → IsNode honest images journal kept proposer → journal.halted ≡ false →
-      IsReplacement honest content images failures (shortened (keeping.stored_of kept)) journal result after → kept_after ≡ kept → proposer_after ≡ proposer →
+      IsReplacement honest content images inside failures (shortened (keeping.stored_of kept)) journal result after → kept_after ≡ kept → proposer_after ≡ proposer →
       IsShortening honest content images failures (view_of journal kept.parts proposer) result (view_of after kept_after.parts proposer_after)
   shortens journal after kept kept_after proposer proposer_after result are_open are_promised node running replaced same_kept same_proposer =
       subst (λ (p : Proposer). IsShortening honest content images failures (view_of journal kept.parts proposer) result (view_of after kept_after.parts p)) (sym same_proposer)

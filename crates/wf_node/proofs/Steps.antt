@@ -1,15 +1,16 @@
 -- The step of a node's parts is the node's step.
-use Rattle.std.proofs.Common.{◌≡◌, ℕ, false, List, ◌++◌, Some, None, Result, Ok, Err, IfOk, IfErr, OnOk, IsSome, Vec, refl, sym, subst, ap, ◌∙◌, arith}
+use Rattle.std.proofs.Common.{◌≡◌, ℕ, false, List, ◌++◌, Some, None, Result, Ok, Err, IfOk, IfErr, OnOk, IsSome, Vec, refl, sym, subst, ap, ◌∙◌, arith, inl}
 use Rattle.std.proofs.lemmas.Bool.{false≢true}
 use Rattle.std.proofs.lemmas.Option.{none-some}
 use Rattle.wf_codec.specs.declared.message.Message.{Message}
 use Rattle.wf_def.specs.Definition.{Definition}
 use Rattle.wf_def.specs.Equality.{definition_eq}
 use Rattle.wf_model.specs.Fits.{IsForNext, RowFits, RecordsFit}
+use Rattle.wf_model.specs.Stored.{Stored}
 use Rattle.wf_model.specs.Table.{Row, Input, Refusal, row, refusal, store}
 use Rattle.wf_proposer.specs.Proposer.{Proposer, working_of}
 use Rattle.wf_tape.specs.Journal.{Journal}
-use Rattle.wf_tape.specs.Tape.{IsExtended}
+use Rattle.wf_tape.specs.Tape.{IsExtended, LeavesNoOther}
 use Rattle.wf_node.specs.declared.fault.NodeFault.{NodeFault}
 use Rattle.wf_node.specs.declared.fault.NodeFault.TheVariants.{Memory, Busy, SequenceFull, RoundsFull, Halted, TapeFailed, Nothing}
 use Rattle.wf_node.specs.Act.{IsAct, IsChange, IsRefusedOr, IsSame}
@@ -44,7 +45,7 @@ module _ {T : Type 0} where
   takes_shown journal parts proposer input =
       subst memory.TakesMemory (row_shown journal parts proposer input)
 
-module _ {T : Type 0} (honest : Type 0) (content : T → List ℕ) (images : T → List ℕ → Type 0) (failures : T → ℕ) where
+module _ {T : Type 0} (honest : Type 0) (content : T → List ℕ) (images : T → List ℕ → Type 0) (inside : T → T → List ℕ → Type 0) (failures : T → ℕ) where
   abbrev fault_number : {A : Type 0} → Result A NodeFault → ℕ
   fault_number (Ok x) = 0
   fault_number (Err Memory) = 1
@@ -82,7 +83,7 @@ module _ {T : Type 0} (honest : Type 0) (content : T → List ℕ) (images : T �
       (honest → AllStandFor (stored_of parts) (images journal.tape)) →
       refusal (stored_of parts) (working_of proposer) input ≡ None →
       RowFits (stored_of parts) (proposer_row proposer parts input) →
-      IsChange honest content images failures (proposer_row proposer parts input) journal parts proposer result journal_after parts_after proposer_after →
+      IsChange honest content images inside failures (proposer_row proposer parts input) journal parts proposer result journal_after parts_after proposer_after →
       IsStep honest content images failures (view_of journal parts proposer) input result (view_of journal_after parts_after proposer_after)
   done_step journal journal_after parts parts_after proposer proposer_after input (Ok messages) stands none fits change = record {
     running = differ _ _ (λ e. omega (arith, e));
@@ -174,23 +175,61 @@ module _ {T : Type 0} (honest : Type 0) (content : T → List ℕ) (images : T �
   -- What the parts did or rejected is the node's step.
   pub act_steps : {A : Type 0} (journal journal_after : Journal T) (kept kept_after : Kept) (proposer proposer_after : Proposer) (input : Input Definition) (result : Result (Vec Message A) NodeFault) →
       IsNode honest images journal kept proposer → journal.halted ≡ false → RecordsFit Definition →
-      IsAct honest content images failures input journal kept.parts proposer result journal_after kept_after.parts proposer_after →
+      IsAct honest content images inside failures input journal kept.parts proposer result journal_after kept_after.parts proposer_after →
       IsStep honest content images failures (view_of journal kept.parts proposer) input result (view_of journal_after kept_after.parts proposer_after)
   act_steps journal journal_after kept kept_after proposer proposer_after input result is running fit act =
       let fits : RowFits (stored_of kept.parts) (proposer_row proposer kept.parts input) =
       fit definition_eq proposer.nodes proposer.node (stored_of kept.parts) (working_of proposer) input is.for_next in
       elim (refusal (stored_of kept.parts) (working_of proposer) input) as (λ why.
       refusal (stored_of kept.parts) (working_of proposer) input ≡ why →
-      IsRefusedOr honest content images failures why (proposer_row proposer kept.parts input) journal kept.parts proposer result journal_after kept_after.parts proposer_after →
+      IsRefusedOr honest content images inside failures why (proposer_row proposer kept.parts input) journal kept.parts proposer result journal_after kept_after.parts proposer_after →
       IsStep honest content images failures (view_of journal kept.parts proposer) input result (view_of journal_after kept_after.parts proposer_after)) [
         | None ↦ λ none change. done_step journal journal_after kept.parts kept_after.parts proposer proposer_after input result (λ h. is.stands h running) none fits change
         | Some why ↦ λ some refused. refused_step journal journal_after kept.parts kept_after.parts proposer proposer_after input result why some refused.0 refused.1 refused.2
       ] refl act
 
+  -- At each moment inside the step what a crash could have left stands for the stored part from before it, or the transition's.
+  done_inside : {A : Type 0} (journal journal_after : Journal T) (parts parts_after : Parts) (proposer proposer_after : Proposer) (input : Input Definition) (result : Result (Vec Message A) NodeFault) →
+      RowFits (stored_of parts) (proposer_row proposer parts input) →
+      IsChange honest content images inside failures (proposer_row proposer parts input) journal parts proposer result journal_after parts_after proposer_after →
+      honest → AllStandFor (stored_of parts) (inside journal.tape journal.tape) →
+      EachStandsFor (stored_of parts) (store (stored_of parts) (proposer_row proposer parts input).entry) (inside journal.tape journal_after.tape)
+  done_inside journal journal_after parts parts_after proposer proposer_after input (Ok messages) fits change h stand = change.0.moments h (stored_of parts) fits.fits stand
+  done_inside journal journal_after parts parts_after proposer proposer_after input (Err Memory) fits change h stand = change.3 h (stored_of parts) fits.fits stand
+  done_inside journal journal_after parts parts_after proposer proposer_after input (Err TapeFailed) fits change h stand = change.0.moments h (stored_of parts) fits.fits stand
+  done_inside journal journal_after parts parts_after proposer proposer_after input (Err Busy) fits change h stand = absurd change
+  done_inside journal journal_after parts parts_after proposer proposer_after input (Err SequenceFull) fits change h stand = absurd change
+  done_inside journal journal_after parts parts_after proposer proposer_after input (Err RoundsFull) fits change h stand = absurd change
+  done_inside journal journal_after parts parts_after proposer proposer_after input (Err Nothing) fits change h stand = absurd change
+  done_inside journal journal_after parts parts_after proposer proposer_after input (Err Halted) fits change h stand = absurd change
+
+  refused_inside : (journal journal_after : Journal T) (before after : Stored Definition) → journal_after ≡ journal → AllStandFor before (inside journal.tape journal.tape) →
+      EachStandsFor before after (inside journal.tape journal_after.tape)
+  refused_inside journal journal_after before after same stand image left =
+      inl (stand image (subst (λ (j : Journal T). inside journal.tape j.tape image) same left))
+
+  pub act_inside : {A : Type 0} (journal journal_after : Journal T) (kept kept_after : Kept) (proposer proposer_after : Proposer) (input : Input Definition) (result : Result (Vec Message A) NodeFault) →
+      IsNode honest images journal kept proposer → journal.halted ≡ false → RecordsFit Definition →
+      IsAct honest content images inside failures input journal kept.parts proposer result journal_after kept_after.parts proposer_after →
+      honest → LeavesNoOther (images journal.tape) (inside journal.tape journal.tape) →
+      EachStandsFor (stored_of kept.parts) (store (stored_of kept.parts) (row_of (view_of journal kept.parts proposer) input).entry) (inside journal.tape journal_after.tape)
+  act_inside journal journal_after kept kept_after proposer proposer_after input result is running fit act h now =
+      let fits : RowFits (stored_of kept.parts) (proposer_row proposer kept.parts input) =
+      fit definition_eq proposer.nodes proposer.node (stored_of kept.parts) (working_of proposer) input is.for_next in
+      let stand : AllStandFor (stored_of kept.parts) (inside journal.tape journal.tape) = λ image left. is.stands h running image (now image left) in
+      let stored_after = store (stored_of kept.parts) (proposer_row proposer kept.parts input).entry in
+      subst (λ r. EachStandsFor (stored_of kept.parts) (store (stored_of kept.parts) r.entry) (inside journal.tape journal_after.tape)) (row_shown journal kept.parts proposer input)
+      (elim (refusal (stored_of kept.parts) (working_of proposer) input) as (λ why.
+      IsRefusedOr honest content images inside failures why (proposer_row proposer kept.parts input) journal kept.parts proposer result journal_after kept_after.parts proposer_after →
+      EachStandsFor (stored_of kept.parts) stored_after (inside journal.tape journal_after.tape)) [
+        | None ↦ λ change. done_inside journal journal_after kept.parts kept_after.parts proposer proposer_after input result fits change h stand
+        | Some why ↦ λ refused. refused_inside journal journal_after (stored_of kept.parts) stored_after refused.1 stand
+      ] act)
+
   done_node : {A : Type 0} (journal journal_after : Journal T) (kept kept_after : Kept) (proposer proposer_after : Proposer) (input : Input Definition) (result : Result (Vec Message A) NodeFault) →
       IsNode honest images journal kept proposer → journal.halted ≡ false →
       RowFits (stored_of kept.parts) (proposer_row proposer kept.parts input) → kept_after.id ≡ kept.id →
-      IsChange honest content images failures (proposer_row proposer kept.parts input) journal kept.parts proposer result journal_after kept_after.parts proposer_after →
+      IsChange honest content images inside failures (proposer_row proposer kept.parts input) journal kept.parts proposer result journal_after kept_after.parts proposer_after →
       IsNode honest images journal_after kept_after proposer_after
   done_node journal journal_after kept kept_after proposer proposer_after input (Ok messages) is running fits id change = record {
     same_node = id ∙ (is.same_node ∙ sym change.1.node);
@@ -225,13 +264,13 @@ module _ {T : Type 0} (honest : Type 0) (content : T → List ℕ) (images : T �
   -- The invariant of nodes holds after the step.
   pub act_keeps : {A : Type 0} (journal journal_after : Journal T) (kept kept_after : Kept) (proposer proposer_after : Proposer) (input : Input Definition) (result : Result (Vec Message A) NodeFault) →
       IsNode honest images journal kept proposer → journal.halted ≡ false → RecordsFit Definition → kept_after.id ≡ kept.id →
-      IsAct honest content images failures input journal kept.parts proposer result journal_after kept_after.parts proposer_after →
+      IsAct honest content images inside failures input journal kept.parts proposer result journal_after kept_after.parts proposer_after →
       IsNode honest images journal_after kept_after proposer_after
   act_keeps journal journal_after kept kept_after proposer proposer_after input result is running fit id act =
       let fits : RowFits (stored_of kept.parts) (proposer_row proposer kept.parts input) =
       fit definition_eq proposer.nodes proposer.node (stored_of kept.parts) (working_of proposer) input is.for_next in
       elim (refusal (stored_of kept.parts) (working_of proposer) input) as (λ why.
-      IsRefusedOr honest content images failures why (proposer_row proposer kept.parts input) journal kept.parts proposer result journal_after kept_after.parts proposer_after →
+      IsRefusedOr honest content images inside failures why (proposer_row proposer kept.parts input) journal kept.parts proposer result journal_after kept_after.parts proposer_after →
       IsNode honest images journal_after kept_after proposer_after) [
         | None ↦ λ change. done_node journal journal_after kept kept_after proposer proposer_after input result is running fits id change
         | Some why ↦ λ refused. refused_node journal journal_after kept kept_after proposer proposer_after is id refused.1 refused.2

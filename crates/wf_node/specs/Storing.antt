@@ -24,12 +24,17 @@ IsStoredBy entry old new = (stored : Stored Definition) → Fits stored entry �
 abbrev pub IsTornAt : Option (Record Definition) → (List ℕ → Type 0) → (List ℕ → Type 0) → Type 0
 IsTornAt entry old new = (stored : Stored Definition) → Fits stored entry → AllStandFor stored old → EachStandsFor stored (store stored entry) new
 
-module _ {T : Type 0} (honest : Type 0) (content : T → List ℕ) (images : T → List ℕ → Type 0) (failures : T → ℕ) where
+-- what a crash could have left at each moment from that of the first tape on, up to the second's
+abbrev pub left_from : {T : Type 0} → (T → ℕ) → (T → ℕ → List ℕ → Type 0) → T → T → List ℕ → Type 0
+left_from moment left_since old new image = left_since new (moment old) image
+
+module _ {T : Type 0} (honest : Type 0) (content : T → List ℕ) (images : T → List ℕ → Type 0) (inside : T → T → List ℕ → Type 0) (failures : T → ℕ) where
   -- the record, if there is one, is on the tape
   pub record IsWritten (entry : Option (Record Definition)) (old new : Journal T) : Type 0 where
     pub running : new.halted ≡ false
     pub grown : honest → content new.tape ≡ content old.tape ++ bytes_of entry
     pub stored : honest → IsStoredBy entry (images old.tape) (images new.tape)
+    pub moments : honest → IsTornAt entry (inside old.tape old.tape) (inside old.tape new.tape)
 
   -- allocation failed: the tape is unchanged
   pub record IsSpared (old new : Journal T) : Type 0 where
@@ -43,11 +48,12 @@ module _ {T : Type 0} (honest : Type 0) (content : T → List ℕ) (images : T �
     pub risen : HasRisen (failures old.tape) (failures new.tape)
     pub part : honest → IsExtended (content old.tape) (bytes_of entry) (content new.tape)
     pub torn : honest → IsTornAt entry (images old.tape) (images new.tape)
+    pub moments : honest → IsTornAt entry (inside old.tape old.tape) (inside old.tape new.tape)
 
   -- If there is no record, allocation doesn't fail.
   abbrev pub IsWrite : {A : Type 0} → Option (Record Definition) → Journal T → Result A NodeFault → Journal T → Type 0
   IsWrite entry old (Ok x) new = IsWritten entry old new
-  IsWrite entry old (Err Memory) new = IsSpared old new × (entry ≡ None → ⊥)
+  IsWrite entry old (Err Memory) new = IsSpared old new × (entry ≡ None → ⊥) × (honest → IsTornAt entry (inside old.tape old.tape) (inside old.tape new.tape))
   IsWrite entry old (Err TapeFailed) new = IsBroken entry old new
   IsWrite entry old (Err Busy) new = ⊥
   IsWrite entry old (Err SequenceFull) new = ⊥

@@ -8,6 +8,7 @@ ghost use Rattle.wf_model.specs.Table.{told};
 ghost use Rattle.wf_node.specs.Act.{IsAct, IsChange, IsEnded, IsReady, IsReply};
 ghost use Rattle.wf_node.specs.Kept.{stored_of};
 ghost use Rattle.wf_proposer.specs.Proposer.{working_of};
+ghost use Rattle.wf_node.specs.Storing.{left_from};
 
 use crate::fault::NodeFault;
 use crate::machine::Machine;
@@ -24,7 +25,7 @@ impl<T: Tape> Machine<T> {
     /// Asks for the next definition, unless the last one is published.
     pub(crate) fn catch_up(&mut self, alloc: Global) -> Result<Vec<Message>, NodeFault>
         requires { IsReady self.old.journal self.old.kept self.old.proposer }
-        ensures act { IsAct T.honest T.content T.images T.failed table.CatchUp self.old.journal self.old.kept.parts self.old.proposer result self.new.journal self.new.kept.parts self.new.proposer }
+        ensures act { IsAct T.honest T.content T.images (left_from T.moment T.left_since) T.failed table.CatchUp self.old.journal self.old.kept.parts self.old.proposer result self.new.journal self.new.kept.parts self.new.proposer }
         ensures id { self.new.kept.id ≡ self.old.kept.id }
     {
         match self.kept.history().next_slot() {
@@ -41,7 +42,7 @@ impl<T: Tape> Machine<T> {
         canon: Canon,
     ) -> Result<Vec<Message>, NodeFault>
         requires { IsReady self.old.journal self.old.kept self.old.proposer }
-        ensures act { IsAct T.honest T.content T.images T.failed (table.Deliver (model.Chosen slot canon)) self.old.journal self.old.kept.parts self.old.proposer result self.new.journal self.new.kept.parts self.new.proposer }
+        ensures act { IsAct T.honest T.content T.images (left_from T.moment T.left_since) T.failed (table.Deliver (model.Chosen slot canon)) self.old.journal self.old.kept.parts self.old.proposer result self.new.journal self.new.kept.parts self.new.proposer }
         ensures id { self.new.kept.id ≡ self.old.kept.id }
     {
         let number = slot.number();
@@ -63,7 +64,7 @@ impl<T: Tape> Machine<T> {
     /// Answers an Ask.
     pub(crate) fn on_ask(&mut self, alloc: Global, slot: Slot) -> Result<Vec<Message>, NodeFault>
         requires { IsReady self.old.journal self.old.kept self.old.proposer }
-        ensures act { IsAct T.honest T.content T.images T.failed (table.Deliver (model.Ask slot)) self.old.journal self.old.kept.parts self.old.proposer result self.new.journal self.new.kept.parts self.new.proposer }
+        ensures act { IsAct T.honest T.content T.images (left_from T.moment T.left_since) T.failed (table.Deliver (model.Ask slot)) self.old.journal self.old.kept.parts self.old.proposer result self.new.journal self.new.kept.parts self.new.proposer }
         ensures id { self.new.kept.id ≡ self.old.kept.id }
     {
         // A slot is counted from 1, as the contract of its number says.
@@ -95,7 +96,7 @@ impl<T: Tape> Machine<T> {
     ) -> Result<Vec<Message>, NodeFault>
         requires ready { IsReady self.old.journal self.old.kept self.old.proposer }
         requires next { slot ≡ length self.old.kept.parts.history + 1 }
-        ensures change { IsChange T.honest T.content T.images T.failed (table.on_chosen definition_eq (stored_of self.old.kept) (working_of self.old.proposer) slot canon) self.old.journal self.old.kept.parts self.old.proposer result self.new.journal self.new.kept.parts self.new.proposer }
+        ensures change { IsChange T.honest T.content T.images (left_from T.moment T.left_since) T.failed (table.on_chosen definition_eq (stored_of self.old.kept) (working_of self.old.proposer) slot canon) self.old.journal self.old.kept.parts self.old.proposer result self.new.journal self.new.kept.parts self.new.proposer }
         ensures id { self.new.kept.id ≡ self.old.kept.id }
     {
         let entry = Record::Published(slot, canon);

@@ -6,6 +6,7 @@ ghost use Rattle.wf_codec.specs.Message.{view as view_message};
 ghost use Rattle.wf_model.specs.Table as table;
 ghost use Rattle.wf_node.specs.Act.{IsAct, IsReady};
 ghost use Rattle.wf_node.specs.Input.{view};
+ghost use Rattle.wf_node.specs.Storing.{left_from};
 
 use crate::fault::NodeFault;
 use crate::input::Input;
@@ -27,7 +28,7 @@ impl<T: Tape> Machine<T> {
     /// Acts on an input.
     pub(crate) fn act(&mut self, alloc: Global, input: Input) -> Result<Vec<Message>, NodeFault>
         requires { IsReady self.old.journal self.old.kept self.old.proposer }
-        ensures act { IsAct T.honest T.content T.images T.failed (view input) self.old.journal self.old.kept.parts self.old.proposer result self.new.journal self.new.kept.parts self.new.proposer }
+        ensures act { IsAct T.honest T.content T.images (left_from T.moment T.left_since) T.failed (view input) self.old.journal self.old.kept.parts self.old.proposer result self.new.journal self.new.kept.parts self.new.proposer }
         ensures id { self.new.kept.id ≡ self.old.kept.id }
     {
         match input {
@@ -41,7 +42,7 @@ impl<T: Tape> Machine<T> {
     /// Handles a message.
     fn deliver(&mut self, alloc: Global, message: Message) -> Result<Vec<Message>, NodeFault>
         requires { IsReady self.old.journal self.old.kept self.old.proposer }
-        ensures act { IsAct T.honest T.content T.images T.failed (table.Deliver (view_message message)) self.old.journal self.old.kept.parts self.old.proposer result self.new.journal self.new.kept.parts self.new.proposer }
+        ensures act { IsAct T.honest T.content T.images (left_from T.moment T.left_since) T.failed (table.Deliver (view_message message)) self.old.journal self.old.kept.parts self.old.proposer result self.new.journal self.new.kept.parts self.new.proposer }
         ensures id { self.new.kept.id ≡ self.old.kept.id }
     {
         match message {

@@ -25,8 +25,9 @@ impl<T: Tape> Node<T> {
     /// Node `id` of `n` nodes, with the stored part of its tape and no proposal. A torn record after the whole ones is removed,
     /// and what is kept is synced. An error returns the tape, unchanged unless the tape itself failed: P1 if the tape failed; P2
     /// with the byte offset if what follows the whole records isn't a record, or if a published definition isn't the next one; P3
-    /// if allocation failed. Each record is moved once, so opening takes time in proportion to the tape.
-    #[tactic(auto, using(crate::proofs::Opened::fold_of, crate::proofs::Opened::stands_all, crate::proofs::Opened::bad_read, crate::proofs::Opened::bad_fold, crate::proofs::Opened::bad_settle, crate::proofs::Opened::same_before, crate::proofs::Opened::follows_before, crate::proofs::Opened::unchanged_before, crate::proofs::Opened::why_failed_before))]
+    /// if allocation failed. Each record is moved once, so opening takes time in proportion to the tape. A crash at each moment
+    /// inside the call leaves what reads as something that a crash could have left before it.
+    #[tactic(auto, using(crate::proofs::Opened::fold_of, crate::proofs::Opened::stands_all, crate::proofs::Opened::bad_read, crate::proofs::Opened::bad_fold, crate::proofs::Opened::bad_settle, crate::proofs::Opened::same_before, wf_tape::specs::MomentLaws::inside_opened, crate::proofs::Opened::follows_before, crate::proofs::Opened::unchanged_before, crate::proofs::Opened::why_failed_before))]
     pub fn open(alloc: Global, tape: T, id: NodeId, n: u8) -> Result<Node<T>, (T, OpenFault)>
         requires nodes { n ≤ 64 }
         requires member { id < n }
@@ -38,6 +39,8 @@ impl<T: Tape> Node<T> {
         ensures stands { T.honest → IfOk result (λ node. AllStandFor (stored_of node) (T.images node.tape)) }
         ensures images { T.honest → IfOk result (λ node. Follows ReadsSame (T.images tape) (T.images node.tape)) }
         ensures images_err { T.honest → IfErr result (λ e. Follows ReadsSame (T.images tape) (T.images e.0)) }
+        ensures inside { T.honest → IfOk result (λ node. Follows ReadsSame (T.images tape) (T.left_since node.tape (T.moment tape))) }
+        ensures inside_err { T.honest → IfErr result (λ e. Follows ReadsSame (T.images tape) (T.left_since e.0 (T.moment tape))) }
         ensures unchanged { T.honest → IfErr result (λ e. e.1 ≢ OpenFault.TapeFailed → IsUnchanged (T.content tape) (T.content e.0) (T.images tape) (T.images e.0)) }
         ensures bad { T.honest → IfErr result (λ e. IsWhyBad e.1 (T.content tape)) }
         ensures failed { IfErr result (λ e. IsWhyFailed e.1 (T.failed tape) (T.failed e.0)) }

@@ -6,7 +6,7 @@ ghost use Rattle.wf_ballot.specs.Slot.{IsSlot};
 ghost use Rattle.wf_model.specs.Stored.{promise_at};
 ghost use Rattle.wf_node.specs.Kept.{stored_of as stored_in};
 ghost use Rattle.wf_node.specs.Shortening.{tried_records, vote_records, promise_records, open_records, records_at, records_from, shortened};
-ghost use Rattle.wf_node.specs.Storing.{IsReplacement};
+ghost use Rattle.wf_node.specs.Storing.{IsReplacement, left_from};
 ghost use Rattle.wf_tape.specs.Record.{view};
 
 use crate::fault::NodeFault;
@@ -71,7 +71,7 @@ impl<T: Tape> Machine<T> {
     /// Replaces the records on the tape by those of the stored part.
     fn rewrite(&mut self, alloc: Global) -> Result<(), NodeFault>
         requires { self.old.journal.halted ≡ false }
-        ensures replacement { IsReplacement T.honest T.content T.images T.failed (shortened (stored_in self.old.kept)) self.old.journal result self.new.journal }
+        ensures replacement { IsReplacement T.honest T.content T.images (left_from T.moment T.left_since) T.failed (shortened (stored_in self.old.kept)) self.old.journal result self.new.journal }
         ensures kept { self.new.kept ≡ self.old.kept }
         ensures proposer { self.new.proposer ≡ self.old.proposer }
     {
@@ -93,7 +93,7 @@ fn replace<T: Tape>(
     records: &[Record],
 ) -> Result<(), NodeFault>
     requires { journal.old.halted ≡ false }
-    ensures { IsReplacement T.honest T.content T.images T.failed (map view records.now) journal.old result journal.new }
+    ensures { IsReplacement T.honest T.content T.images (left_from T.moment T.left_since) T.failed (map view records.now) journal.old result journal.new }
 {
     match journal.rewrite(alloc, records) {
         Ok(()) => Ok(()),

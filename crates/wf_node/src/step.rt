@@ -25,7 +25,8 @@ impl<T: Tape> Node<T> {
     /// while one is running, N7 if a retry is while none is, then N3 if the last sequence is published, then N4 if there is no
     /// higher round. Then N1 if allocation failed, which changes nothing either; a transition that stores and sends nothing, as
     /// that of an answer that leaves no majority, doesn't allocate. And N6 if the tape failed, which halts the node: a prefix of
-    /// its record's bytes is on the tape, after what was there, and no message is returned.
+    /// its record's bytes is on the tape, after what was there, and no message is returned. A crash at each moment inside the step
+    /// leaves what stands for the stored part from before it, or for the transition's.
     pub fn step(&mut self, alloc: Global, input: Input) -> Result<Vec<Message>, NodeFault>
         ensures halted { self.old.halted ≡ true → result ≡ Err NodeFault.Halted }
         ensures running { result ≡ Err NodeFault.Halted → self.old.halted ≡ true }
@@ -43,6 +44,7 @@ impl<T: Tape> Node<T> {
         ensures halts { result ≡ Err NodeFault.TapeFailed → self.new.halted ≡ true }
         ensures part { T.honest → result ≡ Err NodeFault.TapeFailed → IsExtended (T.content self.old.tape) (bytes_of (row_of self.old (view input)).entry) (T.content self.new.tape) }
         ensures torn { T.honest → result ≡ Err NodeFault.TapeFailed → EachStandsFor (stored_of self.old) (store_entry (stored_of self.old) (row_of self.old (view input)).entry) (T.images self.new.tape) }
+        ensures inside { T.honest → self.old.halted ≡ false → EachStandsFor (stored_of self.old) (store_entry (stored_of self.old) (row_of self.old (view input)).entry) (T.left_since self.new.tape (T.moment self.old.tape)) }
     {
         if self.is_halted() {
             drop(input);
@@ -61,7 +63,8 @@ impl<T: Tape> Node<T> {
     /// A step of a node that isn't halted.
     fn advance(&mut self, alloc: Global, input: Input) -> Result<Vec<Message>, NodeFault>
         requires { self.old.halted ≡ false }
-        ensures { IsStep T.honest T.content T.images T.failed self.old (view input) result self.new }
+        ensures step { IsStep T.honest T.content T.images T.failed self.old (view input) result self.new }
+        ensures inside { T.honest → EachStandsFor (stored_of self.old) (store_entry (stored_of self.old) (row_of self.old (view input)).entry) (T.left_since self.new.tape (T.moment self.old.tape)) }
     {
         // The model's theorem: each transition's record fits the stored state.
         records_fit::<Canon>();

@@ -6,3 +6,4 @@ pub mod Lists
 pub mod Settling
 pub mod Images
 pub mod Written
+pub mod Moments

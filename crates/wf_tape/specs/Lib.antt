@@ -1,5 +1,6 @@
 pub mod Tape
 pub mod MemoryTape
+pub mod MemoryMoments
 pub mod Kind
 pub mod Record
 pub mod Spelling
@@ -8,3 +9,4 @@ pub mod Judging
 pub mod Front
 pub mod OpenFault
 pub mod Journal
+pub mod MomentLaws

@@ -143,6 +143,10 @@ impl<R: Files + Drop> Tape for FileTape<R> {
 
     ghost failed = { λ t. t.failures };
 
+    ghost is_now = { λ no. absurd no };
+
+    ghost nested = { λ no. absurd no };
+
     fn read(&mut self, alloc: Global) -> Result<Vec<u8>, TapeFault> {
         if self.file.seek(SeekFrom::Start(0)).is_err() {
             return Err(self.fail());

@@ -4,7 +4,7 @@ ghost use Rattle.std.specs.Prelude.{◌≡◌, ◌≢◌, ◌≤◌, ◌<◌, �
 ghost use Rattle.wf_tape.specs.declared.fault.TapeFault.TheVariants.{Memory};
 ghost use Rattle.wf_tape.specs.Record.{view};
 ghost use Rattle.wf_tape.specs.Records.{length_of};
-ghost use Rattle.wf_tape.specs.Tape.{IsOnlyImage, IsUnchanged, LeavesOldOr, HasCause};
+ghost use Rattle.wf_tape.specs.Tape.{IsOnlyImage, IsUnchanged, LeavesNoOther, LeavesOldOr, Elapses, HasCause};
 ghost use Rattle.wf_tape.specs.Front.{HasRead};
 ghost use Rattle.wf_tape.specs.OpenFault.{open_fault};
 ghost use Rattle.wf_tape.specs.Journal.{Holds, AllReadAs, Follows, ReadsSame, IsWhereBad, IsNotBad, IsWhyFailed};
@@ -49,6 +49,10 @@ impl<T: Tape> Found<T> {
         ensures content { T.honest → IfOk result (λ x. x.0.bytes ≡ T.content tape) }
         ensures unchanged { T.honest → IfOk result (λ x. IsUnchanged (T.content tape) (T.content x.0.tape) (T.images tape) (T.images x.0.tape)) }
         ensures unchanged_err { T.honest → IfErr result (λ e. IsUnchanged (T.content tape) (T.content e.0) (T.images tape) (T.images e.0)) }
+        ensures time { T.honest → IfOk result (λ x. Elapses (T.moment tape) (T.moment x.0.tape) (T.left_since tape) (T.left_since x.0.tape)) }
+        ensures time_err { T.honest → IfErr result (λ e. Elapses (T.moment tape) (T.moment e.0) (T.left_since tape) (T.left_since e.0)) }
+        ensures inside { T.honest → IfOk result (λ x. LeavesNoOther (T.images tape) (T.left_since x.0.tape (T.moment tape))) }
+        ensures inside_err { T.honest → IfErr result (λ e. LeavesNoOther (T.images tape) (T.left_since e.0 (T.moment tape))) }
         ensures bad { T.honest → IfErr result (λ e. IsWhereBad e.1 (T.content tape)) }
         ensures later { IfOk result (λ x. T.failed tape ≤ T.failed x.0.tape) }
         ensures failed { IfErr result (λ e. IsWhyFailed e.1 (T.failed tape) (T.failed e.0)) }
@@ -73,6 +77,10 @@ impl<T: Tape> Found<T> {
         ensures images { T.honest → IfOk result (λ journal. Follows ReadsSame (T.images self.tape) (T.images journal.tape)) }
         ensures images_err { T.honest → IfErr result (λ e. Follows ReadsSame (T.images self.tape) (T.images e.0)) }
         ensures unchanged { T.honest → IfErr result (λ e. e.1 ≢ OpenFault.TapeFailed → IsUnchanged (T.content self.tape) (T.content e.0) (T.images self.tape) (T.images e.0)) }
+        ensures time { T.honest → IfOk result (λ journal. Elapses (T.moment self.tape) (T.moment journal.tape) (T.left_since self.tape) (T.left_since journal.tape)) }
+        ensures time_err { T.honest → IfErr result (λ e. Elapses (T.moment self.tape) (T.moment e.0) (T.left_since self.tape) (T.left_since e.0)) }
+        ensures inside { T.honest → IfOk result (λ journal. Follows ReadsSame (T.images self.tape) (T.left_since journal.tape (T.moment self.tape))) }
+        ensures inside_err { T.honest → IfErr result (λ e. Follows ReadsSame (T.images self.tape) (T.left_since e.0 (T.moment self.tape))) }
         ensures not_bad { IfErr result (λ e. IsNotBad e.1) }
         ensures later { IfErr result (λ e. T.failed self.tape ≤ T.failed e.0) }
         ensures failed { IfErr result (λ e. IsWhyFailed e.1 (T.failed self.tape) (T.failed e.0)) }
@@ -106,6 +114,8 @@ fn settle<T: Tape>(tape: &mut T, bytes: &[u8], front: usize) -> Result<(), TapeF
     ensures only { T.honest → OnOk result (IsOnlyImage (T.content tape.new) (T.images tape.new)) }
     ensures images { T.honest → LeavesOldOr (take front bytes.now) (T.images tape.old) (T.images tape.new) }
     ensures memory { T.honest → IsErrOf result Memory → IsUnchanged (T.content tape.old) (T.content tape.new) (T.images tape.old) (T.images tape.new) }
+    ensures time { T.honest → Elapses (T.moment tape.old) (T.moment tape.new) (T.left_since tape.old) (T.left_since tape.new) }
+    ensures inside { T.honest → LeavesOldOr (take front bytes.now) (T.images tape.old) (T.left_since tape.new (T.moment tape.old)) }
     ensures cause { HasCause (T.failed tape.old) (T.failed tape.new) result }
 {
     if front < bytes.len() {

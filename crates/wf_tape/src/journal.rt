@@ -5,7 +5,7 @@ ghost use Rattle.wf_tape.specs.declared.fault.TapeFault.TheVariants.{Memory};
 ghost use Rattle.wf_tape.specs.Record.{view};
 ghost use Rattle.wf_tape.specs.Records.{IsTapeOf};
 ghost use Rattle.wf_tape.specs.Spelling.{spelling};
-ghost use Rattle.wf_tape.specs.Tape.{IsOnlyImage, IsUnchanged, IsExtended, IsCutShort, HasCause, HasRisen, IsNotMemory};
+ghost use Rattle.wf_tape.specs.Tape.{IsOnlyImage, IsUnchanged, IsExtended, IsCutShort, LeavesOldOrCut, Elapses, HasCause, HasRisen, IsNotMemory};
 ghost use Rattle.wf_tape.specs.Journal.{Holds, IsSettled, Follows, ReadsSame, ReadsOneMore, ReadsSameOrOneMore, IsAdded, IsWhereBad, IsWhyFailed};
 
 use crate::encoder::encode;
@@ -39,7 +39,8 @@ impl<T: Tape> Model for Journal<T> {
 
 impl<T: Tape> Journal<T> {
     /// The journal of the tape, and its records, the oldest first. A torn record after the whole ones is removed, and what is
-    /// kept is synced. An error returns the tape, unchanged unless the tape itself failed.
+    /// kept is synced. An error returns the tape, unchanged unless the tape itself failed. A crash at each moment inside the call
+    /// leaves what reads as something that a crash could have left before it.
     #[tactic(auto, using(crate::proofs::Settling::followed_on, crate::proofs::Settling::unchanged_on, crate::proofs::Settling::why_failed_on, crate::proofs::Settling::not_bad_anywhere))]
     pub fn open(alloc: Global, tape: T) -> Result<(Journal<T>, Vec<Record>), (T, OpenFault)>
         ensures running { IfOk result (λ x. x.0.halted ≡ false) }
@@ -47,6 +48,10 @@ impl<T: Tape> Journal<T> {
         ensures synced { T.honest → IfOk result (λ x. Holds (T.content x.0.tape) (T.images x.0.tape) (map view x.1.items)) }
         ensures images { T.honest → IfOk result (λ x. Follows ReadsSame (T.images tape) (T.images x.0.tape)) }
         ensures images_err { T.honest → IfErr result (λ e. Follows ReadsSame (T.images tape) (T.images e.0)) }
+        ensures time { T.honest → IfOk result (λ x. Elapses (T.moment tape) (T.moment x.0.tape) (T.left_since tape) (T.left_since x.0.tape)) }
+        ensures time_err { T.honest → IfErr result (λ e. Elapses (T.moment tape) (T.moment e.0) (T.left_since tape) (T.left_since e.0)) }
+        ensures inside { T.honest → IfOk result (λ x. Follows ReadsSame (T.images tape) (T.left_since x.0.tape (T.moment tape))) }
+        ensures inside_err { T.honest → IfErr result (λ e. Follows ReadsSame (T.images tape) (T.left_since e.0 (T.moment tape))) }
         ensures unchanged { T.honest → IfErr result (λ e. e.1 ≢ OpenFault.TapeFailed → IsUnchanged (T.content tape) (T.content e.0) (T.images tape) (T.images e.0)) }
         ensures bad { T.honest → IfErr result (λ e. IsWhereBad e.1 (T.content tape)) }
         ensures failed { IfErr result (λ e. IsWhyFailed e.1 (T.failed tape) (T.failed e.0)) }
@@ -75,13 +80,16 @@ impl<T: Tape> Journal<T> {
     }
 
     /// Adds a record: after Ok it is on the tape and synced. After a failure of the tape the journal is halted until it is opened
-    /// again, since a prefix of the record's bytes may be on the tape, after what was there.
+    /// again, since a prefix of the record's bytes may be on the tape, after what was there. A crash at each moment inside the call
+    /// leaves what reads as the records from before, or with the new one.
     #[tactic(auto, using(crate::proofs::Settling::same_or_more, crate::proofs::Settling::same_kept, crate::proofs::Settling::now_more, crate::proofs::Settling::settled_more, crate::proofs::Settling::settled_same))]
     pub fn add(&mut self, alloc: Global, entry: &Record) -> Result<(), AddFault>
         requires { self.old.halted ≡ false }
         ensures ok { T.honest → OnOk result (IsAdded (view entry.now) (T.content self.old.tape) (T.content self.new.tape) (T.images self.new.tape)) }
         ensures one_more { T.honest → OnOk result (Follows (ReadsOneMore (view entry.now)) (T.images self.old.tape) (T.images self.new.tape)) }
         ensures images { T.honest → Follows (ReadsSameOrOneMore (view entry.now)) (T.images self.old.tape) (T.images self.new.tape) }
+        ensures time { T.honest → Elapses (T.moment self.old.tape) (T.moment self.new.tape) (T.left_since self.old.tape) (T.left_since self.new.tape) }
+        ensures inside { T.honest → Follows (ReadsSameOrOneMore (view entry.now)) (T.images self.old.tape) (T.left_since self.new.tape (T.moment self.old.tape)) }
         ensures running { OnOk result (self.new.halted ≡ false) }
         ensures failed { IsErrOf result AddFault.TapeFailed → HasRisen (T.failed self.old.tape) (T.failed self.new.tape) }
         ensures part { T.honest → IsErrOf result AddFault.TapeFailed → IsExtended (T.content self.old.tape) (spelling (view entry.now)) (T.content self.new.tape) }
@@ -129,6 +137,8 @@ fn write<T: Tape>(tape: &mut T, bytes: &[u8]) -> Result<(), TapeFault>
     ensures part { T.honest → OnErr result (IsExtended (T.content tape.old) bytes.now (T.content tape.new)) }
     ensures images { T.honest → IsNotMemory result → IsCutShort (T.content tape.old ++ bytes.now) (T.images tape.old) (T.images tape.new) }
     ensures memory { T.honest → IsErrOf result Memory → IsUnchanged (T.content tape.old) (T.content tape.new) (T.images tape.old) (T.images tape.new) }
+    ensures time { T.honest → Elapses (T.moment tape.old) (T.moment tape.new) (T.left_since tape.old) (T.left_since tape.new) }
+    ensures inside { T.honest → LeavesOldOrCut (T.content tape.old ++ bytes.now) (T.images tape.old) (T.left_since tape.new (T.moment tape.old)) }
     ensures cause { HasCause (T.failed tape.old) (T.failed tape.new) result }
 {
     match tape.append(bytes) {

@@ -2,7 +2,7 @@
 
 ghost use Rattle.std.specs.Prelude.{◌≡◌, false, true, map, OnOk, OnErr, IsErrOf};
 ghost use Rattle.wf_tape.specs.Record.{view};
-ghost use Rattle.wf_tape.specs.Tape.{IsUnchanged, HasRisen};
+ghost use Rattle.wf_tape.specs.Tape.{IsUnchanged, Elapses, HasRisen};
 ghost use Rattle.wf_tape.specs.Journal.{Holds, Follows, IsSameOrRecords, IsSameOrReads};
 
 use crate::encoder::encode_all;
@@ -15,7 +15,8 @@ use std::alloc::Global;
 
 impl<T: Tape> Journal<T> {
     /// Replaces all records by these, in one call of the tape: after Ok it holds exactly them, synced. After a failure of the tape
-    /// the journal is halted until it is opened again, since the tape holds the records from before or these.
+    /// the journal is halted until it is opened again, since the tape holds the records from before or these. A crash at each
+    /// moment inside the call leaves one of the two as well.
     #[tactic(auto, using(crate::proofs::Settling::holds_written, crate::proofs::Settling::follows_replaced, crate::proofs::Settling::follows_failed, crate::proofs::Settling::follows_unchanged, crate::proofs::Settling::failed_content, crate::proofs::Settling::failed_images, crate::proofs::Settling::unchanged_images, crate::proofs::Settling::settled_written, crate::proofs::Settling::settled_same))]
     pub fn rewrite(&mut self, alloc: Global, records: &[Record]) -> Result<(), AddFault>
         requires { self.old.halted ≡ false }
@@ -23,6 +24,8 @@ impl<T: Tape> Journal<T> {
         ensures content_err { T.honest → OnErr result (IsSameOrRecords (map view records.now) (T.content self.old.tape) (T.content self.new.tape)) }
         ensures images_err { T.honest → OnErr result (Follows (IsSameOrRecords (map view records.now)) (T.images self.old.tape) (T.images self.new.tape)) }
         ensures images { T.honest → Follows (IsSameOrReads (map view records.now)) (T.images self.old.tape) (T.images self.new.tape) }
+        ensures time { T.honest → Elapses (T.moment self.old.tape) (T.moment self.new.tape) (T.left_since self.old.tape) (T.left_since self.new.tape) }
+        ensures inside { T.honest → Follows (IsSameOrReads (map view records.now)) (T.images self.old.tape) (T.left_since self.new.tape (T.moment self.old.tape)) }
         ensures running { OnOk result (self.new.halted ≡ false) }
         ensures failed { IsErrOf result AddFault.TapeFailed → HasRisen (T.failed self.old.tape) (T.failed self.new.tape) }
         ensures halted { IsErrOf result AddFault.TapeFailed → self.new.halted ≡ true }

@@ -1,15 +1,15 @@
 ghost use Rattle.std.specs.Prelude.{◌≡◌, ◌⊎◌, ◌++◌, List, ℕ, IfOk, OnOk, OnErr, IsErrOf};
 ghost use Rattle.wf_tape.specs.declared.fault.TapeFault.TheVariants.{Memory};
-ghost use Rattle.wf_tape.specs.Tape.{IsOnlyImage, IsUnchanged, LeavesNoOther, IsExtended, IsCutShort, LeavesOldOr, HasCause, IsNotMemory};
+ghost use Rattle.wf_tape.specs.Tape.{IsOnlyImage, IsUnchanged, LeavesNoOther, IsExtended, IsCutShort, LeavesOldOr, LeavesOldOrNew, Elapses, IsNow, AreNested, HasCause, IsNotMemory};
 
 use crate::fault::TapeFault;
 use std::alloc::Global;
 
 /// A tape: bytes that are appended to, synced and replaced as a whole. A crash may lose what isn't synced yet.
 ///
-/// Model: its content, its images (what a crash now may leave) and the count of its failures. The contracts about content and
-/// images hold of an honest tape. Honesty is a property of the type, so no call changes it. Any tape has counted a failure if a
-/// call returns `Device`.
+/// Model: its content, its images (what a crash now may leave), what a crash at each earlier moment could have left, those inside
+/// a call included, and the count of its failures. The contracts about content, images and moments hold of an honest tape. Honesty
+/// is a property of the type, so no call changes it. Any tape has counted a failure if a call returns `Device`.
 pub trait Tape {
     /// The tape holds what was written.
     ghost honest: { Type 0 };
@@ -23,40 +23,61 @@ pub trait Tape {
     /// The number of times that the device has failed.
     ghost failed: { Self → ℕ };
 
-    /// The content, which is one of the images. Changes nothing.
+    /// The moment now, as a number that doesn't fall: each change of the tape ends a moment.
+    ghost moment: { Self → ℕ } = { λ _. 0 };
+
+    /// What a crash at this moment or a later one, up to now, could have left, inside a call or between two.
+    ghost left_since: { Self → ℕ → List ℕ → Type 0 } = { λ _ _ _. ⊥ };
+
+    /// The content, which is one of the images. Changes nothing, at no moment.
     fn read(&mut self, alloc: Global) -> Result<Vec<u8>, TapeFault>
         ensures ok { honest → IfOk result (λ bytes. bytes.items ≡ content self.old) }
         ensures image { honest → OnOk result (images self.old (content self.old)) }
         ensures same { honest → IsUnchanged (content self.old) (content self.new) (images self.old) (images self.new) }
+        ensures time { honest → Elapses (moment self.old) (moment self.new) (left_since self.old) (left_since self.new) }
+        ensures inside { honest → LeavesNoOther (images self.old) (left_since self.new (moment self.old)) }
         ensures cause { HasCause (failed self.old) (failed self.new) result };
 
     /// Appends the bytes. Until they are synced a crash may leave any prefix of them; after `Device` a prefix of them may be
-    /// there, and no more.
+    /// there, and no more. A crash inside the call leaves what one could before it, or what one can after it.
     fn append(&mut self, bytes: &[u8]) -> Result<(), TapeFault>
         ensures ok { honest → OnOk result (content self.new ≡ content self.old ++ bytes.now) }
         ensures err { honest → OnErr result (IsExtended (content self.old) bytes.now (content self.new)) }
         ensures images { honest → IsNotMemory result → IsCutShort (content self.new) (images self.old) (images self.new) }
         ensures memory { honest → IsErrOf result Memory → IsUnchanged (content self.old) (content self.new) (images self.old) (images self.new) }
+        ensures time { honest → Elapses (moment self.old) (moment self.new) (left_since self.old) (left_since self.new) }
+        ensures inside { honest → LeavesOldOrNew (images self.old) (images self.new) (left_since self.new (moment self.old)) }
         ensures cause { HasCause (failed self.old) (failed self.new) result };
 
-    /// After it a crash leaves exactly the content. Doesn't allocate.
+    /// After it a crash leaves exactly the content; inside it, what one could before. Doesn't allocate.
     fn sync(&mut self) -> Result<(), TapeFault>
         ensures ok { honest → OnOk result (IsOnlyImage (content self.new) (images self.new)) }
         ensures same { honest → content self.new ≡ content self.old }
         ensures images { honest → LeavesNoOther (images self.old) (images self.new) }
         ensures memory { IsNotMemory result }
+        ensures time { honest → Elapses (moment self.old) (moment self.new) (left_since self.old) (left_since self.new) }
+        ensures inside { honest → LeavesNoOther (images self.old) (left_since self.new (moment self.old)) }
         ensures cause { HasCause (failed self.old) (failed self.new) result };
 
-    /// Replaces the content by the bytes, all of them synced. After `Device` the content is the bytes, or that of before.
+    /// Replaces the content by the bytes, all of them synced. After `Device` the content is the bytes, or that of before. A crash
+    /// inside the call leaves what one could before it, or exactly the bytes.
     fn replace(&mut self, bytes: &[u8]) -> Result<(), TapeFault>
         ensures ok { honest → OnOk result (content self.new ≡ bytes.now) }
         ensures synced { honest → OnOk result (IsOnlyImage bytes.now (images self.new)) }
         ensures err { honest → OnErr result ((content self.new ≡ content self.old) ⊎ (content self.new ≡ bytes.now)) }
         ensures images { honest → OnErr result (LeavesOldOr bytes.now (images self.old) (images self.new)) }
         ensures memory { honest → IsErrOf result Memory → IsUnchanged (content self.old) (content self.new) (images self.old) (images self.new) }
+        ensures time { honest → Elapses (moment self.old) (moment self.new) (left_since self.old) (left_since self.new) }
+        ensures inside { honest → LeavesOldOr bytes.now (images self.old) (left_since self.new (moment self.old)) }
         ensures cause { HasCause (failed self.old) (failed self.new) result };
 
     /// The number of times that the device has failed. It saturates.
     fn failures(&self) -> u64
         ensures { result ≡ failed self.now };
+
+    /// Since this moment there was no other.
+    ghost is_now: { honest → (tape : Self) → IsNow (images tape) (left_since tape (moment tape)) };
+
+    /// What could have been left since a moment, could since an earlier one.
+    ghost nested: { honest → (tape : Self) → AreNested (left_since tape) };
 }

@@ -158,6 +158,10 @@ impl Tape for Unsynced {
 
     ghost failed = { λ t. t.failures };
 
+    ghost is_now = { λ no. absurd no };
+
+    ghost nested = { λ no. absurd no };
+
     fn read(&mut self, alloc: Global) -> Result<Vec<u8>, TapeFault> {
         Ok(self.bytes.to_vec(alloc)?)
     }

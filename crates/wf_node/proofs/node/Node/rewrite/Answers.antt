@@ -3,6 +3,7 @@ use Rattle.std.proofs.Common.{subst, ap, ◌∙◌}
 use Rattle.wf_node.specs.Node.{view_of}
 use Rattle.wf_node.specs.Shortening.{IsShortening}
 use Rattle.wf_node.proofs.Rewriting.{rewriting_keeps, shortens}
+use Rattle.wf_node.specs.Storing.{left_from}
 use Rattle.wf_node.proofs.node.Node.rewrite.Goals as goal
 
 pub rewrite-requires : goal.rewrite-requires
@@ -10,11 +11,11 @@ rewrite-requires g c = ap (λ node. node.halted) c.self.view_is ∙ c.requires
 
 pub invariant_of-self : goal.invariant_of-self
 invariant_of-self g c =
-    rewriting_keeps g.T.Tape.honest g.T.Tape.content g.T.Tape.images g.T.Tape.failed c.self.inside.machine.journal c.rewrite.new.self.journal c.self.inside.machine.kept c.rewrite.new.self.kept c.self.inside.machine.proposer c.rewrite.new.self.proposer
+    rewriting_keeps g.T.Tape.honest g.T.Tape.content g.T.Tape.images (left_from g.T.Tape.moment g.T.Tape.left_since) g.T.Tape.failed c.self.inside.machine.journal c.rewrite.new.self.journal c.self.inside.machine.kept c.rewrite.new.self.kept c.self.inside.machine.proposer c.rewrite.new.self.proposer
     c.rewrite.result c.folds_are_open.ensures c.votes_are_promised.ensures c.self.invariant (ap (λ node. node.halted) c.self.view_is ∙ c.requires) c.rewrite.ensures.replacement c.rewrite.ensures.kept c.rewrite.ensures.proposer
 
 pub returns : goal.returns
 returns g c =
     subst (λ before. IsShortening g.T.Tape.honest g.T.Tape.content g.T.Tape.images g.T.Tape.failed before c.rewrite.result (view_of c.rewrite.new.self.journal c.rewrite.new.self.kept.parts c.rewrite.new.self.proposer)) c.self.view_is
-    (shortens g.T.Tape.honest g.T.Tape.content g.T.Tape.images g.T.Tape.failed c.self.inside.machine.journal c.rewrite.new.self.journal c.self.inside.machine.kept c.rewrite.new.self.kept c.self.inside.machine.proposer c.rewrite.new.self.proposer
+    (shortens g.T.Tape.honest g.T.Tape.content g.T.Tape.images (left_from g.T.Tape.moment g.T.Tape.left_since) g.T.Tape.failed c.self.inside.machine.journal c.rewrite.new.self.journal c.self.inside.machine.kept c.rewrite.new.self.kept c.self.inside.machine.proposer c.rewrite.new.self.proposer
     c.rewrite.result c.folds_are_open.ensures c.votes_are_promised.ensures c.self.invariant (ap (λ node. node.halted) c.self.view_is ∙ c.requires) c.rewrite.ensures.replacement c.rewrite.ensures.kept c.rewrite.ensures.proposer)

@@ -43,3 +43,18 @@ returns-clause-images_err g c = λ honest.
     same_found c.one_text_one_map.ensures c.self.inside.bytes.items c.deref.result.now (g.T.Tape.content c.self.inside.tape) c.self.invariant.0.0 c.self.inside.front
     (g.T.Tape.images c.self.inside.tape) (g.T.Tape.images c.settle.new.tape) c.self.invariant.0.1 (c.self.invariant.1 honest) c.deref.ensures.value (c.settle.ensures.images honest) in
     subst (λ tape. Follows ReadsSame (g.T.Tape.images tape) (g.T.Tape.images c.settle.new.tape)) (ap (λ f. f.tape) c.self.view_is) follows
+
+pub returns-in-Ok-clause-inside : goal.returns-in-Ok-clause-inside
+returns-in-Ok-clause-inside g c = λ honest.
+    let follows =
+    same_found c.one_text_one_map.ensures c.self.inside.bytes.items c.deref.result.now (g.T.Tape.content c.self.inside.tape) c.self.invariant.0.0 c.self.inside.front
+    (g.T.Tape.images c.self.inside.tape) (g.T.Tape.left_since c.settle.new.tape (g.T.Tape.moment c.self.inside.tape)) c.self.invariant.0.1 (c.self.invariant.1 honest) c.deref.ensures.value (c.settle.ensures.inside honest) in
+    subst (λ tape. Follows ReadsSame (g.T.Tape.images c.args.self.tape) (g.T.Tape.left_since tape (g.T.Tape.moment c.args.self.tape))) (sym (ap (λ j. j.tape) c.over.ensures))
+    (subst (λ tape. Follows ReadsSame (g.T.Tape.images tape) (g.T.Tape.left_since c.settle.new.tape (g.T.Tape.moment tape))) (ap (λ f. f.tape) c.self.view_is) follows)
+
+pub returns-clause-inside_err : goal.returns-clause-inside_err
+returns-clause-inside_err g c = λ honest.
+    let follows =
+    same_found c.one_text_one_map.ensures c.self.inside.bytes.items c.deref.result.now (g.T.Tape.content c.self.inside.tape) c.self.invariant.0.0 c.self.inside.front
+    (g.T.Tape.images c.self.inside.tape) (g.T.Tape.left_since c.settle.new.tape (g.T.Tape.moment c.self.inside.tape)) c.self.invariant.0.1 (c.self.invariant.1 honest) c.deref.ensures.value (c.settle.ensures.inside honest) in
+    subst (λ tape. Follows ReadsSame (g.T.Tape.images tape) (g.T.Tape.left_since c.settle.new.tape (g.T.Tape.moment tape))) (ap (λ f. f.tape) c.self.view_is) follows

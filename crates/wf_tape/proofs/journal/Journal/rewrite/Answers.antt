@@ -63,3 +63,30 @@ returns-clause-images g c = λ honest.
     subst (λ tape. Follows (IsSameOrReads (map view c.args.records.now)) (g.T.Tape.images tape) (g.T.Tape.images c.replace.new.self)) same
     (follows_failed (g.T.Tape.content c.self.inside.tape) c.deref.result.now (map view c.args.records.now) (g.T.Tape.images c.self.inside.tape) (g.T.Tape.images c.replace.new.self)
     (c.self.invariant honest running) are (c.in-Err-Device.ensures.images honest))
+
+pub returns-in-Ok-replace-clause-inside : goal.returns-in-Ok-replace-clause-inside
+returns-in-Ok-replace-clause-inside g c = λ honest.
+    let same : c.self.inside.tape ≡ c.args.self.now.tape = ap (λ j. j.tape) c.self.view_is in
+    let running : c.self.inside.halted ≡ false = ap (λ j. j.halted) c.self.view_is ∙ c.requires in
+    let are = subst (λ (t : List ℕ). AreRecords t (map view c.args.records.now)) (sym c.deref.ensures.value) c.in-Ok.ensures in
+    subst (λ tape. Follows (IsSameOrReads (map view c.args.records.now)) (g.T.Tape.images tape) (g.T.Tape.left_since c.replace.new.self (g.T.Tape.moment tape))) same
+    (follows_failed (g.T.Tape.content c.self.inside.tape) c.deref.result.now (map view c.args.records.now) (g.T.Tape.images c.self.inside.tape)
+    (g.T.Tape.left_since c.replace.new.self (g.T.Tape.moment c.self.inside.tape)) (c.self.invariant honest running) are (c.replace.ensures.inside honest))
+
+pub returns-in-Err-Memory-clause-inside : goal.returns-in-Err-Memory-clause-inside
+returns-in-Err-Memory-clause-inside g c = λ honest.
+    let same : c.self.inside.tape ≡ c.args.self.now.tape = ap (λ j. j.tape) c.self.view_is in
+    let running : c.self.inside.halted ≡ false = ap (λ j. j.halted) c.self.view_is ∙ c.requires in
+    let are = subst (λ (t : List ℕ). AreRecords t (map view c.args.records.now)) (sym c.deref.ensures.value) c.in-Ok.ensures in
+    subst (λ tape. Follows (IsSameOrReads (map view c.args.records.now)) (g.T.Tape.images tape) (g.T.Tape.left_since c.replace.new.self (g.T.Tape.moment tape))) same
+    (follows_failed (g.T.Tape.content c.self.inside.tape) c.deref.result.now (map view c.args.records.now) (g.T.Tape.images c.self.inside.tape)
+    (g.T.Tape.left_since c.replace.new.self (g.T.Tape.moment c.self.inside.tape)) (c.self.invariant honest running) are (c.replace.ensures.inside honest))
+
+pub returns-clause-inside : goal.returns-clause-inside
+returns-clause-inside g c = λ honest.
+    let same : c.self.inside.tape ≡ c.args.self.now.tape = ap (λ j. j.tape) c.self.view_is in
+    let running : c.self.inside.halted ≡ false = ap (λ j. j.halted) c.self.view_is ∙ c.requires in
+    let are = subst (λ (t : List ℕ). AreRecords t (map view c.args.records.now)) (sym c.deref.ensures.value) c.in-Ok.ensures in
+    subst (λ tape. Follows (IsSameOrReads (map view c.args.records.now)) (g.T.Tape.images tape) (g.T.Tape.left_since c.replace.new.self (g.T.Tape.moment tape))) same
+    (follows_failed (g.T.Tape.content c.self.inside.tape) c.deref.result.now (map view c.args.records.now) (g.T.Tape.images c.self.inside.tape)
+    (g.T.Tape.left_since c.replace.new.self (g.T.Tape.moment c.self.inside.tape)) (c.self.invariant honest running) are (c.replace.ensures.inside honest))
