@@ -7,6 +7,7 @@ ghost use Rattle.wf_model.specs.Stored.{promise_at};
 ghost use Rattle.wf_node.specs.Kept.{stored_of as stored_in};
 ghost use Rattle.wf_node.specs.Shortening.{tried_records, vote_records, promise_records, open_records, records_at, records_from, shortened};
 ghost use Rattle.wf_node.specs.Storing.{IsReplacement, left_from};
+ghost use Rattle.wf_tape.specs.Journal.{Follows, IsSameOrReads};
 ghost use Rattle.wf_tape.specs.Record.{view};
 
 use crate::fault::NodeFault;
@@ -31,7 +32,8 @@ impl<T: Tape> Node<T> {
 
     /// Rewrites the node's tape, in one call of it: after Ok it holds the last round tried, the published definitions, and the
     /// votes and promises above them, each once, and no promise that a vote implies. The node itself is unchanged, and
-    /// whatever is returned, every image of an honest tape stands for its stored part. A halted node returns N5; then N1 if
+    /// whatever is returned, every image of an honest tape stands for its stored part, as does what a crash at each moment inside
+    /// the call leaves. A halted node returns N5; then N1 if
     /// allocation failed, which changes nothing; N6 if the tape failed, which halts the node. It takes time in proportion to what
     /// is stored, and copies it.
     pub fn shorten(&mut self, alloc: Global) -> Result<(), NodeFault>
@@ -43,6 +45,7 @@ impl<T: Tape> Node<T> {
         ensures done { OnOk result (self.new.halted ≡ false) }
         ensures held { T.honest → OnOk result (Holds (T.content self.new.tape) (T.images self.new.tape) (shortened (stored_of self.old))) }
         ensures stands { T.honest → self.old.halted ≡ false → AllStandFor (stored_of self.old) (T.images self.new.tape) }
+        ensures inside { T.honest → self.old.halted ≡ false → AllStandFor (stored_of self.old) (T.left_since self.new.tape (T.moment self.old.tape)) }
         ensures memory { result ≡ Err NodeFault.Memory → self.new.halted ≡ false }
         ensures same_tape { T.honest → result ≡ Err NodeFault.Memory → IsUnchanged (T.content self.old.tape) (T.content self.new.tape) (T.images self.old.tape) (T.images self.new.tape) }
         ensures failed { result ≡ Err NodeFault.TapeFailed → HasRisen (T.failed self.old.tape) (T.failed self.new.tape) }
@@ -57,7 +60,8 @@ impl<T: Tape> Node<T> {
     /// Shortens the tape of a node that isn't halted.
     fn rewrite(&mut self, alloc: Global) -> Result<(), NodeFault>
         requires { self.old.halted ≡ false }
-        ensures { IsShortening T.honest T.content T.images T.failed self.old result self.new }
+        ensures shortening { IsShortening T.honest T.content T.images T.failed self.old result self.new }
+        ensures inside { T.honest → AllStandFor (stored_of self.old) (T.left_since self.new.tape (T.moment self.old.tape)) }
     {
         // The model's theorems: what records fold to has votes and promises of sequences that aren't published, and no vote
         // without a promise.
@@ -72,6 +76,7 @@ impl<T: Tape> Machine<T> {
     fn rewrite(&mut self, alloc: Global) -> Result<(), NodeFault>
         requires { self.old.journal.halted ≡ false }
         ensures replacement { IsReplacement T.honest T.content T.images (left_from T.moment T.left_since) T.failed (shortened (stored_in self.old.kept)) self.old.journal result self.new.journal }
+        ensures inside { T.honest → Follows (IsSameOrReads (shortened (stored_in self.old.kept))) (T.images self.old.journal.tape) (T.left_since self.new.journal.tape (T.moment self.old.journal.tape)) }
         ensures kept { self.new.kept ≡ self.old.kept }
         ensures proposer { self.new.proposer ≡ self.old.proposer }
     {
@@ -93,7 +98,8 @@ fn replace<T: Tape>(
     records: &[Record],
 ) -> Result<(), NodeFault>
     requires { journal.old.halted ≡ false }
-    ensures { IsReplacement T.honest T.content T.images (left_from T.moment T.left_since) T.failed (map view records.now) journal.old result journal.new }
+    ensures replacement { IsReplacement T.honest T.content T.images (left_from T.moment T.left_since) T.failed (map view records.now) journal.old result journal.new }
+    ensures inside { T.honest → Follows (IsSameOrReads (map view records.now)) (T.images journal.old.tape) (T.left_since journal.new.tape (T.moment journal.old.tape)) }
 {
     match journal.rewrite(alloc, records) {
         Ok(()) => Ok(()),

@@ -1,8 +1,11 @@
 -- What the journal now holds stands for the stored part, which is unchanged.
 use Rattle.std.proofs.Common.{subst, ap, ◌∙◌}
-use Rattle.wf_node.specs.Node.{view_of}
+use Rattle.wf_node.specs.Images.{AllStandFor}
+use Rattle.wf_node.specs.Kept as keeping
+use Rattle.wf_node.specs.Node.{stored_of, view_of}
 use Rattle.wf_node.specs.Shortening.{IsShortening}
 use Rattle.wf_node.proofs.Rewriting.{rewriting_keeps, shortens}
+use Rattle.wf_node.proofs.Shortened.{stands_on}
 use Rattle.wf_node.specs.Storing.{left_from}
 use Rattle.wf_node.proofs.node.Node.rewrite.Goals as goal
 
@@ -14,8 +17,15 @@ invariant_of-self g c =
     rewriting_keeps g.T.Tape.honest g.T.Tape.content g.T.Tape.images (left_from g.T.Tape.moment g.T.Tape.left_since) g.T.Tape.failed c.self.inside.machine.journal c.rewrite.new.self.journal c.self.inside.machine.kept c.rewrite.new.self.kept c.self.inside.machine.proposer c.rewrite.new.self.proposer
     c.rewrite.result c.folds_are_open.ensures c.votes_are_promised.ensures c.self.invariant (ap (λ node. node.halted) c.self.view_is ∙ c.requires) c.rewrite.ensures.replacement c.rewrite.ensures.kept c.rewrite.ensures.proposer
 
-pub returns : goal.returns
-returns g c =
+pub returns-clause-shortening : goal.returns-clause-shortening
+returns-clause-shortening g c =
     subst (λ before. IsShortening g.T.Tape.honest g.T.Tape.content g.T.Tape.images g.T.Tape.failed before c.rewrite.result (view_of c.rewrite.new.self.journal c.rewrite.new.self.kept.parts c.rewrite.new.self.proposer)) c.self.view_is
     (shortens g.T.Tape.honest g.T.Tape.content g.T.Tape.images (left_from g.T.Tape.moment g.T.Tape.left_since) g.T.Tape.failed c.self.inside.machine.journal c.rewrite.new.self.journal c.self.inside.machine.kept c.rewrite.new.self.kept c.self.inside.machine.proposer c.rewrite.new.self.proposer
     c.rewrite.result c.folds_are_open.ensures c.votes_are_promised.ensures c.self.invariant (ap (λ node. node.halted) c.self.view_is ∙ c.requires) c.rewrite.ensures.replacement c.rewrite.ensures.kept c.rewrite.ensures.proposer)
+
+pub returns-clause-inside : goal.returns-clause-inside
+returns-clause-inside g c = λ honest.
+    subst (λ before. AllStandFor (stored_of before) (g.T.Tape.left_since c.rewrite.new.self.journal.tape (g.T.Tape.moment before.tape))) c.self.view_is
+    (stands_on c.folds_are_open.ensures c.votes_are_promised.ensures (keeping.stored_of c.self.inside.machine.kept) (g.T.Tape.images c.self.inside.machine.journal.tape)
+    (g.T.Tape.left_since c.rewrite.new.self.journal.tape (g.T.Tape.moment c.self.inside.machine.journal.tape)) (c.rewrite.ensures.inside honest)
+    (c.self.invariant.stands honest (ap (λ node. node.halted) c.self.view_is ∙ c.requires)))
