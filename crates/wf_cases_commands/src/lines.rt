@@ -4,6 +4,7 @@ use clap::Error;
 use std::alloc::Global;
 use wf_commands::ending::Ending;
 use wf_commands::program::{rejection_status, run_words};
+use wf_farm::Carrier;
 use wf_line::arguments::line;
 use wf_line::line::{Line, Service};
 use wf_stream::Stream;
@@ -33,6 +34,7 @@ fn tell_line(asked_for: Line<'_>, answer: &mut Answer) {
     match asked_for {
         Line::Canon => answer.line("canon"),
         Line::Run => answer.line("run"),
+        Line::Wire => answer.line("wire"),
         Line::Tape { file } => {
             answer.text("tape");
             tell_bracketed(file, answer);
@@ -118,14 +120,14 @@ fn tell_ending(ending: Ending, answer: &mut Answer) {
 }
 
 // Runs what a command line asks for. In place of serving nodes a line tells what is to be served.
-fn tell_run(asked: Asked<'_>, words: &[&str], answer: &mut Answer) {
+fn tell_run<C: Carrier>(asked: Asked<'_>, carrier: &mut C, words: &[&str], answer: &mut Answer) {
     let mut source = Stream::new(asked.input);
     let mut sink = Stream::new(answer.target());
     let server = Recorder {
         alloc: asked.alloc,
         tape: asked.input,
     };
-    let outcome = run_words(asked.alloc, words, &mut source, &mut sink, &server);
+    let outcome = run_words(asked.alloc, words, &mut source, &mut sink, &server, carrier);
     drop(sink);
     match outcome {
         Ok(ending) => tell_ending(ending, answer),
@@ -134,23 +136,29 @@ fn tell_run(asked: Asked<'_>, words: &[&str], answer: &mut Answer) {
 }
 
 /// `run WORDS`: what the program writes about the input, its error line, and the exit status if that isn't 0. WORDS are the
-/// command line's, spelled with escapes, with `\n` between. The input is also the file `node-0.tape`, the only one that there is.
-pub(crate) fn run(asked: Asked<'_>, answer: &mut Answer) -> Answered {
+/// command line's, spelled with escapes, with `\n` between. The input is also the file `node-0.tape`, the only one that there is. The
+/// messages of `wire` come by the carrier.
+pub(crate) fn run<C: Carrier>(asked: Asked<'_>, carrier: &mut C, answer: &mut Answer) -> Answered {
     let mut text = Answer::new(asked.alloc);
     let told = match unescape(asked.words.rest(), &mut text) {
-        Ok(()) => run_text(asked, &text, answer),
+        Ok(()) => run_text(asked, carrier, &text, answer),
         Err(unanswered) => Err(unanswered),
     };
     drop(text);
     told
 }
 
-fn run_text(asked: Asked<'_>, text: &Answer, answer: &mut Answer) -> Answered {
+fn run_text<C: Carrier>(
+    asked: Asked<'_>,
+    carrier: &mut C,
+    text: &Answer,
+    answer: &mut Answer,
+) -> Answered {
     let Ok(text) = str::from_utf8(text.written()?) else {
         return Err(Unanswered::BadWords);
     };
     let words = words_of(asked.alloc, text, '\n')?;
-    tell_run(asked, &words, answer);
+    tell_run(asked, carrier, &words, answer);
     drop(words);
     Ok(())
 }

@@ -20,5 +20,5 @@ use std::process::ExitCode;
 use wf_table::run_program;
 
 fn main(rt: HostRuntime) -> ExitCode {
-    run_program(&rt, &CommandQuestions)
+    run_program(&rt, &CommandQuestions(&rt))
 }

@@ -24,6 +24,7 @@ pub serving_reads_nothing : (serves : Option (List ℕ) → Option (List ℕ) �
 serving_reads_nothing serves old new (Ok done) count served = refl
 serving_reads_nothing serves old new (Err faults.Write) count served = refl
 serving_reads_nothing serves old new (Err faults.Serve) count served = refl
+serving_reads_nothing serves old new (Err faults.Wire) count served = absurd served
 serving_reads_nothing serves old new (Err (faults.Map fault)) count served = absurd served
 serving_reads_nothing serves old new (Err (faults.Canon fault)) count served = absurd served
 serving_reads_nothing serves old new (Err (faults.Script fault)) count served = absurd served
@@ -41,6 +42,7 @@ listing_reads_nothing content old new (Err (faults.Canon fault)) count listed = 
 listing_reads_nothing content old new (Err (faults.Script fault)) count listed = absurd listed
 listing_reads_nothing content old new (Err faults.Read) count listed = absurd listed
 listing_reads_nothing content old new (Err faults.Serve) count listed = absurd listed
+listing_reads_nothing content old new (Err faults.Wire) count listed = absurd listed
 
 pub run_ended : (serves : Serves) (contents : Contents) (line : Line) (input left old new : Option (List ℕ)) (reads reads_after writes writes_after : ℕ) (ending : Ending)
     (result : Result (Unit {0}) RunFault) → IsDone serves contents line input old new result → TakesUpTo (most_read line) input left

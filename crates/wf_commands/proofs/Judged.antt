@@ -49,3 +49,4 @@ fault_known known bytes (faults.Tape fault) is why = absurd why
 fault_known known bytes faults.Read is why = absurd why
 fault_known known bytes faults.Write is why = absurd why
 fault_known known bytes faults.Serve is why = absurd why
+fault_known known bytes faults.Wire is why = absurd why

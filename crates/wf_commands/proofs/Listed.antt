@@ -44,6 +44,7 @@ known_listed content bytes old new (Err (faults.Canon fault)) is listed = absurd
 known_listed content bytes old new (Err (faults.Script fault)) is listed = absurd listed
 known_listed content bytes old new (Err faults.Read) is listed = absurd listed
 known_listed content bytes old new (Err faults.Serve) is listed = absurd listed
+known_listed content bytes old new (Err faults.Wire) is listed = absurd listed
 
 -- of a file that can't be read
 pub unlisted : (content old : Option (List ℕ)) (fault : TapeReadFault) → (fault ≡ tapes.Failed → IfSome content (λ known. most_tape_bytes < length known)) →

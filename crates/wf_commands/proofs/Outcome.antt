@@ -23,6 +23,7 @@ module _ (HasOutput : Definition → List ℕ → Type 0) (rejects : CanonFault 
   written_outcome (Err (faults.Script fault)) d bytes means within has writes = absurd writes
   written_outcome (Err (faults.Tape fault)) d bytes means within has writes = absurd writes
   written_outcome (Err faults.Serve) d bytes means within has writes = absurd writes
+  written_outcome (Err faults.Wire) d bytes means within has writes = absurd writes
 
   pub fault_outcome : (fault : RunFault) → IsReadingFault input fault → IsOutcome HasOutput rejects input old old (Err fault)
   fault_outcome (faults.Map fault) why = (why, keeps_same old)
@@ -32,6 +33,7 @@ module _ (HasOutput : Definition → List ℕ → Type 0) (rejects : CanonFault 
   fault_outcome faults.Read why = keeps_same old
   fault_outcome faults.Write why = absurd why
   fault_outcome faults.Serve why = absurd why
+  fault_outcome faults.Wire why = absurd why
 
 -- the same for one of several outputs
 pub one_written_outcome : (HasOutput : Definition → List ℕ → Type 0) (input old new : Option (List ℕ)) (result : Result (Unit {0}) RunFault) (d : Definition)
@@ -45,6 +47,7 @@ one_written_outcome HasOutput input old new (Err faults.Read) d means within wri
 one_written_outcome HasOutput input old new (Err (faults.Script fault)) d means within writes = absurd writes
 one_written_outcome HasOutput input old new (Err (faults.Tape fault)) d means within writes = absurd writes
 one_written_outcome HasOutput input old new (Err faults.Serve) d means within writes = absurd writes
+one_written_outcome HasOutput input old new (Err faults.Wire) d means within writes = absurd writes
 
 -- what is written of an output is written of one of them
 pub one_written : (IsOutput : List ℕ → Type 0) (bytes : List ℕ) (old new : Option (List ℕ)) (result : Result (Unit {0}) RunFault) → IsOutput bytes
@@ -57,6 +60,7 @@ one_written IsOutput bytes old new (Err faults.Read) is writes = absurd writes
 one_written IsOutput bytes old new (Err (faults.Script fault)) is writes = absurd writes
 one_written IsOutput bytes old new (Err (faults.Tape fault)) is writes = absurd writes
 one_written IsOutput bytes old new (Err faults.Serve) is writes = absurd writes
+one_written IsOutput bytes old new (Err faults.Wire) is writes = absurd writes
 
 -- after the input was read no read fails
 pub no_more_reads : (bytes : List ℕ) (rejects : CanonFault → Type 0) (old new : Option (List ℕ)) (result : Result (Unit {0}) RunFault)
@@ -69,6 +73,7 @@ no_more_reads bytes rejects old new (Err faults.Read) before after writes same =
 no_more_reads bytes rejects old new (Err (faults.Script fault)) before after writes same = absurd writes
 no_more_reads bytes rejects old new (Err (faults.Tape fault)) before after writes same = absurd writes
 no_more_reads bytes rejects old new (Err faults.Serve) before after writes same = absurd writes
+no_more_reads bytes rejects old new (Err faults.Wire) before after writes same = absurd writes
 
 pub no_more_reads_of_one : (IsOutput : List ℕ → Type 0) (old new : Option (List ℕ)) (result : Result (Unit {0}) RunFault) (before after : ℕ)
     → IsWritingOf IsOutput old new result → after ≡ before → CountsReads result before after
@@ -80,6 +85,7 @@ no_more_reads_of_one IsOutput old new (Err faults.Read) before after writes same
 no_more_reads_of_one IsOutput old new (Err (faults.Script fault)) before after writes same = absurd writes
 no_more_reads_of_one IsOutput old new (Err (faults.Tape fault)) before after writes same = absurd writes
 no_more_reads_of_one IsOutput old new (Err faults.Serve) before after writes same = absurd writes
+no_more_reads_of_one IsOutput old new (Err faults.Wire) before after writes same = absurd writes
 
 -- before the input was read no write fails
 pub no_writes_yet : (input : Option (List ℕ)) (fault : RunFault) (count : ℕ) → IsReadingFault input fault
@@ -91,3 +97,4 @@ no_writes_yet input (faults.Tape fault) count why = refl
 no_writes_yet input faults.Read count why = refl
 no_writes_yet input faults.Write count why = absurd why
 no_writes_yet input faults.Serve count why = absurd why
+no_writes_yet input faults.Wire count why = absurd why

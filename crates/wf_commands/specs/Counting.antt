@@ -15,6 +15,7 @@ CountsReads (Err (faults.Canon fault)) old new = new ≡ old
 CountsReads (Err (faults.Script fault)) old new = script.is_memory fault ≡ false → new ≡ old
 CountsReads (Err (faults.Tape fault)) old new = new ≡ old
 CountsReads (Err faults.Write) old new = new ≡ old
+CountsReads (Err faults.Wire) old new = new ≡ old
 CountsReads (Err faults.Serve) old new = new ≡ old
 
 -- A write error is returned iff a write has failed.

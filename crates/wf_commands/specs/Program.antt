@@ -31,6 +31,7 @@ IsDone serves contents (lines.Caps seq query) input old new result = IsOutcomeOf
 IsDone serves contents (lines.Draw query) input old new result = IsOutcomeOf (lines.Draw query) input old new result
 IsDone serves contents lines.Canon input old new result = IsOutcomeOf lines.Canon input old new result
 IsDone serves contents lines.Run input old new result = IsOutcomeOf lines.Run input old new result
+IsDone serves contents lines.Wire input old new result = IsOutcomeOf lines.Wire input old new result
 IsDone serves contents (lines.Tape file) input old new result = IsListed (contents file.now) old new result
 IsDone serves contents (lines.Serve service) input old new result = IsServing (serves service) old new result
 

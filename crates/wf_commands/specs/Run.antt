@@ -32,6 +32,7 @@ most_read (lines.Caps seq query) = most_input_bytes
 most_read (lines.Draw query) = most_input_bytes
 most_read lines.Canon = most_input_bytes
 most_read lines.Run = most_script_bytes + 1
+most_read lines.Wire = most_script_bytes + 1
 most_read (lines.Tape file) = 0
 most_read (lines.Serve service) = 0
 
@@ -54,6 +55,7 @@ IsInputFault (faults.Script fault) = ⊥
 IsInputFault (faults.Tape fault) = ⊥
 IsInputFault faults.Write = ⊥
 IsInputFault faults.Serve = ⊥
+IsInputFault faults.Wire = ⊥
 
 -- why bytes give no definition: they mean none, unless an allocation failed
 abbrev pub IsMapFault : List ℕ → RunFault → Type 0
@@ -64,6 +66,7 @@ IsMapFault bytes (faults.Script fault) = ⊥
 IsMapFault bytes (faults.Tape fault) = ⊥
 IsMapFault bytes faults.Write = ⊥
 IsMapFault bytes faults.Serve = ⊥
+IsMapFault bytes faults.Wire = ⊥
 
 -- why an input gives no definition: a map error is returned only if the input means none, unless an allocation failed
 abbrev pub IsReadingFault : Option (List ℕ) → RunFault → Type 0
@@ -74,6 +77,7 @@ IsReadingFault input (faults.Script fault) = ⊥
 IsReadingFault input (faults.Tape fault) = ⊥
 IsReadingFault input faults.Write = ⊥
 IsReadingFault input faults.Serve = ⊥
+IsReadingFault input faults.Wire = ⊥
 
 -- a prefix of the bytes was appended
 abbrev pub AppendsPart : Option (List ℕ) → Option (List ℕ) → List ℕ → Type 0
@@ -89,6 +93,7 @@ IsWriting bytes rejects old new (Err faults.Read) = ⊥
 IsWriting bytes rejects old new (Err (faults.Script fault)) = ⊥
 IsWriting bytes rejects old new (Err (faults.Tape fault)) = ⊥
 IsWriting bytes rejects old new (Err faults.Serve) = ⊥
+IsWriting bytes rejects old new (Err faults.Wire) = ⊥
 
 -- What is written of one of these outputs: all of it; a prefix if the writer failed; nothing if an allocation failed before.
 abbrev pub IsWritingOf : (List ℕ → Type 0) → Option (List ℕ) → Option (List ℕ) → Result (Unit {0}) RunFault → Type 0
@@ -100,6 +105,7 @@ IsWritingOf IsOutput old new (Err faults.Read) = ⊥
 IsWritingOf IsOutput old new (Err (faults.Tape fault)) = ⊥
 IsWritingOf IsOutput old new (Err (faults.Script fault)) = ⊥
 IsWritingOf IsOutput old new (Err faults.Serve) = ⊥
+IsWritingOf IsOutput old new (Err faults.Wire) = ⊥
 
 -- What a run writes about the definition that the input means: a whole output of the definition, or a prefix of one if the writer
 -- failed. With any other error nothing is written.
@@ -113,6 +119,7 @@ IsOutcome HasOutput rejects input old new (Err faults.Read) = Keeps old new
 IsOutcome HasOutput rejects input old new (Err (faults.Script fault)) = ⊥
 IsOutcome HasOutput rejects input old new (Err (faults.Tape fault)) = ⊥
 IsOutcome HasOutput rejects input old new (Err faults.Serve) = ⊥
+IsOutcome HasOutput rejects input old new (Err faults.Wire) = ⊥
 
 -- ---- the outputs about a definition
 
@@ -129,18 +136,19 @@ abbrev pub IsPreview : List ℕ → Definition → List ℕ → Type 0
 IsPreview query d bytes = (answer : AnswerValue) × IsAnswerOf 1 (d ∷ []) query answer × (bytes ≡ answer.bytes)
 
 -- What is written for a script: nothing if it can't be read or isn't one. An error of the script, unless an allocation failed, is
--- the input's, with its line. If it is played to its end or to a failed write, the whole input was read; if the input is known,
--- it is a script. If it is played to its end, each of its orders was performed in turn on a new farm, and what they write was
--- written.
-abbrev pub IsPlayed : Option (List ℕ) → Option (List ℕ) → Option (List ℕ) → Result (Unit {0}) RunFault → Type 0
-IsPlayed input old new (Ok done) = IfSome input IsScriptText × PlaysInput input old new
-IsPlayed input old new (Err faults.Write) = IfSome input IsScriptText
-IsPlayed input old new (Err (faults.Script fault)) = IsFaultOf input fault × (script.is_memory fault ≡ false → Keeps old new)
-IsPlayed input old new (Err faults.Read) = Keeps old new
-IsPlayed input old new (Err (faults.Map fault)) = ⊥
-IsPlayed input old new (Err (faults.Canon fault)) = ⊥
-IsPlayed input old new (Err (faults.Tape fault)) = ⊥
-IsPlayed input old new (Err faults.Serve) = ⊥
+-- the input's, with its line. If it is played to its end, to a failed write or to a message that is lost on its way, the whole input
+-- was read; if the input is known, it is a script. If it is played to its end, each of its orders was performed in turn on a new
+-- farm, and what they write was written. `loses` is whether a message may be lost.
+abbrev pub IsPlayed : Type 0 → Option (List ℕ) → Option (List ℕ) → Option (List ℕ) → Result (Unit {0}) RunFault → Type 0
+IsPlayed loses input old new (Ok done) = IfSome input IsScriptText × PlaysInput input old new
+IsPlayed loses input old new (Err faults.Write) = IfSome input IsScriptText
+IsPlayed loses input old new (Err faults.Wire) = loses × IfSome input IsScriptText
+IsPlayed loses input old new (Err (faults.Script fault)) = IsFaultOf input fault × (script.is_memory fault ≡ false → Keeps old new)
+IsPlayed loses input old new (Err faults.Read) = Keeps old new
+IsPlayed loses input old new (Err (faults.Map fault)) = ⊥
+IsPlayed loses input old new (Err (faults.Canon fault)) = ⊥
+IsPlayed loses input old new (Err (faults.Tape fault)) = ⊥
+IsPlayed loses input old new (Err faults.Serve) = ⊥
 
 -- P holds of the listing of some bytes, those of the file if they are known
 abbrev pub HasListing : Option (List ℕ) → (List ℕ → Type 0) → Type 0
@@ -162,12 +170,14 @@ IsListed content old new (Err (faults.Canon fault)) = ⊥
 IsListed content old new (Err (faults.Script fault)) = ⊥
 IsListed content old new (Err faults.Read) = ⊥
 IsListed content old new (Err faults.Serve) = ⊥
+IsListed content old new (Err faults.Wire) = ⊥
 
 -- the outcome of a command over a reader and a writer; never of `tape` and `serve`
 abbrev pub IsOutcomeOf : Line → Option (List ℕ) → Option (List ℕ) → Option (List ℕ) → Result (Unit {0}) RunFault → Type 0
 IsOutcomeOf (lines.Caps seq query) input old new result = IsOutcome (IsDescription seq query.now) (λ _ _. ⊥) input old new result
 IsOutcomeOf (lines.Draw query) input old new result = IsOutcome (IsPreview query.now) (λ _ _. ⊥) input old new result
 IsOutcomeOf lines.Canon input old new result = IsOutcome IsCanonical IsCauseOf input old new result
-IsOutcomeOf lines.Run input old new result = IsPlayed input old new result
+IsOutcomeOf lines.Run input old new result = IsPlayed ⊥ input old new result
+IsOutcomeOf lines.Wire input old new result = IsPlayed (Unit {0}) input old new result
 IsOutcomeOf (lines.Tape file) input old new result = ⊥
 IsOutcomeOf (lines.Serve service) input old new result = ⊥

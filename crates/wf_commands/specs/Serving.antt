@@ -17,3 +17,4 @@ IsServing serves old new (Err (faults.Canon fault)) = ⊥
 IsServing serves old new (Err (faults.Script fault)) = ⊥
 IsServing serves old new (Err (faults.Tape fault)) = ⊥
 IsServing serves old new (Err faults.Read) = ⊥
+IsServing serves old new (Err faults.Wire) = ⊥

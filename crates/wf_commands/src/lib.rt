@@ -1,11 +1,13 @@
 //! The commands of the program `wfarm`. They answer a Web Map Service request about a mapfile, write its canonical text, play a
-//! script of a farm of servers, list what a node's tape holds, and serve a farm's nodes over HTTP.
+//! script of a farm of servers, also with its messages crossing a connection, list what a node's tape holds, and serve a farm's
+//! nodes over HTTP.
 //!
 //! The crate is thin. [`wf_line::arguments::line`] parses the command line's arguments to a [`wf_line::line::Line`]; [`run::run_line`] runs the
 //! commands about standard input, over any reader and writer; [`tapes::run_tape`] lists the tape in a file, which a [`tapes::Tapes`] reads;
 //! a [`server::Server`] serves nodes. [`server::Host`] is both: the machine's files, and its nodes over HTTP.
-//! [`program::run_words`] is the program over any words, reader, writer and server, and [`program::program`] connects it to the
-//! process. A [`fault::RunFault`] is the error of a run, an [`ending::Ending`] what is left to print, with the exit status. Readers
+//! A [`wf_farm::Carrier`] brings the messages of `wire` to their nodes: [`wf_link::Connection`], over a connection of the machine.
+//! [`program::run_words`] is the program over any words, reader, writer, server and carrier, and [`program::program`] connects it
+//! to the process. A [`fault::RunFault`] is the error of a run, an [`ending::Ending`] what is left to print, with the exit status. Readers
 //! and writers are [`wf_stream::Source`] and [`wf_stream::Sink`], which count failed calls; [`wf_stream::Stream`] makes them of
 //! std's.
 //!
@@ -21,6 +23,8 @@
 //! - if the input isn't a script, nothing is written
 //! - if it is played to its end, the whole input is within the limits of scripts
 //! - at most 1,048,577 bytes are read
+//! - `run` never loses a message on its way; `wire` does and writes what `run` does and writes, whatever the carrier, or returns
+//!   that a message was lost
 //!
 //! Of these: a read error is returned only if a read has failed, a write error iff a write has.
 //!

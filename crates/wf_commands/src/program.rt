@@ -28,8 +28,10 @@ use std::process::ExitCode;
 use std::rt::{Env, Files};
 use std::time::Clock;
 use std::{env, io};
+use wf_farm::Carrier;
 use wf_line::arguments::line;
 use wf_line::line::Line;
+use wf_link::Connection;
 use wf_mapfile::fault::MapFault;
 use wf_serve::Service;
 use wf_stream::{Sink, Source, Stream};
@@ -55,12 +57,13 @@ fn serve<K: Sink, V: Server>(service: Service<'_>, sink: &mut K, server: &V) -> 
 
 // Runs the command of a line.
 #[tactic(auto, using(crate::proofs::Ended::nothing_read, crate::proofs::Ended::serving_reads_nothing, crate::proofs::Ended::listing_reads_nothing))]
-fn run<I: Source, K: Sink, V: Server + Tapes>(
+fn run<I: Source, K: Sink, V: Server + Tapes, C: Carrier>(
     alloc: Global,
     line: Line<'_>,
     source: &mut I,
     sink: &mut K,
     server: &V,
+    carrier: &mut C,
 ) -> Result<(), RunFault>
     requires { IsInRange line }
     ensures done { IsDone (V.serves server.now) (V.content server.now) line.entry (I.left source.old) (K.written sink.old) (K.written sink.new) result }
@@ -71,8 +74,8 @@ fn run<I: Source, K: Sink, V: Server + Tapes>(
     match line {
         Line::Serve(service) => serve(service, sink, server),
         Line::Tape { file } => run_tape(alloc, file, sink, server),
-        Line::Caps { .. } | Line::Draw { .. } | Line::Canon | Line::Run => {
-            run_line(alloc, line, source, sink)
+        Line::Caps { .. } | Line::Draw { .. } | Line::Canon | Line::Run | Line::Wire => {
+            run_line(alloc, line, source, sink, carrier)
         }
     }
 }
@@ -99,34 +102,37 @@ fn ending_of(outcome: Result<(), RunFault>) -> Ending
     }
 }
 
-/// Runs the command of a line: a command about standard input between the reader and the writer; `tape` by the server, which reads
-/// the file, and `serve` by the server, whose line goes to the writer. Returns the error whose text is the line on standard error, and the exit status.
+/// Runs the command of a line: a command about standard input between the reader and the writer, with the messages of `wire` by the
+/// carrier; `tape` by the server, which reads the file, and `serve` by the server, whose line goes to the writer. Returns the error
+/// whose text is the line on standard error, and the exit status.
 #[tactic(auto, using(crate::proofs::Ended::run_ended))]
-pub fn run_command<I: Source, K: Sink, V: Server + Tapes>(
+pub fn run_command<I: Source, K: Sink, V: Server + Tapes, C: Carrier>(
     alloc: Global,
     line: Line<'_>,
     source: &mut I,
     sink: &mut K,
     server: &V,
+    carrier: &mut C,
 ) -> Ending
     requires { IsInRange line }
     ensures run { IsRunOf (V.serves server.now) (V.content server.now) line.entry (I.left source.old) (I.left source.new) (K.written sink.old) (K.written sink.new)
         (I.failures source.old) (I.failures source.new) (K.failures sink.old) (K.failures sink.new) result }
     ensures low { result.status ≤ 1 }
 {
-    ending_of(run(alloc, line, source, sink, server))
+    ending_of(run(alloc, line, source, sink, server, carrier))
 }
 
 /// Runs the words of a command line, without the program's name: as [`run_command`] the line that they ask for.
 ///
 /// Err: no command was run, and nothing was read or written. The error's text is for the user: it is help or the version, if the
 /// words ask for these.
-pub fn run_words<'a, S: AsStr, I: Source, K: Sink, V: Server + Tapes>(
+pub fn run_words<'a, S: AsStr, I: Source, K: Sink, V: Server + Tapes, C: Carrier>(
     alloc: Global,
     words: &'a [S],
     source: &mut I,
     sink: &mut K,
     server: &V,
+    carrier: &mut C,
 ) -> Result<Ending, Error>
     ensures run { IfOk result (IsRun (V.serves server.now) (V.content server.now) (map S.text words.entry.now) (I.left source.old) (I.left source.new) (K.written sink.old) (K.written sink.new)
         (I.failures source.old) (I.failures source.new) (K.failures sink.old) (K.failures sink.new)) }
@@ -137,9 +143,10 @@ pub fn run_words<'a, S: AsStr, I: Source, K: Sink, V: Server + Tapes>(
     ensures kind { IfErr result (λ error. IsRejection (map S.text words.entry.now) (kind_of error)) }
     ensures unread { OnErr result (source.new ≡ source.old) }
     ensures unwritten { OnErr result (sink.new ≡ sink.old) }
+    ensures unused { OnErr result (carrier.new ≡ carrier.old) }
 {
     match line(alloc, words) {
-        Ok(line) => Ok(run_command(alloc, line, source, sink, server)),
+        Ok(line) => Ok(run_command(alloc, line, source, sink, server, carrier)),
         Err(error) => Err(error),
     }
 }
@@ -193,9 +200,9 @@ fn words<R: Env + AllocGlobal>(rt: &R) -> io::Result<Vec<String>> {
     Ok(env::args(rt)?.skip(1).collect(rt.alloc())?)
 }
 
-/// Runs the command line, as by [`run_words`] with the words of the process, its standard input and output, and the machine as
-/// server. Returns the exit status: 0 for success; 1 for an error, with one line on standard error, except for a failed write; 2
-/// for a bad command line, with the parser's text there.
+/// Runs the command line, as by [`run_words`] with the words of the process, its standard input and output, the machine as server,
+/// and a connection of the machine to itself as carrier. Returns the exit status: 0 for success; 1 for an error, with one line on
+/// standard error, except for a failed write; 2 for a bad command line, with the parser's text there.
 pub fn program<
     R: Env
         + Input
@@ -218,7 +225,15 @@ pub fn program<
     };
     let mut source = Stream::new(rt.reader());
     let mut sink = Stream::new(io::writer(rt));
-    let code = match run_words(rt.alloc(), &words, &mut source, &mut sink, &Host(rt)) {
+    let mut carrier = Connection::new(rt);
+    let code = match run_words(
+        rt.alloc(),
+        &words,
+        &mut source,
+        &mut sink,
+        &Host(rt),
+        &mut carrier,
+    ) {
         Ok(ending) => report(rt, ending),
         Err(error) => {
             let code = rejection(rt, &error);

@@ -19,7 +19,7 @@ use std::io::ErrorKind;
 use wf_ballot::SEQUENCES;
 use wf_canon::Canon;
 use wf_def::map::MapDef;
-use wf_farm::Copies;
+use wf_farm::{Carrier, Copies};
 use wf_line::line::Line;
 use wf_mapfile::fault::MapFault;
 use wf_play::PlayFault;
@@ -219,13 +219,13 @@ pub fn run_canon<S: Source, K: Sink>(
 }
 
 /// Reads a script to its end, or to the byte that makes it too long, and plays it on a farm in memory. The contracts of `wf_play`
-/// define what its orders do and write. Each message is copied to its node.
+/// define what its orders do and write. No message is lost on its way: each is copied to its node.
 pub fn run_script<S: Source, K: Sink>(
     alloc: Global,
     source: &mut S,
     sink: &mut K,
 ) -> Result<(), RunFault>
-    ensures outcome { IsPlayed (S.left source.old) (K.written sink.old) (K.written sink.new) result }
+    ensures outcome { IsPlayed ⊥ (S.left source.old) (K.written sink.old) (K.written sink.new) result }
     // After Ok the whole input is read.
     ensures end { OnOk result (IsAtEnd (S.left source.new)) }
     ensures most { TakesUpTo (most_script_bytes + 1) (S.left source.old) (S.left source.new) }
@@ -233,22 +233,56 @@ pub fn run_script<S: Source, K: Sink>(
     ensures writes { CountsWrites result (K.failures sink.old) (K.failures sink.new) }
 {
     let mut copies = Copies;
-    match wf_play::run_script(alloc, &mut copies, source, sink) {
+    play_script(alloc, &mut copies, source, sink)
+}
+
+/// The same, with the messages brought to their nodes by the carrier: what the script does and writes is what [`run_script`] does
+/// and writes. Err: also `Wire` where the carrier failed, or brought another message; then what the orders before write is written.
+pub fn wire_script<S: Source, K: Sink, C: Carrier>(
+    alloc: Global,
+    carrier: &mut C,
+    source: &mut S,
+    sink: &mut K,
+) -> Result<(), RunFault>
+    ensures outcome { IsPlayed (Unit {0}) (S.left source.old) (K.written sink.old) (K.written sink.new) result }
+    ensures end { OnOk result (IsAtEnd (S.left source.new)) }
+    ensures most { TakesUpTo (most_script_bytes + 1) (S.left source.old) (S.left source.new) }
+    ensures reads { CountsReads result (S.failures source.old) (S.failures source.new) }
+    ensures writes { CountsWrites result (K.failures sink.old) (K.failures sink.new) }
+{
+    play_script(alloc, carrier, source, sink)
+}
+
+// Plays the script that the input is. Of a faithful carrier no message is lost.
+fn play_script<S: Source, K: Sink, C: Carrier>(
+    alloc: Global,
+    carrier: &mut C,
+    source: &mut S,
+    sink: &mut K,
+) -> Result<(), RunFault>
+    ensures outcome { IsPlayed (Unit {0}) (S.left source.old) (K.written sink.old) (K.written sink.new) result }
+    ensures faithful { C.faithful → IsPlayed ⊥ (S.left source.old) (K.written sink.old) (K.written sink.new) result }
+    ensures end { OnOk result (IsAtEnd (S.left source.new)) }
+    ensures most { TakesUpTo (most_script_bytes + 1) (S.left source.old) (S.left source.new) }
+    ensures reads { CountsReads result (S.failures source.old) (S.failures source.new) }
+    ensures writes { CountsWrites result (K.failures sink.old) (K.failures sink.new) }
+{
+    match wf_play::run_script(alloc, carrier, source, sink) {
         Ok(()) => Ok(()),
         Err(PlayFault::Script(fault)) => Err(RunFault::Script(fault)),
         Err(PlayFault::Read) => Err(RunFault::Read),
         Err(PlayFault::Write) => Err(RunFault::Write),
-        // No copy is lost.
-        Err(PlayFault::Wire) => unreachable!(),
+        Err(PlayFault::Wire) => Err(RunFault::Wire),
     }
 }
 
-/// Runs a command about standard input. [`crate::program::run_command`] runs any.
-pub fn run_line<S: Source, K: Sink>(
+/// Runs a command about standard input; the messages of `wire` come by the carrier. [`crate::program::run_command`] runs any.
+pub fn run_line<S: Source, K: Sink, C: Carrier>(
     alloc: Global,
     line: Line<'_>,
     source: &mut S,
     sink: &mut K,
+    carrier: &mut C,
 ) -> Result<(), RunFault>
     requires range { IsInRange line }
     requires input { IsOfInput line }
@@ -263,6 +297,7 @@ pub fn run_line<S: Source, K: Sink>(
         Line::Draw { query } => run_draw(alloc, source, sink, query.as_bytes()),
         Line::Canon => run_canon(alloc, source, sink),
         Line::Run => run_script(alloc, source, sink),
+        Line::Wire => wire_script(alloc, carrier, source, sink),
         Line::Tape { .. } | Line::Serve(_) => unreachable!(),
     }
 }

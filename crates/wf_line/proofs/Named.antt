@@ -43,6 +43,7 @@ asks_of p rows has named none (lines.Draw query) asks = false≢true (sym (ap (b
 asks_of p rows has named none lines.Canon asks = let clash : codes "caps" ≡ codes "canon" = sym named ∙ asks in cc
 asks_of p rows has named none (lines.Tape file) asks = false≢true (sym (ap (bytes_eq (codes "caps")) (sym named ∙ asks.0)))
 asks_of p rows has named none lines.Run asks = let clash : codes "caps" ≡ codes "run" = sym named ∙ asks in cc
+asks_of p rows has named none lines.Wire asks = false≢true (sym (ap (bytes_eq (codes "caps")) (sym named ∙ asks)))
 asks_of p rows has named none (lines.Serve service) asks = false≢true (sym (ap (bytes_eq (codes "caps")) (sym named ∙ asks.0)))
 
 -- if `serve` was named and no `serve` line has its arguments, they ask for nothing
@@ -52,6 +53,7 @@ serve_asks_of p rows has named none (lines.Draw query) asks = false≢true (sym 
 serve_asks_of p rows has named none lines.Canon asks = false≢true (sym (ap (bytes_eq (codes "serve")) (sym named ∙ asks)))
 serve_asks_of p rows has named none (lines.Tape file) asks = false≢true (sym (ap (bytes_eq (codes "serve")) (sym named ∙ asks.0)))
 serve_asks_of p rows has named none lines.Run asks = false≢true (sym (ap (bytes_eq (codes "serve")) (sym named ∙ asks)))
+serve_asks_of p rows has named none lines.Wire asks = false≢true (sym (ap (bytes_eq (codes "serve")) (sym named ∙ asks)))
 serve_asks_of p rows has named none (lines.Serve service) asks = none (lines.Serve service) (rw has at asks.1)
 
 pub none_served : (line : Option Line) (met : Option (Text × List Row)) (rows : List Row) → option_map (λ p. p.1) met ≡ Some rows
@@ -67,6 +69,7 @@ draw_asks_of p rows has named none (lines.Draw query) asks = none (lines.Draw qu
 draw_asks_of p rows has named none lines.Canon asks = false≢true (sym (ap (bytes_eq (codes "draw")) (sym named ∙ asks)))
 draw_asks_of p rows has named none (lines.Tape file) asks = false≢true (sym (ap (bytes_eq (codes "draw")) (sym named ∙ asks.0)))
 draw_asks_of p rows has named none lines.Run asks = false≢true (sym (ap (bytes_eq (codes "draw")) (sym named ∙ asks)))
+draw_asks_of p rows has named none lines.Wire asks = false≢true (sym (ap (bytes_eq (codes "draw")) (sym named ∙ asks)))
 draw_asks_of p rows has named none (lines.Serve service) asks = false≢true (sym (ap (bytes_eq (codes "draw")) (sym named ∙ asks.0)))
 
 pub none_drawn : (line : Option Line) (met : Option (Text × List Row)) (rows : List Row) → option_map (λ p. p.1) met ≡ Some rows
@@ -82,6 +85,7 @@ tape_asks_of p rows has named none (lines.Draw query) asks = false≢true (sym (
 tape_asks_of p rows has named none lines.Canon asks = false≢true (sym (ap (bytes_eq (codes "tape")) (sym named ∙ asks)))
 tape_asks_of p rows has named none (lines.Tape file) asks = none (lines.Tape file) (rw has at asks.1)
 tape_asks_of p rows has named none lines.Run asks = false≢true (sym (ap (bytes_eq (codes "tape")) (sym named ∙ asks)))
+tape_asks_of p rows has named none lines.Wire asks = false≢true (sym (ap (bytes_eq (codes "tape")) (sym named ∙ asks)))
 tape_asks_of p rows has named none (lines.Serve service) asks = false≢true (sym (ap (bytes_eq (codes "tape")) (sym named ∙ asks.0)))
 
 pub none_listed : (line : Option Line) (met : Option (Text × List Row)) (rows : List Row) → option_map (λ p. p.1) met ≡ Some rows
@@ -107,6 +111,7 @@ asked_in_range (Some named) (lines.Draw query) asks = tt
 asked_in_range (Some named) lines.Canon asks = tt
 asked_in_range (Some named) (lines.Tape file) asks = tt
 asked_in_range (Some named) lines.Run asks = tt
+asked_in_range (Some named) lines.Wire asks = tt
 asked_in_range (Some named) (lines.Serve service) asks = service_in_range named.1 service asks.1
 
 pub none_asked : (line : Option Line) (met : Option (Text × List Row)) (rows : List Row) → option_map (λ p. p.1) met ≡ Some rows

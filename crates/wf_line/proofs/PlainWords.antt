@@ -15,7 +15,7 @@ use Rattle.clap.specs.Takes.{bundle_passes, default_passes, flag_word_passes, is
 use Rattle.clap.specs.ValueTests.{accepts}
 use Rattle.clap.specs.declared.builder.value_parser.ValueParser.TheVariants.{Signed}
 use Rattle.clap.specs.Walk.{Held, Row, finished, nothing_held, pushed, settled, walk, Rule, Text, Walk, after_step, arg_by_index, first_of, idle, long_or_other, short_or_plain, trailing, to_positional, value, walk_from, walked, word_met}
-use Rattle.wf_line.specs.CommandLine.{caps_shape, draw_shape, tape_shape, PlainCapsIsAsked, PlainDrawIsAsked, PlainCanonIsAsked, PlainRunIsAsked, PlainTapeIsAsked, is_plain, program}
+use Rattle.wf_line.specs.CommandLine.{caps_shape, draw_shape, tape_shape, PlainCapsIsAsked, PlainDrawIsAsked, PlainCanonIsAsked, PlainRunIsAsked, PlainTapeIsAsked, PlainWireIsAsked, is_plain, program}
 use Rattle.wf_line.specs.Line.{IsSequence}
 use Rattle.wf_line.specs.declared.line.Line.TheVariants as lines
 
@@ -136,6 +136,7 @@ caps_asked word query (lines.Draw asked) plain_word plain_query is = absurd is
 caps_asked word query lines.Canon plain_word plain_query is = absurd is
 caps_asked word query (lines.Tape asked) plain_word plain_query is = absurd is
 caps_asked word query lines.Run plain_word plain_query is = absurd is
+caps_asked word query lines.Wire plain_word plain_query is = absurd is
 caps_asked word query (lines.Serve service) plain_word plain_query is = absurd is
 
 -- ---- draw and its argument
@@ -176,6 +177,7 @@ draw_asked query (lines.Draw asked) plain is =
 draw_asked query lines.Canon plain is = absurd is
 draw_asked query (lines.Tape asked) plain is = absurd is
 draw_asked query lines.Run plain is = absurd is
+draw_asked query lines.Wire plain is = absurd is
 draw_asked query (lines.Serve service) plain is = absurd is
 
 -- ---- tape and its argument
@@ -216,6 +218,7 @@ tape_asked file (lines.Tape asked) plain is =
     let found = tape_rows file plain in
     (tape_taken file plain, rw found.1 (refl, (file, found.2, is)))
 tape_asked file lines.Run plain is = absurd is
+tape_asked file lines.Wire plain is = absurd is
 tape_asked file (lines.Serve service) plain is = absurd is
 
 pub canon_asked : PlainCanonIsAsked
@@ -225,3 +228,7 @@ canon_asked = (refl, refl)
 pub run_asked : PlainRunIsAsked
 unfolding clap_on_literals
 run_asked = (refl, refl)
+
+pub wire_asked : PlainWireIsAsked
+unfolding clap_on_literals
+wire_asked = (refl, refl)

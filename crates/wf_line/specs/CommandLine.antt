@@ -54,6 +54,10 @@ canon_shape = new_shape (codes "canon")
 abbrev pub run_shape : Shape
 run_shape = new_shape (codes "run")
 
+-- `wire`
+abbrev pub wire_shape : Shape
+wire_shape = new_shape (codes "wire")
+
 -- `--nodes N`, `--port P`, `--requests K`: required numbers within their ranges
 abbrev pub nodes_rule : Rule
 nodes_rule = record (new_rule (codes "nodes")) {
@@ -91,7 +95,7 @@ state_rule = record (new_rule (codes "state")) { long = Some (codes "state"); va
 abbrev pub serve_shape : Shape
 serve_shape = record (new_shape (codes "serve")) { rules = nodes_rule ∷ port_rule ∷ requests_rule ∷ cache_rule ∷ state_rule ∷ [] }
 
--- The program's command, as data for the parser: it takes one of six commands, or asks for the version or help.
+-- The program's command, as data for the parser: it takes one of seven commands, or asks for the version or help.
 abbrev pub program : App
 program = record {
   top = record (new_shape (codes "wfarm")) {
@@ -100,7 +104,7 @@ program = record {
     has_version = true;
     subcommand_required = true;
   };
-  subs = caps_shape ∷ draw_shape ∷ canon_shape ∷ run_shape ∷ tape_shape ∷ serve_shape ∷ [];
+  subs = caps_shape ∷ draw_shape ∷ canon_shape ∷ run_shape ∷ wire_shape ∷ tape_shape ∷ serve_shape ∷ [];
 }
 
 -- ---- the line that is asked for
@@ -112,6 +116,7 @@ IsCapsLine word query (lines.Draw asked) = ⊥
 IsCapsLine word query lines.Canon = ⊥
 IsCapsLine word query (lines.Tape file) = ⊥
 IsCapsLine word query lines.Run = ⊥
+IsCapsLine word query lines.Wire = ⊥
 IsCapsLine word query (lines.Serve service) = ⊥
 
 -- The line is `caps` with the arguments parsed for SEQ and QUERY.
@@ -126,6 +131,7 @@ IsDrawLine query (lines.Draw asked) = asked.now ≡ query
 IsDrawLine query lines.Canon = ⊥
 IsDrawLine query (lines.Tape file) = ⊥
 IsDrawLine query lines.Run = ⊥
+IsDrawLine query lines.Wire = ⊥
 IsDrawLine query (lines.Serve service) = ⊥
 
 -- The line is `draw` with the argument parsed for QUERY.
@@ -139,6 +145,7 @@ IsTapeLine file (lines.Draw asked) = ⊥
 IsTapeLine file lines.Canon = ⊥
 IsTapeLine file (lines.Tape asked) = asked.now ≡ file
 IsTapeLine file lines.Run = ⊥
+IsTapeLine file lines.Wire = ⊥
 IsTapeLine file (lines.Serve service) = ⊥
 
 -- The line is `tape` with the argument parsed for FILE.
@@ -173,6 +180,7 @@ IsServeOf rows (lines.Draw query) = ⊥
 IsServeOf rows lines.Canon = ⊥
 IsServeOf rows (lines.Tape file) = ⊥
 IsServeOf rows lines.Run = ⊥
+IsServeOf rows lines.Wire = ⊥
 IsServeOf rows (lines.Serve service) = IsServiceOf rows service
 
 -- the named command with its arguments asks for the line
@@ -183,6 +191,7 @@ Asks (Some named) (lines.Draw query) = (named.0 ≡ codes "draw") × IsDrawOf na
 Asks (Some named) lines.Canon = named.0 ≡ codes "canon"
 Asks (Some named) (lines.Tape file) = (named.0 ≡ codes "tape") × IsTapeOf named.1 (lines.Tape file)
 Asks (Some named) lines.Run = named.0 ≡ codes "run"
+Asks (Some named) lines.Wire = named.0 ≡ codes "wire"
 Asks (Some named) (lines.Serve service) = (named.0 ≡ codes "serve") × IsServeOf named.1 (lines.Serve service)
 
 -- why arguments are rejected: if the parser accepts them and they ask for a line, an allocation failed
@@ -226,3 +235,7 @@ PlainCanonIsAsked = (takes program (codes "canon" ∷ []) ≡ true) × Asks (sub
 -- The parser accepts `run` alone; it asks to play a script.
 abbrev pub PlainRunIsAsked : Type 0
 PlainRunIsAsked = (takes program (codes "run" ∷ []) ≡ true) × Asks (subcommand_of program (codes "run" ∷ [])) lines.Run
+
+-- The parser accepts `wire` alone; it asks to play a script whose messages cross a connection.
+abbrev pub PlainWireIsAsked : Type 0
+PlainWireIsAsked = (takes program (codes "wire" ∷ []) ≡ true) × Asks (subcommand_of program (codes "wire" ∷ [])) lines.Wire

@@ -13,6 +13,7 @@ IsInRange (lines.Draw query) = ⊤
 IsInRange lines.Canon = ⊤
 IsInRange (lines.Tape file) = ⊤
 IsInRange lines.Run = ⊤
+IsInRange lines.Wire = ⊤
 IsInRange (lines.Serve service) = IsService service
 
 -- the line is a command about standard input
@@ -22,6 +23,7 @@ IsOfInput (lines.Draw query) = ⊤
 IsOfInput lines.Canon = ⊤
 IsOfInput (lines.Tape file) = ⊥
 IsOfInput lines.Run = ⊤
+IsOfInput lines.Wire = ⊤
 IsOfInput (lines.Serve service) = ⊥
 
 -- The argument spells an update sequence: decimal digits, with an optional plus, of a number in range.

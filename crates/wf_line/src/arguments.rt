@@ -5,7 +5,7 @@ ghost use Rattle.clap.specs.Simple.{app_of, shape_of, subcommand_of, subcommand_
 ghost use Rattle.clap.specs.Values.{kind_of};
 ghost use Rattle.clap.specs.Walk.{first_of, rows_of, rule_of};
 ghost use Rattle.clap.specs.declared.builder.command.Command.TheViews.{out-Command};
-ghost use Rattle.wf_line.specs.CommandLine.{Asks, IsCacheOf, IsCapsOf, IsDrawOf, IsNumberOf, IsRejection, IsServeOf, IsServiceOf, IsTapeOf, IsWhyRejected, PlainCanonIsAsked, PlainCapsIsAsked, PlainDrawIsAsked, PlainRunIsAsked, PlainTapeIsAsked, program, caps_shape, draw_shape, canon_shape, run_shape, tape_shape, serve_shape, sequence_rule, query_rule, file_rule, nodes_rule, port_rule, requests_rule, cache_rule, state_rule};
+ghost use Rattle.wf_line.specs.CommandLine.{Asks, IsCacheOf, IsCapsOf, IsDrawOf, IsNumberOf, IsRejection, IsServeOf, IsServiceOf, IsTapeOf, IsWhyRejected, PlainCanonIsAsked, PlainCapsIsAsked, PlainDrawIsAsked, PlainRunIsAsked, PlainTapeIsAsked, PlainWireIsAsked, program, caps_shape, draw_shape, canon_shape, run_shape, wire_shape, tape_shape, serve_shape, sequence_rule, query_rule, file_rule, nodes_rule, port_rule, requests_rule, cache_rule, state_rule};
 ghost use Rattle.wf_line.specs.Line.{IsInRange, IsNumber, IsSequence};
 ghost use Rattle.wf_line.specs.declared.line.Line.{Line};
 ghost use Rattle.wf_service.specs.declared.service.Service.{Service};
@@ -42,12 +42,22 @@ Errors (status 1): map fault M1 to M12, canon fault K1 and K3, read fault";
 
 const RUN_HELP: &str = "The first line is nodes N; each later line is an order or a question.
 Orders: map NAME, the lines of a mapfile, endmap; propose I NAME, retry I, catchup I, deliver I K ..,
-  stop I, restart I, torn I before E, torn I after E, pump, pump I .., skip
+  cut I K B, stop I, restart I, torn I before E, torn I after E, pump, pump I .., skip
 Questions: published, sent, proposal I, definition I S, same, get I QUERY, equal I J QUERY
-I and J are nodes, K is a message, S an update sequence, E an event without its node
+I and J are nodes, K is a message, B a number of its bytes, S an update sequence, E an event without its node
+cut does nothing here; wfarm wire cuts the message off
 
 Limits: a script has at most 1,048,576 bytes, 10,000 lines and 64 maps
 Errors (status 1): script fault S1 to S4 with the line number, read fault";
+
+const WIRE_HELP: &str =
+    "A script is that of wfarm run, and prints the same: wfarm help run lists its lines.
+Each message that deliver or pump brings to a node crosses a connection of this machine to itself, in pieces of at
+most 4,096 bytes. A message of torn doesn't cross. cut I K B sends the first B bytes of message K, or all but the last
+byte, and closes the connection; it does nothing if the message isn't sent or the node is absent or stopped.
+
+Limits: those of wfarm run
+Errors (status 1): those of wfarm run, and wire fault where a message doesn't cross";
 
 const TAPE_HELP: &str =
     "Each line begins with a byte offset: one for each record, then one for what follows them.
@@ -148,6 +158,16 @@ fn run_command<'a>(alloc: Global) -> Command<'a>
     Command::new(alloc, "run")
         .about("Plays the script on standard input on a farm in memory")
         .after_help(RUN_HELP)
+}
+
+// `wire`.
+fn wire_command<'a>(alloc: Global) -> Command<'a>
+    ensures shape { shape_of result ≡ wire_shape }
+    ensures local { (out-Command result).has_globals ≡ false }
+{
+    Command::new(alloc, "wire")
+        .about("Plays the script on standard input, its messages crossing a connection")
+        .after_help(WIRE_HELP)
 }
 
 // `tape FILE`.
@@ -268,14 +288,16 @@ fn mapfile_commands<'a>(alloc: Global) -> Result<Command<'a>, AllocError>
 
 // The commands about an input.
 fn input_commands<'a>(alloc: Global) -> Result<Command<'a>, AllocError>
-    ensures { IfOk result (λ command. app_of command ≡ record program { subs = caps_shape ∷ draw_shape ∷ canon_shape ∷ run_shape ∷ [] }) }
+    ensures { IfOk result (λ command. app_of command ≡ record program { subs = caps_shape ∷ draw_shape ∷ canon_shape ∷ run_shape ∷ wire_shape ∷ [] }) }
 {
-    mapfile_commands(alloc)?.subcommand(run_command(alloc))
+    mapfile_commands(alloc)?
+        .subcommand(run_command(alloc))?
+        .subcommand(wire_command(alloc))
 }
 
 // The commands about an input or a file.
 fn reading_commands<'a>(alloc: Global) -> Result<Command<'a>, AllocError>
-    ensures { IfOk result (λ command. app_of command ≡ record program { subs = caps_shape ∷ draw_shape ∷ canon_shape ∷ run_shape ∷ tape_shape ∷ [] }) }
+    ensures { IfOk result (λ command. app_of command ≡ record program { subs = caps_shape ∷ draw_shape ∷ canon_shape ∷ run_shape ∷ wire_shape ∷ tape_shape ∷ [] }) }
 {
     let tape = tape_command(alloc)?;
     input_commands(alloc)?.subcommand(tape)
@@ -419,6 +441,7 @@ fn asked<'a>(matches: &ArgMatches<'a>) -> Option<Line<'a>>
         Some(("draw", found)) => draw(found),
         Some(("canon", _)) => Some(Line::Canon),
         Some(("run", _)) => Some(Line::Run),
+        Some(("wire", _)) => Some(Line::Wire),
         Some(("tape", found)) => tape(found),
         Some(("serve", found)) => serve(found),
         _ => None,
@@ -448,12 +471,13 @@ pub fn line<'a, S: AsStr>(alloc: Global, words: &'a [S]) -> Result<Line<'a>, Err
     }
 }
 
-/// `caps` with an update sequence and a query, `draw` with a query, `tape` with a file, `canon` alone and `run` alone ask for these
-/// lines, if no argument begins with a hyphen. A theorem: the call does nothing.
+/// `caps` with an update sequence and a query, `draw` with a query, `tape` with a file, and `canon`, `run` and `wire` alone ask for
+/// these lines, if no argument begins with a hyphen. A theorem: the call does nothing.
 pub fn plain_words_are_taken()
     ensures caps { PlainCapsIsAsked }
     ensures draw { PlainDrawIsAsked }
     ensures tape { PlainTapeIsAsked }
     ensures canon { PlainCanonIsAsked }
     ensures run { PlainRunIsAsked }
+    ensures wire { PlainWireIsAsked }
 {}

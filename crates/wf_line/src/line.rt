@@ -15,6 +15,8 @@ pub enum Line<'a> {
     Tape { file: &'a str },
     /// Play the script on standard input.
     Run,
+    /// Play the script on standard input, and let its messages cross a connection.
+    Wire,
     /// Serve nodes over HTTP.
     Serve(Service<'a>),
 }

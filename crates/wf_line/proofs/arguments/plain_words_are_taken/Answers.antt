@@ -1,4 +1,4 @@
-use Rattle.wf_line.proofs.PlainWords.{canon_asked, caps_asked, draw_asked, run_asked, tape_asked}
+use Rattle.wf_line.proofs.PlainWords.{canon_asked, caps_asked, draw_asked, run_asked, tape_asked, wire_asked}
 use Rattle.wf_line.proofs.arguments.plain_words_are_taken.Goals as goal
 
 pub returns-clause-caps : goal.returns-clause-caps
@@ -15,3 +15,6 @@ returns-clause-canon c = canon_asked
 
 pub returns-clause-run : goal.returns-clause-run
 returns-clause-run c = run_asked
+
+pub returns-clause-wire : goal.returns-clause-wire
+returns-clause-wire c = wire_asked

@@ -1,0 +1,2 @@
+mod Arrived
+mod Crossed
