@@ -1,35 +1,41 @@
 -- What the result of decode says about the bytes: they begin with the message, or never will begin with one, or more bytes are
 -- needed.
-use Rattle.std.proofs.Common.{◌≡◌, ℕ, ◌+◌, ◌≤◌, List, ◌++◌, length, take, drop, Option, Some, Result, Ok, Err, refl, sym, ap, subst, ◌∙◌, append_assoc, length-append, arith}
+use Rattle.std.proofs.Common.{◌≡◌, ℕ, ◌+◌, ◌≤◌, List, [], ◌∷◌, ◌++◌, length, take, drop, Option, Some, Result, Ok, Err, refl, sym, ap, subst, ◌∙◌, append_assoc, length-append, arith}
 use Rattle.std.proofs.Math.Seq.{take-append_seam, drop-append_seam}
+use Rattle.std.proofs.lemmas.Bool.{eqb-true, eq-eqb}
 use Rattle.std.proofs.lemmas.List.{length-take}
 use Rattle.std.specs.Prelude.{IfOk, IfErr, IsErrOf}
 use Rattle.wf_ballot.specs.Front.{AreBytes}
-use Rattle.wf_ballot.specs.Frame.{frame}
 use Rattle.wf_def.specs.Definition.{Definition}
 use Rattle.wf_canon.specs.Saying.{OneTextOneMap}
+use Rattle.wf_frame.specs.declared.fault.FrameFault.{FrameFault}
+use Rattle.wf_frame.specs.declared.fault.FrameFault.TheVariants as frames
+use Rattle.wf_frame.specs.Frame.{frame_of, frame_front}
+use Rattle.wf_frame.specs.Frame as layouts
+use Rattle.wf_frame.specs.Law.{Said, said_bytes}
+use Rattle.wf_frame.specs.FrameLaws as laws
 use Rattle.wf_model.specs.Message.{Message}
 use Rattle.wf_codec.specs.declared.kind.Kind.{Kind}
 use Rattle.wf_codec.specs.declared.fault.DecodeFault.{DecodeFault}
 use Rattle.wf_codec.specs.declared.fault.DecodeFault.TheVariants.{Short, BadVersion, BadKind, BadField, NotCanonical, TooLong, Memory}
-use Rattle.wf_codec.specs.Kind.{kind_byte}
+use Rattle.wf_codec.specs.Kind.{kind_of_byte, can_have}
 use Rattle.wf_codec.specs.Message.{texts, HasDefinition, IsMessage}
-use Rattle.wf_codec.specs.Spelling.{message_version, header_length, kind_of, body, text_spelling, spelling, Spells}
-use Rattle.wf_codec.specs.Judging.{frame_front, fields_of, ReadsAs}
+use Rattle.wf_codec.specs.Spelling.{message_version, header_length, kind_of, message_of, body, format, text_spelling, spelling, Spells}
+use Rattle.wf_codec.specs.FormatLaws.{is_format, kind_again, kind_stands}
+use Rattle.wf_codec.specs.Judging.{decode_fault, fields_of, ReadsAs}
 use Rattle.wf_codec.specs.Law.{OneSpelling, NoneBeginsAnother, NoneIsEmpty, BeginsWith, BeginsWithNone, NeverBegins, IsRefusal, IsUnfinished, IsReadAs, IsJudged}
 use Rattle.wf_codec.proofs.Texts.{texts_fit, texts_apart, text_is_definition, not_bad}
-use Rattle.wf_codec.proofs.Fields.{can_have_body, fields_again, fields_stand}
+use Rattle.wf_codec.proofs.Fields.{values_fit, message_again, said, laid_out, fits_body, fields_again, fields_stand}
 use Rattle.wf_codec.proofs.Encoded.{length-text_spelling}
-use Rattle.wf_codec.proofs.Headers.{frame_again, frame_stands, frame_goes_on, short_is_unfinished, unfinished_is_short}
 
 -- ---- a message at the front
 
 -- bytes that begin with a message's encoding: the frame that is split off
-frame_of : (m : Message Definition) (spelled after bytes : List ℕ) → Spells m spelled → bytes ≡ spelled ++ after → frame_front bytes ≡ Ok (kind_of (texts m), body (texts m))
+cut_of : (m : Message Definition) (spelled after bytes : List ℕ) → Spells m spelled → bytes ≡ spelled ++ after → frame_front format bytes ≡ Ok (kind_of (texts m), body (texts m))
 unfolding text_spelling
-frame_of m spelled after bytes spells e =
-    let begins : bytes ≡ frame message_version (kind_byte (kind_of (texts m))) (body (texts m)) ++ after = e ∙ ap (λ (t : List ℕ). t ++ after) spells.spelled in
-    ap frame_front begins ∙ frame_again (kind_of (texts m)) (body (texts m)) after (can_have_body (texts m) (texts_fit m spells.is_message))
+cut_of m spelled after bytes spells e =
+    let begins : bytes ≡ frame_of format (kind_of (texts m)) (body (texts m)) ++ after = e ∙ ap (λ (t : List ℕ). t ++ after) spells.spelled in
+    ap (frame_front format) begins ∙ laws.frame_again format is_format (kind_of (texts m)) (body (texts m)) after (fits_body (texts m) (texts_fit m spells.is_message))
 
 -- the fields of that frame's body
 fields_of_body : (m : Message Definition) → IsMessage m → fields_of (kind_of (texts m)) (body (texts m)) ≡ Some (texts m)
@@ -43,7 +49,7 @@ one_spelling m a b spells_a spells_b = spells_a.spelled ∙ sym spells_b.spelled
 some_same : {A : Type 0} (x y : A) → Some x ≡ Some y → x ≡ y
 some_same x y e = cc
 
-abbrev ok : Kind × List ℕ → Result (Kind × List ℕ) DecodeFault
+abbrev ok : Kind × List ℕ → Result (Kind × List ℕ) FrameFault
 ok x = Ok x
 
 ok_same : (x y : Kind × List ℕ) → ok x ≡ ok y → x ≡ y
@@ -52,31 +58,35 @@ ok_same x y e = cc
 pub none_is_empty : NoneIsEmpty
 none_is_empty m bytes spells = omega (arith, ap length spells.spelled, length-text_spelling (texts m))
 
--- Bytes that begin with both are cut into one frame, and so into one message.
+-- an encoding is the frame of what the message says
+spelled_as : (m : Message (List ℕ)) → text_spelling m ≡ said_bytes format (said m)
+unfolding text_spelling
+spelled_as m = ap (λ (bytes : List ℕ). frame_of format (kind_of m) bytes) (laid_out m)
+
 pub none_begins_another : OneTextOneMap → NoneBeginsAnother
 none_begins_another one_map m n a b after_a after_b spells_a spells_b e =
-    let frame_m = frame_of m a after_a (a ++ after_a) spells_a refl in
-    let frame_n = frame_of n b after_b (a ++ after_a) spells_b e in
-    let same_frame = ok_same (kind_of (texts m), body (texts m)) (kind_of (texts n), body (texts n)) (sym frame_m ∙ frame_n) in
-    let same_texts = some_same (texts m) (texts n)
-    (sym (fields_of_body m spells_a.is_message) ∙ ap (λ (f : Kind × List ℕ). fields_of f.0 f.1) same_frame ∙ fields_of_body n spells_b.is_message) in
-    let same_bytes : a ≡ b = spells_a.spelled ∙ ap text_spelling same_texts ∙ sym spells_b.spelled in (
+    let same_bytes : said_bytes format (said (texts m)) ++ after_a ≡ said_bytes format (said (texts n)) ++ after_b =
+    sym (ap (λ (t : List ℕ). t ++ after_a) (spells_a.spelled ∙ spelled_as (texts m))) ∙ e ∙ ap (λ (t : List ℕ). t ++ after_b) (spells_b.spelled ∙ spelled_as (texts n)) in
+    let same_said = laws.none_begins_another format is_format (said (texts m)) (said (texts n)) after_a after_b
+    (values_fit (texts m) (texts_fit m spells_a.is_message)) (values_fit (texts n) (texts_fit n spells_b.is_message)) same_bytes in
+    let same_texts : texts m ≡ texts n = sym (message_again (texts m)) ∙ ap (λ (x : Said format). message_of x.0 x.1) same_said ∙ message_again (texts n) in
+    let same : a ≡ b = spells_a.spelled ∙ ap text_spelling same_texts ∙ sym spells_b.spelled in (
       texts_apart one_map m n spells_a.is_message spells_b.is_message same_texts,
-      same_bytes,
-      sym (drop-append_seam a after_a) ∙ ap (drop (length a)) e ∙ ap (λ (t : List ℕ). drop (length t) (b ++ after_b)) same_bytes ∙ drop-append_seam b after_b,
+      same,
+      sym (drop-append_seam a after_a) ∙ ap (drop (length a)) e ∙ ap (λ (t : List ℕ). drop (length t) (b ++ after_b)) same ∙ drop-append_seam b after_b,
     )
 
 -- ---- the result of decode
 
-begins_by : {X : Type 0} (view : X → Message Definition) (x : X × ℕ) (bytes : List ℕ) (r : Result (Kind × List ℕ) DecodeFault) → frame_front bytes ≡ r → AreBytes bytes →
+begins_by : {X : Type 0} (view : X → Message Definition) (x : X × ℕ) (bytes : List ℕ) (r : Result (Kind × List ℕ) FrameFault) → frame_front format bytes ≡ r → AreBytes bytes →
     IsJudged view (Ok x) r → BeginsWith bytes (view x.0) x.1
 unfolding text_spelling
 begins_by view x bytes (Err fault) is fits judged = absurd cc
 begins_by view x bytes (Ok found) is fits judged =
-    let framed = frame_stands bytes found.0 found.1 fits is in
-    let stands = fields_stand found.0 found.1 (texts (view x.0)) framed.body_fits framed.can_have_length judged.0.0 in
-    let spelled : frame message_version (kind_byte found.0) found.1 ≡ spelling (view x.0) =
-    ap (λ (k : Kind). frame message_version (kind_byte k) found.1) (sym stands.0) ∙ ap (λ (b : List ℕ). frame message_version (kind_byte (kind_of (texts (view x.0)))) b) stands.1 in
+    let framed = laws.frame_stands format is_format bytes found.0 found.1 fits is in
+    let stands = fields_stand found.0 found.1 (texts (view x.0)) framed.body_bytes framed.has_length judged.0.0 in
+    let spelled : frame_of format found.0 found.1 ≡ spelling (view x.0) =
+    ap (λ (k : Kind). frame_of format k found.1) (sym stands.0) ∙ ap (λ (b : List ℕ). frame_of format (kind_of (texts (view x.0))) b) stands.1 in
     let parts : bytes ≡ spelling (view x.0) ++ framed.rest = framed.parts ∙ ap (λ (t : List ℕ). t ++ framed.rest) spelled in
     let count : x.1 ≡ length (spelling (view x.0)) = judged.1 ∙ ap (λ (b : List ℕ). header_length + length b) stands.1 ∙ sym (length-text_spelling (texts (view x.0))) in
     record {
@@ -92,9 +102,9 @@ counted : (bytes : List ℕ) (m : Message Definition) (k : ℕ) → BeginsWith b
 counted bytes m k begins = (omega (arith, none_is_empty m (take k bytes) begins.spells, length-take k bytes), begins.within)
 
 -- the message that is read is at the front
-pub begins : {X : Type 0} (view : X → Message Definition) (result : Result (X × ℕ) DecodeFault) (bytes : List ℕ) → AreBytes bytes → IsJudged view result (frame_front bytes) →
+pub begins : {X : Type 0} (view : X → Message Definition) (result : Result (X × ℕ) DecodeFault) (bytes : List ℕ) → AreBytes bytes → IsJudged view result (frame_front format bytes) →
     IfOk result (λ x. BeginsWith bytes (view x.0) x.1)
-begins view (Ok x) bytes fits judged = begins_by view x bytes (frame_front bytes) refl fits judged
+begins view (Ok x) bytes fits judged = begins_by view x bytes (frame_front format bytes) refl fits judged
 begins view (Err e) bytes fits judged = tt
 
 -- the message that is read has at least one byte, and no more than there are
@@ -115,11 +125,11 @@ read_by one_map view (Err TooLong) m k is_message reads count = absurd reads
 read_by one_map view (Err Memory) m k is_message reads count = (refl, text_is_definition m reads)
 
 -- a message at the front is read, unless allocation fails
-pub whole_is_read : {X : Type 0} → OneTextOneMap → (view : X → Message Definition) (result : Result (X × ℕ) DecodeFault) (bytes : List ℕ) → IsJudged view result (frame_front bytes) →
+pub whole_is_read : {X : Type 0} → OneTextOneMap → (view : X → Message Definition) (result : Result (X × ℕ) DecodeFault) (bytes : List ℕ) → IsJudged view result (frame_front format bytes) →
     (m : Message Definition) (spelled after : List ℕ) → Spells m spelled → bytes ≡ spelled ++ after → IsReadAs view result m (length spelled)
 whole_is_read one_map view result bytes judged m spelled after spells e =
     let cut : IsJudged view result (Ok (kind_of (texts m), body (texts m))) =
-    subst (λ (r : Result (Kind × List ℕ) DecodeFault). IsJudged view result r) (frame_of m spelled after bytes spells e) judged in
+    subst (λ (r : Result (Kind × List ℕ) FrameFault). IsJudged view result r) (cut_of m spelled after bytes spells e) judged in
     let reads : ReadsAs (λ x. view x.0) result (Some (texts m)) =
     subst (λ (o : Option (Message (List ℕ))). ReadsAs (λ x. view x.0) result o) (fields_of_body m spells.is_message) cut.0 in
     let count : header_length + length (body (texts m)) ≡ length spelled = sym (length-text_spelling (texts m)) ∙ ap length (sym spells.spelled) in
@@ -137,32 +147,8 @@ never_refused view NotCanonical m refusal is_message reads = not_bad m is_messag
 never_refused view TooLong m refusal is_message reads = reads
 never_refused view Memory m refusal is_message reads = refusal
 
--- A frame that is split off bytes is split off longer bytes too; if it is rejected, longer bytes are rejected too.
-refused_by : {X : Type 0} (view : X → Message Definition) (e : DecodeFault) (bytes : List ℕ) (r : Result (Kind × List ℕ) DecodeFault) → frame_front bytes ≡ r → AreBytes bytes →
-    IsJudged view (Err e) r → IsRefusal e → NeverBegins bytes
-refused_by {X} view e bytes (Err fault) is fits judged refusal more m spelled after spells same =
-    let fault_is : fault ≡ e = cc in
-    let on = frame_goes_on bytes more fault is (λ short. refusal_not_short e refusal (sym fault_is ∙ short)) in
-    let cut = frame_of m spelled after (bytes ++ more) spells same in
-    absurd cc
-refused_by {X} view e bytes (Ok found) is fits judged refusal more m spelled after spells same =
-    let framed = frame_stands bytes found.0 found.1 fits is in
-    let longer : bytes ++ more ≡ frame message_version (kind_byte found.0) found.1 ++ (framed.rest ++ more) =
-    ap (λ (t : List ℕ). t ++ more) framed.parts ∙ append_assoc (frame message_version (kind_byte found.0) found.1) framed.rest more in
-    let again = ap frame_front longer ∙ frame_again found.0 found.1 (framed.rest ++ more) framed.can_have_length in
-    let cut = frame_of m spelled after (bytes ++ more) spells same in
-    let same_frame = ok_same (found.0, found.1) (kind_of (texts m), body (texts m)) (sym again ∙ cut) in
-    let fields = ap (λ (f : Kind × List ℕ). fields_of f.0 f.1) same_frame ∙ fields_of_body m spells.is_message in
-    never_refused view e m refusal spells.is_message (subst (λ (o : Option (Message (List ℕ))). ReadsAs (λ (x : X × ℕ). view x.0) (Err e) o) fields judged.0)
-
--- rejected bytes never begin with a message, whatever follows
-pub refused : {X : Type 0} (view : X → Message Definition) (result : Result (X × ℕ) DecodeFault) (bytes : List ℕ) → AreBytes bytes → IsJudged view result (frame_front bytes) →
-    IfErr result (λ e. IsRefusal e → NeverBegins bytes)
-refused view (Ok x) bytes fits judged = tt
-refused view (Err e) bytes fits judged = refused_by view e bytes (frame_front bytes) refl fits judged
-
-abbrev err : DecodeFault → Result (Kind × List ℕ) DecodeFault
-err fault = Err fault
+fault_not_short : (e : DecodeFault) (fault : FrameFault) → IsRefusal e → e ≡ decode_fault fault → fault ≡ frames.Short → ⊥
+fault_not_short e fault refusal same short = refusal_not_short e refusal (same ∙ ap decode_fault short)
 
 abbrev error : {X : Type 0} → DecodeFault → Result X DecodeFault
 error fault = Err fault
@@ -170,19 +156,71 @@ error fault = Err fault
 err_same : {X : Type 0} (d e : DecodeFault) → error {X = X} d ≡ error e → d ≡ e
 err_same d e same = cc
 
-short_by : {X : Type 0} (view : X → Message Definition) (result : Result (X × ℕ) DecodeFault) (r : Result (Kind × List ℕ) DecodeFault) → IsJudged view result r → result ≡ Err Short → r ≡ Err Short
-short_by {X} view result (Err fault) judged short = let fault_is : fault ≡ Short = err_same {X = X × ℕ} fault Short (sym judged ∙ short) in ap err fault_is
+-- A frame that is split off bytes is split off longer bytes too; if it is rejected, longer bytes are rejected too.
+refused_by : {X : Type 0} (view : X → Message Definition) (e : DecodeFault) (bytes : List ℕ) (r : Result (Kind × List ℕ) FrameFault) → frame_front format bytes ≡ r → AreBytes bytes →
+    IsJudged view (Err e) r → IsRefusal e → NeverBegins bytes
+refused_by {X} view e bytes (Err fault) is fits judged refusal more m spelled after spells same =
+    let fault_is : e ≡ decode_fault fault = err_same {X = X × ℕ} e (decode_fault fault) judged in
+    let on = laws.frame_goes_on format bytes more fault is (fault_not_short e fault refusal fault_is) in
+    let cut = cut_of m spelled after (bytes ++ more) spells same in
+    absurd cc
+refused_by {X} view e bytes (Ok found) is fits judged refusal more m spelled after spells same =
+    let framed = laws.frame_stands format is_format bytes found.0 found.1 fits is in
+    let longer : bytes ++ more ≡ frame_of format found.0 found.1 ++ (framed.rest ++ more) =
+    ap (λ (t : List ℕ). t ++ more) framed.parts ∙ append_assoc (frame_of format found.0 found.1) framed.rest more in
+    let again = ap (frame_front format) longer ∙ laws.frame_again format is_format found.0 found.1 (framed.rest ++ more) framed.has_length in
+    let cut = cut_of m spelled after (bytes ++ more) spells same in
+    let same_frame = ok_same (found.0, found.1) (kind_of (texts m), body (texts m)) (sym again ∙ cut) in
+    let fields = ap (λ (f : Kind × List ℕ). fields_of f.0 f.1) same_frame ∙ fields_of_body m spells.is_message in
+    never_refused view e m refusal spells.is_message (subst (λ (o : Option (Message (List ℕ))). ReadsAs (λ (x : X × ℕ). view x.0) (Err e) o) fields judged.0)
+
+-- rejected bytes never begin with a message, whatever follows
+pub refused : {X : Type 0} (view : X → Message Definition) (result : Result (X × ℕ) DecodeFault) (bytes : List ℕ) → AreBytes bytes → IsJudged view result (frame_front format bytes) →
+    IfErr result (λ e. IsRefusal e → NeverBegins bytes)
+refused view (Ok x) bytes fits judged = tt
+refused view (Err e) bytes fits judged = refused_by view e bytes (frame_front format bytes) refl fits judged
+
+is_short : (fault : FrameFault) → decode_fault fault ≡ Short → fault ≡ frames.Short
+is_short frames.Short e = refl
+is_short frames.BadVersion e = absurd cc
+is_short frames.BadKind e = absurd cc
+is_short frames.TooLong e = absurd cc
+is_short frames.BadLength e = absurd cc
+
+abbrev frame_error : FrameFault → Result (Kind × List ℕ) FrameFault
+frame_error fault = Err fault
+
+short_by : {X : Type 0} (view : X → Message Definition) (result : Result (X × ℕ) DecodeFault) (r : Result (Kind × List ℕ) FrameFault) → IsJudged view result r → result ≡ Err Short → r ≡ Err frames.Short
+short_by {X} view result (Err fault) judged short = ap frame_error (is_short fault (err_same {X = X × ℕ} (decode_fault fault) Short (sym judged ∙ short)))
 short_by {X} view result (Ok found) judged short =
     absurd (subst (λ (a : Result (X × ℕ) DecodeFault). ReadsAs (λ (x : X × ℕ). view x.0) a (fields_of found.0 found.1)) short judged.0)
 
+-- part of a frame is part of a message
+unfinished_message : (bytes : List ℕ) → layouts.IsUnfinished format bytes → IsUnfinished bytes
+unfolding can_have
+unfinished_message [] unfinished = tt
+unfinished_message (version ∷ []) own = eqb-true version message_version own
+unfinished_message (version ∷ byte ∷ bytes) unfinished =
+    let kind : Kind = unfinished.1.0 in
+    (eqb-true version message_version unfinished.0, (kind, kind_stands byte kind unfinished.1.1, unfinished.1.2))
+
+unfinished_frame : (bytes : List ℕ) → IsUnfinished bytes → layouts.IsUnfinished format bytes
+unfolding can_have
+unfinished_frame [] unfinished = tt
+unfinished_frame (version ∷ []) same = eq-eqb version message_version same
+unfinished_frame (version ∷ byte ∷ bytes) unfinished =
+    let kind : Kind = unfinished.1.0 in
+    (eq-eqb version message_version unfinished.0, (kind, ap kind_of_byte unfinished.1.1 ∙ kind_again kind, unfinished.1.2))
+
 -- if Short is returned, more bytes are needed
-pub short_unfinished : {X : Type 0} (view : X → Message Definition) (result : Result (X × ℕ) DecodeFault) (bytes : List ℕ) → IsJudged view result (frame_front bytes) → IsErrOf result Short → IsUnfinished bytes
-short_unfinished view result bytes judged short = short_is_unfinished bytes (short_by view result (frame_front bytes) judged short)
+pub short_unfinished : {X : Type 0} (view : X → Message Definition) (result : Result (X × ℕ) DecodeFault) (bytes : List ℕ) → IsJudged view result (frame_front format bytes) → IsErrOf result Short → IsUnfinished bytes
+short_unfinished view result bytes judged short =
+    unfinished_message bytes (laws.short_is_unfinished format bytes (short_by view result (frame_front format bytes) judged short))
 
 -- and conversely
-pub unfinished_short : {X : Type 0} (view : X → Message Definition) (result : Result (X × ℕ) DecodeFault) (bytes : List ℕ) → IsJudged view result (frame_front bytes) → IsUnfinished bytes → IsErrOf result Short
+pub unfinished_short : {X : Type 0} (view : X → Message Definition) (result : Result (X × ℕ) DecodeFault) (bytes : List ℕ) → IsJudged view result (frame_front format bytes) → IsUnfinished bytes → IsErrOf result Short
 unfinished_short view result bytes judged unfinished =
-    subst (λ (r : Result (Kind × List ℕ) DecodeFault). IsJudged view result r) (unfinished_is_short bytes unfinished) judged
+    subst (λ (r : Result (Kind × List ℕ) FrameFault). IsJudged view result r) (laws.unfinished_is_short format is_format bytes (unfinished_frame bytes unfinished)) judged
 
 not_read_short : {X : Type 0} (view : X → Message Definition) (result : Result (X × ℕ) DecodeFault) (m : Message Definition) (k : ℕ) → result ≡ Err Short → IsReadAs view result m k → ⊥
 not_read_short {X} view result m k short is_read =
@@ -190,5 +228,5 @@ not_read_short {X} view result m k short is_read =
     let same : Short ≡ Memory = memory.0 in cc
 
 -- bytes for which Short is returned don't begin with a message
-pub short_is_none : {X : Type 0} → OneTextOneMap → (view : X → Message Definition) (result : Result (X × ℕ) DecodeFault) (bytes : List ℕ) → IsJudged view result (frame_front bytes) → IsErrOf result Short → BeginsWithNone bytes
+pub short_is_none : {X : Type 0} → OneTextOneMap → (view : X → Message Definition) (result : Result (X × ℕ) DecodeFault) (bytes : List ℕ) → IsJudged view result (frame_front format bytes) → IsErrOf result Short → BeginsWithNone bytes
 short_is_none one_map view result bytes judged short m spelled after spells e = not_read_short view result m (length spelled) short (whole_is_read one_map view result bytes judged m spelled after spells e)

@@ -1,6 +1,5 @@
 pub mod Texts
 pub mod Fields
-pub mod Headers
 pub mod Encoded
 pub mod Judged
 pub mod Faults

@@ -1,33 +1,29 @@
 -- Messages with definitions, and the same messages with canonical texts.
-use Rattle.std.proofs.Common.{◌≡◌, ℕ, ◌≤◌, List, length, Option, Some, None, refl, ap, subst, ◌∙◌, arith}
-use Rattle.std.specs.Prelude.{option_map, IfSome, IsSome, IsSomeAnd}
+use Rattle.std.proofs.Common.{◌≡◌, ℕ, ◌≤◌, List, length, Option, Some, None, refl, ap, ◌∙◌, arith}
+use Rattle.std.specs.Prelude.{IsSomeAnd}
 use Rattle.wf_def.specs.Definition.{Definition}
 use Rattle.wf_canon.specs.Canon.{canon, line, most_canon_bytes}
 use Rattle.wf_canon.specs.Saying.{OneTextOneMap}
 use Rattle.wf_ballot.specs.Ballot.{Ballot}
+use Rattle.wf_frame.specs.Ending.{IsText}
 use Rattle.wf_model.specs.Message.{Message, Prepare, Promise, Accept, Accepted, Nack, Chosen, Ask, Vote}
 use Rattle.wf_codec.specs.Message.{vote_with, texts, definition_of, HasDefinition, HasText, IsVoteOf, IsMessageOf, IsMessage}
 use Rattle.wf_codec.specs.Fault.{IsNoText}
-
--- a text that a message may have
-pub record IsText (text : List ℕ) : Type 0 where
-  pub least : 1 ≤ length text
-  pub most : length text ≤ most_canon_bytes
 
 -- a canonical text begins with MAP
 not_empty : (d : Definition) → 1 ≤ length (canon d)
 unfolding canon line
 not_empty d = omega arith
 
-canon_is_text : (d : Definition) → HasText d → IsText (canon d)
-canon_is_text d has = record { least = not_empty d; most = has.short }
+canon_is_text : (d : Definition) → HasText d → IsText most_canon_bytes (canon d)
+canon_is_text d has = record { least = not_empty d; within = has.short }
 
-vote_is_text : (v : Option (Vote Definition)) → IsVoteOf HasText v → IsVoteOf IsText (vote_with canon v)
+vote_is_text : (v : Option (Vote Definition)) → IsVoteOf HasText v → IsVoteOf (IsText most_canon_bytes) (vote_with canon v)
 vote_is_text None p = p
 vote_is_text (Some v) p = (p.0, canon_is_text v.definition p.1)
 
 -- a message's texts are texts
-pub texts_fit : (m : Message Definition) → IsMessage m → IsMessageOf IsText (texts m)
+pub texts_fit : (m : Message Definition) → IsMessage m → IsMessageOf (IsText most_canon_bytes) (texts m)
 texts_fit (Prepare s b) p = p
 texts_fit (Promise i s b v) p = (p.0, p.1, p.2, vote_is_text v p.3)
 texts_fit (Accept s b d) p = (p.0, p.1, canon_is_text d p.2)
@@ -71,43 +67,24 @@ texts_apart one_map (Chosen s d) n p q e = absurd cc
 texts_apart one_map (Ask s) (Ask t) p q e = cc
 texts_apart one_map (Ask s) n p q e = absurd cc
 
--- a message's definition, as its text
-texts_carry : (m : Message Definition) → definition_of (texts m) ≡ option_map canon (definition_of m)
-texts_carry (Prepare s b) = refl
-texts_carry (Promise i s b None) = refl
-texts_carry (Promise i s b (Some v)) = refl
-texts_carry (Accept s b d) = refl
-texts_carry (Accepted i s b) = refl
-texts_carry (Nack i s b x) = refl
-texts_carry (Chosen s d) = refl
-texts_carry (Ask s) = refl
-
-mapped : {A B : Type 0} (f : A → B) (o : Option A) → IsSome (option_map f o) → IsSome o
-mapped f None some = absurd cc
-mapped f (Some x) some = refl
-
 -- a message with a text has a definition
 pub text_is_definition : (m : Message Definition) → HasDefinition (texts m) → HasDefinition m
-text_is_definition m has = mapped canon (definition_of m) (subst (λ (o : Option (List ℕ)). IsSome o) (texts_carry m) has)
-
-vote_carries : (v : Option (Vote Definition)) → IsVoteOf HasText v → IfSome (option_map (λ vote. vote.definition) v) HasText
-vote_carries None p = tt
-vote_carries (Some v) p = p.1
-
--- a message's definition has a text
-carries : (m : Message Definition) → IsMessage m → IfSome (definition_of m) HasText
-carries (Prepare s b) p = tt
-carries (Promise i s b v) p = vote_carries v p.3
-carries (Accept s b d) p = p.2
-carries (Accepted i s b) p = tt
-carries (Nack i s b x) p = tt
-carries (Chosen s d) p = p.1
-carries (Ask s) p = tt
-
-text_stands : (o : Option Definition) → IfSome o HasText → IsSomeAnd (option_map canon o) IsNoText → ⊥
-text_stands None has bad = bad
-text_stands (Some d) has bad = bad d has refl
+text_is_definition (Prepare s b) has = has
+text_is_definition (Promise i s b None) has = has
+text_is_definition (Promise i s b (Some v)) has = refl
+text_is_definition (Accept s b d) has = refl
+text_is_definition (Accepted i s b) has = has
+text_is_definition (Nack i s b x) has = has
+text_is_definition (Chosen s d) has = refl
+text_is_definition (Ask s) has = has
 
 -- a message's text is canonical
 pub not_bad : (m : Message Definition) → IsMessage m → IsSomeAnd (definition_of (texts m)) IsNoText → ⊥
-not_bad m p bad = text_stands (definition_of m) (carries m p) (subst (λ (o : Option (List ℕ)). IsSomeAnd o IsNoText) (texts_carry m) bad)
+not_bad (Prepare s b) p bad = bad
+not_bad (Promise i s b None) p bad = bad
+not_bad (Promise i s b (Some v)) p bad = bad v.definition p.3.1 refl
+not_bad (Accept s b d) p bad = bad d p.2 refl
+not_bad (Accepted i s b) p bad = bad
+not_bad (Nack i s b x) p bad = bad
+not_bad (Chosen s d) p bad = bad d p.1 refl
+not_bad (Ask s) p bad = bad

@@ -1,14 +1,13 @@
 -- Which error bytes have: that of the first check that fails, or else that of the message's text.
-use Rattle.std.specs.Prelude.{◌≡◌, ℕ, zero, suc, nat_lt, ◌==◌, ◌&&◌, List, [], ◌∷◌, length, take, drop, Bool, true, false, Option, Some, None, is_some, IsSome, IsSomeAnd, if◌then◌else◌}
+use Rattle.std.specs.Prelude.{◌≡◌, ℕ, nat_lt, ◌==◌, List, [], ◌∷◌, length, take, drop, Bool, Option, Some, None, is_some, IsSome, IsSomeAnd, if◌then◌else◌}
 use Rattle.std.specs.Int.{w32, from_be_bytes}
-use Rattle.wf_ballot.specs.Front.{front_node, front_slot, front_ballot}
+use Rattle.wf_frame.specs.Layout as layouts
 use Rattle.wf_def.specs.Definition.{Definition}
 use Rattle.wf_canon.specs.Canon.{canon}
 use Rattle.wf_codec.specs.declared.kind.Kind.{Kind}
-use Rattle.wf_codec.specs.declared.kind.Kind.TheVariants.{Prepare, Promise, Accept, Accepted, Nack, Chosen, Ask}
 use Rattle.wf_codec.specs.declared.fault.DecodeFault.{DecodeFault}
 use Rattle.wf_codec.specs.declared.fault.DecodeFault.TheVariants.{Short, BadVersion, BadKind, BadField, NotCanonical, TooLong, Memory}
-use Rattle.wf_codec.specs.Kind.{most_body_bytes, kind_of_byte, can_have}
+use Rattle.wf_codec.specs.Kind.{most_body_bytes, kind_of_byte, layout, can_have}
 use Rattle.wf_codec.specs.Spelling.{message_version, header_length}
 use Rattle.wf_codec.specs.Message.{HasText}
 
@@ -37,54 +36,13 @@ front_of (Some n) bytes = take n bytes
 abbrev pub body_in : List ℕ → List ℕ
 body_in bytes = front_of (length_in bytes) (behind_header bytes)
 
--- ---- the fields of a body, by byte offset
-
--- there is a node at this byte offset
-abbrev pub has_node_at : ℕ → List ℕ → Bool
-has_node_at place body = is_some (front_node (drop place body))
-
--- there is a sequence from 1 on at this byte offset
-abbrev pub has_slot_at : ℕ → List ℕ → Bool
-has_slot_at place body = is_some (front_slot (drop place body))
-
--- there is a ballot at this byte offset
-abbrev pub has_ballot_at : ℕ → List ℕ → Bool
-has_ballot_at place body = is_some (front_ballot (drop place body))
-
--- a mark of 0 with nothing after it, or a mark of 1 followed by a ballot
-unfoldable pub is_vote : List ℕ → Bool
-is_vote (zero ∷ []) = true
-is_vote (suc zero ∷ bytes) = is_some (front_ballot bytes)
-is_vote _ = false
-
--- from this byte offset on there is a vote with its mark, or the mark of none
-abbrev pub has_vote_at : ℕ → List ℕ → Bool
-has_vote_at place body = is_vote (drop place body)
-
--- each field of the body is in its range
-unfoldable pub has_fields : Kind → List ℕ → Bool
-has_fields Prepare body = has_slot_at 0 body && has_ballot_at 2 body
-has_fields Promise body = has_node_at 0 body && has_slot_at 1 body && has_ballot_at 3 body && has_vote_at 8 body
-has_fields Accept body = has_slot_at 0 body && has_ballot_at 2 body
-has_fields Accepted body = has_node_at 0 body && has_slot_at 1 body && has_ballot_at 3 body
-has_fields Nack body = has_node_at 0 body && has_slot_at 1 body && has_ballot_at 3 body && has_ballot_at 8 body
-has_fields Chosen body = has_slot_at 0 body
-has_fields Ask body = has_slot_at 0 body
-
--- the text after a mark of 1 and the vote's ballot
-unfoldable pub text_of_vote : List ℕ → Option (List ℕ)
-text_of_vote (suc zero ∷ bytes) = Some (drop 5 bytes)
-text_of_vote _ = None
+-- each field of the body is in its range, by byte offset
+abbrev pub has_fields : Kind → List ℕ → Bool
+has_fields kind body = layouts.has_fields (layout kind) body
 
 -- the text after the fields: it fills the rest of the body
-unfoldable pub text_of : Kind → List ℕ → Option (List ℕ)
-text_of Prepare body = None
-text_of Promise body = text_of_vote (drop 8 body)
-text_of Accept body = Some (drop 7 body)
-text_of Accepted body = None
-text_of Nack body = None
-text_of Chosen body = Some (drop 2 body)
-text_of Ask body = None
+abbrev pub text_of : Kind → List ℕ → Option (List ℕ)
+text_of kind body = layouts.text_in (layout kind) body
 
 -- ---- the checks, each with its error
 

@@ -1,6 +1,7 @@
 -- The theorems about message bytes: each message has one encoding, none is a prefix of another, and what the front of bytes is.
 use Rattle.std.specs.Prelude.{◌≡◌, ℕ, ◌+◌, ◌<◌, ◌≤◌, ◌⊎◌, List, [], ◌∷◌, ◌++◌, length, take, true, Result, Err, IfOk, MatchResult}
 use Rattle.std.specs.Int.{w32, from_be_bytes}
+use Rattle.wf_frame.specs.declared.fault.FrameFault.{FrameFault}
 use Rattle.wf_model.specs.Message.{Message}
 use Rattle.wf_def.specs.Definition.{Definition}
 use Rattle.wf_codec.specs.declared.kind.Kind.{Kind}
@@ -10,7 +11,7 @@ use Rattle.wf_codec.specs.declared.fault.DecodeFault.TheVariants.{Short, Memory}
 use Rattle.wf_codec.specs.Kind.{kind_byte, can_have}
 use Rattle.wf_codec.specs.Spelling.{message_version, header_length, Spells}
 use Rattle.wf_codec.specs.Message.{HasDefinition}
-use Rattle.wf_codec.specs.Judging.{fields_of, ReadsAs}
+use Rattle.wf_codec.specs.Judging.{decode_fault, fields_of, ReadsAs}
 
 -- a message has exactly one encoding
 abbrev pub OneSpelling : Type 0
@@ -70,7 +71,7 @@ abbrev pub IsReadAs : {X : Type 0} → (X → Message Definition) → Result (X 
 IsReadAs view result m k = MatchResult result (λ x. (view x.0 ≡ m) × (x.1 ≡ k)) (λ e. (e ≡ Memory) × HasDefinition m)
 
 -- The result of the decoder's parts: the frame's error, or else the message of the body.
-abbrev pub IsJudged : {X : Type 0} → (X → Message Definition) → Result (X × ℕ) DecodeFault → Result (Kind × List ℕ) DecodeFault → Type 0
+abbrev pub IsJudged : {X : Type 0} → (X → Message Definition) → Result (X × ℕ) DecodeFault → Result (Kind × List ℕ) FrameFault → Type 0
 IsJudged view result split = MatchResult split
     (λ frame. ReadsAs (λ x. view x.0) result (fields_of frame.0 frame.1) × IfOk result (λ x. x.1 ≡ header_length + length frame.1))
-    (λ fault. result ≡ Err fault)
+    (λ fault. result ≡ Err (decode_fault fault))

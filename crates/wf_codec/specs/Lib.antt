@@ -1,6 +1,7 @@
 pub mod Kind
 pub mod Message
 pub mod Spelling
+pub mod FormatLaws
 pub mod Fault
 pub mod Judging
 pub mod Law

@@ -1,14 +1,18 @@
 -- The bytes of a message.
-use Rattle.std.specs.Prelude.{◌≡◌, ℕ, List, [], ◌∷◌, ◌++◌, Option, Some, None}
+use Rattle.std.specs.Prelude.{◌≡◌, ℕ, ◌==◌, List, ◌++◌}
 use Rattle.wf_ballot.specs.Node.{node_bytes}
 use Rattle.wf_ballot.specs.Sequence.{seq_bytes}
 use Rattle.wf_ballot.specs.Ballot.{ballot_bytes}
 use Rattle.wf_ballot.specs.Frame.{frame}
-use Rattle.wf_model.specs.Message.{Message, Prepare, Promise, Accept, Accepted, Nack, Chosen, Ask, Vote}
+use Rattle.wf_frame.specs.Ending.{vote_bytes}
+use Rattle.wf_frame.specs.Layout.{Body}
+use Rattle.wf_frame.specs.Frame.{Format}
+use Rattle.wf_frame.specs.Frame as frames
+use Rattle.wf_model.specs.Message.{Message, Prepare, Promise, Accept, Accepted, Nack, Chosen, Ask}
 use Rattle.wf_def.specs.Definition.{Definition}
 use Rattle.wf_codec.specs.declared.kind.Kind.{Kind}
 use Rattle.wf_codec.specs.declared.kind.Kind.TheVariants as kinds
-use Rattle.wf_codec.specs.Kind.{kind_byte}
+use Rattle.wf_codec.specs.Kind.{kind_byte, kind_of_byte, layout, most_body_bytes}
 use Rattle.wf_codec.specs.Message.{texts, IsMessage}
 
 abbrev pub kind_of : {V : Type 0} → Message V → Kind
@@ -19,11 +23,6 @@ kind_of (Accepted i s b) = kinds.Accepted
 kind_of (Nack i s b q) = kinds.Nack
 kind_of (Chosen s d) = kinds.Chosen
 kind_of (Ask s) = kinds.Ask
-
--- the mark of a vote, and after a 1 the vote, with the definition's text
-unfoldable pub vote_bytes : Option (Vote (List ℕ)) → List ℕ
-vote_bytes None = 0 ∷ []
-vote_bytes (Some vote) = 1 ∷ ballot_bytes vote.ballot ++ vote.definition
 
 -- the body of a message with texts for definitions
 unfoldable pub body : Message (List ℕ) → List ℕ
@@ -41,7 +40,38 @@ message_version = 1
 
 -- the number of bytes before the body
 abbrev pub header_length : ℕ
-header_length = 6
+header_length = frames.header_length
+
+-- what the body of a message says, field by field, and what it ends with
+abbrev pub values_of : (m : Message (List ℕ)) → Body (layout (kind_of m))
+values_of (Prepare s b) = (s, (b, tt))
+values_of (Promise i s b v) = (i, (s, (b, v)))
+values_of (Accept s b text) = (s, (b, text))
+values_of (Accepted i s b) = (i, (s, (b, tt)))
+values_of (Nack i s b q) = (i, (s, (b, (q, tt))))
+values_of (Chosen s text) = (s, text)
+values_of (Ask s) = (s, tt)
+
+-- the message whose body says so
+abbrev pub message_of : (kind : Kind) → Body (layout kind) → Message (List ℕ)
+message_of kinds.Prepare x = Prepare x.0 x.1.0
+message_of kinds.Promise x = Promise x.0 x.1.0 x.1.1.0 x.1.1.1
+message_of kinds.Accept x = Accept x.0 x.1.0 x.1.1
+message_of kinds.Accepted x = Accepted x.0 x.1.0 x.1.1.0
+message_of kinds.Nack x = Nack x.0 x.1.0 x.1.1.0 x.1.1.1.0
+message_of kinds.Chosen x = Chosen x.0 x.1
+message_of kinds.Ask x = Ask x.0
+
+-- the format of messages
+abbrev pub format : Format Kind
+format = record {
+  is_read = λ version. version == message_version;
+  kind_with = λ version byte. kind_of_byte byte;
+  version = λ kind. message_version;
+  byte = kind_byte;
+  layout = layout;
+  longest = most_body_bytes;
+}
 
 -- the encoding of a message with texts for definitions
 unfoldable pub text_spelling : Message (List ℕ) → List ℕ

@@ -1,18 +1,21 @@
 ghost use Rattle.std.specs.Prelude.{◌≡◌, ◌≤◌, ◌++◌, ◌↔◌, length, IfOk, IfErr, IsErrOf, MatchResult};
 ghost use Rattle.wf_codec.specs.declared.kind.Kind.TheVariants as kinds;
 ghost use Rattle.wf_codec.specs.Message.{view};
-ghost use Rattle.wf_codec.specs.Spelling.{Spells};
 ghost use Rattle.wf_codec.specs.Fault.{first_fault, HasFault, CarriesText};
-ghost use Rattle.wf_codec.specs.Judging.{frame_front, fields_of, vote_of, ReadsAs, ReadsVote, ReadsText};
+ghost use Rattle.wf_frame.specs.Ending.{vote_of};
+ghost use Rattle.wf_frame.specs.Frame.{frame_front};
+ghost use Rattle.wf_codec.specs.Spelling.{Spells, format};
+ghost use Rattle.wf_codec.specs.Judging.{decode_fault, fields_of, ReadsAs, ReadsVote, ReadsText};
 ghost use Rattle.wf_codec.specs.Law.{BeginsWith, BeginsWithNone, NeverBegins, IsRefusal, IsUnfinished, IsReadAs, IsJudged};
 
 use crate::fault::DecodeFault;
-use crate::frame::{HEADER_BYTES, split_frame};
+use crate::frame::HEADER_BYTES;
 use crate::kind::Kind;
 use crate::message::Message;
 use std::alloc::Global;
 use wf_ballot::{Ballot, split_ballot, split_node, split_slot};
 use wf_canon::{Canon, CanonFault, one_text_one_map};
+use wf_frame::{FrameFault, split_frame};
 
 /// The message at the front of the bytes, and its length in bytes. The checks go from left to right, each as soon as its bytes
 /// are there: the version, the kind, the body's length, whether the body is whole, its fields, then the text of a definition.
@@ -50,12 +53,28 @@ pub fn decode(alloc: Global, bytes: &[u8]) -> Result<(Message, usize), DecodeFau
 }
 
 fn judge(alloc: Global, bytes: &[u8]) -> Result<(Message, usize), DecodeFault>
-    ensures { IsJudged view result (frame_front bytes.now) }
+    ensures { IsJudged view result (frame_front format bytes.now) }
 {
-    let (kind, body) = split_frame(bytes)?;
+    let (kind, body) = match split_frame::<Kind>(bytes) {
+        Ok(frame) => frame,
+        Err(fault) => return Err(decode_fault(fault)),
+    };
     let length = body.len();
     let message = message_of(alloc, kind, body)?;
     Ok((message, HEADER_BYTES + length))
+}
+
+/// The decoder's error for that of the frame.
+fn decode_fault(fault: FrameFault) -> DecodeFault
+    ensures { result ≡ decode_fault fault }
+{
+    match fault {
+        FrameFault::Short => DecodeFault::Short,
+        FrameFault::BadVersion => DecodeFault::BadVersion,
+        FrameFault::BadKind => DecodeFault::BadKind,
+        FrameFault::TooLong => DecodeFault::TooLong,
+        FrameFault::BadLength => DecodeFault::BadField,
+    }
 }
 
 fn canon_of(alloc: Global, text: &[u8]) -> Result<Canon, DecodeFault>
@@ -98,7 +117,7 @@ fn promise_of(alloc: Global, body: &[u8]) -> Result<Message, DecodeFault>
     Ok(Message::Promise(node, slot, ballot, vote))
 }
 
-#[tactic(auto, unfolding(crate::specs::Judging::vote_of))]
+#[tactic(auto, unfolding(wf_frame::specs::Ending::vote_of))]
 fn vote_of(alloc: Global, bytes: &[u8]) -> Result<Option<(Ballot, Canon)>, DecodeFault>
     ensures { ReadsVote result (vote_of bytes.now) }
 {

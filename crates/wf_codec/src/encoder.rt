@@ -1,14 +1,16 @@
 ghost use Rattle.std.specs.Prelude.{◌≡◌, ◌+◌, ◌<◌, ◌≤◌, ◌++◌, length, vec_len, vec_capacity, OnOk, OnErr};
 ghost use Rattle.wf_codec.specs.Message.{view, view_vote, vote_with, texts, HasText, IsVoteOf, IsMessage};
-ghost use Rattle.wf_codec.specs.Spelling.{kind_of, vote_bytes, body, text_spelling, spelling};
+ghost use Rattle.wf_codec.specs.Spelling.{kind_of, body, spelling};
+ghost use Rattle.wf_frame.specs.Ending.{vote_bytes};
 ghost use Rattle.wf_canon.specs.Canon.{canon};
 
-use crate::frame::{BODY_BYTES, HEADER_BYTES, VERSION};
+use crate::frame::{BODY_BYTES, HEADER_BYTES};
 use crate::kind::Kind;
 use crate::message::Message;
 use std::alloc::AllocError;
 use wf_ballot::Ballot;
 use wf_canon::Canon;
+use wf_frame::{put, put_header};
 
 /// Appends the message's encoding. The only error is allocation failure, if the vector's capacity doesn't suffice; the bytes are
 /// then unchanged.
@@ -20,8 +22,7 @@ pub fn encode(message: &Message, out: &mut Vec<u8>) -> Result<(), AllocError>
 {
     let length = body_length(message);
     out.reserve(HEADER_BYTES + length)?;
-    put(out, &[VERSION, kind_of(message).byte()]);
-    put(out, &(length as u32).to_be_bytes());
+    put_header(out, kind_of(message), length);
     put_body(out, message);
     Ok(())
 }
@@ -42,7 +43,7 @@ fn kind_of(message: &Message) -> Kind
 }
 
 /// The number of bytes of the message's body.
-#[tactic(auto, using(crate::proofs::Fields::body_has_length, crate::proofs::Fields::promise_has_length))]
+#[tactic(auto, using(crate::proofs::Fields::body_has_length))]
 fn body_length(message: &Message) -> usize
     ensures value { result ≡ length (body (texts (view message.now))) }
     ensures most { result ≤ BODY_BYTES }
@@ -105,16 +106,6 @@ fn text_length(text: &Canon) -> usize
     text.text().len()
 }
 
-/// Appends bytes for which there is room.
-fn put(out: &mut Vec<u8>, bytes: &[u8])
-    requires { vec_len out.old + length bytes.now ≤ vec_capacity out.old }
-    ensures items { out.new.items ≡ out.old.items ++ bytes.now }
-    ensures len { vec_len out.new ≡ vec_len out.old + length bytes.now }
-    ensures capacity { vec_capacity out.old ≤ vec_capacity out.new }
-{
-    out.extend_from_slice(bytes).unwrap();
-}
-
 /// Appends the body, for which there is room.
 #[tactic(auto, using(crate::proofs::Fields::body_has_length), unfolding(crate::specs::Spelling::body))]
 fn put_body(out: &mut Vec<u8>, message: &Message)
@@ -157,7 +148,7 @@ fn put_body(out: &mut Vec<u8>, message: &Message)
 }
 
 /// Appends a vote with its mark, for which there is room.
-#[tactic(auto, using(crate::proofs::Fields::vote_has_length), unfolding(crate::specs::Spelling::vote_bytes))]
+#[tactic(auto, using(crate::proofs::Fields::vote_has_length), unfolding(wf_frame::specs::Ending::vote_bytes))]
 fn put_vote(out: &mut Vec<u8>, vote: &Option<(Ballot, Canon)>)
     requires { vec_len out.old + length (vote_bytes (vote_with canon (view_vote vote.now))) ≤ vec_capacity out.old }
     ensures { out.new.items ≡ out.old.items ++ vote_bytes (vote_with canon (view_vote vote.now)) }

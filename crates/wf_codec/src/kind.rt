@@ -1,4 +1,5 @@
 use wf_canon::MOST_CANON_BYTES;
+use wf_frame::has_text_behind;
 
 /// The kinds of message.
 #[derive(Clone, Copy, Debug, PartialEq, Eq)]
@@ -13,9 +14,8 @@ pub enum Kind {
 }
 
 impl Kind {
-    ghost use Rattle.std.specs.Prelude.{◌≡◌, ◌+◌, ◌^◌, ◌<◌};
-    ghost use Rattle.wf_canon.specs.Canon.{most_canon_bytes};
-    ghost use Rattle.wf_codec.specs.Kind.{kind_byte, kind_of_byte, can_have, has_text_behind};
+    ghost use Rattle.std.specs.Prelude.{◌≡◌};
+    ghost use Rattle.wf_codec.specs.Kind.{kind_byte, kind_of_byte, can_have};
 
     /// The kind's byte.
     pub fn byte(self) -> u8
@@ -56,20 +56,12 @@ impl Kind {
     {
         match self {
             Kind::Prepare => length == 7,
-            Kind::Promise => length == 9 || Kind::has_text_behind(14, length),
-            Kind::Accept => Kind::has_text_behind(7, length),
+            Kind::Promise => length == 9 || has_text_behind(MOST_CANON_BYTES, 14, length),
+            Kind::Accept => has_text_behind(MOST_CANON_BYTES, 7, length),
             Kind::Accepted => length == 8,
             Kind::Nack => length == 13,
-            Kind::Chosen => Kind::has_text_behind(2, length),
+            Kind::Chosen => has_text_behind(MOST_CANON_BYTES, 2, length),
             Kind::Ask => length == 2,
         }
-    }
-
-    /// Whether a body of that many bytes can have a text after its other fields.
-    fn has_text_behind(fields: usize, length: usize) -> bool
-        requires { fields + most_canon_bytes < 2 ^ 64 }
-        ensures { result ≡ has_text_behind fields length }
-    {
-        fields < length && length <= fields + MOST_CANON_BYTES
     }
 }

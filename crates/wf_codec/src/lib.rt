@@ -16,6 +16,7 @@
 mod decoder;
 mod encoder;
 mod fault;
+mod format;
 mod frame;
 mod kind;
 mod law;

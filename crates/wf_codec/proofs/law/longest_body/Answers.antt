@@ -1,6 +1,6 @@
 use Rattle.wf_codec.specs.Kind.{can_have}
 use Rattle.std.proofs.Common.{refl}
-use Rattle.wf_codec.proofs.Fields.{body_at_most}
+use Rattle.wf_codec.specs.FormatLaws.{body_at_most}
 use Rattle.wf_codec.proofs.law.longest_body.Goals as goal
 
 pub returns : goal.returns

@@ -1,0 +1,78 @@
+-- The layout of a body: fields of fixed length, one after the other, and an ending. A kind of message or record has one layout.
+use Rattle.std.specs.Prelude.{ℕ, ◌+◌, ◌&&◌, Bool, List, [], ◌∷◌, ◌++◌, drop, Option, is_some, option_map, option_and_then}
+use Rattle.wf_frame.specs.Field.{Field, Value, IsValue, value_bytes, width, front_value}
+use Rattle.wf_frame.specs.Ending.{Ending, End, IsEnd, end_bytes, ends_at, end_text, front_end, has_end, text_in_end}
+
+pub record Layout : Type 0 where
+  pub fields : List Field
+  pub ending : Ending
+
+-- ---- what a body says
+
+-- a value for each field, and the ending
+abbrev pub Parts : List Field → Ending → Type 0
+Parts [] ending = End ending
+Parts (field ∷ fields) ending = Value field × Parts fields ending
+
+abbrev pub Body : Layout → Type 0
+Body layout = Parts layout.fields layout.ending
+
+-- each part is in its range
+abbrev pub AreParts : (fields : List Field) (ending : Ending) → Parts fields ending → Type 0
+AreParts [] ending end = IsEnd ending end
+AreParts (field ∷ fields) ending parts = IsValue field parts.0 × AreParts fields ending parts.1
+
+abbrev pub IsBody : (layout : Layout) → Body layout → Type 0
+IsBody layout body = AreParts layout.fields layout.ending body
+
+abbrev pub parts_bytes : (fields : List Field) (ending : Ending) → Parts fields ending → List ℕ
+parts_bytes [] ending end = end_bytes ending end
+parts_bytes (field ∷ fields) ending parts = value_bytes field parts.0 ++ parts_bytes fields ending parts.1
+
+-- the bytes of a body
+abbrev pub body_bytes : (layout : Layout) → Body layout → List ℕ
+body_bytes layout body = parts_bytes layout.fields layout.ending body
+
+abbrev pub end_of : (fields : List Field) (ending : Ending) → Parts fields ending → End ending
+end_of [] ending end = end
+end_of (field ∷ fields) ending parts = end_of fields ending parts.1
+
+-- the text that a body contains, if any
+abbrev pub body_text : (layout : Layout) → Body layout → Option (List ℕ)
+body_text layout body = end_text layout.ending (end_of layout.fields layout.ending body)
+
+-- ---- lengths
+
+abbrev pub widths : List Field → ℕ
+widths [] = 0
+widths (field ∷ fields) = width field + widths fields
+
+-- a body can have that many bytes
+abbrev pub fits : Layout → ℕ → Bool
+fits layout n = ends_at layout.ending (widths layout.fields) n
+
+-- ---- how a body is read: each field after the one before it, then the ending
+
+-- what `said` makes of the parts that the bytes begin with, None if a part isn't there
+abbrev pub read_parts : {B : Type 0} (fields : List Field) (ending : Ending) → List ℕ → (Parts fields ending → B) → Option B
+read_parts [] ending bytes said = option_map said (front_end ending bytes)
+read_parts (field ∷ fields) ending bytes said =
+    option_and_then (λ value. read_parts fields ending value.1 (λ parts. said (value.0, parts))) (front_value field bytes)
+
+-- what `said` makes of a body, if a body can have the length of these bytes
+abbrev pub read_body : {B : Type 0} (layout : Layout) → List ℕ → (Body layout → B) → Option B
+read_body layout bytes said = read_parts layout.fields layout.ending bytes said
+
+-- ---- by byte offset
+
+-- from this offset on, each field is in its range, and the ending is one but for its text
+abbrev pub has_parts : List Field → Ending → ℕ → List ℕ → Bool
+has_parts [] ending offset body = has_end ending (drop offset body)
+has_parts (field ∷ fields) ending offset body = is_some (front_value field (drop offset body)) && has_parts fields ending (offset + width field) body
+
+abbrev pub has_fields : Layout → List ℕ → Bool
+has_fields layout body = has_parts layout.fields layout.ending 0 body
+
+-- the text after the fields
+abbrev pub text_in : Layout → List ℕ → Option (List ℕ)
+text_in layout body = text_in_end layout.ending (drop (widths layout.fields) body)
