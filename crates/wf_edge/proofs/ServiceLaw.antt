@@ -1,13 +1,12 @@
 -- A request to the map service has one response, wherever the map that it asks for is the same.
-use Rattle.std.proofs.Common.{◌≡◌, ◌≢◌, ◌∙◌, ◌<◌, ℕ, List, length, Vec, codes, refl, sym, ap, subst, arith}
+use Rattle.std.proofs.Common.{◌≡◌, ◌≢◌, ◌∙◌, ◌<◌, ℕ, List, length, Vec, sym, ap, subst, arith}
 use Rattle.std.specs.Prelude.{Some, Result, Ok, Err}
 use Rattle.httparse.proofs.GrammarLemmas.{request_unique}
 use Rattle.wf_codec.specs.declared.message.Message.{Message}
 use Rattle.wf_def.specs.Definition.{Definition}
 use Rattle.wf_learner.specs.History.{map_at}
 use Rattle.wf_node.specs.Node.{Node}
-use Rattle.wf_wms.specs.Answer.{AnswerValue, AsksForMap, EachQueryHasOneAnswer, IsAnswerOf, IsAnswerOn, IsMapAnswer, operation_of, or_own, subject, subject_of}
-use Rattle.wf_wms.specs.MapRequest.{map_request, map_sequence, picture_in}
+use Rattle.wf_wms.specs.Answer.{AnswerValue, AskedMapsAreAnsweredAlike, AsksForMap, EachQueryHasOneAnswer, IsAnswerOf, operation_of, or_own, subject, subject_of}
 use Rattle.wf_wms.specs.Query.{pairs_of}
 use Rattle.wf_edge.specs.Checks.{judged}
 use Rattle.wf_edge.specs.Head.{Head, Begins, head_of}
@@ -35,40 +34,19 @@ unfolding subject
 asked_subject m s query asks =
     subst (λ r. subject_of (operation_of r) s (pairs_of query) ≡ m) (sym asks.request) (ap (or_own s) asks.sequence)
 
--- if its sequence is well-formed, the request is its picture
-asked_picture : (s m : ℕ) (d : Definition) (pairs : List (List ℕ × List ℕ)) → map_sequence s pairs ≡ Ok m → map_request s d pairs ≡ picture_in d pairs
-unfolding map_request
-asked_picture s m d pairs asks = rw asks refl
-
--- the same map is drawn at another last sequence of the server
-drawn_elsewhere : (s t m : ℕ) (history : List Definition) (pairs : List (List ℕ × List ℕ)) (answer : AnswerValue) → map_sequence s pairs ≡ Ok m → map_sequence t pairs ≡ Ok m →
-    IsAnswerOn (operation_of (Some (codes "GetMap"))) t history pairs answer → IsAnswerOn (operation_of (Some (codes "GetMap"))) s history pairs answer
-drawn_elsewhere s t m history pairs answer here there is = record {
-  map = is.map;
-  is_published = ap (λ k. map_at history (or_own s k)) here ∙ sym (ap (λ k. map_at history (or_own t k)) there) ∙ is.is_published;
-  is_answer = subst (λ picture. IsMapAnswer is.map picture answer) (asked_picture t m is.map pairs there ∙ sym (asked_picture s m is.map pairs here)) is.is_answer;
-}
-
-answer_elsewhere : (s t m : ℕ) (history : List Definition) (query : List ℕ) (answer : AnswerValue) → AsksForMap m s query → AsksForMap m t query →
-    IsAnswerOf t history query answer → IsAnswerOf s history query answer
-unfolding IsAnswerOf
-answer_elsewhere s t m history query answer here there is =
-    let at : ℕ → _ → Type 0 = λ k request. IsAnswerOn (operation_of request) k history (pairs_of query) answer in
-    subst (at s) (sym here.request) (drawn_elsewhere s t m history (pairs_of query) answer here.sequence there.sequence (subst (at t) there.request is))
-
 -- one answer has one page
 page_of_answer : (page another : Response) (answer other : AnswerValue) → page ≡ service_page answer → another ≡ service_page other → other ≡ answer → another ≡ page
 page_of_answer page another answer other is also same = also ∙ ap (λ (a : AnswerValue). service_page a) same ∙ sym is
 
-pub one_page : EachQueryHasOneAnswer → EachQueryHasOnePage
-one_page law query history other page another (stand_alike long same) first second =
+pub one_page : EachQueryHasOneAnswer → AskedMapsAreAnsweredAlike → EachQueryHasOnePage
+one_page law elsewhere query history other page another (stand_alike long same) first second =
     page_of_answer page another first.answer second.answer first.is_page second.is_page
     (law (length history) history other query first.answer second.answer same first.is_answer (subst (λ s. IsAnswerOf s other query second.answer) long second.is_answer))
-one_page law query history other page another (are_asked_alike m asks also same) first second =
+one_page law elsewhere query history other page another (are_asked_alike m asks also same) first second =
     let about = asked_subject m (length history) query asks in
     page_of_answer page another first.answer second.answer first.is_page second.is_page
     (law (length history) history other query first.answer second.answer (ap (map_at history) about ∙ same ∙ sym (ap (map_at other) about)) first.is_answer
-    (answer_elsewhere (length history) (length other) m other query second.answer asks also second.is_answer))
+    (elsewhere (length history) (length other) m other query second.answer asks also second.is_answer))
 
 -- ---- the page is the response
 

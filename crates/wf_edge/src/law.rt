@@ -3,7 +3,7 @@ ghost use Rattle.std.specs.declared.alloc.Global.{Global};
 ghost use Rattle.wf_edge.specs.Law.{EachQueryHasOnePage, EqualRequestsHaveEqualResponses};
 
 use wf_tape::Tape;
-use wf_wms::law::each_query_has_one_answer;
+use wf_wms::law::{asked_maps_are_answered_alike, each_query_has_one_answer};
 
 /// A query to the map service has exactly one page wherever the map that it asks for is the same: at nodes that have published
 /// equally many maps, and, for a GetMap request for one sequence at both, at nodes that have published more or fewer. A theorem:
@@ -12,6 +12,7 @@ pub fn each_query_has_one_page()
     ensures { EachQueryHasOnePage }
 {
     each_query_has_one_answer();
+    asked_maps_are_answered_alike();
 }
 
 /// Two nodes, or one node at two times, respond to the same request to the map service with the same bytes, wherever the map that

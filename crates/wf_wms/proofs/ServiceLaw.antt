@@ -6,7 +6,7 @@ use denote.Ref.{Bor}
 use Rattle.wf_def.specs.Definition.{Definition}
 use Rattle.wf_learner.specs.History.{map_at}
 use Rattle.wf_picture.specs.Picture.{EachRequestHasOneImage}
-use Rattle.wf_wms.specs.Answer.{AnswerValue, AnswersAreDescriptions, EachQueryHasOneAnswer, IsAnswerOf, IsAnswerOn, IsMapAnswer, IsAnswerTo, IsPictureOf, description, description_to, metadata_answer, operation_of, or_own, rejection, subject}
+use Rattle.wf_wms.specs.Answer.{AnswerValue, AnswersAreDescriptions, AskedMapsAreAnsweredAlike, EachQueryHasOneAnswer, IsAnswerOf, IsAnswerOn, IsMapAnswer, IsAnswerTo, IsPictureOf, description, description_to, metadata_answer, operation_of, or_own, rejection, subject}
 use Rattle.wf_picture.specs.Request.{RequestValue}
 use Rattle.wf_wms.specs.MapRequest.{map_request, map_sequence, picture_in}
 use Rattle.wf_wms.specs.Query.{pairs_of, parameter}
@@ -132,3 +132,25 @@ pub as_described : AnswersAreDescriptions
 unfolding IsAnswerOf description
 as_described s history query d answer there other is =
     operation_described (operation_of (parameter (codes "REQUEST") (pairs_of query))) s history (pairs_of query) d answer there other is
+
+-- ---- one map that is asked for, at another last sequence
+
+-- if its sequence is well-formed, the request is its picture
+asked_picture : (s m : ℕ) (d : Definition) (pairs : List (List ℕ × List ℕ)) → map_sequence s pairs ≡ Ok m → map_request s d pairs ≡ picture_in d pairs
+unfolding map_request
+asked_picture s m d pairs asks = rw asks refl
+
+-- the same map is drawn at another last sequence of the server
+drawn_elsewhere : (s t m : ℕ) (history : List Definition) (pairs : List (List ℕ × List ℕ)) (answer : AnswerValue) → map_sequence s pairs ≡ Ok m → map_sequence t pairs ≡ Ok m →
+    IsAnswerOn (operation_of (Some (codes "GetMap"))) t history pairs answer → IsAnswerOn (operation_of (Some (codes "GetMap"))) s history pairs answer
+drawn_elsewhere s t m history pairs answer here there is = record {
+  map = is.map;
+  is_published = ap (λ k. map_at history (or_own s k)) here ∙ sym (ap (λ k. map_at history (or_own t k)) there) ∙ is.is_published;
+  is_answer = subst (λ picture. IsMapAnswer is.map picture answer) (asked_picture t m is.map pairs there ∙ sym (asked_picture s m is.map pairs here)) is.is_answer;
+}
+
+pub answered_alike : AskedMapsAreAnsweredAlike
+unfolding IsAnswerOf
+answered_alike s t m history query answer here there is =
+    let at : ℕ → _ → Type 0 = λ k request. IsAnswerOn (operation_of request) k history (pairs_of query) answer in
+    subst (at s) (sym here.request) (drawn_elsewhere s t m history (pairs_of query) answer here.sequence there.sequence (subst (at t) there.request is))

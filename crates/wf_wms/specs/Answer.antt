@@ -148,6 +148,11 @@ pub record AsksForMap (m s : ℕ) (query : List ℕ) : Type 0 where
   pub request : parameter (codes "REQUEST") (pairs_of query) ≡ Some (codes "GetMap")
   pub sequence : map_sequence s (pairs_of query) ≡ Ok m
 
+-- A GetMap request that asks for the same map at two servers has the same answers at both, whatever their last sequences.
+abbrev pub AskedMapsAreAnsweredAlike : Type 0
+AskedMapsAreAnsweredAlike = (s t m : ℕ) (history : List Definition) (query : List ℕ) (answer : AnswerValue) → AsksForMap m s query → AsksForMap m t query →
+    IsAnswerOf t history query answer → IsAnswerOf s history query answer
+
 -- apart from GetMap, the answer of a server is the description of the map of its sequence
 abbrev pub AnswersAreDescriptions : Type 0
 AnswersAreDescriptions = (s : ℕ) (history : List Definition) (query : List ℕ) (d : Definition) (answer : AnswerValue) →

@@ -1,5 +1,5 @@
 //! Theorems about answers.
-ghost use Rattle.wf_wms.specs.Answer.{AnswersAreDescriptions, EachQueryHasOneAnswer};
+ghost use Rattle.wf_wms.specs.Answer.{AnswersAreDescriptions, AskedMapsAreAnsweredAlike, EachQueryHasOneAnswer};
 ghost use Rattle.wf_wms.specs.Kept.{GrowthKeepsAll};
 
 /// A query has exactly one answer in all histories with the same map at the requested sequence: the answer is a function of the
@@ -9,6 +9,12 @@ pub fn each_query_has_one_answer()
 {
     wf_picture::law::there_is_one_image();
 }
+
+/// A GetMap request for one published map (MAPSEQ) has the same answers from one history, whatever the last sequence of the server
+/// that answers. A theorem: the call does nothing.
+pub fn asked_maps_are_answered_alike()
+    ensures { AskedMapsAreAnsweredAlike }
+{}
 
 /// Apart from GetMap, the answer of a server is what [`crate::describe`] returns about the map of its update sequence: so the
 /// service metadata of a preview is what `describe` returns at sequence 1. A theorem: the call does nothing.
