@@ -1,8 +1,10 @@
 #!/usr/bin/env python3
 """Starts `wfarm serve` with one node on a shortened tape of 1,024, 2,048 and 4,096 published maps of 2 KB, and prints
 how long it takes until its line with the port, less the same on an empty tape: the shortest of several starts. That is
-the reading of the tape, the node's opening, and the shortening with its sync; where strace is there, the time in fsync
-of a start is printed too. Each map is another one: its title is its number.
+the reading of the tape, the node's opening, and the shortening with its sync. Where strace is there, the two parts are
+printed too, each the shortest of several further starts: the opening alone, from the file's opening until its records
+are read, folded and synced, and the shortening, until the new file has its name. Each map is another one: its title is
+its number.
 
 Usage: bench/serve_start.py [PROGRAM]    PROGRAM is the built program (crates/wfarm/out/wfarm). Status 1 where a ratio
 is over 3.
@@ -66,15 +68,22 @@ def best(program, content):
     return min(start(program, content) for _ in range(RUNS))
 
 
-def synced(program, content):
-    """The time in fsync of one start, in milliseconds."""
+def parts(program, content):
+    """How long a start opens its node, and then shortens its tape, in milliseconds. Only the calls below are traced, so that the
+    others cost nothing: the tape is opened, then its folder, which is synced; the tape is synced once it is read and folded; then
+    the new tape is opened and synced, gets its name, and the folder is opened and synced."""
     with tempfile.TemporaryDirectory() as folder:
         with open(os.path.join(folder, "node-0.tape"), "wb") as file:
             file.write(content)
         os.sync()
         trace = os.path.join(folder, "trace")
-        subprocess.run(["strace", "-f", "-T", "-e", "trace=fsync", "-o", trace] + words(program, folder), capture_output=True)
-        return 1000 * sum(float(it) for it in re.findall(r"<([\d.]+)>", open(trace).read()))
+        command = ["strace", "-f", "--seccomp-bpf", "-ttt", "-T", "-e", "trace=openat,fsync", "-o", trace]
+        subprocess.run(command + words(program, folder), capture_output=True)
+        calls = re.findall(r"([\d.]+) (openat|fsync)\((.*)<([\d.]+)>", open(trace).read())
+    first = next(i for i, call in enumerate(calls) if "node-0.tape\"" in call[2])
+    syncs = [call for call in calls[first:] if call[1] == "fsync"]
+    _, opened, _, shortened = (float(at) + float(spent) for at, _, _, spent in syncs[:4])
+    return 1000 * (opened - float(calls[first][0])), 1000 * (shortened - opened)
 
 
 def main():
@@ -90,7 +99,8 @@ def main():
         times.append(spent - empty)
         print("%5d maps of %d bytes  %8.3f ms  %s" % (count, len(text), 1000 * times[-1], said))
         if shutil.which("strace"):
-            print("    in fsync  %8.3f ms" % synced(program, content))
+            opening, shortening = zip(*(parts(program, content) for _ in range(RUNS)))
+            print("    opening %8.3f ms, shortening %8.3f ms" % (min(opening), min(shortening)))
     ratios = [b / max(a, 1e-4) for a, b in zip(times, times[1:])]
     print("ratios  %.2f  %.2f" % tuple(ratios))
     sys.exit(1 if max(ratios) > 3 else 0)

@@ -12,3 +12,4 @@ pub mod Layer
 pub mod Equality
 pub mod EqualityLaws
 pub mod Attribute
+pub mod Held

@@ -20,6 +20,7 @@ mod equality;
 pub mod extent;
 pub mod fault;
 pub mod feature;
+mod held;
 pub mod label;
 pub mod layer;
 pub mod limits;

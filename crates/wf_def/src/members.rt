@@ -1,9 +1,11 @@
 //! Lists whose members are within their limits: of styles, classes, points, parts and features.
-ghost use Rattle.std.specs.Prelude.{◌≡◌, ◌<◌, ◌≤◌, ◌↔◌, [], ◌∷◌, ◌++◌, length, All, IsTrue, OnOk, OnErr};
+ghost use Rattle.std.specs.Prelude.{◌≡◌, ◌<◌, ◌≤◌, ◌↔◌, [], ◌∷◌, ◌++◌, length, All, IsTrue, IfOk, OnOk, OnErr};
 ghost use Rattle.std.specs.Bool.{Decides};
 ghost use Rattle.std.specs.Cmp.{partial_equiv_from_equiv};
 ghost use Rattle.std.specs.Cmp.Lexicographic.{pointwise, lists_equiv};
+ghost use Rattle.wf_def.specs.Held.{held_members};
 
+use crate::held::Held;
 use std::alloc::{AllocError, Global};
 use std::marker::Model;
 
@@ -25,14 +27,15 @@ pub trait Limited: Clone + Eq {
 
 /// Members in order, limited only by memory: points, parts and features are counted over a whole map.
 pub struct Members<T: Limited> {
-    members: Vec<T>,
+    alloc: Global,
+    held: Held<T>,
 }
 
 // Written by hand: callers then prove one call where they drop the members, not one for each.
 impl<T: Limited + Drop> Drop for Members<T> {
     fn drop(self) {
-        let Members { members } = self;
-        drop(members);
+        let Members { alloc: _, held } = self;
+        drop(held);
     }
 }
 
@@ -41,9 +44,11 @@ impl<T: Limited> Model for Members<T> {
 
     ghost Value = { List T };
 
-    ghost view = { λ m. m.members.items };
+    ghost use Rattle.wf_def.specs.Held.{held_members};
 
-    ghost invariant = { λ m. All T.IsWithin m.members.items };
+    ghost view = { λ m. held_members m.held };
+
+    ghost invariant = { λ m. All T.IsWithin (held_members m.held) };
 }
 
 impl<T: Limited> Members<T> {
@@ -52,7 +57,8 @@ impl<T: Limited> Members<T> {
         ensures { result ≡ [] }
     {
         Members {
-            members: Vec::new(alloc),
+            alloc,
+            held: Held::Nothing,
         }
     }
 
@@ -61,14 +67,14 @@ impl<T: Limited> Members<T> {
         ensures value { result ≡ length self.now }
         ensures within { All T.IsWithin self.now }
     {
-        self.members.len()
+        self.held.as_slice().len()
     }
 
     /// Whether the list is empty.
     pub fn is_empty(&self) -> bool
         ensures { IsTrue result ↔ (length self.now ≡ 0) }
     {
-        self.members.is_empty()
+        self.held.as_slice().is_empty()
     }
 
     /// The members in order.
@@ -76,7 +82,7 @@ impl<T: Limited> Members<T> {
         ensures value { result.now ≡ self.now }
         ensures within { All T.IsWithin self.now }
     {
-        &self.members
+        self.held.as_slice()
     }
 }
 
@@ -87,8 +93,7 @@ impl<T: Limited + Drop> Members<T> {
         ensures unchanged { OnErr result (self.new ≡ self.old) }
     {
         member.know();
-        self.members.push(member)?;
-        Ok(())
+        self.held.push(self.alloc, member)
     }
 }
 
@@ -97,8 +102,20 @@ impl<T: Limited + Drop> Clone for Members<T> {
 
     fn clone(&self) -> Result<Self, AllocError> {
         Ok(Members {
-            members: self.members.clone()?,
+            alloc: self.alloc,
+            held: copied(&self.held)?,
         })
+    }
+}
+
+/// A copy of the members, each of which is within its limits.
+fn copied<T: Limited + Drop>(held: &Held<T>) -> Result<Held<T>, AllocError>
+    ensures { IfOk result (λ copy. held_members copy ≡ held_members held.now) }
+{
+    match held {
+        Held::Nothing => Ok(Held::Nothing),
+        Held::One([member]) => Ok(Held::One([member.clone()?])),
+        Held::Many(members) => Ok(Held::Many(members.clone()?)),
     }
 }
 

@@ -7,7 +7,7 @@ ghost use Rattle.wf_canon.specs.Canon.{point_line, part_lines, feature_lines};
 ghost use Rattle.wf_canon.specs.Scan.{Scans};
 
 use crate::scan::cursor::Cursor;
-use crate::scan::line::{scan_alone, scan_point, scan_with_text};
+use crate::scan::line::{scan_alone, scan_point, scan_with_rare_text};
 use wf_def::feature::{Feature, Part, Parts};
 
 /// Scans points up to a line that isn't a point.
@@ -67,8 +67,8 @@ pub fn scan_feature(cursor: &mut Cursor<'_>) -> Option<Feature>
     ensures { IfSome result (λ feature. Scans cursor.old (text_of (feature_lines feature)) cursor.new) }
 {
     scan_alone(cursor, "FEATURE");
-    let items = scan_with_text(cursor, "ITEMS")?;
-    let Some(text) = scan_with_text(cursor, "TEXT") else {
+    let items = scan_with_rare_text(cursor, "ITEMS", b"ITEMS \"\"\n")?;
+    let Some(text) = scan_with_rare_text(cursor, "TEXT", b"TEXT \"\"\n") else {
         drop(items);
         return None;
     };

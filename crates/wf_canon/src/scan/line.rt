@@ -1,6 +1,6 @@
 //! Scans the lines of a canonical text: tokens separated by single spaces, followed by LF.
 
-ghost use Rattle.std.specs.Prelude.{◌≡◌, ◌<◌, ◌∷◌, IfSome};
+ghost use Rattle.std.specs.Prelude.{◌≡◌, ◌<◌, [], ◌∷◌, IfSome};
 ghost use Rattle.std.specs.Fmt.{decimal};
 ghost use Rattle.wf_text.specs.NumberText.{number_text};
 ghost use Rattle.wf_token.specs.Spelling.{quote_for, quoted, line, text_of};
@@ -10,6 +10,7 @@ ghost use Rattle.wf_canon.specs.Scan.{Scans};
 use crate::line::quote_for;
 use crate::scan::cursor::Cursor;
 use crate::scan::number::{scan_number, scan_whole};
+use std::alloc::Global;
 use wf_def::color::Color;
 use wf_def::extent::Extent;
 use wf_def::micro::Micro;
@@ -26,10 +27,25 @@ pub fn scan_alone(cursor: &mut Cursor<'_>, keyword: &str)
     cursor.take(b"\n");
 }
 
+/// An empty text; `None` if allocation fails.
+#[inline(always)]
+pub fn empty_text(alloc: Global) -> Option<Text>
+    ensures { IfSome result (λ text. text ≡ []) }
+{
+    match Text::from_str(alloc, "") {
+        Ok(text) => Some(text),
+        Err(_) => None,
+    }
+}
+
 /// Scans a text in its quotes.
 pub fn scan_text(cursor: &mut Cursor<'_>) -> Option<Text>
     ensures { IfSome result (λ text. Scans cursor.old (quoted text) cursor.new) }
 {
+    // A canonical text writes each absent text as an empty one, so most texts are empty.
+    if cursor.skip(b"\"\"") {
+        return empty_text(cursor.alloc());
+    }
     let bytes = cursor.quoted()?;
     match Text::new(cursor.alloc(), bytes) {
         Ok(text) => Some(text),
@@ -70,6 +86,18 @@ pub fn scan_optional_text(cursor: &mut Cursor<'_>, keyword: &str) -> Option<Opti
         Some(text) => Some(Some(text)),
         None => None,
     }
+}
+
+/// Scans a line of a keyword and a text that most values lack, given the line of an empty text: one comparison does for that line.
+#[inline(always)]
+pub fn scan_with_rare_text(cursor: &mut Cursor<'_>, keyword: &str, empty: &[u8]) -> Option<Text>
+    requires { empty.now ≡ line (with_text keyword.now []) }
+    ensures { IfSome result (λ text. Scans cursor.old (line (with_text keyword.now text)) cursor.new) }
+{
+    if cursor.skip(empty) {
+        return empty_text(cursor.alloc());
+    }
+    scan_with_text(cursor, keyword)
 }
 
 /// Scans a line of a keyword and this word.

@@ -1,9 +1,18 @@
-use Rattle.std.proofs.Common.{[], ◌∷◌}
+use Rattle.std.proofs.Common.{[], ◌∷◌, refl}
 use Rattle.std.specs.List.{flat_map}
 use Rattle.wf_canon.specs.Canon.{part_lines, end_line}
 use Rattle.wf_canon.proofs.Scanning.{both, lines, last_line}
 use Rattle.wf_canon.proofs.ScannedBlock.{feature_is}
+use Rattle.wf_token.specs.Spelling.{line}
 use Rattle.wf_canon.proofs.scan.feature.scan_feature.Goals as goal
+
+pub scan_with_rare_text-requires : goal.scan_with_rare_text-requires
+unfolding line
+scan_with_rare_text-requires c = refl
+
+pub scan_with_rare_text-requires-2 : goal.scan_with_rare_text-requires-2
+unfolding line
+scan_with_rare_text-requires-2 c = refl
 
 pub returns : goal.returns
 returns c =
