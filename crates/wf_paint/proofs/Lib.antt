@@ -3,6 +3,7 @@ pub mod StepsLemmas
 pub mod OperationLemmas
 pub mod PixelLemmas
 pub mod CellsLemmas
+pub mod WindowLemmas
 pub mod CanvasLemmas
 pub mod ShownLemmas
 pub mod ColoredLemmas

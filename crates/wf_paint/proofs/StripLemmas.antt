@@ -1,5 +1,5 @@
 -- Strips: where the pixels of a row begin and end, and how that changes from row to row.
-use Rattle.std.proofs.Common.{◌≡◌, Bool, true, false, ℕ, ◌+◌, ◌*◌, ◌^◌, ◌<◌, ◌≤◌, ◌&&◌, not, nat_lt, ⊎_elim, ℤ, pos, ◌+ℤ◌, ◌*ℤ◌, neg_ℤ, nat_abs, ◌≤ℤ◌, negsuc, refl, sym, ap, ◌∙◌, arith}
+use Rattle.std.proofs.Common.{◌≡◌, Bool, true, false, ℕ, ◌+◌, ◌*◌, ◌^◌, ◌<◌, ◌≤◌, ◌&&◌, not, nat_lt, max, min, ⊎_elim, ℤ, pos, ◌+ℤ◌, ◌*ℤ◌, neg_ℤ, nat_abs, ◌≤ℤ◌, negsuc, refl, sym, ap, ◌∙◌, arith}
 use Rattle.std.proofs.lemmas.Bool.{and_left, and_right, cases_lt}
 use Rattle.std.proofs.lemmas.Int.{ints}
 use Rattle.std.proofs.Math.IntN.{pos-*ℤ-pos}
@@ -8,12 +8,13 @@ use Rattle.wf_paint.specs.Exact.{plus, difference, product, opposite, is_less}
 use Rattle.wf_paint.specs.Level.{level, row_level, level_at, is_in_margin}
 use Rattle.wf_paint.specs.Quotient.{number_of}
 use Rattle.wf_paint.specs.Span.{IsSpanOf, is_within, shared}
-use Rattle.wf_paint.specs.Strip.{is_in_strip}
+use Rattle.wf_paint.specs.Strip.{is_in_strip, IsPart}
 use Rattle.wf_paint.specs.declared.levels.Levels.{Levels}
 use Rattle.wf_paint.specs.declared.quotient.Quotient.{Quotient}
 use Rattle.wf_paint.specs.declared.span.Span.{Span}
 use Rattle.wf_paint.proofs.AlongLemmas.{times_sum, sixteen}
 use Rattle.wf_paint.proofs.LevelLemmas.{opposed, level_still, rising_span}
+use Rattle.wf_paint.proofs.StepsLemmas.{multiples_to}
 use Rattle.wf_paint.proofs.SpanLemmas.{is_within-before, is_within-after, is_within-inside, shared_within}
 
 -- ---- sums of numbers with one divisor
@@ -163,6 +164,26 @@ rising_row l margin step row most low high span same lower upper from to within 
     rising_span (level l.origin (product (pos 16) l.up) (pos row)) (product (pos 16) l.across) margin most span within
     (edge_counts (opposite margin) l.origin (product (pos 16) l.up) (product (pos 16) l.across) step row most span.from low lower same from)
     (edge_counts margin l.origin (product (pos 16) l.up) (product (pos 16) l.across) step row most span.to high upper same to)
+
+-- a number counts as far as the number after its whole part
+counted : (q : Quotient) (n : ℕ) → pos n ≡ plus q.whole (pos 1) → (divisor u : ℕ) → q.rest < divisor →
+    is_less (product (pos divisor) (pos u)) (plus (number_of divisor q) (pos 1)) ≡ nat_lt u n
+unfolding number_of is_less
+counted q n is divisor u rest = multiples_to divisor q.rest u q.whole rest ∙ ap (is_less (pos u)) (sym is)
+
+-- where both bounds lie among the columns, nothing is cut off
+pub part_inside : (columns : Span) (low high : Quotient) (from to : ℕ) → pos from ≡ plus low.whole (pos 1) → pos to ≡ plus high.whole (pos 1) →
+    columns.from ≤ from → to ≤ columns.to → IsPart columns low high (record { from = from; to = to })
+part_inside columns low high from to first last after before =
+    let begins : max columns.from from ≡ from = omega arith in
+    let ends : min columns.to to ≡ to = omega arith in
+    record {
+      within = record { from = from; to = to };
+      to_within = before;
+      from = λ divisor u rest below. counted low from first divisor u rest;
+      to = λ divisor u rest below. counted high to last divisor u rest;
+      value = rw (begins, ends) refl;
+    }
 
 -- ---- rows whose pixels are all as many
 

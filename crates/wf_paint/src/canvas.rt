@@ -1,6 +1,6 @@
 //! A picture while it is painted, from the last operation to the first. A word has a bit for each of 64 pixels, set where the pixel
 //! is free, so one test passes over all painted pixels of a word.
-ghost use Rattle.std.specs.Prelude.{◌≡◌, ◌≤◌, ◌<◌, ◌*◌, ◌+◌, ◌/◌, ◌^◌, ℕ, true, false, length, slice_index, nat_lt, IfOk};
+ghost use Rattle.std.specs.Prelude.{◌≡◌, ◌≤◌, ◌<◌, ◌*◌, ◌+◌, ◌/◌, ◌-◌, ◌^◌, ℕ, true, false, length, slice_index, nat_lt, IfOk};
 ghost use Rattle.std.specs.Int.{bit_at};
 ghost use Rattle.wf_paint.specs.View.{most_pixels};
 ghost use Rattle.wf_paint.specs.Cells.{IsCells, HasFreeBit, IsRangePainted, IsWritten, AreWritten, IsFilled, is_free};
@@ -78,7 +78,7 @@ impl Canvas {
         if from < to {
             let left = (self.height - 1 - row) * self.width;
             let (start, end) = (left + from, left + to);
-            paint_range(&mut self.bytes, &mut self.free, start, end, color);
+            cover_range(&mut self.bytes, &mut self.free, start, end, color);
         }
     }
 
@@ -150,7 +150,49 @@ fn write_set(bytes: &mut Vec<u8>, first: u32, bits: u64, color: Color)
     }
 }
 
-/// Writes the colour to the free pixels in start..end.
+/// Writes the colour to the free pixels in start..end. Most lines that make a picture dear run over painted pixels, so that is tested
+/// first.
+#[inline(always)]
+fn cover_range(bytes: &mut Vec<u8>, free: &mut Vec<u64>, start: u32, end: u32, color: Color)
+    requires cells { IsCells free.old.items bytes.old.items }
+    requires order { start < end }
+    requires within { end ≤ 64 * length free.old.items }
+    ensures { IsRangePainted start end color free.old.items bytes.old.items free.new.items bytes.new.items }
+{
+    if is_painted(free, start, end) {
+        return;
+    }
+    paint_range(bytes, free, start, end, color);
+}
+
+/// Whether the range has at most 64 pixels and none of them is free.
+#[inline(always)]
+fn is_painted(free: &Vec<u64>, start: u32, end: u32) -> bool
+    requires order { start < end }
+    requires within { end ≤ 64 * length free.now.items }
+    ensures { result ≡ true → (i : ℕ) → start ≤ i → i < end → is_free free.now.items i ≡ false }
+{
+    let count = end - start;
+    if count > 64 {
+        return false;
+    }
+    let first = word_at(free, start / 64);
+    let last = word_at(free, (end - 1) / 64);
+    joined(first, last, start % 64) << (64 - count) == 0
+}
+
+/// The bits of the first word from `bit` on, and above them those of the last word from its lowest on.
+#[inline(always)]
+fn joined(first: u64, last: u64, bit: u32) -> u64
+    requires { bit < 64 }
+    ensures first { (k : ℕ) → bit + k < 64 → bit_at first (bit + k) ≤ bit_at result k }
+    ensures last { (k : ℕ) → 64 ≤ bit + k → k < 64 → bit_at last (bit + k - 64) ≤ bit_at result k }
+{
+    (first >> bit) | ((last << 1) << (63 - bit))
+}
+
+/// Writes the colour to the free pixels in start..end, word by word.
+#[inline(never)]
 fn paint_range(bytes: &mut Vec<u8>, free: &mut Vec<u64>, start: u32, end: u32, color: Color)
     requires cells { IsCells free.old.items bytes.old.items }
     requires order { start ≤ end }

@@ -114,7 +114,7 @@ pub(crate) fn sum(a: Quotient, b: Quotient, divisor: u64) -> Quotient
 {
     let whole = a.whole + b.whole;
     let rest = a.rest + b.rest;
-    if rest < divisor {
+    if falls_short(rest, divisor) {
         Quotient { whole, rest }
     } else {
         Quotient {
@@ -122,6 +122,17 @@ pub(crate) fn sum(a: Quotient, b: Quotient, divisor: u64) -> Quotient
             rest: rest - divisor,
         }
     }
+}
+
+/// Whether a rest is below the divisor, by the sign of their difference. Nearly each row of a line asks, with an answer that no processor
+/// can foresee: from a sign compilers make no jump.
+#[inline(always)]
+fn falls_short(rest: u64, divisor: u64) -> bool
+    requires rest { rest ≤ 2 ^ 62 }
+    requires divisor { divisor ≤ 2 ^ 60 }
+    ensures { result ≡ nat_lt rest divisor }
+{
+    (rest as i64 - divisor as i64) < 0
 }
 
 /// The number, and so many times the divisor more.

@@ -1,18 +1,19 @@
 //! Strips: the pixels whose level lies within a margin, painted row by row. The ends of a row's pixels are those of the row before,
 //! moved by a constant, so no row but the first takes a division. Only lines whose numbers are too large for it take one in each row.
-ghost use Rattle.std.specs.Prelude.{◌≡◌, ℕ, ◌*◌, ◌^◌, ◌<◌, ◌≤◌, nat_abs, pos, ◌≤ℤ◌};
+ghost use Rattle.std.specs.Prelude.{◌≡◌, ℕ, ◌*◌, ◌^◌, ◌<◌, ◌≤◌, nat_abs, pos, ◌≤ℤ◌, ◌<ℤ◌, true};
 ghost use Rattle.wf_paint.specs.Near.{IsReach, IsArea};
 ghost use Rattle.wf_paint.specs.Exact.{difference, product, opposite};
 ghost use Rattle.wf_paint.specs.Level.{level_at, row_level, is_in_margin};
 ghost use Rattle.wf_paint.specs.Shown.{IsColored};
 ghost use Rattle.wf_paint.specs.Span.{IsSpanOf, shared};
-ghost use Rattle.wf_paint.specs.Strip.{is_in_strip};
+ghost use Rattle.wf_paint.specs.Strip.{is_in_strip, IsPart};
 ghost use Rattle.wf_paint.specs.View.{most_pixels};
 
 use crate::canvas::Canvas;
 use crate::exact::{opposite, product};
 use crate::level::level_within;
 use crate::levels::Levels;
+use crate::quotient::Quotient;
 use crate::span::Span;
 use crate::steps::{further, multiples_up_to, quotient, steps_below, sum};
 use wf_def::color::Color;
@@ -97,11 +98,7 @@ fn draw_even(
         return draw_far(canvas, levels, rows, columns, color);
     };
     for row in rows.from..rows.to {
-        let within = Span {
-            from: multiples_up_to(low, columns.to),
-            to: multiples_up_to(further(low, width), columns.to),
-        };
-        let span = both(columns, within);
+        let span = part(columns, low, further(low, width));
         canvas.cover(row, span.from, span.to, color);
         low = sum(low, change, step);
     }
@@ -172,11 +169,7 @@ fn draw_rising(canvas: &mut Canvas, levels: Levels, rows: Span, columns: Span, c
         return draw_far(canvas, levels, rows, columns, color);
     };
     for row in rows.from..rows.to {
-        let within = Span {
-            from: multiples_up_to(low, columns.to),
-            to: multiples_up_to(high, columns.to),
-        };
-        let span = both(columns, within);
+        let span = part(columns, low, high);
         canvas.cover(row, span.from, span.to, color);
         low = sum(low, change, step);
         high = sum(high, change, step);
@@ -292,6 +285,48 @@ fn draw_level(canvas: &mut Canvas, levels: Levels, rows: Span, columns: Span, co
         let span = both(columns, within);
         canvas.cover(row, span.from, span.to, color);
     }
+}
+
+/// The columns that the high number counts and the low one doesn't. In most rows they lie between the ends of `columns`, which is
+/// tested first.
+#[inline(always)]
+fn part(columns: Span, low: Quotient, high: Quotient) -> Span
+    requires low { nat_abs low.whole ≤ 2 ^ 62 }
+    requires high { nat_abs high.whole ≤ 2 ^ 62 }
+    ensures part { IsPart columns low high result }
+    ensures within { result.to ≤ columns.to }
+{
+    let (from, to) = (low.whole + 1, high.whole + 1);
+    if lies_in(columns, from, to) {
+        Span {
+            from: count(from),
+            to: count(to),
+        }
+    } else {
+        let within = Span {
+            from: multiples_up_to(low, columns.to),
+            to: multiples_up_to(high, columns.to),
+        };
+        both(columns, within)
+    }
+}
+
+/// Whether the bounds are those of a span in `columns` that isn't empty.
+#[inline(always)]
+fn lies_in(columns: Span, from: i64, to: i64) -> bool
+    ensures { result ≡ true → (pos columns.from ≤ℤ from) × ((from <ℤ to) × (to ≤ℤ pos columns.to)) }
+{
+    i64::from(columns.from) <= from && from < to && to <= i64::from(columns.to)
+}
+
+/// The bound as a number of columns.
+#[inline(always)]
+fn count(bound: i64) -> u32
+    requires least { pos 0 ≤ℤ bound }
+    requires most { bound <ℤ pos (2 ^ 32) }
+    ensures { pos result ≡ bound }
+{
+    bound as u32
 }
 
 /// The intersection of two spans.

@@ -41,12 +41,12 @@ loop-row-preserved c =
     let high = end_further levels.margin levels.origin (product (pos 16) levels.up) (product (pos c.args.width) (pos c.step-step.result)) c.step-step.result c.loop-row.row
     c.loop-row.low c.further.result edge.ends (c.further.ensures.value c.step-step.result)
     (even_margin c.args.width c.step-step.result levels.across levels.margin c.requires.rising c.requires.even step) c.further.ensures.rest in (
-      rows_more (is_in_strip levels c.args.rows c.args.columns) c.loop-row.row c.both-span.result c.args.color
+      rows_more (is_in_strip levels c.args.rows c.args.columns) c.loop-row.row c.part-span.result c.args.color
           c.args.canvas.now c.loop-row.canvas c.cover.new.self c.loop-row.invariant.0
-          (rw c.both-span.ensures (strip_row levels c.args.rows c.args.columns _ c.args.canvas.now.width c.loop-row.row
+          (rw c.part-span.ensures.part.value (strip_row levels c.args.rows c.args.columns _ c.args.canvas.now.width c.loop-row.row
           c.requires.columns c.loop-row.auto.row c.loop-row-test.true
           (rising_row levels levels.margin c.step-step.result c.loop-row.row c.args.columns.to c.loop-row.low c.further.result _ step edge.ends high
-          c.multiples_up_to.ensures.below c.multiples_up_to-in-loop-row.ensures.below c.multiples_up_to-in-loop-row.ensures.within)))
+          c.part-span.ensures.part.from c.part-span.ensures.part.to c.part-span.ensures.part.to_within)))
           c.cover.ensures,
       edge_moves (opposite levels.margin) levels.origin (product (pos 16) levels.up) c.step-step.result c.loop-row.row c.loop-row.low c.in-Some.change c.sum-low.result
           edge change c.sum-low.ensures.value c.sum-low.ensures.rest c.sum-low.ensures.within,

@@ -45,12 +45,12 @@ loop-row-preserved c =
     let opposite_value : c.opposite.result ≡ opposite c.product.result = simp to_z-of_z at c.opposite.ensures.value in
     let moved : number_of c.step-step.result c.in-Some.change ≡ c.opposite.result = simp to_z-of_z at c.in-Some.ensures.value in
     let change : number_of c.step-step.result c.in-Some.change ≡ opposite (product (pos 16) levels.up) = moved ∙ opposite_value ∙ ap opposite product_value in (
-      rows_more (is_in_strip levels c.args.rows c.args.columns) c.loop-row.row c.both-span.result c.args.color
+      rows_more (is_in_strip levels c.args.rows c.args.columns) c.loop-row.row c.part-span.result c.args.color
           c.args.canvas.now c.loop-row.canvas c.cover.new.self c.loop-row.invariant.0
-          (rw c.both-span.ensures (strip_row levels c.args.rows c.args.columns _ c.args.canvas.now.width c.loop-row.row
+          (rw c.part-span.ensures.part.value (strip_row levels c.args.rows c.args.columns _ c.args.canvas.now.width c.loop-row.row
           c.requires.columns c.loop-row.auto.row c.loop-row-test.true
           (rising_row levels levels.margin c.step-step.result c.loop-row.row c.args.columns.to c.loop-row.low c.loop-row.high _ step edges.0.ends edges.1.ends
-          c.multiples_up_to.ensures.below c.multiples_up_to-in-loop-row.ensures.below c.multiples_up_to-in-loop-row.ensures.within)))
+          c.part-span.ensures.part.from c.part-span.ensures.part.to c.part-span.ensures.part.to_within)))
           c.cover.ensures,
       (
         edge_moves (opposite levels.margin) levels.origin (product (pos 16) levels.up) c.step-step.result c.loop-row.row c.loop-row.low c.in-Some.change c.sum-low.result

@@ -6,7 +6,7 @@ use Rattle.wf_paint.proofs.canvas.Canvas.cover.Goals as goal
 pub invariant_of-self : goal.invariant_of-self
 invariant_of-self c =
     let here : CanvasValue = record { width = c.self.inside.width; height = c.self.inside.height; bytes = c.self.inside.bytes.items; free = c.self.inside.free.items; known = c.self.inside.known } in
-    canvas_covered here c.args.row c.args.from c.args.to c.args.color c.paint_range.new.free.items c.paint_range.new.bytes.items _ _ c.self.invariant c.paint_range.ensures
+    canvas_covered here c.args.row c.args.from c.args.to c.args.color c.cover_range.new.free.items c.cover_range.new.bytes.items _ _ c.self.invariant c.cover_range.ensures
 
 pub returns-then-from-to : goal.returns-then-from-to
 returns-then-from-to c =
@@ -14,8 +14,8 @@ returns-then-from-to c =
     let same : c.args.self.now ≡ here = cc in
     let within = rw same at c.requires.row_within in
     let inside = rw same at c.requires.to_within in
-    rw same (run_colored here c.args.row c.args.from c.args.to c.args.color c.paint_range.new.free.items c.paint_range.new.bytes.items
-    c.self.invariant within inside c.paint_range.ensures)
+    rw same (run_colored here c.args.row c.args.from c.args.to c.args.color c.cover_range.new.free.items c.cover_range.new.bytes.items
+    c.self.invariant within inside c.cover_range.ensures)
 
 pub returns-else-from-to : goal.returns-else-from-to
 returns-else-from-to c = run_empty c.args.self.now c.args.row c.args.from c.args.to c.args.color c.args.self.now.free c.args.self.now.bytes (omega arith)
