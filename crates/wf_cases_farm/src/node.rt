@@ -15,6 +15,8 @@
 //!                          none opens, and how many bytes are on the tape
 //! restart                  the same, for the node's own tape
 //! crash KEEP               the same, for what a crash leaves of it that keeps KEEP bytes that weren't synced
+//! fuse CALL KEPT           `done`: the call of the tape with this number from now, counted from 1, will fail and keep KEPT;
+//!                          0 for CALL takes such a failure away
 //! length                   how many bytes are on the tape of the node; a new node replaces it
 //! close                    the same bytes themselves
 //! cuts FROM MESSAGE        what each node answers to the message that opens on the first bytes of the tape, of
@@ -103,6 +105,7 @@ impl Session<'_> {
             "open" => self.open(call, answer),
             "restart" => self.restart(answer),
             "crash" => self.crash(call, answer),
+            "fuse" => self.set_fuse(call, answer),
             "length" => self.length(answer),
             "close" => self.close(answer),
             "cuts" => self.cuts(call, answer),

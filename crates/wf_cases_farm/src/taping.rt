@@ -40,6 +40,14 @@ impl Session<'_> {
         Ok(())
     }
 
+    pub(crate) fn set_fuse(&mut self, call: &mut Words<'_>, answer: &mut Answer) -> Answered {
+        let number = call.count()?;
+        let kept = call.count()?;
+        self.node.set_fuse(number, kept);
+        answer.line("done");
+        Ok(())
+    }
+
     pub(crate) fn length(&mut self, answer: &mut Answer) -> Answered {
         let tape = self.take_tape_out()?;
         tell_length(bytes_on(tape), answer);

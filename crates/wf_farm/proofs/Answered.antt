@@ -1,14 +1,12 @@
 -- Nodes with the same last published sequence have one answer to a query.
-use Rattle.std.proofs.Common.{◌≡◌, ℕ, zero, suc, List, length, slice_get, Option, Some, None, Ok, codes, refl, sym, ap, subst, ◌∙◌}
+use Rattle.std.proofs.Common.{◌≡◌, ℕ, zero, suc, List, length, slice_get, Option, Some, None, refl, sym, ap, subst, ◌∙◌}
 use Rattle.std.proofs.lemmas.Option.{none-some, same_Some}
 use Rattle.wf_def.specs.Definition.{Definition}
 use Rattle.wf_learner.specs.History.{map_at}
 use Rattle.wf_model.specs.Stored.{definition_at}
 use Rattle.wf_node.specs.Node.{Node, stored_of}
 use Rattle.wf_tape.specs.MemoryTape.{Kept}
-use Rattle.wf_wms.specs.Answer.{AnswerValue, AsksForMap, EachQueryHasOneAnswer, IsAnswerOf, IsAnswerOn, IsMapAnswer, operation_of, or_own, subject}
-use Rattle.wf_wms.specs.MapRequest.{map_request, map_sequence, picture_in}
-use Rattle.wf_wms.specs.Query.{pairs_of}
+use Rattle.wf_wms.specs.Answer.{AnswerValue, AskedMapsAreAnsweredAlike, EachQueryHasOneAnswer, IsAnswerOf, subject}
 use Rattle.wf_farm.specs.declared.fault.FarmFault.TheVariants.{Memory, NoNode}
 use Rattle.wf_farm.specs.declared.place.Place.{Place}
 use Rattle.wf_farm.specs.declared.place.Place.TheVariants.{Running, Stopped}
@@ -87,32 +85,11 @@ one_answer law farm one = λ i j s query answer another first second.
 
 -- ---- one map that is asked for
 
--- if the sequence is well-formed, the request is its picture
-asked_picture : (s m : ℕ) (d : Definition) (pairs : List (List ℕ × List ℕ)) → map_sequence s pairs ≡ Ok m → map_request s d pairs ≡ picture_in d pairs
-unfolding map_request
-asked_picture s m d pairs asked = rw asked refl
-
--- the same map drawn, at another last sequence of the server
-drawn_elsewhere : (s t m : ℕ) (history : List Definition) (pairs : List (List ℕ × List ℕ)) (answer : AnswerValue) → map_sequence s pairs ≡ Ok m → map_sequence t pairs ≡ Ok m →
-    IsAnswerOn (operation_of (Some (codes "GetMap"))) t history pairs answer → IsAnswerOn (operation_of (Some (codes "GetMap"))) s history pairs answer
-drawn_elsewhere s t m history pairs answer here there is = record {
-  map = is.map;
-  is_published = ap (λ k. map_at history (or_own s k)) here ∙ sym (ap (λ k. map_at history (or_own t k)) there) ∙ is.is_published;
-  is_answer = subst (λ asked. IsMapAnswer is.map asked answer) (asked_picture t m is.map pairs there ∙ sym (asked_picture s m is.map pairs here)) is.is_answer;
-}
-
-answer_elsewhere : (s t m : ℕ) (history : List Definition) (query : List ℕ) (answer : AnswerValue) → AsksForMap m s query → AsksForMap m t query →
-    IsAnswerOf t history query answer → IsAnswerOf s history query answer
-unfolding IsAnswerOf
-answer_elsewhere s t m history query answer here there is =
-    let at : ℕ → Option (List ℕ) → Type 0 = λ k request. IsAnswerOn (operation_of request) k history (pairs_of query) answer in
-    subst (at s) (sym here.request) (drawn_elsewhere s t m history (pairs_of query) answer here.sequence there.sequence (subst (at t) there.request is))
-
-pub one_map_answer : EachQueryHasOneAnswer → (farm : Farm) → HasOneHistory farm → HasOneMapAnswer farm
+pub one_map_answer : EachQueryHasOneAnswer → AskedMapsAreAnsweredAlike → (farm : Farm) → HasOneHistory farm → HasOneMapAnswer farm
 unfolding HasOneMapAnswer
-one_map_answer law farm one = λ i j s t m query answer another asks also first second.
+one_map_answer law elsewhere farm one = λ i j s t m query answer another asks also first second.
     one_at law farm one i j s first.node second.node query answer another first.runs second.runs first.is_answer
-    (answer_elsewhere s t m second.node.parts.history query another asks also second.is_answer)
+    (elsewhere s t m second.node.parts.history query another asks also second.is_answer)
 
 -- ---- the same for nodes that a caller holds
 
@@ -122,8 +99,8 @@ module _ {T : Type 0} (law : EachQueryHasOneAnswer) (nodes : List (Node T)) (one
   alike_answers = λ i j s node other query answer another at there long also is is_other.
       one_of law node.parts.history other.parts.history (λ k c d here beyond. one i j k node other c d at there here beyond) s query answer another is is_other
 
-  pub alike_map_answers : HaveOneMapAnswer nodes
+  pub alike_map_answers : AskedMapsAreAnsweredAlike → HaveOneMapAnswer nodes
   unfolding HaveOneHistory HaveOneMapAnswer
-  alike_map_answers = λ i j s t m node other query answer another at there asks also long longer is is_other.
+  alike_map_answers elsewhere = λ i j s t m node other query answer another at there asks also long longer is is_other.
       one_of law node.parts.history other.parts.history (λ k c d here beyond. one i j k node other c d at there here beyond) s query answer another is
-      (answer_elsewhere s t m other.parts.history query another asks also is_other)
+      (elsewhere s t m other.parts.history query another asks also is_other)

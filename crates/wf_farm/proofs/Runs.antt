@@ -25,12 +25,12 @@ last_more w (first ∷ []) event = refl
 last_more w (first ∷ next ∷ events) event = last_more (happens definition_eq w first) (next ∷ events) event
 
 -- the events up to the next one, and all of them
-take_more : (events : List declared.Event) (done : ℕ) (event : declared.Event) → slice_get events done ≡ Some event → take (suc done) (map view events) ≡ take done (map view events) ++ view event ∷ []
+pub take_more : (events : List declared.Event) (done : ℕ) (event : declared.Event) → slice_get events done ≡ Some event → take (suc done) (map view events) ≡ take done (map view events) ++ view event ∷ []
 take_more [] done event at = absurd (none-some event at)
 take_more (x ∷ events) zero event at = ap (λ e. view e ∷ []) (same_Some x event at)
 take_more (x ∷ events) (suc done) event at = ap (λ es. view x ∷ es) (take_more events done event at)
 
-take_all : (events : List declared.Event) → take (length events) (map view events) ≡ map view events
+pub take_all : (events : List declared.Event) → take (length events) (map view events) ≡ map view events
 take_all [] = refl
 take_all (x ∷ events) = ap (λ es. view x ∷ es) (take_all events)
 

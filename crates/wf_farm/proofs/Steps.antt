@@ -24,9 +24,9 @@ use Rattle.wf_node.specs.declared.fault.NodeFault.{NodeFault}
 use Rattle.wf_node.specs.declared.fault.NodeFault.TheVariants as fault_case
 use Rattle.wf_tape.specs.Journal.{Follows, ReadsSame}
 use Rattle.wf_tape.specs.MemoryTape as tape
-use Rattle.wf_tape.specs.MemoryTape.{IsImageOf}
+use Rattle.wf_tape.specs.MemoryTape.{IsImageOf, NeverFails}
 use Rattle.wf_tape.specs.Records.{AreReadOneWay, IsReadAsNone}
-use Rattle.wf_tape.specs.Tape.{HasRisen, IsBeginning}
+use Rattle.wf_tape.specs.Tape.{IsBeginning}
 use Rattle.wf_farm.specs.declared.place.Place.{Place}
 use Rattle.wf_farm.specs.declared.place.Place.TheVariants.{Running, Stopped}
 use Rattle.wf_farm.specs.Fault.{number_of, told}
@@ -40,20 +40,16 @@ use Rattle.wf_farm.proofs.Turns.{turn_goes, turn_refused, turn_stopped, running_
 abbrev pub node_of : Stored Definition → Option (Working Definition) → world.Node Definition
 node_of stored working = record { stored = stored; working = working }
 
-node_eq : (stored others : Stored Definition) (working held : Option (Working Definition)) → stored ≡ others → working ≡ held → node_of stored working ≡ node_of others held
+pub node_eq : (stored others : Stored Definition) (working held : Option (Working Definition)) → stored ≡ others → working ≡ held → node_of stored working ≡ node_of others held
 node_eq stored others working held e h = ap (λ s. node_of s working) e ∙ ap (λ x. node_of others x) h
 
 -- the node of the model that a running one is
-abbrev shown : Node tape.Kept → world.Node Definition
+abbrev pub shown : Node tape.Kept → world.Node Definition
 shown node = node_of (stored_of node) (Some (working_of node))
-
--- A tape in memory counts no failure, so none is reported for it.
-pub never_fails : HasRisen 0 0 → ⊥
-never_fails risen = elim risen [ inl less ↦ omega (arith, less) | inr last ↦ omega (arith, last) ]
 
 -- ---- a step
 
-goes_of : (node : Node tape.Kept) (input : Input Definition) → refusal_at node input ≡ None →
+pub goes_of : (node : Node tape.Kept) (input : Input Definition) → refusal_at node input ≡ None →
     turn_at node.n node.id input (shown node) ≡ Some (record { stored = stored_of node; row = row_of node input })
 goes_of node input goes = turn_goes definition_eq node.n node.id (stored_of node) (working_of node) input goes
 
@@ -85,9 +81,10 @@ step_done n i node after input said member goes is =
     (subst (λ j. IsStepped node.n j input (Running node) (Running after) (map message.view said) None) member.0 (done_here node after input said goes is))
 
 -- its node is still a member
-pub done_member : (node after : Node tape.Kept) (input : Input Definition) (said : List Message) → IsRow node (row_of node input) said after → KeepsMember (Running node) (Running after)
+pub done_member : (node after : Node tape.Kept) (input : Input Definition) (said : List Message) → (NeverFails node.tape → NeverFails after.tape) → IsRow node (row_of node input) said after →
+    KeepsMember (Running node) (Running after)
 unfolding KeepsMember
-done_member node after input said is = λ n i member. (is.id ∙ member.0, is.n ∙ member.1, is.running)
+done_member node after input said sturdy is = λ n i member. (is.id ∙ member.0, is.n ∙ member.1, is.running, sturdy member.3)
 
 -- No step sends more than eight messages.
 pub said_few : (node after : Node tape.Kept) (input : Input Definition) (said : List Message) → RowsAreShort Definition → IsRow node (row_of node input) said after → length said ≤ most_told
@@ -118,7 +115,7 @@ unfolding Stays
 same_stays node after same = λ x e. e ∙ node_eq _ _ _ _ (sym (ap stored_of same)) (ap Some (sym (ap working_of same)))
 
 -- the number of an error
-number_why : (f : NodeFault) (number : ℕ) → number_in f ≡ Some number → (why : Refusal) × (fault.refusal_of f ≡ Some why) × (number_of why ≡ number)
+pub number_why : (f : NodeFault) (number : ℕ) → number_in f ≡ Some number → (why : Refusal) × (fault.refusal_of f ≡ Some why) × (number_of why ≡ number)
 number_why fault_case.Memory number e = absurd (none-some number e)
 number_why fault_case.Busy number e = (table.Busy, refl, same_Some 2 number e)
 number_why fault_case.SequenceFull number e = (table.SequenceFull, refl, same_Some 3 number e)
@@ -134,11 +131,11 @@ unchanged_by f why e = (
   λ is. none-some why (ap fault.refusal_of (sym is) ∙ e),
 )
 
--- After an error the node is still a member: its tape hasn't failed, since a tape in memory doesn't.
-module _ (node after : Node tape.Kept) (same : IsSameNode node after) where
+-- After an error the node is still a member: its tape hasn't failed, since a tape in memory without a fuse doesn't.
+module _ (node after : Node tape.Kept) (sturdy : NeverFails node.tape → NeverFails after.tape) (same : IsSameNode node after) where
   kept_member : after.halted ≡ false → KeepsMember (Running node) (Running after)
   unfolding KeepsMember
-  kept_member runs = λ n i member. (ap (λ x. x.id) same ∙ member.0, ap (λ x. x.n) same ∙ member.1, runs)
+  kept_member runs = λ n i member. (ap (λ x. x.id) same ∙ member.0, ap (λ x. x.n) same ∙ member.1, runs, sturdy member.3)
 
   unchanged_member : (f : NodeFault) (why : Refusal) → fault.refusal_of f ≡ Some why → (f ≢ fault_case.Memory → f ≢ fault_case.TapeFailed → after ≡ node) → KeepsMember (Running node) (Running after)
   unfolding KeepsMember
@@ -146,16 +143,16 @@ module _ (node after : Node tape.Kept) (same : IsSameNode node after) where
       let other = unchanged_by f why e in
       subst (λ x. KeepsMember (Running node) (Running x)) (sym (unchanged other.0 other.1)) (λ n i member. member)
 
-  pub denied_member : (f : NodeFault) → (f ≡ fault_case.Memory → after.halted ≡ false) → (f ≡ fault_case.TapeFailed → HasRisen 0 0) → (f ≡ fault_case.Halted → node.halted ≡ true) →
+  pub denied_member : (f : NodeFault) → (f ≡ fault_case.Memory → after.halted ≡ false) → (NeverFails node.tape → f ≢ fault_case.TapeFailed) → (f ≡ fault_case.Halted → node.halted ≡ true) →
       (f ≢ fault_case.Memory → f ≢ fault_case.TapeFailed → after ≡ node) → KeepsMember (Running node) (Running after)
   unfolding KeepsMember
-  denied_member fault_case.Memory runs fails halted unchanged = kept_member (runs refl)
-  denied_member fault_case.Busy runs fails halted unchanged = unchanged_member fault_case.Busy table.Busy refl unchanged
-  denied_member fault_case.SequenceFull runs fails halted unchanged = unchanged_member fault_case.SequenceFull table.SequenceFull refl unchanged
-  denied_member fault_case.RoundsFull runs fails halted unchanged = unchanged_member fault_case.RoundsFull table.RoundsFull refl unchanged
-  denied_member fault_case.Halted runs fails halted unchanged = λ n i member. absurd (both_ways node.halted member.2 (halted refl))
-  denied_member fault_case.TapeFailed runs fails halted unchanged = absurd (never_fails (fails refl))
-  denied_member fault_case.Nothing runs fails halted unchanged = unchanged_member fault_case.Nothing table.NothingToRetry refl unchanged
+  denied_member fault_case.Memory runs sound halted unchanged = kept_member (runs refl)
+  denied_member fault_case.Busy runs sound halted unchanged = unchanged_member fault_case.Busy table.Busy refl unchanged
+  denied_member fault_case.SequenceFull runs sound halted unchanged = unchanged_member fault_case.SequenceFull table.SequenceFull refl unchanged
+  denied_member fault_case.RoundsFull runs sound halted unchanged = unchanged_member fault_case.RoundsFull table.RoundsFull refl unchanged
+  denied_member fault_case.Halted runs sound halted unchanged = λ n i member. absurd (both_ways node.halted member.2 (halted refl))
+  denied_member fault_case.TapeFailed runs sound halted unchanged = λ n i member. absurd (sound member.3 refl)
+  denied_member fault_case.Nothing runs sound halted unchanged = unchanged_member fault_case.Nothing table.NothingToRetry refl unchanged
 
 -- A step that ends in an error: the node is unchanged, and the table's rejection is that of the farm's model.
 pub step_denied : (n i : ℕ) (node after : Node tape.Kept) (input : Input Definition) (f : NodeFault) → IsMember n i (Running node) → fault.refusal_of f ≡ refusal_at node input →
@@ -190,10 +187,11 @@ module _ {A : Type 0} (node after : Node tape.Kept) (input : Input Definition) w
   any_few short (Err f) is = tt
 
   pub any_member : (result : Result (Vec Message A) NodeFault) → IfOk result (λ said. IsRow node (row_of node input) said.items after) →
-      (result ≡ Err fault_case.Memory → after.halted ≡ false) → (result ≡ Err fault_case.TapeFailed → HasRisen 0 0) → (result ≡ Err fault_case.Halted → node.halted ≡ true) →
-      IfErr result (λ f. IsSameNode node after) → IfErr result (λ f. f ≢ fault_case.Memory → f ≢ fault_case.TapeFailed → after ≡ node) → KeepsMember (Running node) (Running after)
-  any_member (Ok said) is runs fails halted same unchanged = done_member node after input said.items is
-  any_member (Err f) is runs fails halted same unchanged = denied_member node after same f (λ e. runs (ap Err e)) (λ e. fails (ap Err e)) (λ e. halted (ap Err e)) unchanged
+      (result ≡ Err fault_case.Memory → after.halted ≡ false) → (NeverFails node.tape → NeverFails after.tape) → (NeverFails node.tape → IfErr result (λ f. f ≢ fault_case.TapeFailed)) →
+      (result ≡ Err fault_case.Halted → node.halted ≡ true) → IfErr result (λ f. IsSameNode node after) → IfErr result (λ f. f ≢ fault_case.Memory → f ≢ fault_case.TapeFailed → after ≡ node) →
+      KeepsMember (Running node) (Running after)
+  any_member (Ok said) is runs sturdy sound halted same unchanged = done_member node after input said.items sturdy is
+  any_member (Err f) is runs sturdy sound halted same unchanged = denied_member node after sturdy same f (λ e. runs (ap Err e)) sound (λ e. halted (ap Err e)) unchanged
 
 -- A stopped node takes no step.
 pub stopped_steps : (kept : tape.Kept) (input : Input Definition) → Steps input (Stopped kept) (Stopped kept) []
@@ -223,10 +221,10 @@ pub still_stopped : (kept : tape.Kept) → Stops (Stopped kept) (Stopped kept)
 unfolding Stops node_stopped
 still_stopped kept = λ n i member x is. (refl, is.1)
 
--- a tape alone needs nothing to be a member
-pub stopped_member : (before : Place) (kept : tape.Kept) → KeepsMember before (Stopped kept)
+-- The tape of a node that was closed is still without a fuse.
+pub closed_member : (node : Node tape.Kept) (left : tape.Kept) → left ≡ node.tape → KeepsMember (Running node) (Stopped left)
 unfolding KeepsMember
-stopped_member before kept = λ n i member. tt
+closed_member node left same = λ n i member. subst NeverFails (sym same) member.3
 
 -- ---- a restart
 
@@ -235,14 +233,14 @@ pub one_stand : AreReadOneWay → (bytes : List ℕ) (stored others : Stored Def
 one_stand one bytes stored others first second =
     same_Some stored others (sym first.folds ∙ ap fold (one bytes first.records second.records first.reads second.reads) ∙ second.folds)
 
-begins_itself : (bytes : List ℕ) → IsBeginning bytes bytes
+pub begins_itself : (bytes : List ℕ) → IsBeginning bytes bytes
 begins_itself bytes = ([], sym (append-nil bytes))
 
-begins_taken : (n : ℕ) (bytes : List ℕ) → IsBeginning (take n bytes) bytes
+pub begins_taken : (n : ℕ) (bytes : List ℕ) → IsBeginning (take n bytes) bytes
 begins_taken n bytes = (drop n bytes, sym (take-append-drop n bytes))
 
 -- the whole contents of a tape are an image of it
-content_is_image : (kept : tape.Kept) → IsImageOf kept kept.bytes
+pub content_is_image : (kept : tape.Kept) → IsImageOf kept kept.bytes
 content_is_image kept = (begins_itself kept.bytes, begins_taken kept.synced kept.bytes)
 
 -- A tape stands for exactly one stored part.
@@ -258,6 +256,14 @@ opened one kept node fold_of idle = λ x is.
     let found : StandsFor (stored_of node) kept.bytes = record { records = fold_of.records; reads = (fold_of.rest, fold_of.tape.reads); folds = fold_of.folds } in
     ap (λ working. node_of x.stored (working_restarted working)) is.0
     ∙ node_eq _ _ _ _ (one_stand one kept.bytes x.stored (stored_of node) stands found) (ap Some (sym idle))
+
+-- A node opened from a tape without a fuse is on such a tape, and a tape that is returned is still one.
+pub opened_member : (n i : ℕ) (before : Place) (kept : tape.Kept) (node : Node tape.Kept) → before ≡ Stopped kept → node.id ≡ i → node.n ≡ n → node.halted ≡ false → (NeverFails kept → NeverFails node.tape) →
+    IsMember n i before → IsMember n i (Running node)
+opened_member n i before kept node was id many runs sturdy member = (id, many, runs, sturdy (subst (IsMember n i) was member))
+
+pub returned_member : (n i : ℕ) (before : Place) (kept left : tape.Kept) → before ≡ Stopped kept → (NeverFails kept → NeverFails left) → IsMember n i before → IsMember n i (Stopped left)
+returned_member n i before kept left was sturdy member = sturdy (subst (IsMember n i) was member)
 
 pub still_running : (node : Node tape.Kept) → Restarts (Running node) (Running node)
 unfolding Restarts node_restarted working_restarted
@@ -357,7 +363,7 @@ torn_before n i input before after free stopped = record {
 }
 
 -- A crash within a rejected step changes nothing, whatever would be kept.
-torn_refused : (kept : world.Kept) (n i : ℕ) (input : Input Definition) (before after : Place) (number : ℕ) → IsStepped n i input before after [] (Some number) → Stays before after →
+pub torn_refused : (kept : world.Kept) (n i : ℕ) (input : Input Definition) (before after : Place) (number : ℕ) → IsStepped n i input before after [] (Some number) → Stays before after →
     ((x : world.Node Definition) → IsNode before x → turn_at n i input x ≡ None) → IsTornAt kept n i input before after (Some number)
 unfolding node_torn Stays
 torn_refused kept n i input before after number stepped stays none = record {

@@ -1,5 +1,5 @@
 -- The entry of a node in the farm: which node of the model it is, and the effect of an event on it.
-use Rattle.std.specs.Prelude.{◌≡◌, ℕ, ⊤, false, List, [], Option, Some, None}
+use Rattle.std.specs.Prelude.{◌≡◌, ℕ, false, List, [], Option, Some, None}
 use Rattle.wf_def.specs.Definition.{Definition}
 use Rattle.wf_def.specs.Equality.{definition_eq}
 use Rattle.wf_model.specs.Message as model
@@ -10,7 +10,7 @@ use Rattle.wf_node.specs.Fault as fault
 use Rattle.wf_node.specs.Images.{AllStandFor}
 use Rattle.wf_node.specs.Node.{stored_of, working_of}
 use Rattle.wf_node.specs.declared.fault.NodeFault.{NodeFault}
-use Rattle.wf_tape.specs.MemoryTape.{IsImageOf}
+use Rattle.wf_tape.specs.MemoryTape.{IsImageOf, NeverFails}
 use Rattle.wf_farm.specs.declared.place.Place.{Place}
 use Rattle.wf_farm.specs.declared.place.Place.TheVariants.{Running, Stopped}
 use Rattle.wf_farm.specs.Fault.{told}
@@ -22,10 +22,10 @@ abbrev pub IsNode : Place → world.Node Definition → Type 0
 IsNode (Running node) shown = shown ≡ record { stored = stored_of node; working = Some (working_of node) }
 IsNode (Stopped tape) shown = (shown.working ≡ None) × AllStandFor shown.stored (IsImageOf tape)
 
--- The entry has node i of n, and its tape hasn't failed.
+-- The entry has node i of n. Its tape has no fuse and hasn't failed.
 abbrev pub IsMember : ℕ → ℕ → Place → Type 0
-IsMember n i (Running node) = (node.id ≡ i) × (node.n ≡ n) × (node.halted ≡ false)
-IsMember n i (Stopped tape) = ⊤
+IsMember n i (Running node) = (node.id ≡ i) × (node.n ≡ n) × (node.halted ≡ false) × NeverFails node.tape
+IsMember n i (Stopped tape) = NeverFails tape
 
 -- A node is changed so: whichever it was, `change` maps it to what it is now.
 abbrev pub IsChanged : (world.Node Definition → world.Node Definition) → Place → Place → Type 0

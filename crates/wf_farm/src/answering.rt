@@ -37,5 +37,6 @@ impl Farm {
     {
         self.agree();
         wf_wms::law::each_query_has_one_answer();
+        wf_wms::law::asked_maps_are_answered_alike();
     }
 }

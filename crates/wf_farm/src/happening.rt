@@ -150,7 +150,7 @@ impl Cluster {
 
     /// Restarts a stopped node, if it exists.
     #[tactic(auto, using(crate::proofs::Events::same_members))]
-    fn restart(&mut self, alloc: Global, node: usize) -> Result<Option<u8>, AllocError>
+    pub(crate) fn restart(&mut self, alloc: Global, node: usize) -> Result<Option<u8>, AllocError>
         requires members { AreMembers self.old.places.items }
         requires size { length self.old.places.items ≤ 64 }
         ensures done { IfOk result (λ number. Happens (world.Restart node) number self.old.places.items self.old.sent.items self.new.places.items self.new.sent.items) }
@@ -272,7 +272,7 @@ impl Cluster {
     }
 
     /// Whether the node of that number exists and runs.
-    fn runs(&self, node: usize) -> bool
+    pub(crate) fn runs(&self, node: usize) -> bool
         ensures value { result ≡ is_some (running_in (slice_get self.now.places.items node)) }
         ensures within { result ≡ true → node < length self.now.places.items }
     {
@@ -294,7 +294,7 @@ impl Cluster {
 
     /// The input of an action; None if its message wasn't sent.
     #[tactic(auto, using(crate::proofs::Events::sent_message), unfolding(wf_model::specs::World::input_of, wf_model::specs::World::delivered))]
-    fn input_of(&self, action: &Action) -> Result<Option<Input>, AllocError>
+    pub(crate) fn input_of(&self, action: &Action) -> Result<Option<Input>, AllocError>
         ensures { IfOk result (λ input. option_map view_input input ≡ input_of (map view_message self.now.sent.items) (view_action action.now)) }
     {
         match action {
@@ -310,7 +310,7 @@ impl Cluster {
 
     /// The delivery of a message; None if it wasn't sent.
     #[tactic(auto, using(crate::proofs::Events::sent_message), unfolding(wf_model::specs::World::input_of, wf_model::specs::World::delivered))]
-    fn message(&self, number: usize) -> Result<Option<Input>, AllocError>
+    pub(crate) fn message(&self, number: usize) -> Result<Option<Input>, AllocError>
         ensures { IfOk result (λ input. option_map view_input input ≡ input_of (map view_message self.now.sent.items) (Deliver number)) }
     {
         match self.sent.get(number) {

@@ -9,7 +9,7 @@ use wf_canon::Canon;
 use wf_law::earlier_messages;
 use wf_node::Node;
 use wf_tape::{Tape, records_are_read_one_way};
-use wf_wms::law::each_query_has_one_answer;
+use wf_wms::law::{asked_maps_are_answered_alike, each_query_has_one_answer};
 
 /// A step Propose, Retry or CatchUp of a node leads the nodes on, whatever it returns, and sends exactly the messages that it
 /// returns. A theorem: the call does nothing.
@@ -78,4 +78,5 @@ pub fn reached_nodes_answer_alike<T: Tape>(nodes: &[Node<T>])
 {
     reached_nodes_agree(nodes);
     each_query_has_one_answer();
+    asked_maps_are_answered_alike();
 }

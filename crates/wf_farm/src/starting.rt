@@ -4,7 +4,7 @@ ghost use Rattle.std.specs.Prelude.{◌≡◌, ◌<◌, ◌≤◌, ◌+◌, fals
 ghost use Rattle.wf_model.specs.World.{start};
 ghost use Rattle.wf_node.specs.Images.{AllStandFor};
 ghost use Rattle.wf_node.specs.Node.{stored_of};
-ghost use Rattle.wf_tape.specs.MemoryTape.{IsImageOf};
+ghost use Rattle.wf_tape.specs.MemoryTape.{IsImageOf, NeverFails};
 ghost use Rattle.wf_farm.specs.Cluster.{AreMembers, Shows};
 ghost use Rattle.wf_farm.specs.Leading.{IsFresh};
 ghost use Rattle.wf_farm.specs.Place.{IsMember, IsNode};
@@ -82,6 +82,7 @@ pub fn open_fresh(alloc: Global, id: NodeId, n: u8) -> Result<Node<MemoryTape>, 
     ensures fresh { IfOk result IsFresh }
     ensures id { IfOk result (λ node. node.id ≡ id) }
     ensures n { IfOk result (λ node. node.n ≡ n) }
+    ensures fuse { IfOk result (λ node. NeverFails node.tape) }
 {
     // Theorem of the tape: an empty tape has no record.
     records_are_read_one_way();
@@ -110,7 +111,7 @@ pub fn reopen(alloc: Global, node: Node<MemoryTape>, n: u8) -> Result<Node<Memor
     let id = node.id();
     match Node::open(alloc, node.close(), id, n) {
         Ok(again) => Ok(again),
-        // A tape in memory that a node left is rejected only for allocation failure.
+        // A tape in memory that a node left, and that has no fuse, is rejected only for allocation failure.
         Err((tape, _)) => Err(tape),
     }
 }

@@ -81,8 +81,8 @@ impl Place {
     }
 
     /// The entry with its node restarted as node `id` of n; if an allocation fails, the entry with its tape returned.
-    #[tactic(auto, using(crate::proofs::Steps::opened, crate::proofs::Steps::not_opened, crate::proofs::Steps::still_running, crate::proofs::Allocating::stopped_there))]
-    fn reopened(self, alloc: Global, id: NodeId, n: u8) -> Result<Place, Place>
+    #[tactic(auto, using(crate::proofs::Steps::opened, crate::proofs::Steps::not_opened, crate::proofs::Steps::still_running, crate::proofs::Steps::opened_member, crate::proofs::Steps::returned_member, crate::proofs::Allocating::stopped_there))]
+    pub(crate) fn reopened(self, alloc: Global, id: NodeId, n: u8) -> Result<Place, Place>
         requires nodes { n ≤ 64 }
         requires member { id < n }
         ensures restarted { IfOk result (Restarts self) }
@@ -97,14 +97,14 @@ impl Place {
             Place::Running(node) => Ok(Place::Running(node)),
             Place::Stopped(tape) => match Node::open(alloc, tape, id, n) {
                 Ok(node) => Ok(Place::Running(node)),
-                // A tape in memory that a node left is rejected only for allocation failure.
+                // A tape in memory that a node left, and that has no fuse, is rejected only for allocation failure.
                 Err((tape, _)) => Err(Place::Stopped(tape)),
             },
         }
     }
 
     /// The placeholder of an entry while its node is moved: an empty tape. Allocates nothing.
-    fn blank(alloc: Global) -> Place {
+    pub(crate) fn blank(alloc: Global) -> Place {
         Place::Stopped(MemoryTape::new(Vec::new(alloc)))
     }
 }

@@ -5,8 +5,8 @@ use Rattle.wf_def.specs.Definition.{Definition}
 use Rattle.wf_model.specs.Stored.{Stored, Record, fits, with_record, fold_from, fold, nothing_stored}
 use Rattle.wf_model.specs.Table.{store}
 use Rattle.wf_tape.specs.Journal.{Follows, ReadsOneMore, ReadsSameOrOneMore}
-use Rattle.wf_node.specs.Images.{StandsFor}
-use Rattle.wf_node.specs.Storing.{IsStoredBy, IsTornAt}
+use Rattle.wf_node.specs.Images.{StandsFor, ReadsOn, ReadsWith}
+use Rattle.wf_node.specs.Storing.{IsStoredBy, IsTornAt, IsCutAt}
 
 fold_from_more : (start stored : Stored Definition) (records : List (Record Definition)) (r : Record Definition) →
     fold_from start records ≡ Some stored → fits stored r ≡ true → fold_from start (records ++ r ∷ []) ≡ Some (with_record stored r)
@@ -58,6 +58,21 @@ unfolding store
 torn_at r old new follows stored fit stands image is =
     let earlier = follows image is in
     stands_either stored r earlier.0 image earlier.2 fit (stands earlier.0 earlier.1)
+
+-- the records that it reads as are those from before, or those and one more
+cut_either : (stored : Stored Definition) (r : Record Definition) (earlier image : List ℕ) → ReadsSameOrOneMore r earlier image → fits stored r ≡ true →
+    StandsFor stored earlier → ReadsOn stored earlier image ⊎ ReadsWith r (with_record stored r) earlier image
+cut_either stored r earlier image either fit stands =
+    elim (either stands.records stands.reads) as (λ x. ReadsOn stored earlier image ⊎ ReadsWith r (with_record stored r) earlier image) [
+      | inl same ↦ inl (record { records = stands.records; old = stands.reads; new = same; folds = stands.folds })
+      | inr more ↦ inr (record { records = stands.records; old = stands.reads; new = more; folds = fold_more stored stands.records r stands.folds fit })
+    ]
+
+pub cut_at : (r : Record Definition) (old new : List ℕ → Type 0) → Follows (ReadsSameOrOneMore r) old new → IsCutAt (Some r) old new
+unfolding store
+cut_at r old new follows stored fit stands image is =
+    let earlier = follows image is in
+    (earlier.0, earlier.1, cut_either stored r earlier.0 image earlier.2 fit (stands earlier.0 earlier.1))
 
 -- if nothing is written, nothing changes
 pub stored_none : (images : List ℕ → Type 0) → IsStoredBy None images images

@@ -42,6 +42,12 @@ bad_settle TapeFailed content good = tt
 bad_settle (BadRecord place) content good = absurd good
 bad_settle Memory content good = tt
 
+-- records that aren't folded are no failure of the tape
+pub unfolded_soundly : (records : List (Record Definition)) (fault : OpenFault) → IsWhyUnfolded records fault → fault ≡ TapeFailed → ⊥
+unfolded_soundly records TapeFailed why is = why
+unfolded_soundly records (BadRecord place) why is = absurd (cc is)
+unfolded_soundly records Memory why is = absurd (cc is)
+
 -- ---- the tape was read first: what holds after it holds of the tape from before
 
 pub same_before : (old new : List ℕ → Type 0) → LeavesNoOther old new → Follows ReadsSame old new

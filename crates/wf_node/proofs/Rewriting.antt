@@ -1,8 +1,8 @@
 -- The node after its journal was rewritten.
-use Rattle.std.proofs.Common.{◌≡◌, ℕ, false, List, Result, Ok, Err, refl, sym, subst}
+use Rattle.std.proofs.Common.{◌≡◌, ℕ, false, List, Result, Ok, Err, IfErr, refl, sym, subst}
 use Rattle.wf_def.specs.Definition.{Definition}
 use Rattle.wf_model.specs.Fits.{FoldsAreOpen, VotesArePromised}
-use Rattle.wf_model.specs.Stored.{Stored}
+use Rattle.wf_model.specs.Stored.{Stored, Record}
 use Rattle.wf_proposer.specs.Proposer.{Proposer}
 use Rattle.wf_tape.specs.Journal.{Journal}
 use Rattle.wf_node.specs.declared.fault.NodeFault.{NodeFault}
@@ -15,10 +15,10 @@ use Rattle.wf_node.specs.Shortening.{IsShortening, shortened}
 use Rattle.wf_node.specs.Storing.{IsReplacement}
 use Rattle.wf_node.proofs.Shortened.{stands_on}
 
-module _ {T : Type 0} (honest : Type 0) (content : T → List ℕ) (images : T → List ℕ → Type 0) (inside : T → T → List ℕ → Type 0) (failures : T → ℕ) where
+module _ {T : Type 0} (honest : Type 0) (content : T → List ℕ) (images : T → List ℕ → Type 0) (inside : T → T → List ℕ → Type 0) (failures : T → ℕ) (sturdy : T → Type 0) where
   -- Whatever is returned, each image stands for the stored part.
   replacement_stands : {A : Type 0} (result : Result A NodeFault) (stored : Stored Definition) (journal after : Journal T) → FoldsAreOpen Definition → VotesArePromised Definition →
-      IsReplacement honest content images inside failures (shortened stored) journal result after → honest → AllStandFor stored (images journal.tape) → AllStandFor stored (images after.tape)
+      IsReplacement honest content images inside failures sturdy (shortened stored) journal result after → honest → AllStandFor stored (images journal.tape) → AllStandFor stored (images after.tape)
   replacement_stands (Ok x) stored journal after are_open are_promised replaced h stands =
       stands_on are_open are_promised stored (images journal.tape) (images after.tape) (replaced.follows h) stands
   replacement_stands (Err Memory) stored journal after are_open are_promised spared h stands = λ image left. stands image ((spared.same h).no_other image left)
@@ -30,10 +30,22 @@ module _ {T : Type 0} (honest : Type 0) (content : T → List ℕ) (images : T �
   replacement_stands (Err Halted) stored journal after are_open are_promised never h stands = absurd never
   replacement_stands (Err Nothing) stored journal after are_open are_promised never h stands = absurd never
 
+  -- A tape that won't fail still won't, and doesn't.
+  pub replacement_sturdy : {A : Type 0} (result : Result A NodeFault) (records : List (Record Definition)) (journal after : Journal T) →
+      IsReplacement honest content images inside failures sturdy records journal result after → sturdy journal.tape → sturdy after.tape × IfErr result (λ fault. fault ≡ TapeFailed → ⊥)
+  replacement_sturdy (Ok x) records journal after replaced sound = (replaced.still sound, tt)
+  replacement_sturdy (Err Memory) records journal after spared sound = (spared.still sound, λ e. absurd (cc e))
+  replacement_sturdy (Err TapeFailed) records journal after half sound = absurd (half.weak sound)
+  replacement_sturdy (Err Busy) records journal after never sound = absurd never
+  replacement_sturdy (Err SequenceFull) records journal after never sound = absurd never
+  replacement_sturdy (Err RoundsFull) records journal after never sound = absurd never
+  replacement_sturdy (Err Halted) records journal after never sound = absurd never
+  replacement_sturdy (Err Nothing) records journal after never sound = absurd never
+
   -- So the node's invariant holds.
   pub rewriting_keeps : {A : Type 0} (journal after : Journal T) (kept kept_after : Kept) (proposer proposer_after : Proposer) (result : Result A NodeFault) →
       FoldsAreOpen Definition → VotesArePromised Definition → IsNode honest images journal kept proposer → journal.halted ≡ false →
-      IsReplacement honest content images inside failures (shortened (keeping.stored_of kept)) journal result after → kept_after ≡ kept → proposer_after ≡ proposer →
+      IsReplacement honest content images inside failures sturdy (shortened (keeping.stored_of kept)) journal result after → kept_after ≡ kept → proposer_after ≡ proposer →
       IsNode honest images after kept_after proposer_after
   rewriting_keeps journal after kept kept_after proposer proposer_after result are_open are_promised node running replaced same_kept same_proposer =
       subst (λ (p : Proposer). IsNode honest images after kept_after p) (sym same_proposer)
@@ -44,7 +56,7 @@ module _ {T : Type 0} (honest : Type 0) (content : T → List ℕ) (images : T �
       }))
 
   shortens_by : {A : Type 0} (journal after : Journal T) (kept : Kept) (proposer : Proposer) (result : Result A NodeFault) →
-      IsReplacement honest content images inside failures (shortened (keeping.stored_of kept)) journal result after → (honest → AllStandFor (keeping.stored_of kept) (images after.tape)) →
+      IsReplacement honest content images inside failures sturdy (shortened (keeping.stored_of kept)) journal result after → (honest → AllStandFor (keeping.stored_of kept) (images after.tape)) →
       IsShortening honest content images failures (view_of journal kept.parts proposer) result (view_of after kept.parts proposer)
   shortens_by journal after kept proposer (Ok x) replaced stands = record {
     running = λ e. absurd (cc e);
@@ -90,7 +102,7 @@ module _ {T : Type 0} (honest : Type 0) (content : T → List ℕ) (images : T �
 
   pub shortens : {A : Type 0} (journal after : Journal T) (kept kept_after : Kept) (proposer proposer_after : Proposer) (result : Result A NodeFault) →
       FoldsAreOpen Definition → VotesArePromised Definition → IsNode honest images journal kept proposer → journal.halted ≡ false →
-      IsReplacement honest content images inside failures (shortened (keeping.stored_of kept)) journal result after → kept_after ≡ kept → proposer_after ≡ proposer →
+      IsReplacement honest content images inside failures sturdy (shortened (keeping.stored_of kept)) journal result after → kept_after ≡ kept → proposer_after ≡ proposer →
       IsShortening honest content images failures (view_of journal kept.parts proposer) result (view_of after kept_after.parts proposer_after)
   shortens journal after kept kept_after proposer proposer_after result are_open are_promised node running replaced same_kept same_proposer =
       subst (λ (p : Proposer). IsShortening honest content images failures (view_of journal kept.parts proposer) result (view_of after kept_after.parts p)) (sym same_proposer)

@@ -14,8 +14,8 @@ use Rattle.wf_tape.specs.Tape.{IsExtended, LeavesNoOther}
 use Rattle.wf_node.specs.declared.fault.NodeFault.{NodeFault}
 use Rattle.wf_node.specs.declared.fault.NodeFault.TheVariants.{Memory, Busy, SequenceFull, RoundsFull, Halted, TapeFailed, Nothing}
 use Rattle.wf_node.specs.Act.{IsAct, IsChange, IsRefusedOr, IsSame}
-use Rattle.wf_node.specs.Fault.{refused_by}
-use Rattle.wf_node.specs.Images.{StandsFor, AllStandFor, EachStandsFor}
+use Rattle.wf_node.specs.Fault.{refusal_of, refused_by}
+use Rattle.wf_node.specs.Images.{StandsFor, AllStandFor, EachStandsFor, EachIsCut}
 use Rattle.wf_node.specs.Kept.{Kept}
 use Rattle.wf_node.specs.Memory as memory
 use Rattle.wf_node.specs.Node.{IsNode, view_of}
@@ -45,7 +45,7 @@ module _ {T : Type 0} where
   takes_shown journal parts proposer input =
       subst memory.TakesMemory (row_shown journal parts proposer input)
 
-module _ {T : Type 0} (honest : Type 0) (content : T → List ℕ) (images : T → List ℕ → Type 0) (inside : T → T → List ℕ → Type 0) (failures : T → ℕ) where
+module _ {T : Type 0} (honest : Type 0) (content : T → List ℕ) (images : T → List ℕ → Type 0) (inside : T → T → List ℕ → Type 0) (failures : T → ℕ) (sturdy : T → Type 0) where
   abbrev fault_number : {A : Type 0} → Result A NodeFault → ℕ
   fault_number (Ok x) = 0
   fault_number (Err Memory) = 1
@@ -83,7 +83,7 @@ module _ {T : Type 0} (honest : Type 0) (content : T → List ℕ) (images : T �
       (honest → AllStandFor (stored_of parts) (images journal.tape)) →
       refusal (stored_of parts) (working_of proposer) input ≡ None →
       RowFits (stored_of parts) (proposer_row proposer parts input) →
-      IsChange honest content images inside failures (proposer_row proposer parts input) journal parts proposer result journal_after parts_after proposer_after →
+      IsChange honest content images inside failures sturdy (proposer_row proposer parts input) journal parts proposer result journal_after parts_after proposer_after →
       IsStep honest content images failures (view_of journal parts proposer) input result (view_of journal_after parts_after proposer_after)
   done_step journal journal_after parts parts_after proposer proposer_after input (Ok messages) stands none fits change = record {
     running = differ _ _ (λ e. omega (arith, e));
@@ -175,14 +175,14 @@ module _ {T : Type 0} (honest : Type 0) (content : T → List ℕ) (images : T �
   -- What the parts did or rejected is the node's step.
   pub act_steps : {A : Type 0} (journal journal_after : Journal T) (kept kept_after : Kept) (proposer proposer_after : Proposer) (input : Input Definition) (result : Result (Vec Message A) NodeFault) →
       IsNode honest images journal kept proposer → journal.halted ≡ false → RecordsFit Definition →
-      IsAct honest content images inside failures input journal kept.parts proposer result journal_after kept_after.parts proposer_after →
+      IsAct honest content images inside failures sturdy input journal kept.parts proposer result journal_after kept_after.parts proposer_after →
       IsStep honest content images failures (view_of journal kept.parts proposer) input result (view_of journal_after kept_after.parts proposer_after)
   act_steps journal journal_after kept kept_after proposer proposer_after input result is running fit act =
       let fits : RowFits (stored_of kept.parts) (proposer_row proposer kept.parts input) =
       fit definition_eq proposer.nodes proposer.node (stored_of kept.parts) (working_of proposer) input is.for_next in
       elim (refusal (stored_of kept.parts) (working_of proposer) input) as (λ why.
       refusal (stored_of kept.parts) (working_of proposer) input ≡ why →
-      IsRefusedOr honest content images inside failures why (proposer_row proposer kept.parts input) journal kept.parts proposer result journal_after kept_after.parts proposer_after →
+      IsRefusedOr honest content images inside failures sturdy why (proposer_row proposer kept.parts input) journal kept.parts proposer result journal_after kept_after.parts proposer_after →
       IsStep honest content images failures (view_of journal kept.parts proposer) input result (view_of journal_after kept_after.parts proposer_after)) [
         | None ↦ λ none change. done_step journal journal_after kept.parts kept_after.parts proposer proposer_after input result (λ h. is.stands h running) none fits change
         | Some why ↦ λ some refused. refused_step journal journal_after kept.parts kept_after.parts proposer proposer_after input result why some refused.0 refused.1 refused.2
@@ -191,7 +191,7 @@ module _ {T : Type 0} (honest : Type 0) (content : T → List ℕ) (images : T �
   -- At each moment inside the step what a crash could have left stands for the stored part from before it, or the transition's.
   done_inside : {A : Type 0} (journal journal_after : Journal T) (parts parts_after : Parts) (proposer proposer_after : Proposer) (input : Input Definition) (result : Result (Vec Message A) NodeFault) →
       RowFits (stored_of parts) (proposer_row proposer parts input) →
-      IsChange honest content images inside failures (proposer_row proposer parts input) journal parts proposer result journal_after parts_after proposer_after →
+      IsChange honest content images inside failures sturdy (proposer_row proposer parts input) journal parts proposer result journal_after parts_after proposer_after →
       honest → AllStandFor (stored_of parts) (inside journal.tape journal.tape) →
       EachStandsFor (stored_of parts) (store (stored_of parts) (proposer_row proposer parts input).entry) (inside journal.tape journal_after.tape)
   done_inside journal journal_after parts parts_after proposer proposer_after input (Ok messages) fits change h stand = change.0.moments h (stored_of parts) fits.fits stand
@@ -210,7 +210,7 @@ module _ {T : Type 0} (honest : Type 0) (content : T → List ℕ) (images : T �
 
   pub act_inside : {A : Type 0} (journal journal_after : Journal T) (kept kept_after : Kept) (proposer proposer_after : Proposer) (input : Input Definition) (result : Result (Vec Message A) NodeFault) →
       IsNode honest images journal kept proposer → journal.halted ≡ false → RecordsFit Definition →
-      IsAct honest content images inside failures input journal kept.parts proposer result journal_after kept_after.parts proposer_after →
+      IsAct honest content images inside failures sturdy input journal kept.parts proposer result journal_after kept_after.parts proposer_after →
       honest → LeavesNoOther (images journal.tape) (inside journal.tape journal.tape) →
       EachStandsFor (stored_of kept.parts) (store (stored_of kept.parts) (row_of (view_of journal kept.parts proposer) input).entry) (inside journal.tape journal_after.tape)
   act_inside journal journal_after kept kept_after proposer proposer_after input result is running fit act h now =
@@ -220,16 +220,48 @@ module _ {T : Type 0} (honest : Type 0) (content : T → List ℕ) (images : T �
       let stored_after = store (stored_of kept.parts) (proposer_row proposer kept.parts input).entry in
       subst (λ r. EachStandsFor (stored_of kept.parts) (store (stored_of kept.parts) r.entry) (inside journal.tape journal_after.tape)) (row_shown journal kept.parts proposer input)
       (elim (refusal (stored_of kept.parts) (working_of proposer) input) as (λ why.
-      IsRefusedOr honest content images inside failures why (proposer_row proposer kept.parts input) journal kept.parts proposer result journal_after kept_after.parts proposer_after →
+      IsRefusedOr honest content images inside failures sturdy why (proposer_row proposer kept.parts input) journal kept.parts proposer result journal_after kept_after.parts proposer_after →
       EachStandsFor (stored_of kept.parts) stored_after (inside journal.tape journal_after.tape)) [
         | None ↦ λ change. done_inside journal journal_after kept.parts kept_after.parts proposer proposer_after input result fits change h stand
         | Some why ↦ λ refused. refused_inside journal journal_after (stored_of kept.parts) stored_after refused.1 stand
       ] act)
 
+  -- If the tape failed, each image is cut within the transition's record or behind it.
+  done_cut : {A : Type 0} (journal journal_after : Journal T) (parts parts_after : Parts) (proposer proposer_after : Proposer) (input : Input Definition) (result : Result (Vec Message A) NodeFault) →
+      RowFits (stored_of parts) (proposer_row proposer parts input) →
+      IsChange honest content images inside failures sturdy (proposer_row proposer parts input) journal parts proposer result journal_after parts_after proposer_after →
+      honest → AllStandFor (stored_of parts) (images journal.tape) → result ≡ Err TapeFailed →
+      EachIsCut (proposer_row proposer parts input).entry (stored_of parts) (store (stored_of parts) (proposer_row proposer parts input).entry) (images journal.tape) (images journal_after.tape)
+  done_cut journal journal_after parts parts_after proposer proposer_after input (Ok messages) fits change h stand e = absurd (differ _ _ (λ n. omega (arith, n)) e)
+  done_cut journal journal_after parts parts_after proposer proposer_after input (Err Memory) fits change h stand e = absurd (differ _ _ (λ n. omega (arith, n)) e)
+  done_cut journal journal_after parts parts_after proposer proposer_after input (Err TapeFailed) fits change h stand e = change.0.cut h (stored_of parts) fits.fits stand
+  done_cut journal journal_after parts parts_after proposer proposer_after input (Err Busy) fits change h stand e = absurd change
+  done_cut journal journal_after parts parts_after proposer proposer_after input (Err SequenceFull) fits change h stand e = absurd change
+  done_cut journal journal_after parts parts_after proposer proposer_after input (Err RoundsFull) fits change h stand e = absurd change
+  done_cut journal journal_after parts parts_after proposer proposer_after input (Err Nothing) fits change h stand e = absurd change
+  done_cut journal journal_after parts parts_after proposer proposer_after input (Err Halted) fits change h stand e = absurd change
+
+  pub act_cut : {A : Type 0} (journal journal_after : Journal T) (kept kept_after : Kept) (proposer proposer_after : Proposer) (input : Input Definition) (result : Result (Vec Message A) NodeFault) →
+      IsNode honest images journal kept proposer → journal.halted ≡ false → RecordsFit Definition →
+      IsAct honest content images inside failures sturdy input journal kept.parts proposer result journal_after kept_after.parts proposer_after →
+      honest → result ≡ Err TapeFailed →
+      EachIsCut (row_of (view_of journal kept.parts proposer) input).entry (stored_of kept.parts) (store (stored_of kept.parts) (row_of (view_of journal kept.parts proposer) input).entry)
+      (images journal.tape) (images journal_after.tape)
+  act_cut journal journal_after kept kept_after proposer proposer_after input result is running fit act h e =
+      let fits : RowFits (stored_of kept.parts) (proposer_row proposer kept.parts input) =
+      fit definition_eq proposer.nodes proposer.node (stored_of kept.parts) (working_of proposer) input is.for_next in
+      subst (λ r. EachIsCut r.entry (stored_of kept.parts) (store (stored_of kept.parts) r.entry) (images journal.tape) (images journal_after.tape)) (row_shown journal kept.parts proposer input)
+      (elim (refusal (stored_of kept.parts) (working_of proposer) input) as (λ why.
+      IsRefusedOr honest content images inside failures sturdy why (proposer_row proposer kept.parts input) journal kept.parts proposer result journal_after kept_after.parts proposer_after →
+      EachIsCut (proposer_row proposer kept.parts input).entry (stored_of kept.parts) (store (stored_of kept.parts) (proposer_row proposer kept.parts input).entry) (images journal.tape) (images journal_after.tape)) [
+        | None ↦ λ change. done_cut journal journal_after kept.parts kept_after.parts proposer proposer_after input result fits change h (is.stands h running) e
+        | Some why ↦ λ refused. absurd (refused_is result why TapeFailed refused.0 refl e)
+      ] act)
+
   done_node : {A : Type 0} (journal journal_after : Journal T) (kept kept_after : Kept) (proposer proposer_after : Proposer) (input : Input Definition) (result : Result (Vec Message A) NodeFault) →
       IsNode honest images journal kept proposer → journal.halted ≡ false →
       RowFits (stored_of kept.parts) (proposer_row proposer kept.parts input) → kept_after.id ≡ kept.id →
-      IsChange honest content images inside failures (proposer_row proposer kept.parts input) journal kept.parts proposer result journal_after kept_after.parts proposer_after →
+      IsChange honest content images inside failures sturdy (proposer_row proposer kept.parts input) journal kept.parts proposer result journal_after kept_after.parts proposer_after →
       IsNode honest images journal_after kept_after proposer_after
   done_node journal journal_after kept kept_after proposer proposer_after input (Ok messages) is running fits id change = record {
     same_node = id ∙ (is.same_node ∙ sym change.1.node);
@@ -264,14 +296,43 @@ module _ {T : Type 0} (honest : Type 0) (content : T → List ℕ) (images : T �
   -- The invariant of nodes holds after the step.
   pub act_keeps : {A : Type 0} (journal journal_after : Journal T) (kept kept_after : Kept) (proposer proposer_after : Proposer) (input : Input Definition) (result : Result (Vec Message A) NodeFault) →
       IsNode honest images journal kept proposer → journal.halted ≡ false → RecordsFit Definition → kept_after.id ≡ kept.id →
-      IsAct honest content images inside failures input journal kept.parts proposer result journal_after kept_after.parts proposer_after →
+      IsAct honest content images inside failures sturdy input journal kept.parts proposer result journal_after kept_after.parts proposer_after →
       IsNode honest images journal_after kept_after proposer_after
   act_keeps journal journal_after kept kept_after proposer proposer_after input result is running fit id act =
       let fits : RowFits (stored_of kept.parts) (proposer_row proposer kept.parts input) =
       fit definition_eq proposer.nodes proposer.node (stored_of kept.parts) (working_of proposer) input is.for_next in
       elim (refusal (stored_of kept.parts) (working_of proposer) input) as (λ why.
-      IsRefusedOr honest content images inside failures why (proposer_row proposer kept.parts input) journal kept.parts proposer result journal_after kept_after.parts proposer_after →
+      IsRefusedOr honest content images inside failures sturdy why (proposer_row proposer kept.parts input) journal kept.parts proposer result journal_after kept_after.parts proposer_after →
       IsNode honest images journal_after kept_after proposer_after) [
         | None ↦ λ change. done_node journal journal_after kept kept_after proposer proposer_after input result is running fits id change
         | Some why ↦ λ refused. refused_node journal journal_after kept kept_after proposer proposer_after is id refused.1 refused.2
+      ] act
+
+  -- A tape that won't fail still won't after the step, and doesn't.
+  done_sturdy : {A : Type 0} (journal journal_after : Journal T) (parts parts_after : Parts) (proposer proposer_after : Proposer) (the_row : Row Definition) (result : Result (Vec Message A) NodeFault) →
+      IsChange honest content images inside failures sturdy the_row journal parts proposer result journal_after parts_after proposer_after → sturdy journal.tape →
+      sturdy journal_after.tape × IfErr result (λ fault. fault ≡ TapeFailed → ⊥)
+  done_sturdy journal journal_after parts parts_after proposer proposer_after the_row (Ok messages) change sound = (change.0.still sound, tt)
+  done_sturdy journal journal_after parts parts_after proposer proposer_after the_row (Err Memory) change sound = (change.0.still sound, λ e. absurd (cc e))
+  done_sturdy journal journal_after parts parts_after proposer proposer_after the_row (Err TapeFailed) change sound = absurd (change.0.weak sound)
+  done_sturdy journal journal_after parts parts_after proposer proposer_after the_row (Err Busy) change sound = absurd change
+  done_sturdy journal journal_after parts parts_after proposer proposer_after the_row (Err SequenceFull) change sound = absurd change
+  done_sturdy journal journal_after parts parts_after proposer proposer_after the_row (Err RoundsFull) change sound = absurd change
+  done_sturdy journal journal_after parts parts_after proposer proposer_after the_row (Err Nothing) change sound = absurd change
+  done_sturdy journal journal_after parts parts_after proposer proposer_after the_row (Err Halted) change sound = absurd change
+
+  -- a rejection isn't a failure of the tape
+  refused_soundly : {A : Type 0} (result : Result A NodeFault) (why : Refusal) → refused_by result ≡ Some why → IfErr result (λ fault. fault ≡ TapeFailed → ⊥)
+  refused_soundly (Ok x) why is = tt
+  refused_soundly (Err fault) why is = λ e. none-some why (sym (ap refusal_of e) ∙ is)
+
+  pub act_sturdy : {A : Type 0} (journal journal_after : Journal T) (parts parts_after : Parts) (proposer proposer_after : Proposer) (input : Input Definition) (result : Result (Vec Message A) NodeFault) →
+      IsAct honest content images inside failures sturdy input journal parts proposer result journal_after parts_after proposer_after → sturdy journal.tape →
+      sturdy journal_after.tape × IfErr result (λ fault. fault ≡ TapeFailed → ⊥)
+  act_sturdy journal journal_after parts parts_after proposer proposer_after input result act sound =
+      elim (refusal (stored_of parts) (working_of proposer) input) as (λ why.
+      IsRefusedOr honest content images inside failures sturdy why (proposer_row proposer parts input) journal parts proposer result journal_after parts_after proposer_after →
+      sturdy journal_after.tape × IfErr result (λ fault. fault ≡ TapeFailed → ⊥)) [
+        | None ↦ λ change. done_sturdy journal journal_after parts parts_after proposer proposer_after (proposer_row proposer parts input) result change sound
+        | Some why ↦ λ refused. (subst (λ (j : Journal T). sturdy j.tape) (sym refused.1) sound, refused_soundly result why refused.0)
       ] act

@@ -83,16 +83,16 @@ pub record IsSame (old new : Parts) (before after : Proposer) : Type 0 where
   pub parts : new ≡ old
   pub proposer : after ≡ before
 
-module _ {T : Type 0} (honest : Type 0) (content : T → List ℕ) (images : T → List ℕ → Type 0) (inside : T → T → List ℕ → Type 0) (failures : T → ℕ) where
+module _ {T : Type 0} (honest : Type 0) (content : T → List ℕ) (images : T → List ℕ → Type 0) (inside : T → T → List ℕ → Type 0) (failures : T → ℕ) (sturdy : T → Type 0) where
   -- the transition is made, or an error leaves the parts unchanged
   abbrev pub IsChange : {A : Type 0} → Row Definition → Journal T → Parts → Proposer → Result (Vec Message A) NodeFault → Journal T → Parts → Proposer → Type 0
   IsChange the_row journal parts proposer (Ok messages) journal_after parts_after proposer_after =
-      IsWritten honest content images inside failures the_row.entry journal journal_after × IsRowOf the_row parts parts_after proposer proposer_after messages.items
+      IsWritten honest content images inside failures sturdy the_row.entry journal journal_after × IsRowOf the_row parts parts_after proposer proposer_after messages.items
   IsChange the_row journal parts proposer (Err Memory) journal_after parts_after proposer_after =
-      IsSpared honest content images inside failures journal journal_after × IsSame parts parts_after proposer proposer_after × TakesMemory the_row ×
+      IsSpared honest content images inside failures sturdy journal journal_after × IsSame parts parts_after proposer proposer_after × TakesMemory the_row ×
       (honest → IsTornAt the_row.entry (inside journal.tape journal.tape) (inside journal.tape journal_after.tape))
   IsChange the_row journal parts proposer (Err TapeFailed) journal_after parts_after proposer_after =
-      IsBroken honest content images inside failures the_row.entry journal journal_after × IsSame parts parts_after proposer proposer_after
+      IsBroken honest content images inside failures sturdy the_row.entry journal journal_after × IsSame parts parts_after proposer proposer_after
   IsChange the_row journal parts proposer (Err Busy) journal_after parts_after proposer_after = ⊥
   IsChange the_row journal parts proposer (Err SequenceFull) journal_after parts_after proposer_after = ⊥
   IsChange the_row journal parts proposer (Err RoundsFull) journal_after parts_after proposer_after = ⊥

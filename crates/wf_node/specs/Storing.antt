@@ -9,7 +9,7 @@ use Rattle.wf_tape.specs.Spelling.{spelling}
 use Rattle.wf_tape.specs.Tape.{IsUnchanged, IsExtended, HasRisen}
 use Rattle.wf_node.specs.declared.fault.NodeFault.{NodeFault}
 use Rattle.wf_node.specs.declared.fault.NodeFault.TheVariants.{Memory, Busy, SequenceFull, RoundsFull, Halted, TapeFailed, Nothing}
-use Rattle.wf_node.specs.Images.{AllStandFor, EachStandsFor}
+use Rattle.wf_node.specs.Images.{AllStandFor, EachStandsFor, EachIsCut}
 
 -- the bytes of a transition's record, none if it has no record
 abbrev pub bytes_of : Option (Record Definition) → List ℕ
@@ -24,22 +24,28 @@ IsStoredBy entry old new = (stored : Stored Definition) → Fits stored entry �
 abbrev pub IsTornAt : Option (Record Definition) → (List ℕ → Type 0) → (List ℕ → Type 0) → Type 0
 IsTornAt entry old new = (stored : Stored Definition) → Fits stored entry → AllStandFor stored old → EachStandsFor stored (store stored entry) new
 
+-- Each is cut within the record or behind it.
+abbrev pub IsCutAt : Option (Record Definition) → (List ℕ → Type 0) → (List ℕ → Type 0) → Type 0
+IsCutAt entry old new = (stored : Stored Definition) → Fits stored entry → AllStandFor stored old → EachIsCut entry stored (store stored entry) old new
+
 -- what a crash could have left at each moment from that of the first tape on, up to the second's
 abbrev pub left_from : {T : Type 0} → (T → ℕ) → (T → ℕ → List ℕ → Type 0) → T → T → List ℕ → Type 0
 left_from moment left_since old new image = left_since new (moment old) image
 
-module _ {T : Type 0} (honest : Type 0) (content : T → List ℕ) (images : T → List ℕ → Type 0) (inside : T → T → List ℕ → Type 0) (failures : T → ℕ) where
+module _ {T : Type 0} (honest : Type 0) (content : T → List ℕ) (images : T → List ℕ → Type 0) (inside : T → T → List ℕ → Type 0) (failures : T → ℕ) (sturdy : T → Type 0) where
   -- the record, if there is one, is on the tape
   pub record IsWritten (entry : Option (Record Definition)) (old new : Journal T) : Type 0 where
     pub running : new.halted ≡ false
     pub grown : honest → content new.tape ≡ content old.tape ++ bytes_of entry
     pub stored : honest → IsStoredBy entry (images old.tape) (images new.tape)
     pub moments : honest → IsTornAt entry (inside old.tape old.tape) (inside old.tape new.tape)
+    pub still : sturdy old.tape → sturdy new.tape
 
   -- allocation failed: the tape is unchanged
   pub record IsSpared (old new : Journal T) : Type 0 where
     pub running : new.halted ≡ false
     pub same : honest → IsUnchanged (content old.tape) (content new.tape) (images old.tape) (images new.tape)
+    pub still : sturdy old.tape → sturdy new.tape
 
   -- the tape failed, and there was a record to write: a prefix of its bytes is on the tape
   pub record IsBroken (entry : Option (Record Definition)) (old new : Journal T) : Type 0 where
@@ -48,7 +54,9 @@ module _ {T : Type 0} (honest : Type 0) (content : T → List ℕ) (images : T �
     pub risen : HasRisen (failures old.tape) (failures new.tape)
     pub part : honest → IsExtended (content old.tape) (bytes_of entry) (content new.tape)
     pub torn : honest → IsTornAt entry (images old.tape) (images new.tape)
+    pub cut : honest → IsCutAt entry (images old.tape) (images new.tape)
     pub moments : honest → IsTornAt entry (inside old.tape old.tape) (inside old.tape new.tape)
+    pub weak : sturdy old.tape → ⊥
 
   -- If there is no record, allocation doesn't fail.
   abbrev pub IsWrite : {A : Type 0} → Option (Record Definition) → Journal T → Result A NodeFault → Journal T → Type 0
@@ -66,12 +74,14 @@ module _ {T : Type 0} (honest : Type 0) (content : T → List ℕ) (images : T �
     pub running : new.halted ≡ false
     pub held : honest → Holds (content new.tape) (images new.tape) records
     pub follows : honest → Follows (IsSameOrReads records) (images old.tape) (images new.tape)
+    pub still : sturdy old.tape → sturdy new.tape
 
   -- the tape failed: a crash leaves what it held, or these records
   pub record IsHalfReplaced (records : List (Record Definition)) (old new : Journal T) : Type 0 where
     pub halted : new.halted ≡ true
     pub risen : HasRisen (failures old.tape) (failures new.tape)
     pub follows : honest → Follows (IsSameOrReads records) (images old.tape) (images new.tape)
+    pub weak : sturdy old.tape → ⊥
 
   abbrev pub IsReplacement : {A : Type 0} → List (Record Definition) → Journal T → Result A NodeFault → Journal T → Type 0
   IsReplacement records old (Ok x) new = IsReplaced records old new

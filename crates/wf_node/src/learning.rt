@@ -25,7 +25,7 @@ impl<T: Tape> Machine<T> {
     /// Asks for the next definition, unless the last one is published.
     pub(crate) fn catch_up(&mut self, alloc: Global) -> Result<Vec<Message>, NodeFault>
         requires { IsReady self.old.journal self.old.kept self.old.proposer }
-        ensures act { IsAct T.honest T.content T.images (left_from T.moment T.left_since) T.failed table.CatchUp self.old.journal self.old.kept.parts self.old.proposer result self.new.journal self.new.kept.parts self.new.proposer }
+        ensures act { IsAct T.honest T.content T.images (left_from T.moment T.left_since) T.failed T.never_fails table.CatchUp self.old.journal self.old.kept.parts self.old.proposer result self.new.journal self.new.kept.parts self.new.proposer }
         ensures id { self.new.kept.id ≡ self.old.kept.id }
     {
         match self.kept.history().next_slot() {
@@ -42,7 +42,7 @@ impl<T: Tape> Machine<T> {
         canon: Canon,
     ) -> Result<Vec<Message>, NodeFault>
         requires { IsReady self.old.journal self.old.kept self.old.proposer }
-        ensures act { IsAct T.honest T.content T.images (left_from T.moment T.left_since) T.failed (table.Deliver (model.Chosen slot canon)) self.old.journal self.old.kept.parts self.old.proposer result self.new.journal self.new.kept.parts self.new.proposer }
+        ensures act { IsAct T.honest T.content T.images (left_from T.moment T.left_since) T.failed T.never_fails (table.Deliver (model.Chosen slot canon)) self.old.journal self.old.kept.parts self.old.proposer result self.new.journal self.new.kept.parts self.new.proposer }
         ensures id { self.new.kept.id ≡ self.old.kept.id }
     {
         let number = slot.number();
@@ -64,7 +64,7 @@ impl<T: Tape> Machine<T> {
     /// Answers an Ask.
     pub(crate) fn on_ask(&mut self, alloc: Global, slot: Slot) -> Result<Vec<Message>, NodeFault>
         requires { IsReady self.old.journal self.old.kept self.old.proposer }
-        ensures act { IsAct T.honest T.content T.images (left_from T.moment T.left_since) T.failed (table.Deliver (model.Ask slot)) self.old.journal self.old.kept.parts self.old.proposer result self.new.journal self.new.kept.parts self.new.proposer }
+        ensures act { IsAct T.honest T.content T.images (left_from T.moment T.left_since) T.failed T.never_fails (table.Deliver (model.Ask slot)) self.old.journal self.old.kept.parts self.old.proposer result self.new.journal self.new.kept.parts self.new.proposer }
         ensures id { self.new.kept.id ≡ self.old.kept.id }
     {
         // A slot is counted from 1, as the contract of its number says.
@@ -96,7 +96,7 @@ impl<T: Tape> Machine<T> {
     ) -> Result<Vec<Message>, NodeFault>
         requires ready { IsReady self.old.journal self.old.kept self.old.proposer }
         requires next { slot ≡ length self.old.kept.parts.history + 1 }
-        ensures change { IsChange T.honest T.content T.images (left_from T.moment T.left_since) T.failed (table.on_chosen definition_eq (stored_of self.old.kept) (working_of self.old.proposer) slot canon) self.old.journal self.old.kept.parts self.old.proposer result self.new.journal self.new.kept.parts self.new.proposer }
+        ensures change { IsChange T.honest T.content T.images (left_from T.moment T.left_since) T.failed T.never_fails (table.on_chosen definition_eq (stored_of self.old.kept) (working_of self.old.proposer) slot canon) self.old.journal self.old.kept.parts self.old.proposer result self.new.journal self.new.kept.parts self.new.proposer }
         ensures id { self.new.kept.id ≡ self.old.kept.id }
     {
         let entry = Record::Published(slot, canon);

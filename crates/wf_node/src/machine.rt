@@ -28,7 +28,7 @@ impl<T: Tape> Machine<T> {
     /// Acts on an input.
     pub(crate) fn act(&mut self, alloc: Global, input: Input) -> Result<Vec<Message>, NodeFault>
         requires { IsReady self.old.journal self.old.kept self.old.proposer }
-        ensures act { IsAct T.honest T.content T.images (left_from T.moment T.left_since) T.failed (view input) self.old.journal self.old.kept.parts self.old.proposer result self.new.journal self.new.kept.parts self.new.proposer }
+        ensures act { IsAct T.honest T.content T.images (left_from T.moment T.left_since) T.failed T.never_fails (view input) self.old.journal self.old.kept.parts self.old.proposer result self.new.journal self.new.kept.parts self.new.proposer }
         ensures id { self.new.kept.id ≡ self.old.kept.id }
     {
         match input {
@@ -42,7 +42,7 @@ impl<T: Tape> Machine<T> {
     /// Handles a message.
     fn deliver(&mut self, alloc: Global, message: Message) -> Result<Vec<Message>, NodeFault>
         requires { IsReady self.old.journal self.old.kept self.old.proposer }
-        ensures act { IsAct T.honest T.content T.images (left_from T.moment T.left_since) T.failed (table.Deliver (view_message message)) self.old.journal self.old.kept.parts self.old.proposer result self.new.journal self.new.kept.parts self.new.proposer }
+        ensures act { IsAct T.honest T.content T.images (left_from T.moment T.left_since) T.failed T.never_fails (table.Deliver (view_message message)) self.old.journal self.old.kept.parts self.old.proposer result self.new.journal self.new.kept.parts self.new.proposer }
         ensures id { self.new.kept.id ≡ self.old.kept.id }
     {
         match message {

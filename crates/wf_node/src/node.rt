@@ -5,7 +5,7 @@ use wf_ballot::{NodeId, Seq};
 use wf_def::map::MapDef;
 use wf_learner::History;
 use wf_proposer::Standing;
-use wf_tape::Tape;
+use wf_tape::{MemoryTape, Tape};
 
 /// One node of the farm: its stored part, which is on its tape, and its proposal. Model: the parts of wf_model. Unless the node
 /// is halted, every image of an honest tape stands for the stored part.
@@ -36,15 +36,27 @@ impl<T: Tape> Node<T> {
     ghost use Rattle.wf_learner.specs.History.{map_at};
     ghost use Rattle.wf_model.specs.Table.{refuse_proposal, refuse_retry};
     ghost use Rattle.wf_node.specs.Fault.{IsWhyNot};
+    ghost use Rattle.wf_node.specs.Images.{AllStandFor};
     ghost use Rattle.wf_node.specs.Node.{stored_of, working_of};
     ghost use Rattle.wf_proposer.specs.Standing.{standing_of};
     ghost use Rattle.wf_proposer.specs.declared.standing.Standing.TheVariants.{None};
+    ghost use Rattle.wf_tape.specs.Journal.{IsSettled};
 
     /// The node's number.
     pub fn id(&self) -> NodeId
         ensures { result ≡ self.now.id }
     {
         self.machine.proposer.id()
+    }
+
+    /// The node's tape. Unless the node is halted, an honest one holds only whole records, all of them synced, and stands for what
+    /// the node has stored.
+    pub fn tape(&self) -> &T
+        ensures value { result.now ≡ self.now.tape }
+        ensures settled { T.honest → self.now.halted ≡ false → IsSettled (T.content self.now.tape) (T.images self.now.tape) }
+        ensures stands { T.honest → self.now.halted ≡ false → AllStandFor (stored_of self.now) (T.images self.now.tape) }
+    {
+        self.machine.journal.tape()
     }
 
     /// The last published sequence, 0 if there is none. On a halted node: that of before the failed step.
@@ -103,5 +115,17 @@ impl<T: Tape> Node<T> {
         } else {
             self.machine.proposer.proposal()
         }
+    }
+}
+
+impl Node<MemoryTape> {
+    ghost use Rattle.std.specs.Prelude.{◌≡◌};
+    ghost use Rattle.wf_tape.specs.MemoryTape.{with_fuse};
+
+    /// Sets a failure of the tape (`MemoryTape::set_fuse`), and changes nothing else.
+    pub fn set_fuse(&mut self, call: usize, kept: usize)
+        ensures { self.new ≡ record self.old { tape = with_fuse call kept self.old.tape } }
+    {
+        self.machine.journal.set_fuse(call, kept);
     }
 }

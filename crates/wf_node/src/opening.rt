@@ -26,8 +26,9 @@ impl<T: Tape> Node<T> {
     /// and what is kept is synced. An error returns the tape, unchanged unless the tape itself failed: P1 if the tape failed; P2
     /// with the byte offset if what follows the whole records isn't a record, or if a published definition isn't the next one; P3
     /// if allocation failed. Each record is moved once, so opening takes time in proportion to the tape. A crash at each moment
-    /// inside the call leaves what reads as something that a crash could have left before it.
-    #[tactic(auto, using(crate::proofs::Opened::fold_of, crate::proofs::Opened::stands_all, crate::proofs::Opened::bad_read, crate::proofs::Opened::bad_fold, crate::proofs::Opened::bad_settle, crate::proofs::Opened::same_before, wf_tape::specs::MomentLaws::inside_opened, crate::proofs::Opened::follows_before, crate::proofs::Opened::unchanged_before, crate::proofs::Opened::why_failed_before))]
+    /// inside the call leaves what reads as something that a crash could have left before it. A tape that won't fail still won't,
+    /// and P1 isn't returned.
+    #[tactic(auto, using(crate::proofs::Opened::fold_of, crate::proofs::Opened::stands_all, crate::proofs::Opened::bad_read, crate::proofs::Opened::bad_fold, crate::proofs::Opened::bad_settle, crate::proofs::Opened::unfolded_soundly, crate::proofs::Opened::same_before, wf_tape::specs::MomentLaws::inside_opened, crate::proofs::Opened::follows_before, crate::proofs::Opened::unchanged_before, crate::proofs::Opened::why_failed_before))]
     pub fn open(alloc: Global, tape: T, id: NodeId, n: u8) -> Result<Node<T>, (T, OpenFault)>
         requires nodes { n ≤ 64 }
         requires member { id < n }
@@ -44,6 +45,9 @@ impl<T: Tape> Node<T> {
         ensures unchanged { T.honest → IfErr result (λ e. e.1 ≢ OpenFault.TapeFailed → IsUnchanged (T.content tape) (T.content e.0) (T.images tape) (T.images e.0)) }
         ensures bad { T.honest → IfErr result (λ e. IsWhyBad e.1 (T.content tape)) }
         ensures failed { IfErr result (λ e. IsWhyFailed e.1 (T.failed tape) (T.failed e.0)) }
+        ensures sturdy { T.never_fails tape → IfOk result (λ node. T.never_fails node.tape) }
+        ensures sturdy_err { T.never_fails tape → IfErr result (λ e. T.never_fails e.0) }
+        ensures sound { T.never_fails tape → IfErr result (λ e. e.1 ≢ OpenFault.TapeFailed) }
     {
         match Found::read(alloc, tape) {
             Ok((found, records)) => match fold(alloc, id, records) {

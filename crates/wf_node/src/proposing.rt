@@ -26,7 +26,7 @@ impl<T: Tape> Machine<T> {
     /// Begins a proposal of `own`, unless one is running or the last sequence is published.
     pub(crate) fn propose(&mut self, alloc: Global, own: Canon) -> Result<Vec<Message>, NodeFault>
         requires { IsReady self.old.journal self.old.kept self.old.proposer }
-        ensures act { IsAct T.honest T.content T.images (left_from T.moment T.left_since) T.failed (table.Propose own) self.old.journal self.old.kept.parts self.old.proposer result self.new.journal self.new.kept.parts self.new.proposer }
+        ensures act { IsAct T.honest T.content T.images (left_from T.moment T.left_since) T.failed T.never_fails (table.Propose own) self.old.journal self.old.kept.parts self.old.proposer result self.new.journal self.new.kept.parts self.new.proposer }
         ensures id { self.new.kept.id ≡ self.old.kept.id }
     {
         if self.runs() {
@@ -48,7 +48,7 @@ impl<T: Tape> Machine<T> {
     /// Begins the running proposal again.
     pub(crate) fn retry(&mut self, alloc: Global) -> Result<Vec<Message>, NodeFault>
         requires { IsReady self.old.journal self.old.kept self.old.proposer }
-        ensures act { IsAct T.honest T.content T.images (left_from T.moment T.left_since) T.failed table.Retry self.old.journal self.old.kept.parts self.old.proposer result self.new.journal self.new.kept.parts self.new.proposer }
+        ensures act { IsAct T.honest T.content T.images (left_from T.moment T.left_since) T.failed T.never_fails table.Retry self.old.journal self.old.kept.parts self.old.proposer result self.new.journal self.new.kept.parts self.new.proposer }
         ensures id { self.new.kept.id ≡ self.old.kept.id }
     {
         match self.proposer.retry(alloc, self.kept.tried()) {
@@ -88,7 +88,7 @@ impl<T: Tape> Machine<T> {
         vote: Option<(Ballot, Canon)>,
     ) -> Result<Vec<Message>, NodeFault>
         requires { IsReady self.old.journal self.old.kept self.old.proposer }
-        ensures act { IsAct T.honest T.content T.images (left_from T.moment T.left_since) T.failed (table.Deliver (model.Promise from slot ballot (view_vote vote))) self.old.journal self.old.kept.parts self.old.proposer result self.new.journal self.new.kept.parts self.new.proposer }
+        ensures act { IsAct T.honest T.content T.images (left_from T.moment T.left_since) T.failed T.never_fails (table.Deliver (model.Promise from slot ballot (view_vote vote))) self.old.journal self.old.kept.parts self.old.proposer result self.new.journal self.new.kept.parts self.new.proposer }
         ensures id { self.new.kept.id ≡ self.old.kept.id }
     {
         match self.proposer.on_promise(alloc, from, slot, ballot, vote) {
@@ -106,7 +106,7 @@ impl<T: Tape> Machine<T> {
         ballot: Ballot,
     ) -> Result<Vec<Message>, NodeFault>
         requires { IsReady self.old.journal self.old.kept self.old.proposer }
-        ensures act { IsAct T.honest T.content T.images (left_from T.moment T.left_since) T.failed (table.Deliver (model.Accepted from slot ballot)) self.old.journal self.old.kept.parts self.old.proposer result self.new.journal self.new.kept.parts self.new.proposer }
+        ensures act { IsAct T.honest T.content T.images (left_from T.moment T.left_since) T.failed T.never_fails (table.Deliver (model.Accepted from slot ballot)) self.old.journal self.old.kept.parts self.old.proposer result self.new.journal self.new.kept.parts self.new.proposer }
         ensures id { self.new.kept.id ≡ self.old.kept.id }
     {
         match self.proposer.on_accepted(alloc, from, slot, ballot) {
@@ -125,7 +125,7 @@ impl<T: Tape> Machine<T> {
         promised: Ballot,
     ) -> Result<Vec<Message>, NodeFault>
         requires { IsReady self.old.journal self.old.kept self.old.proposer }
-        ensures act { IsAct T.honest T.content T.images (left_from T.moment T.left_since) T.failed (table.Deliver (model.Nack from slot ballot promised)) self.old.journal self.old.kept.parts self.old.proposer result self.new.journal self.new.kept.parts self.new.proposer }
+        ensures act { IsAct T.honest T.content T.images (left_from T.moment T.left_since) T.failed T.never_fails (table.Deliver (model.Nack from slot ballot promised)) self.old.journal self.old.kept.parts self.old.proposer result self.new.journal self.new.kept.parts self.new.proposer }
         ensures id { self.new.kept.id ≡ self.old.kept.id }
     {
         let next = self.proposer.on_nack(alloc, slot, ballot, promised);
@@ -137,7 +137,7 @@ impl<T: Tape> Machine<T> {
         requires running { self.old.journal.halted ≡ false }
         requires fits { Fits (stored_of self.old.kept) (row_of self.old.proposer next).entry }
         requires own { IsOwn (row_of self.old.proposer next).entry }
-        ensures change { IsChange T.honest T.content T.images (left_from T.moment T.left_since) T.failed (row_of self.old.proposer next) self.old.journal self.old.kept.parts self.old.proposer result self.new.journal self.new.kept.parts self.new.proposer }
+        ensures change { IsChange T.honest T.content T.images (left_from T.moment T.left_since) T.failed T.never_fails (row_of self.old.proposer next) self.old.journal self.old.kept.parts self.old.proposer result self.new.journal self.new.kept.parts self.new.proposer }
         ensures id { self.new.kept.id ≡ self.old.kept.id }
     {
         if self.kept.make_room_for(next.entry()).is_err() {

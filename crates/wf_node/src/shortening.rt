@@ -21,7 +21,7 @@ use wf_model::{folds_are_open, votes_are_promised};
 use wf_tape::{AddFault, Journal, Record, Tape};
 
 impl<T: Tape> Node<T> {
-    ghost use Rattle.std.specs.Prelude.{◌≡◌, true, false, None, Err, OnOk};
+    ghost use Rattle.std.specs.Prelude.{◌≡◌, ◌≢◌, true, false, None, Err, IfErr, OnOk};
     ghost use Rattle.wf_node.specs.Fault.{refused_by};
     ghost use Rattle.wf_node.specs.Images.{AllStandFor};
     ghost use Rattle.wf_node.specs.Node.{stored_of};
@@ -34,8 +34,8 @@ impl<T: Tape> Node<T> {
     /// votes and promises above them, each once, and no promise that a vote implies. The node itself is unchanged, and
     /// whatever is returned, every image of an honest tape stands for its stored part, as does what a crash at each moment inside
     /// the call leaves. A halted node returns N5; then N1 if
-    /// allocation failed, which changes nothing; N6 if the tape failed, which halts the node. It takes time in proportion to what
-    /// is stored, and copies it.
+    /// allocation failed, which changes nothing; N6 if the tape failed, which halts the node. With a tape that won't fail N6 isn't
+    /// returned, and the tape still won't fail. It takes time in proportion to what is stored, and copies it.
     pub fn shorten(&mut self, alloc: Global) -> Result<(), NodeFault>
         ensures halted { self.old.halted ≡ true → result ≡ Err NodeFault.Halted }
         ensures running { result ≡ Err NodeFault.Halted → self.old.halted ≡ true }
@@ -50,6 +50,8 @@ impl<T: Tape> Node<T> {
         ensures same_tape { T.honest → result ≡ Err NodeFault.Memory → IsUnchanged (T.content self.old.tape) (T.content self.new.tape) (T.images self.old.tape) (T.images self.new.tape) }
         ensures failed { result ≡ Err NodeFault.TapeFailed → HasRisen (T.failed self.old.tape) (T.failed self.new.tape) }
         ensures halts { result ≡ Err NodeFault.TapeFailed → self.new.halted ≡ true }
+        ensures sturdy { T.never_fails self.old.tape → T.never_fails self.new.tape }
+        ensures sound { T.never_fails self.old.tape → IfErr result (λ fault. fault ≢ NodeFault.TapeFailed) }
     {
         if self.machine.journal.is_halted() {
             return Err(NodeFault::Halted);
@@ -62,6 +64,8 @@ impl<T: Tape> Node<T> {
         requires { self.old.halted ≡ false }
         ensures shortening { IsShortening T.honest T.content T.images T.failed self.old result self.new }
         ensures inside { T.honest → AllStandFor (stored_of self.old) (T.left_since self.new.tape (T.moment self.old.tape)) }
+        ensures sturdy { T.never_fails self.old.tape → T.never_fails self.new.tape }
+        ensures sound { T.never_fails self.old.tape → IfErr result (λ fault. fault ≢ NodeFault.TapeFailed) }
     {
         // The model's theorems: what records fold to has votes and promises of sequences that aren't published, and no vote
         // without a promise.
@@ -75,7 +79,7 @@ impl<T: Tape> Machine<T> {
     /// Replaces the records on the tape by those of the stored part.
     fn rewrite(&mut self, alloc: Global) -> Result<(), NodeFault>
         requires { self.old.journal.halted ≡ false }
-        ensures replacement { IsReplacement T.honest T.content T.images (left_from T.moment T.left_since) T.failed (shortened (stored_in self.old.kept)) self.old.journal result self.new.journal }
+        ensures replacement { IsReplacement T.honest T.content T.images (left_from T.moment T.left_since) T.failed T.never_fails (shortened (stored_in self.old.kept)) self.old.journal result self.new.journal }
         ensures inside { T.honest → Follows (IsSameOrReads (shortened (stored_in self.old.kept))) (T.images self.old.journal.tape) (T.left_since self.new.journal.tape (T.moment self.old.journal.tape)) }
         ensures kept { self.new.kept ≡ self.old.kept }
         ensures proposer { self.new.proposer ≡ self.old.proposer }
@@ -98,7 +102,7 @@ fn replace<T: Tape>(
     records: &[Record],
 ) -> Result<(), NodeFault>
     requires { journal.old.halted ≡ false }
-    ensures replacement { IsReplacement T.honest T.content T.images (left_from T.moment T.left_since) T.failed (map view records.now) journal.old result journal.new }
+    ensures replacement { IsReplacement T.honest T.content T.images (left_from T.moment T.left_since) T.failed T.never_fails (map view records.now) journal.old result journal.new }
     ensures inside { T.honest → Follows (IsSameOrReads (map view records.now)) (T.images journal.old.tape) (T.left_since journal.new.tape (T.moment journal.old.tape)) }
 {
     match journal.rewrite(alloc, records) {

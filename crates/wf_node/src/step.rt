@@ -12,7 +12,7 @@ use wf_tape::Tape;
 impl<T: Tape> Node<T> {
     ghost use Rattle.std.specs.Prelude.{◌≡◌, ◌≢◌, ◌++◌, true, false, Err, IfOk, IfErr, IsSome, OnOk};
     ghost use Rattle.wf_node.specs.Fault.{refused_by};
-    ghost use Rattle.wf_node.specs.Images.{AllStandFor, EachStandsFor};
+    ghost use Rattle.wf_node.specs.Images.{AllStandFor, EachStandsFor, EachIsCut};
     ghost use Rattle.wf_node.specs.Input.{view};
     ghost use Rattle.wf_node.specs.Node.{stored_of};
     ghost use Rattle.wf_node.specs.Step.{row_of, refusal_at, IsRow, IsSameNode, IsStep, TakesMemory};
@@ -26,7 +26,8 @@ impl<T: Tape> Node<T> {
     /// higher round. Then N1 if allocation failed, which changes nothing either; a transition that stores and sends nothing, as
     /// that of an answer that leaves no majority, doesn't allocate. And N6 if the tape failed, which halts the node: a prefix of
     /// its record's bytes is on the tape, after what was there, and no message is returned. A crash at each moment inside the step
-    /// leaves what stands for the stored part from before it, or for the transition's.
+    /// leaves what stands for the stored part from before it, or for the transition's. With a tape that won't fail N6 isn't returned,
+    /// and the tape still won't fail.
     pub fn step(&mut self, alloc: Global, input: Input) -> Result<Vec<Message>, NodeFault>
         ensures halted { self.old.halted ≡ true → result ≡ Err NodeFault.Halted }
         ensures running { result ≡ Err NodeFault.Halted → self.old.halted ≡ true }
@@ -44,6 +45,9 @@ impl<T: Tape> Node<T> {
         ensures halts { result ≡ Err NodeFault.TapeFailed → self.new.halted ≡ true }
         ensures part { T.honest → result ≡ Err NodeFault.TapeFailed → IsExtended (T.content self.old.tape) (bytes_of (row_of self.old (view input)).entry) (T.content self.new.tape) }
         ensures torn { T.honest → result ≡ Err NodeFault.TapeFailed → EachStandsFor (stored_of self.old) (store_entry (stored_of self.old) (row_of self.old (view input)).entry) (T.images self.new.tape) }
+        ensures cut { T.honest → result ≡ Err NodeFault.TapeFailed → EachIsCut (row_of self.old (view input)).entry (stored_of self.old) (store_entry (stored_of self.old) (row_of self.old (view input)).entry) (T.images self.old.tape) (T.images self.new.tape) }
+        ensures sturdy { T.never_fails self.old.tape → T.never_fails self.new.tape }
+        ensures sound { T.never_fails self.old.tape → IfErr result (λ fault. fault ≢ NodeFault.TapeFailed) }
         ensures inside { T.honest → self.old.halted ≡ false → EachStandsFor (stored_of self.old) (store_entry (stored_of self.old) (row_of self.old (view input)).entry) (T.left_since self.new.tape (T.moment self.old.tape)) }
     {
         if self.is_halted() {
@@ -64,6 +68,9 @@ impl<T: Tape> Node<T> {
     fn advance(&mut self, alloc: Global, input: Input) -> Result<Vec<Message>, NodeFault>
         requires { self.old.halted ≡ false }
         ensures step { IsStep T.honest T.content T.images T.failed self.old (view input) result self.new }
+        ensures cut { T.honest → result ≡ Err NodeFault.TapeFailed → EachIsCut (row_of self.old (view input)).entry (stored_of self.old) (store_entry (stored_of self.old) (row_of self.old (view input)).entry) (T.images self.old.tape) (T.images self.new.tape) }
+        ensures sturdy { T.never_fails self.old.tape → T.never_fails self.new.tape }
+        ensures sound { T.never_fails self.old.tape → IfErr result (λ fault. fault ≢ NodeFault.TapeFailed) }
         ensures inside { T.honest → EachStandsFor (stored_of self.old) (store_entry (stored_of self.old) (row_of self.old (view input)).entry) (T.left_since self.new.tape (T.moment self.old.tape)) }
     {
         // The model's theorem: each transition's record fits the stored state.

@@ -16,7 +16,7 @@ pub(crate) fn store<T: Tape>(
     entry: Option<&Record>,
 ) -> Result<(), NodeFault>
     requires { journal.old.halted ≡ false }
-    ensures { IsWrite T.honest T.content T.images (left_from T.moment T.left_since) T.failed (option_map view (option_copied entry.entry)) journal.old result journal.new }
+    ensures { IsWrite T.honest T.content T.images (left_from T.moment T.left_since) T.failed T.never_fails (option_map view (option_copied entry.entry)) journal.old result journal.new }
 {
     match entry {
         None => Ok(()),
@@ -27,7 +27,7 @@ pub(crate) fn store<T: Tape>(
 /// Adds the record to the journal.
 fn add<T: Tape>(journal: &mut Journal<T>, alloc: Global, entry: &Record) -> Result<(), NodeFault>
     requires { journal.old.halted ≡ false }
-    ensures { IsWrite T.honest T.content T.images (left_from T.moment T.left_since) T.failed (Some (view entry.now)) journal.old result journal.new }
+    ensures { IsWrite T.honest T.content T.images (left_from T.moment T.left_since) T.failed T.never_fails (Some (view entry.now)) journal.old result journal.new }
 {
     match journal.add(alloc, entry) {
         Ok(()) => Ok(()),

@@ -6,4 +6,7 @@ pub mod Lists
 pub mod Settling
 pub mod Images
 pub mod Written
+pub mod Fuses
+pub mod Noted
+pub mod Called
 pub mod Moments

@@ -1,4 +1,5 @@
 pub mod Tape
+pub mod Fuse
 pub mod MemoryTape
 pub mod MemoryMoments
 pub mod Kind

@@ -1,19 +1,25 @@
--- A tape in memory: its bytes, of which the first are synced, and its earlier states since it was made or crashed.
-use Rattle.std.specs.Prelude.{◌⊎◌, ◌≤◌, ℕ, List, [], ◌∷◌, length, take, Vec}
+-- A tape in memory: its bytes, of which the first are synced, its earlier states since it was made or crashed, and its failures.
+use Rattle.std.specs.Prelude.{◌≡◌, ◌⊎◌, ◌≤◌, ℕ, ◌+◌, zero, suc, nat_lt, nat_eq, List, [], ◌∷◌, ◌++◌, length, take, Option, Some, None, if◌then◌else◌}
 use Rattle.wf_tape.specs.declared.earlier.Earlier.{Earlier}
 use Rattle.wf_tape.specs.declared.earlier.Earlier.TheVariants.{Front, Replaced}
-use Rattle.wf_tape.specs.Tape.{IsBeginning}
+use Rattle.wf_tape.specs.declared.fault.TapeFault.{TapeFault}
+use Rattle.wf_tape.specs.declared.fault.TapeFault.TheVariants.{Device, Memory}
+use Rattle.wf_tape.specs.declared.fuse.Fuse.{Fuse}
+use Rattle.wf_tape.specs.Fuse.{fuse_at, counted_down, burning}
+use Rattle.wf_tape.specs.Tape.{IsBeginning, Call, Read, Append, Sync, Replace, last_count}
 
 -- a state: the bytes, of which the first are synced
 pub record State : Type 0 where
   pub bytes : List ℕ
   pub synced : ℕ
 
--- the tape: its state, and its earlier states, the latest first
+-- the tape: its state, its earlier states, the latest first, the failure that is set, and the count of the failures that were
 pub record Kept : Type 0 where
   pub bytes : List ℕ
   pub synced : ℕ
   pub past : List State
+  pub fuse : Option Fuse
+  pub failures : ℕ
 
 -- what a crash in this state may leave: a prefix of the bytes that contains the synced ones
 abbrev pub IsLeftBy : State → List ℕ → Type 0
@@ -46,3 +52,70 @@ unfoldable pub states_before : List ℕ → List Earlier → List State
 states_before bytes [] = []
 states_before bytes (Front length synced ∷ older) = record { bytes = take length bytes; synced = synced } ∷ states_before (take length bytes) older
 states_before bytes (Replaced content synced ∷ older) = record { bytes = content.items; synced = synced } ∷ states_before content.items older
+
+-- ---- failures that are set
+
+-- no failure is set
+abbrev pub NeverFails : Kept → Type 0
+NeverFails tape = tape.fuse ≡ None
+
+-- the tape with this failure set, and no other
+abbrev pub with_fuse : ℕ → ℕ → Kept → Kept
+with_fuse call kept tape = record tape { fuse = fuse_at call kept }
+
+-- the tape with one more call counted
+abbrev pub counted : Kept → Kept
+counted tape = record tape { fuse = counted_down tape.fuse }
+
+-- one more failure, unless the count is at its highest
+unfoldable pub risen : ℕ → ℕ
+risen count = if nat_eq count last_count then count else count + 1
+
+-- the tape with one more failure counted
+abbrev pub failed_once : Kept → Kept
+failed_once tape = record tape { failures = risen tape.failures }
+
+-- the tape with these bytes appended
+abbrev pub appended : Kept → List ℕ → Kept
+appended tape more = record tape { bytes = tape.bytes ++ more; past = state_of tape ∷ tape.past }
+
+-- the tape with this content in place of its own, all of it synced
+abbrev pub replaced : Kept → List ℕ → Kept
+replaced tape content = record tape { bytes = content; synced = length content; past = state_of tape ∷ tape.past }
+
+-- The tape with all its bytes synced. If they were, nothing has changed.
+abbrev pub settled : Kept → Kept
+settled tape = record tape {
+  synced = length tape.bytes;
+  past = if nat_lt tape.synced (length tape.bytes) then state_of tape ∷ tape.past else tape.past;
+}
+
+-- what a call leaves that doesn't fail
+abbrev pub done : Call → Kept → Kept
+done Read tape = tape
+done (Append bytes) tape = appended tape bytes
+done Sync tape = settled tape
+done (Replace bytes) tape = replaced tape bytes
+
+-- What a call leaves that fails and keeps so much: an append so many of the new bytes, at most all of them; a replacement the old
+-- content for 0 and the new one otherwise; a read or a sync has changed nothing.
+abbrev pub cut_short : ℕ → Call → Kept → Kept
+cut_short kept Read tape = tape
+cut_short kept (Append bytes) tape = appended tape (take kept bytes)
+cut_short kept Sync tape = tape
+cut_short zero (Replace bytes) tape = tape
+cut_short (suc kept) (Replace bytes) tape = replaced tape bytes
+
+-- What a call leaves, of the tape with that call counted: the device fails if and only if the failure that is set is this call's,
+-- which keeps so much. If an allocation fails, nothing has changed.
+abbrev pub IsLeft : Call → Option ℕ → Kept → Option TapeFault → Kept → Type 0
+IsLeft call None tape None after = after ≡ done call tape
+IsLeft call None tape (Some Device) after = ⊥
+IsLeft call None tape (Some Memory) after = after ≡ tape
+IsLeft call (Some kept) tape None after = ⊥
+IsLeft call (Some kept) tape (Some Device) after = after ≡ failed_once (cut_short kept call tape)
+IsLeft call (Some kept) tape (Some Memory) after = after ≡ tape
+
+-- A call: the tape before it, the error that was returned, if one was, and the tape after it.
+unfoldable pub IsCalled : Call → Kept → Option TapeFault → Kept → Type 0
+IsCalled call tape fault after = IsLeft call (burning tape.fuse) (counted tape) fault after

@@ -1,5 +1,5 @@
 -- A tape's content, its images, and the effect of each call on both. An image is a content that a crash now may leave.
-use Rattle.std.specs.Prelude.{◌≡◌, ◌⊎◌, ◌<◌, ◌≤◌, ℕ, List, ◌++◌, Result, IsErrOf}
+use Rattle.std.specs.Prelude.{◌≡◌, ◌⊎◌, ◌<◌, ◌≤◌, ℕ, List, ◌++◌, Option, Some, None, Result, Ok, Err, IsErrOf}
 use Rattle.wf_tape.specs.declared.fault.TapeFault.{TapeFault}
 use Rattle.wf_tape.specs.declared.fault.TapeFault.TheVariants.{Device, Memory}
 
@@ -75,3 +75,15 @@ pub record HasCause {A : Type 0} (before now : ℕ) (result : Result A TapeFault
 -- allocation didn't fail
 abbrev pub IsNotMemory : {A : Type 0} → Result A TapeFault → Type 0
 IsNotMemory result = IsErrOf result Memory → ⊥
+
+-- a call of a tape
+pub data Call : Type 0 where
+  Read : Call
+  Append : (bytes : List ℕ) → Call
+  Sync : Call
+  Replace : (bytes : List ℕ) → Call
+
+-- the error that was returned, if one was
+abbrev pub error_of : {A : Type 0} → Result A TapeFault → Option TapeFault
+error_of (Ok x) = None
+error_of (Err fault) = Some fault

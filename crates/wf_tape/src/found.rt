@@ -41,7 +41,7 @@ impl<T: Tape> Model for Found<T> {
 
 impl<T: Tape> Found<T> {
     /// Reads the tape: its records are the longest list that its content begins with, the oldest first. The tape is unchanged; an
-    /// error returns it.
+    /// error returns it. A tape that won't fail still won't, and doesn't.
     #[tactic(auto, using(crate::proofs::Lists::length_of_read))]
     pub fn read(alloc: Global, tape: T) -> Result<(Found<T>, Vec<Record>), (T, OpenFault)>
         ensures records { IfOk result (λ x. HasRead x.0.bytes (map view x.1.items) x.0.front) }
@@ -56,6 +56,9 @@ impl<T: Tape> Found<T> {
         ensures bad { T.honest → IfErr result (λ e. IsWhereBad e.1 (T.content tape)) }
         ensures later { IfOk result (λ x. T.failed tape ≤ T.failed x.0.tape) }
         ensures failed { IfErr result (λ e. IsWhyFailed e.1 (T.failed tape) (T.failed e.0)) }
+        ensures sturdy { T.never_fails tape → IfOk result (λ x. T.never_fails x.0.tape) }
+        ensures sturdy_err { T.never_fails tape → IfErr result (λ e. T.never_fails e.0) }
+        ensures sound { T.never_fails tape → IfErr result (λ e. e.1 ≢ OpenFault.TapeFailed) }
     {
         let mut tape = tape;
         let bytes = match tape.read(alloc) {
@@ -69,7 +72,7 @@ impl<T: Tape> Found<T> {
     }
 
     /// The journal of the tape. A torn record after the whole ones is removed, and what is kept is synced. An error returns the
-    /// tape, unchanged unless the tape itself failed.
+    /// tape, unchanged unless the tape itself failed. A tape that won't fail still won't, and doesn't.
     pub fn settle(self) -> Result<Journal<T>, (T, OpenFault)>
         ensures running { IfOk result (λ journal. journal.halted ≡ false) }
         ensures synced { T.honest → (records : _) → HasRead self.bytes records self.front → IfOk result (λ journal. Holds (T.content journal.tape) (T.images journal.tape) records) }
@@ -84,6 +87,9 @@ impl<T: Tape> Found<T> {
         ensures not_bad { IfErr result (λ e. IsNotBad e.1) }
         ensures later { IfErr result (λ e. T.failed self.tape ≤ T.failed e.0) }
         ensures failed { IfErr result (λ e. IsWhyFailed e.1 (T.failed self.tape) (T.failed e.0)) }
+        ensures sturdy { T.never_fails self.tape → IfOk result (λ journal. T.never_fails journal.tape) }
+        ensures sturdy_err { T.never_fails self.tape → IfErr result (λ e. T.never_fails e.0) }
+        ensures sound { T.never_fails self.tape → IfErr result (λ e. e.1 ≢ OpenFault.TapeFailed) }
     {
         // The theorem: maps with equal texts are equal, so no record reads as another.
         one_text_one_map();
@@ -117,6 +123,8 @@ fn settle<T: Tape>(tape: &mut T, bytes: &[u8], front: usize) -> Result<(), TapeF
     ensures time { T.honest → Elapses (T.moment tape.old) (T.moment tape.new) (T.left_since tape.old) (T.left_since tape.new) }
     ensures inside { T.honest → LeavesOldOr (take front bytes.now) (T.images tape.old) (T.left_since tape.new (T.moment tape.old)) }
     ensures cause { HasCause (T.failed tape.old) (T.failed tape.new) result }
+    ensures sturdy { T.never_fails tape.old → T.never_fails tape.new }
+    ensures sound { T.never_fails tape.old → IfErr result (λ fault. fault ≢ TapeFault.Device) }
 {
     if front < bytes.len() {
         tape.replace(bytes.split_at(front).0)
@@ -127,7 +135,8 @@ fn settle<T: Tape>(tape: &mut T, bytes: &[u8], front: usize) -> Result<(), TapeF
 
 /// The error of opening a journal, given the tape's.
 fn open_fault(fault: TapeFault) -> OpenFault
-    ensures { result ≡ open_fault fault }
+    ensures value { result ≡ open_fault fault }
+    ensures sound { fault ≢ TapeFault.Device → result ≢ OpenFault.TapeFailed }
 {
     match fault {
         TapeFault::Device => OpenFault::TapeFailed,

@@ -6,11 +6,13 @@ ghost use Rattle.wf_tape.specs.Record.{view};
 ghost use Rattle.wf_tape.specs.Records.{IsTapeOf};
 ghost use Rattle.wf_tape.specs.Spelling.{spelling};
 ghost use Rattle.wf_tape.specs.Tape.{IsOnlyImage, IsUnchanged, IsExtended, IsCutShort, LeavesOldOrCut, Elapses, HasCause, HasRisen, IsNotMemory};
+ghost use Rattle.wf_tape.specs.MemoryTape.{with_fuse};
 ghost use Rattle.wf_tape.specs.Journal.{Holds, IsSettled, Follows, ReadsSame, ReadsOneMore, ReadsSameOrOneMore, IsAdded, IsWhereBad, IsWhyFailed};
 
 use crate::encoder::encode;
 use crate::fault::TapeFault;
 use crate::found::Found;
+use crate::memory::MemoryTape;
 use crate::opening::{AddFault, OpenFault};
 use crate::record::Record;
 use crate::tape::Tape;
@@ -40,7 +42,7 @@ impl<T: Tape> Model for Journal<T> {
 impl<T: Tape> Journal<T> {
     /// The journal of the tape, and its records, the oldest first. A torn record after the whole ones is removed, and what is
     /// kept is synced. An error returns the tape, unchanged unless the tape itself failed. A crash at each moment inside the call
-    /// leaves what reads as something that a crash could have left before it.
+    /// leaves what reads as something that a crash could have left before it. A tape that won't fail still won't, and doesn't.
     #[tactic(auto, using(crate::proofs::Settling::followed_on, crate::proofs::Settling::unchanged_on, crate::proofs::Settling::why_failed_on, crate::proofs::Settling::not_bad_anywhere))]
     pub fn open(alloc: Global, tape: T) -> Result<(Journal<T>, Vec<Record>), (T, OpenFault)>
         ensures running { IfOk result (λ x. x.0.halted ≡ false) }
@@ -55,6 +57,9 @@ impl<T: Tape> Journal<T> {
         ensures unchanged { T.honest → IfErr result (λ e. e.1 ≢ OpenFault.TapeFailed → IsUnchanged (T.content tape) (T.content e.0) (T.images tape) (T.images e.0)) }
         ensures bad { T.honest → IfErr result (λ e. IsWhereBad e.1 (T.content tape)) }
         ensures failed { IfErr result (λ e. IsWhyFailed e.1 (T.failed tape) (T.failed e.0)) }
+        ensures sturdy { T.never_fails tape → IfOk result (λ x. T.never_fails x.0.tape) }
+        ensures sturdy_err { T.never_fails tape → IfErr result (λ e. T.never_fails e.0) }
+        ensures sound { T.never_fails tape → IfErr result (λ e. e.1 ≢ OpenFault.TapeFailed) }
     {
         match Found::read(alloc, tape) {
             Ok((found, records)) => match found.settle() {
@@ -81,7 +86,7 @@ impl<T: Tape> Journal<T> {
 
     /// Adds a record: after Ok it is on the tape and synced. After a failure of the tape the journal is halted until it is opened
     /// again, since a prefix of the record's bytes may be on the tape, after what was there. A crash at each moment inside the call
-    /// leaves what reads as the records from before, or with the new one.
+    /// leaves what reads as the records from before, or with the new one. A tape that won't fail still won't, and doesn't.
     #[tactic(auto, using(crate::proofs::Settling::same_or_more, crate::proofs::Settling::same_kept, crate::proofs::Settling::now_more, crate::proofs::Settling::settled_more, crate::proofs::Settling::settled_same))]
     pub fn add(&mut self, alloc: Global, entry: &Record) -> Result<(), AddFault>
         requires { self.old.halted ≡ false }
@@ -96,6 +101,8 @@ impl<T: Tape> Journal<T> {
         ensures halted { IsErrOf result AddFault.TapeFailed → self.new.halted ≡ true }
         ensures memory { T.honest → IsErrOf result AddFault.Memory → IsUnchanged (T.content self.old.tape) (T.content self.new.tape) (T.images self.old.tape) (T.images self.new.tape) }
         ensures still_running { IsErrOf result AddFault.Memory → self.new.halted ≡ false }
+        ensures sturdy { T.never_fails self.old.tape → T.never_fails self.new.tape }
+        ensures sound { T.never_fails self.old.tape → IfErr result (λ fault. fault ≢ AddFault.TapeFailed) }
     {
         // The theorem: maps with equal texts are equal, so no record reads as another.
         one_text_one_map();
@@ -120,12 +127,30 @@ impl<T: Tape> Journal<T> {
         self.halted
     }
 
+    /// The tape. Unless the journal is halted, an honest one holds only whole records, all of them synced.
+    pub fn tape(&self) -> &T
+        ensures value { result.now ≡ self.now.tape }
+        ensures settled { T.honest → self.now.halted ≡ false → IsSettled (T.content self.now.tape) (T.images self.now.tape) }
+    {
+        &self.tape
+    }
+
     /// Returns the tape unchanged.
     pub fn close(self) -> T
         ensures { result ≡ self.tape }
     {
         let Journal { tape, .. } = self;
         tape
+    }
+}
+
+impl Journal<MemoryTape> {
+    /// Sets a failure of the tape (`MemoryTape::set_fuse`), and changes nothing else.
+    pub fn set_fuse(&mut self, call: usize, kept: usize)
+        ensures tape { self.new.tape ≡ with_fuse call kept self.old.tape }
+        ensures halted { self.new.halted ≡ self.old.halted }
+    {
+        self.tape.set_fuse(call, kept);
     }
 }
 
@@ -140,6 +165,8 @@ fn write<T: Tape>(tape: &mut T, bytes: &[u8]) -> Result<(), TapeFault>
     ensures time { T.honest → Elapses (T.moment tape.old) (T.moment tape.new) (T.left_since tape.old) (T.left_since tape.new) }
     ensures inside { T.honest → LeavesOldOrCut (T.content tape.old ++ bytes.now) (T.images tape.old) (T.left_since tape.new (T.moment tape.old)) }
     ensures cause { HasCause (T.failed tape.old) (T.failed tape.new) result }
+    ensures sturdy { T.never_fails tape.old → T.never_fails tape.new }
+    ensures sound { T.never_fails tape.old → IfErr result (λ fault. fault ≢ TapeFault.Device) }
 {
     match tape.append(bytes) {
         Ok(()) => tape.sync(),

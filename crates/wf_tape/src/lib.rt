@@ -9,7 +9,8 @@
 //! record is added, the only image is the bytes from before followed by the record's. Whatever a call returns, each image reads
 //! as the records from before, or with the new one. After the records are rewritten, the only image is the bytes of the new ones;
 //! if the tape fails at that, each image is one from before or those bytes. The same holds of a crash at each moment inside these
-//! calls. Of every tape: a failure is returned only if the tape counted one. A `MemoryTape` is proved to be honest.
+//! calls. Of every tape: a failure is returned only if the tape counted one, and never of a tape that won't fail. A `MemoryTape` is
+//! proved to be honest, and to fail just at the call for which a failure was set.
 //!
 //! Not here: what a file holds (a `FileTape` declares itself not honest), what the records mean, and which record may follow
 //! which.
@@ -21,6 +22,7 @@ mod encoder;
 mod fault;
 mod file;
 mod found;
+mod fuse;
 mod journal;
 mod kind;
 mod law;

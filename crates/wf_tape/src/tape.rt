@@ -1,6 +1,7 @@
-ghost use Rattle.std.specs.Prelude.{◌≡◌, ◌⊎◌, ◌++◌, List, ℕ, IfOk, OnOk, OnErr, IsErrOf};
-ghost use Rattle.wf_tape.specs.declared.fault.TapeFault.TheVariants.{Memory};
-ghost use Rattle.wf_tape.specs.Tape.{IsOnlyImage, IsUnchanged, LeavesNoOther, IsExtended, IsCutShort, LeavesOldOr, LeavesOldOrNew, Elapses, IsNow, AreNested, HasCause, IsNotMemory};
+ghost use Rattle.std.specs.Prelude.{◌≡◌, ◌≢◌, ◌⊎◌, ◌++◌, List, ℕ, Option, IfOk, IfErr, OnOk, OnErr, IsErrOf};
+ghost use Rattle.wf_tape.specs.declared.fault.TapeFault.{TapeFault};
+ghost use Rattle.wf_tape.specs.declared.fault.TapeFault.TheVariants.{Device, Memory};
+ghost use Rattle.wf_tape.specs.Tape.{Call, Read, Append, Sync, Replace, error_of, IsOnlyImage, IsUnchanged, LeavesNoOther, IsExtended, IsCutShort, LeavesOldOr, LeavesOldOrNew, Elapses, IsNow, AreNested, HasCause, IsNotMemory};
 
 use crate::fault::TapeFault;
 use std::alloc::Global;
@@ -9,7 +10,8 @@ use std::alloc::Global;
 ///
 /// Model: its content, its images (what a crash now may leave), what a crash at each earlier moment could have left, those inside
 /// a call included, and the count of its failures. The contracts about content, images and moments hold of an honest tape. Honesty
-/// is a property of the type, so no call changes it. Any tape has counted a failure if a call returns `Device`.
+/// is a property of the type, so no call changes it. Any tape has counted a failure if a call returns `Device`. A tape may promise
+/// that its device won't fail (`never_fails`), and then no call returns `Device`.
 pub trait Tape {
     /// The tape holds what was written.
     ghost honest: { Type 0 };
@@ -29,6 +31,12 @@ pub trait Tape {
     /// What a crash at this moment or a later one, up to now, could have left, inside a call or between two.
     ghost left_since: { Self → ℕ → List ℕ → Type 0 } = { λ _ _ _. ⊥ };
 
+    /// The device won't fail: no call returns `Device` any more. Of a tape that can't promise this it never holds.
+    ghost never_fails: { Self → Type 0 } = { λ _. ⊥ };
+
+    /// What else is known of a call: the tape before it, the error it returned, if any, and the tape after it.
+    ghost leaves: { Call → Self → Option TapeFault → Self → Type 0 } = { λ _ _ _ _. Unit {0} };
+
     /// The content, which is one of the images. Changes nothing, at no moment.
     fn read(&mut self, alloc: Global) -> Result<Vec<u8>, TapeFault>
         ensures ok { honest → IfOk result (λ bytes. bytes.items ≡ content self.old) }
@@ -36,7 +44,10 @@ pub trait Tape {
         ensures same { honest → IsUnchanged (content self.old) (content self.new) (images self.old) (images self.new) }
         ensures time { honest → Elapses (moment self.old) (moment self.new) (left_since self.old) (left_since self.new) }
         ensures inside { honest → LeavesNoOther (images self.old) (left_since self.new (moment self.old)) }
-        ensures cause { HasCause (failed self.old) (failed self.new) result };
+        ensures cause { HasCause (failed self.old) (failed self.new) result }
+        ensures sturdy { never_fails self.old → never_fails self.new }
+        ensures sound { never_fails self.old → IfErr result (λ fault. fault ≢ Device) }
+        ensures exact { leaves Read self.old (error_of result) self.new };
 
     /// Appends the bytes. Until they are synced a crash may leave any prefix of them; after `Device` a prefix of them may be
     /// there, and no more. A crash inside the call leaves what one could before it, or what one can after it.
@@ -47,7 +58,10 @@ pub trait Tape {
         ensures memory { honest → IsErrOf result Memory → IsUnchanged (content self.old) (content self.new) (images self.old) (images self.new) }
         ensures time { honest → Elapses (moment self.old) (moment self.new) (left_since self.old) (left_since self.new) }
         ensures inside { honest → LeavesOldOrNew (images self.old) (images self.new) (left_since self.new (moment self.old)) }
-        ensures cause { HasCause (failed self.old) (failed self.new) result };
+        ensures cause { HasCause (failed self.old) (failed self.new) result }
+        ensures sturdy { never_fails self.old → never_fails self.new }
+        ensures sound { never_fails self.old → IfErr result (λ fault. fault ≢ Device) }
+        ensures exact { leaves (Append bytes.now) self.old (error_of result) self.new };
 
     /// After it a crash leaves exactly the content; inside it, what one could before. Doesn't allocate.
     fn sync(&mut self) -> Result<(), TapeFault>
@@ -57,7 +71,10 @@ pub trait Tape {
         ensures memory { IsNotMemory result }
         ensures time { honest → Elapses (moment self.old) (moment self.new) (left_since self.old) (left_since self.new) }
         ensures inside { honest → LeavesNoOther (images self.old) (left_since self.new (moment self.old)) }
-        ensures cause { HasCause (failed self.old) (failed self.new) result };
+        ensures cause { HasCause (failed self.old) (failed self.new) result }
+        ensures sturdy { never_fails self.old → never_fails self.new }
+        ensures sound { never_fails self.old → IfErr result (λ fault. fault ≢ Device) }
+        ensures exact { leaves Sync self.old (error_of result) self.new };
 
     /// Replaces the content by the bytes, all of them synced. After `Device` the content is the bytes, or that of before. A crash
     /// inside the call leaves what one could before it, or exactly the bytes.
@@ -69,7 +86,10 @@ pub trait Tape {
         ensures memory { honest → IsErrOf result Memory → IsUnchanged (content self.old) (content self.new) (images self.old) (images self.new) }
         ensures time { honest → Elapses (moment self.old) (moment self.new) (left_since self.old) (left_since self.new) }
         ensures inside { honest → LeavesOldOr bytes.now (images self.old) (left_since self.new (moment self.old)) }
-        ensures cause { HasCause (failed self.old) (failed self.new) result };
+        ensures cause { HasCause (failed self.old) (failed self.new) result }
+        ensures sturdy { never_fails self.old → never_fails self.new }
+        ensures sound { never_fails self.old → IfErr result (λ fault. fault ≢ Device) }
+        ensures exact { leaves (Replace bytes.now) self.old (error_of result) self.new };
 
     /// The number of times that the device has failed. It saturates.
     fn failures(&self) -> u64

@@ -8,5 +8,5 @@ use Rattle.wf_node.proofs.storing.store.Goals as goal
 
 pub returns-in-None : goal.returns-in-None
 returns-in-None g c =
-    written_none g.T.Tape.honest g.T.Tape.content g.T.Tape.images (left_from g.T.Tape.moment g.T.Tape.left_since) g.T.Tape.failed (option_map view (option_copied c.args.entry)) c.args.journal.now
+    written_none g.T.Tape.honest g.T.Tape.content g.T.Tape.images (left_from g.T.Tape.moment g.T.Tape.left_since) g.T.Tape.failed g.T.Tape.never_fails (option_map view (option_copied c.args.entry)) c.args.journal.now
     (ap (λ e. option_map view (option_copied e)) c.in-None.is) c.requires

@@ -1,37 +1,31 @@
-use Rattle.std.proofs.Common.{◌≡◌, ℕ, List, ◌++◌, [], ◌∷◌, length, reverse, refl, sym, ap, subst, ◌∙◌, inl, arith}
-use Rattle.wf_tape.specs.declared.earlier.Earlier.{Earlier}
-use Rattle.wf_tape.specs.Tape.{LeavesNoOther, LeavesOldOr, LeavesOldOrNew, IsCutShort, Elapses}
-use Rattle.wf_tape.specs.MemoryTape.{Kept, IsImageOf, IsLeftSince, state_of, moment_of, states_before}
-use Rattle.wf_tape.proofs.Images.{sync_leaves}
-use Rattle.wf_tape.proofs.Moments.{past_synced, time_changed, inside_synced, inside_same}
+-- All bytes are synced, or the failure that was set happens.
+use Rattle.wf_tape.specs.Tape.{Sync}
+use Rattle.wf_tape.proofs.Called.{syncs, not_memory, stays_sturdy, fails_soundly}
 use Rattle.wf_tape.proofs.memory.MemoryTapeTape.sync.Goals as goal
 
-pub returns-then-self-length-clause-images : goal.returns-then-self-length-clause-images
-returns-then-self-length-clause-images c = λ honest.
-    let old : Kept = record { bytes = c.self.inside.bytes.items; synced = c.self.inside.synced; past = states_before c.self.inside.bytes.items (reverse c.self.inside.earlier.items) } in
-    let is : old ≡ c.args.self.now = c.self.view_is in
-    let new : Kept = record { bytes = c.self.inside.bytes.items; synced = c.len-length.result; past = states_before c.self.inside.bytes.items (reverse c.push_reserved.new.self.items) } in
-    let all : c.len-length.result ≡ length c.self.inside.bytes.items = omega (arith, c.len-length.ensures, c.self.inside.bytes.ok.0) in
-    let ended : new.past ≡ state_of old ∷ old.past = past_synced c.self.inside.bytes.items c.len-length.result c.self.inside.synced c.self.inside.earlier.items c.push_reserved.new.self.items all c.push_reserved.ensures.items in
-    subst (λ (k : Kept). LeavesNoOther (IsImageOf k) (IsImageOf new)) is (sync_leaves old new refl all)
+pub returns-clause-ok : goal.returns-clause-ok
+returns-clause-ok c = λ honest. (syncs c.args.self.now c.sync_or_fail.new.self c.sync_or_fail.result c.sync_or_fail.ensures.within c.sync_or_fail.ensures.called).ok
 
-pub returns-then-self-length-clause-time : goal.returns-then-self-length-clause-time
-returns-then-self-length-clause-time c = λ honest.
-    let old : Kept = record { bytes = c.self.inside.bytes.items; synced = c.self.inside.synced; past = states_before c.self.inside.bytes.items (reverse c.self.inside.earlier.items) } in
-    let is : old ≡ c.args.self.now = c.self.view_is in
-    let new : Kept = record { bytes = c.self.inside.bytes.items; synced = c.len-length.result; past = states_before c.self.inside.bytes.items (reverse c.push_reserved.new.self.items) } in
-    let all : c.len-length.result ≡ length c.self.inside.bytes.items = omega (arith, c.len-length.ensures, c.self.inside.bytes.ok.0) in
-    let ended : new.past ≡ state_of old ∷ old.past = past_synced c.self.inside.bytes.items c.len-length.result c.self.inside.synced c.self.inside.earlier.items c.push_reserved.new.self.items all c.push_reserved.ensures.items in
-    subst (λ (k : Kept). Elapses (moment_of k) (moment_of new) (IsLeftSince k) (IsLeftSince new)) is (time_changed old new ended)
+pub returns-clause-same : goal.returns-clause-same
+returns-clause-same c = λ honest. (syncs c.args.self.now c.sync_or_fail.new.self c.sync_or_fail.result c.sync_or_fail.ensures.within c.sync_or_fail.ensures.called).same
 
-pub returns-then-self-length-clause-inside : goal.returns-then-self-length-clause-inside
-returns-then-self-length-clause-inside c = λ honest.
-    let old : Kept = record { bytes = c.self.inside.bytes.items; synced = c.self.inside.synced; past = states_before c.self.inside.bytes.items (reverse c.self.inside.earlier.items) } in
-    let is : old ≡ c.args.self.now = c.self.view_is in
-    let new : Kept = record { bytes = c.self.inside.bytes.items; synced = c.len-length.result; past = states_before c.self.inside.bytes.items (reverse c.push_reserved.new.self.items) } in
-    let all : c.len-length.result ≡ length c.self.inside.bytes.items = omega (arith, c.len-length.ensures, c.self.inside.bytes.ok.0) in
-    let ended : new.past ≡ state_of old ∷ old.past = past_synced c.self.inside.bytes.items c.len-length.result c.self.inside.synced c.self.inside.earlier.items c.push_reserved.new.self.items all c.push_reserved.ensures.items in
-    subst (λ (k : Kept). LeavesNoOther (IsImageOf k) (IsLeftSince new (moment_of k))) is (inside_synced old new ended refl all)
+pub returns-clause-images : goal.returns-clause-images
+returns-clause-images c = λ honest. (syncs c.args.self.now c.sync_or_fail.new.self c.sync_or_fail.result c.sync_or_fail.ensures.within c.sync_or_fail.ensures.called).images
 
-pub returns-else-self-length-clause-inside : goal.returns-else-self-length-clause-inside
-returns-else-self-length-clause-inside c = λ honest. inside_same c.args.self.now c.args.self.now refl
+pub returns-clause-memory : goal.returns-clause-memory
+returns-clause-memory c = not_memory c.sync_or_fail.result c.sync_or_fail.ensures.memory
+
+pub returns-clause-time : goal.returns-clause-time
+returns-clause-time c = λ honest. (syncs c.args.self.now c.sync_or_fail.new.self c.sync_or_fail.result c.sync_or_fail.ensures.within c.sync_or_fail.ensures.called).time
+
+pub returns-clause-inside : goal.returns-clause-inside
+returns-clause-inside c = λ honest. (syncs c.args.self.now c.sync_or_fail.new.self c.sync_or_fail.result c.sync_or_fail.ensures.within c.sync_or_fail.ensures.called).inside
+
+pub returns-clause-cause : goal.returns-clause-cause
+returns-clause-cause c = (syncs c.args.self.now c.sync_or_fail.new.self c.sync_or_fail.result c.sync_or_fail.ensures.within c.sync_or_fail.ensures.called).cause
+
+pub returns-clause-sturdy : goal.returns-clause-sturdy
+returns-clause-sturdy c = stays_sturdy Sync c.args.self.now c.sync_or_fail.new.self _ c.sync_or_fail.ensures.called
+
+pub returns-clause-sound : goal.returns-clause-sound
+returns-clause-sound c = fails_soundly Sync c.args.self.now c.sync_or_fail.new.self c.sync_or_fail.result c.sync_or_fail.ensures.called
