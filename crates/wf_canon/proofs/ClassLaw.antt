@@ -18,7 +18,7 @@ use Rattle.wf_class.specs.declared.slots.class.ClassSlots.{ClassSlots}
 use Rattle.wf_class.specs.Style as styles
 use Rattle.wf_class.specs.Label as labels
 use Rattle.wf_class.specs.Class as classes
-use Rattle.wf_canon.specs.Canon.{size_word, position_word, force_word, with_text, with_color, when_there, style_lines, label_lines, optional_label_lines, class_lines}
+use Rattle.wf_spelling.specs.Canon.{size_word, position_word, force_word, with_text, with_color, when_there, style_lines, label_lines, optional_label_lines, class_lines}
 use Rattle.wf_canon.proofs.TokenLaw.{text_again, whole_again, color_again, chosen_again}
 use Rattle.wf_canon.proofs.Steps.{Reads, inside, is_keyword, Fills, Ended, keyword, line, both, ended, there, each, holds_at, room_at, block_again}
 

@@ -11,7 +11,7 @@ use Rattle.wf_token.specs.Utf8Laws.{text_is_utf8}
 use Rattle.wf_def.specs.Text.{is_text, is_text_character, has_both_quotes}
 use Rattle.wf_def.specs.declared.choice.Projection.{Projection}
 use Rattle.wf_def.specs.declared.choice.Projection.TheVariants.{Epsg4326, Epsg3857}
-use Rattle.wf_canon.specs.Canon.{projection_text}
+use Rattle.wf_spelling.specs.Canon.{projection_text}
 use Rattle.wf_canon.proofs.TokenLaw.{text_lacks_both}
 
 pub title_key : is_text (codes "wms_title") ≡ true

@@ -24,7 +24,7 @@ use Rattle.wf_mapfile.specs.declared.slots.layer.LayerOnce.{LayerOnce}
 use Rattle.wf_mapfile.specs.declared.slots.layer.LayerSlots.{LayerSlots}
 use Rattle.wf_feature.specs.Feature as features
 use Rattle.wf_mapfile.specs.Layer as layers
-use Rattle.wf_canon.specs.Canon.{number_word, kind_word, end_line, point_line, part_lines, feature_lines, class_lines, metadata_lines, layer_lines}
+use Rattle.wf_spelling.specs.Canon.{number_word, kind_word, end_line, point_line, part_lines, feature_lines, class_lines, metadata_lines, layer_lines}
 use Rattle.wf_canon.proofs.NumberWord.{number_word_is}
 use Rattle.wf_canon.proofs.TokenLaw.{written_text, text_again, number_again, chosen_again}
 use Rattle.wf_canon.proofs.Steps.{Reads, inside, is_keyword, Fills, Ended, keyword, inner, line, both, ended, each, holds_at, room_at, left_at, block_again}

@@ -4,9 +4,5 @@ pub mod LayerLaw
 pub mod MeaningLaw
 pub mod MapLaw
 pub mod NumberWord
-pub mod ScannedBlock
-pub mod ScannedNumber
-pub mod Scanning
 pub mod Steps
 pub mod TokenLaw
-pub mod Writing

@@ -23,7 +23,7 @@ use Rattle.wf_metadata.specs.Web as webs
 use Rattle.wf_mapfile.specs.Layer as layers
 use Rattle.wf_mapfile.specs.Map as mapfile
 use Rattle.wf_mapfile.specs.Map.{extent, projection, projection_named, definition}
-use Rattle.wf_canon.specs.Canon.{number_word, projection_text, with_key, end_line, layer_lines, projection_lines, web_lines, map_lines}
+use Rattle.wf_spelling.specs.Canon.{number_word, projection_text, with_key, end_line, layer_lines, projection_lines, web_lines, map_lines}
 use Rattle.wf_canon.proofs.NumberWord.{number_word_is}
 use Rattle.wf_canon.proofs.KnownText.{title_key, abstract_key, address_key, projection_is_text}
 use Rattle.wf_canon.proofs.TokenLaw.{written_text, text_again, number_again}

@@ -17,11 +17,12 @@ use Rattle.wf_block.specs.Reading.{IsNotUtf8, is_memory}
 use Rattle.wf_block.specs.declared.fault.MapFault.{MapFault}
 use Rattle.wf_block.specs.declared.fault.MapFault.TheVariants as reading
 use Rattle.wf_token.specs.Spelling.{is_written, are_written, line}
-use Rattle.wf_canon.specs.Canon.{map_lines, canon, IsCanon}
-use Rattle.wf_canon.specs.declared.fault.CanonFault.{CanonFault}
-use Rattle.wf_canon.specs.declared.fault.CanonFault.TheVariants.{TooBig, NotCanonical, Memory}
+use Rattle.wf_spelling.specs.Canon.{map_lines, canon, IsCanon}
+use Rattle.wf_spelling.specs.declared.fault.CanonFault.{CanonFault}
+use Rattle.wf_spelling.specs.declared.fault.CanonFault.TheVariants.{TooBig, NotCanonical, Memory}
 use Rattle.wf_canon.specs.Saying.{Says}
-use Rattle.wf_canon.specs.Refusal.{HasNoCanon, IsCauseOf, IsWhyRefused, refused_again}
+use Rattle.wf_spelling.specs.Refusal.{IsCauseOf}
+use Rattle.wf_canon.specs.Refusal.{HasNoCanon, IsWhyRefused, refused_again}
 use Rattle.wf_token.specs.Spelling.{tokens_of}
 use Rattle.wf_token.specs.SpellingLaws.{lex_text}
 use Rattle.wf_token.specs.Utf8Laws.{text_of-is_utf8}

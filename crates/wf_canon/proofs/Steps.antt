@@ -16,7 +16,7 @@ use Rattle.wf_token.specs.Token.{Token, Word, is_plain, is_slash, is_quote, is_h
 use Rattle.wf_token.specs.Spelling.{is_word, is_written, tokens_of}
 use Rattle.wf_block.specs.Grammar.{is_end, word}
 use Rattle.wf_block.specs.Steps.{fill, block}
-use Rattle.wf_canon.specs.Canon.{alone, end_line}
+use Rattle.wf_spelling.specs.Canon.{alone, end_line}
 
 -- ---- readers
 

@@ -18,7 +18,7 @@ use Rattle.wf_token.specs.Spelling.{is_word, lacks, is_written}
 use Rattle.wf_token.specs.WordLaws.{decimal_is_word}
 use Rattle.wf_block.specs.Grammar.{is_end, argument, text, chosen, choice, number, whole}
 use Rattle.wf_class.specs.Color.{color, rgb_color, hash_digits}
-use Rattle.wf_canon.specs.Canon.{number_word, whole_word}
+use Rattle.wf_spelling.specs.Canon.{number_word, whole_word}
 use Rattle.wf_canon.proofs.NumberWord.{number_word_is}
 use Rattle.wf_canon.proofs.Steps.{Reads, is_keyword}
 

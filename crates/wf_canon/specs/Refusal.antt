@@ -1,17 +1,11 @@
--- When a definition or bytes have no canonical text.
+-- When bytes are no canonical text.
 use Rattle.std.specs.Prelude.{◌≡◌, ℕ, ◌<◌, ◌≤◌, true, List, length}
 use Rattle.std.specs.Str.{is_utf8}
 use Rattle.wf_def.specs.Definition.{Definition}
 use Rattle.wf_def.specs.Limits.{IsWithinLimits}
-use Rattle.wf_canon.specs.declared.fault.CanonFault.{CanonFault}
-use Rattle.wf_canon.specs.declared.fault.CanonFault.TheVariants.{TooBig, NotCanonical, Memory}
-use Rattle.wf_canon.specs.Canon.{canon, most_canon_bytes}
-
--- why a definition has no canonical text: it is over the limit, or it isn't and allocation failed
-abbrev pub IsCauseOf : CanonFault → Definition → Type 0
-IsCauseOf TooBig d = most_canon_bytes < length (canon d)
-IsCauseOf NotCanonical d = ⊥
-IsCauseOf Memory d = length (canon d) ≤ most_canon_bytes
+use Rattle.wf_spelling.specs.declared.fault.CanonFault.{CanonFault}
+use Rattle.wf_spelling.specs.declared.fault.CanonFault.TheVariants.{TooBig, NotCanonical, Memory}
+use Rattle.wf_spelling.specs.Canon.{canon, most_canon_bytes}
 
 -- the bytes are no map's canonical text
 abbrev pub HasNoCanon : List ℕ → Type 0

@@ -6,7 +6,7 @@ use Rattle.wf_def.specs.Limits.{IsWithinLimits}
 use Rattle.wf_token.specs.Token.{tokens}
 use Rattle.wf_block.specs.Grammar.{◌>>=◌}
 use Rattle.wf_mapfile.specs.Meaning.{file}
-use Rattle.wf_canon.specs.Canon.{canon}
+use Rattle.wf_spelling.specs.Canon.{canon}
 
 -- the bytes are UTF-8, and their tokens are a file that means this map
 pub record Says (bytes : List ℕ) (d : Definition) : Type 0 where

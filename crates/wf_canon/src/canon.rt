@@ -5,22 +5,19 @@ ghost use Rattle.std.specs.Str.{is_utf8};
 ghost use Rattle.wf_def.specs.Limits.{IsWithinLimits};
 ghost use Rattle.wf_mapfile.specs.Meaning.{Means};
 ghost use Rattle.wf_block.specs.Reading.{is_memory};
-ghost use Rattle.wf_canon.specs.Canon.{canon, most_canon_bytes, IsCanon};
-ghost use Rattle.wf_canon.specs.Refusal.{IsCauseOf, IsWhyRefused, refused_again};
+ghost use Rattle.wf_spelling.specs.Canon.{canon, most_canon_bytes, IsCanon};
+ghost use Rattle.wf_spelling.specs.Refusal.{IsCauseOf};
+ghost use Rattle.wf_canon.specs.Refusal.{IsWhyRefused, refused_again};
 
-use crate::draft::Draft;
-use crate::fault::CanonFault;
-use crate::scan::map::scan;
-use crate::writer::push_map;
 use std::alloc::{AllocError, Global};
 use std::marker::Model;
 use std::rc::Rc;
 use wf_def::map::MapDef;
 use wf_mapfile::fault::MapFault;
 use wf_mapfile::read;
-
-/// The longest canonical text, in bytes.
-pub const MOST_CANON_BYTES: usize = 32_768;
+use wf_spelling::fault::CanonFault;
+use wf_spelling::scan::map::scan;
+use wf_spelling::text::{MOST_CANON_BYTES, text_of};
 
 /// What the copies of a canonical text share.
 #[derive(Drop)]
@@ -47,7 +44,7 @@ impl Model for Canon {
 
     ghost Value = { Definition };
 
-    ghost use Rattle.wf_canon.specs.Canon.{IsCanon};
+    ghost use Rattle.wf_spelling.specs.Canon.{IsCanon};
 
     ghost view = { λ c. c.shared.value.def };
 
@@ -159,25 +156,6 @@ fn copied(alloc: Global, bytes: &[u8]) -> Result<Vec<u8>, AllocError>
     let mut text = Vec::with_capacity(alloc, bytes.len())?;
     text.extend_from_slice(bytes)?;
     Ok(text)
-}
-
-/// The canonical text of a definition, within the limit, in a buffer that begins with this room. Beyond that room bytes are
-/// counted before memory for them is allocated.
-fn text_of(alloc: Global, def: &MapDef, room: usize) -> Result<Vec<u8>, CanonFault>
-    ensures written { IfOk result (λ text. text.items ≡ canon def.now) }
-    ensures short { OnOk result (length (canon def.now) ≤ most_canon_bytes) }
-    ensures within { IsWithinLimits def.now }
-    ensures cause { IfErr result (λ fault. IsCauseOf fault def.now) }
-{
-    let mut draft = Draft::with_room(alloc, room);
-    push_map(&mut draft, def);
-    if draft.is_too_long() {
-        return Err(CanonFault::TooBig);
-    }
-    match draft.finish() {
-        Ok(text) => Ok(text),
-        Err(AllocError) => Err(CanonFault::Memory),
-    }
 }
 
 /// The canonical text of the definition, if it is these bytes.

@@ -4,10 +4,10 @@ ghost use Rattle.std.specs.Prelude.{◌≡◌, ◌≤◌, length};
 ghost use Rattle.wf_def.specs.Definition.{Definition};
 ghost use Rattle.wf_def.specs.Limits.{IsWithinLimits};
 ghost use Rattle.wf_mapfile.specs.Meaning.{Means};
-ghost use Rattle.wf_canon.specs.Canon.{canon, most_canon_bytes};
+ghost use Rattle.wf_spelling.specs.Canon.{canon, most_canon_bytes};
 ghost use Rattle.wf_canon.specs.Saying.{OneTextOneMap, Says};
 
-use crate::canon::MOST_CANON_BYTES;
+use wf_spelling::text::MOST_CANON_BYTES;
 
 /// The canonical text of a map means that map.
 #[tactic(auto, using(crate::proofs::MeaningLaw::canon_means))]

@@ -11,32 +11,22 @@
 //!
 //! Copies of a [`Canon`] share one text and one definition, so whoever needs one takes a copy: it allocates nothing.
 //!
-//! [`Canon::from_bytes`] first tries a quick reader, `scan`, which accepts canonical texts alone; only where it accepts nothing are the
-//! bytes read as any mapfile, written again and compared.
+//! [`Canon::from_bytes`] first tries the quick reader of wf_spelling, `scan`, which accepts canonical texts alone; only where it accepts
+//! nothing are the bytes read as any mapfile, written again and compared.
 //!
-//! Modules: `draft` is a text while it is written, `line` writes the lines of one item; `class`, `feature`, `layer` and `writer`
-//! write blocks of lines; `scan` reads them, in files of the same names. wf_token defines how tokens are written on a line, wf_text
-//! how a number is written.
+//! wf_spelling defines the canonical text, and writes and scans it.
 #![tactic(auto)]
 
 mod canon;
-mod class;
-mod draft;
 mod equality;
-mod fault;
-mod feature;
 mod law;
-mod layer;
-mod line;
-mod number;
-mod scan;
-mod writer;
 
-pub use canon::{Canon, MOST_CANON_BYTES};
-pub use fault::CanonFault;
+pub use canon::Canon;
 pub use law::{
     canonical_text_means_its_map, every_canonical_text_says_its_map, limit_of_canonical_texts,
     one_text_one_map,
 };
+pub use wf_spelling::fault::CanonFault;
+pub use wf_spelling::text::MOST_CANON_BYTES;
 pub use wf_text::number_law::number_is_read_again;
 pub use wf_text::number_text::write_number;

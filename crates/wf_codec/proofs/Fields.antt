@@ -2,7 +2,7 @@
 use Rattle.std.proofs.Common.{◌≡◌, ℕ, ◌+◌, true, cond, List, length, Option, Some, None, refl, sym, ap, ◌∙◌, append_assoc, length-append, arith}
 use Rattle.std.proofs.lemmas.List.{append-nil}
 use Rattle.std.specs.Prelude.{option_map}
-use Rattle.wf_canon.specs.Canon.{most_canon_bytes}
+use Rattle.wf_spelling.specs.Canon.{most_canon_bytes}
 use Rattle.wf_ballot.specs.Ballot.{ballot_bytes}
 use Rattle.wf_ballot.specs.Front.{AreBytes}
 use Rattle.wf_ballot.specs.FieldLaws.{length-ballot_bytes}

@@ -3,7 +3,7 @@ use Rattle.std.specs.Prelude.{◌≡◌, ℕ, nat_lt, ◌==◌, List, [], ◌∷
 use Rattle.std.specs.Int.{w32, from_be_bytes}
 use Rattle.wf_frame.specs.Layout as layouts
 use Rattle.wf_def.specs.Definition.{Definition}
-use Rattle.wf_canon.specs.Canon.{canon}
+use Rattle.wf_spelling.specs.Canon.{canon}
 use Rattle.wf_codec.specs.declared.kind.Kind.{Kind}
 use Rattle.wf_codec.specs.declared.fault.DecodeFault.{DecodeFault}
 use Rattle.wf_codec.specs.declared.fault.DecodeFault.TheVariants.{Short, BadVersion, BadKind, BadField, NotCanonical, TooLong, Memory}

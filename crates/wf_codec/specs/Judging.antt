@@ -6,7 +6,7 @@ use Rattle.wf_frame.specs.declared.fault.FrameFault.TheVariants as frames
 use Rattle.wf_frame.specs.Layout.{read_body}
 use Rattle.wf_model.specs.Message.{Message, Vote}
 use Rattle.wf_def.specs.Definition.{Definition}
-use Rattle.wf_canon.specs.Canon.{canon}
+use Rattle.wf_spelling.specs.Canon.{canon}
 use Rattle.wf_codec.specs.declared.kind.Kind.{Kind}
 use Rattle.wf_codec.specs.declared.fault.DecodeFault.{DecodeFault}
 use Rattle.wf_codec.specs.declared.fault.DecodeFault.TheVariants.{Short, BadVersion, BadKind, BadField, NotCanonical, TooLong, Memory}

@@ -3,7 +3,7 @@ use Rattle.std.specs.Prelude.{ℕ, ◌==◌, Bool, List, [], ◌∷◌, Option, 
 use Rattle.wf_frame.specs.Field.{NodeField, SlotField, BallotField}
 use Rattle.wf_frame.specs.Ending.{Nothing, Text, VoteOrNone}
 use Rattle.wf_frame.specs.Layout.{Layout, fits}
-use Rattle.wf_canon.specs.Canon.{most_canon_bytes}
+use Rattle.wf_spelling.specs.Canon.{most_canon_bytes}
 use Rattle.wf_codec.specs.declared.kind.Kind.{Kind}
 use Rattle.wf_codec.specs.declared.kind.Kind.TheVariants.{Prepare, Promise, Accept, Accepted, Nack, Chosen, Ask}
 

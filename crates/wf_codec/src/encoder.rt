@@ -2,7 +2,7 @@ ghost use Rattle.std.specs.Prelude.{◌≡◌, ◌+◌, ◌<◌, ◌≤◌, ◌+
 ghost use Rattle.wf_codec.specs.Message.{view, view_vote, vote_with, texts, HasText, IsVoteOf, IsMessage};
 ghost use Rattle.wf_codec.specs.Spelling.{kind_of, body, spelling};
 ghost use Rattle.wf_frame.specs.Ending.{vote_bytes};
-ghost use Rattle.wf_canon.specs.Canon.{canon};
+ghost use Rattle.wf_spelling.specs.Canon.{canon};
 
 use crate::frame::{BODY_BYTES, HEADER_BYTES};
 use crate::kind::Kind;

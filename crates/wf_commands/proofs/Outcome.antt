@@ -4,7 +4,7 @@ use Rattle.std.specs.Prelude.{Option, Result, Ok, Err, IfSome}
 use Rattle.wf_def.specs.Definition.{Definition}
 use Rattle.wf_def.specs.Limits.{IsWithinLimits}
 use Rattle.wf_mapfile.specs.Meaning.{Means}
-use Rattle.wf_canon.specs.declared.fault.CanonFault.{CanonFault}
+use Rattle.wf_spelling.specs.declared.fault.CanonFault.{CanonFault}
 use Rattle.wf_commands.specs.Run.{IsReadingFault, IsWriting, IsWritingOf, IsOutcome}
 use Rattle.wf_commands.specs.Counting.{CountsReads, CountsWrites}
 use Rattle.wf_commands.specs.declared.fault.RunFault.{RunFault}

@@ -5,9 +5,9 @@ use Rattle.wf_def.specs.Definition.{Definition}
 use Rattle.wf_def.specs.Limits.{IsWithinLimits}
 use Rattle.wf_mapfile.specs.Meaning.{Means, MeansNothing}
 use Rattle.wf_block.specs.Reading.{is_memory}
-use Rattle.wf_canon.specs.Canon.{canon}
-use Rattle.wf_canon.specs.Refusal.{IsCauseOf}
-use Rattle.wf_canon.specs.declared.fault.CanonFault.{CanonFault}
+use Rattle.wf_spelling.specs.Canon.{canon}
+use Rattle.wf_spelling.specs.Refusal.{IsCauseOf}
+use Rattle.wf_spelling.specs.declared.fault.CanonFault.{CanonFault}
 use Rattle.wf_wms.specs.Answer.{AnswerValue, IsAnswerOf, description}
 use Rattle.wf_script.specs.Fault as script
 use Rattle.wf_script.specs.Lines.{most_script_bytes}

@@ -4,10 +4,10 @@ use Rattle.std.specs.Prelude.{Result, Ok, Err, IfOk, IfErr, OnOk, Option, Some, 
 use Rattle.std.specs.Str.{is_utf8}
 use Rattle.std.proofs.lemmas.Bool.{cases_lt, leb-true}
 use Rattle.std.proofs.lemmas.Option.{none-some}
-use Rattle.wf_canon.specs.Canon.{canon, most_canon_bytes}
-use Rattle.wf_canon.specs.Refusal.{IsCauseOf}
-use Rattle.wf_canon.specs.declared.fault.CanonFault.{CanonFault}
-use Rattle.wf_canon.specs.declared.fault.CanonFault.TheVariants as canonical
+use Rattle.wf_spelling.specs.Canon.{canon, most_canon_bytes}
+use Rattle.wf_spelling.specs.Refusal.{IsCauseOf}
+use Rattle.wf_spelling.specs.declared.fault.CanonFault.{CanonFault}
+use Rattle.wf_spelling.specs.declared.fault.CanonFault.TheVariants as canonical
 use Rattle.wf_codec.specs.declared.message.Message.{Message}
 use Rattle.wf_def.specs.Definition.{Definition}
 use Rattle.wf_mapfile.specs.Meaning.{Means, MeansNothing, meaning, longest_mapfile}

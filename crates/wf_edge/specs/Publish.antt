@@ -1,9 +1,9 @@
 -- The result of publishing a map: the node's step Propose, or an error before it.
 use Rattle.std.specs.Prelude.{◌≡◌, ℕ, ◌<◌, ◌≤◌, true, false, List, length, Result, Ok, Err, Vec}
 use Rattle.std.specs.Str.{is_utf8}
-use Rattle.wf_canon.specs.Canon.{canon, most_canon_bytes}
-use Rattle.wf_canon.specs.declared.fault.CanonFault.{CanonFault}
-use Rattle.wf_canon.specs.declared.fault.CanonFault.TheVariants as canonical
+use Rattle.wf_spelling.specs.Canon.{canon, most_canon_bytes}
+use Rattle.wf_spelling.specs.declared.fault.CanonFault.{CanonFault}
+use Rattle.wf_spelling.specs.declared.fault.CanonFault.TheVariants as canonical
 use Rattle.wf_codec.specs.declared.message.Message.{Message}
 use Rattle.wf_def.specs.Definition.{Definition}
 use Rattle.wf_mapfile.specs.Meaning.{Means, MeansNothing, longest_mapfile}

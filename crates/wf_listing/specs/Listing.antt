@@ -2,7 +2,7 @@
 -- them.
 use Rattle.std.specs.Prelude.{◌≡◌, ◌+◌, ◌++◌, ℕ, nat_lt, Bool, true, false, List, [], ◌∷◌, length, codes, decimal, if◌then◌else◌}
 use Rattle.wf_ballot.specs.Ballot.{Ballot, ballot_text}
-use Rattle.wf_canon.specs.Canon.{canon}
+use Rattle.wf_spelling.specs.Canon.{canon}
 use Rattle.wf_def.specs.Definition.{Definition}
 use Rattle.wf_model.specs.Stored.{Record, Tried, Promised, Accepted, Published}
 use Rattle.wf_tape.specs.Records.{Reads, IsTorn, IsBad, IsCleanOrTorn, length_of}

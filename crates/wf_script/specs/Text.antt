@@ -5,7 +5,7 @@ use Rattle.std.specs.List.{list_all}
 use Rattle.std.specs.Option.{ok_or}
 use Rattle.std.specs.Str.{bytes_eq}
 use Rattle.wf_ballot.specs.Node.{most_nodes}
-use Rattle.wf_canon.specs.Canon.{canon, most_canon_bytes}
+use Rattle.wf_spelling.specs.Canon.{canon, most_canon_bytes}
 use Rattle.wf_def.specs.Definition.{Definition}
 use Rattle.wf_mapfile.specs.Meaning.{meaning}
 use Rattle.wf_script.specs.Lines.{Lines, judged, lines, most_maps, over_limit}

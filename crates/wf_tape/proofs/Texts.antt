@@ -1,7 +1,7 @@
 -- Records with definitions, and the same records with canonical texts.
 use Rattle.std.proofs.Common.{◌≡◌, ℕ, ◌≤◌, List, length, refl, arith}
 use Rattle.wf_def.specs.Definition.{Definition}
-use Rattle.wf_canon.specs.Canon.{canon, line}
+use Rattle.wf_spelling.specs.Canon.{canon, line}
 use Rattle.wf_canon.specs.Saying.{OneTextOneMap}
 use Rattle.wf_model.specs.Stored.{Record, Tried, Promised, Accepted, Published}
 use Rattle.wf_tape.specs.Kind.{most_text}

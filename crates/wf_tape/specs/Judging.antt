@@ -4,7 +4,7 @@ use Rattle.std.specs.Int.{w32, from_be_bytes}
 use Rattle.wf_ballot.specs.Front.{front_round, front_slot, front_ballot}
 use Rattle.wf_model.specs.Stored.{Record, Tried, Promised, Accepted, Published}
 use Rattle.wf_def.specs.Definition.{Definition}
-use Rattle.wf_canon.specs.Canon.{canon}
+use Rattle.wf_spelling.specs.Canon.{canon}
 use Rattle.wf_tape.specs.declared.kind.Kind.{Kind}
 use Rattle.wf_tape.specs.declared.kind.Kind.TheVariants as kinds
 use Rattle.wf_tape.specs.declared.fault.RecordFault.{RecordFault}

@@ -6,7 +6,7 @@ use Rattle.wf_ballot.specs.Ballot.{IsBallot}
 use Rattle.wf_model.specs.Stored as model
 use Rattle.wf_def.specs.Definition.{Definition}
 use Rattle.wf_def.specs.Limits.{IsWithinLimits}
-use Rattle.wf_canon.specs.Canon.{canon}
+use Rattle.wf_spelling.specs.Canon.{canon}
 use Rattle.wf_tape.specs.Kind.{most_text}
 use Rattle.wf_tape.specs.declared.record.Record.{Record}
 use Rattle.wf_tape.specs.declared.record.Record.TheVariants as code

@@ -2,7 +2,7 @@ ghost use Rattle.std.specs.Prelude.{◌≡◌, ◌≤◌, ◌++◌, length, map,
 ghost use Rattle.wf_tape.specs.Record.{view, texts, HasText, IsRecord};
 ghost use Rattle.wf_tape.specs.Records.{AreRecords};
 ghost use Rattle.wf_tape.specs.Spelling.{kind_of, body, spelling, Spells};
-ghost use Rattle.wf_canon.specs.Canon.{canon};
+ghost use Rattle.wf_spelling.specs.Canon.{canon};
 
 use crate::decoder::{HEADER_BYTES, VERSION};
 use crate::kind::Kind;

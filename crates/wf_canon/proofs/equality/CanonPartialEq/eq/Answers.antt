@@ -7,7 +7,7 @@ use Rattle.std.proofs.lemmas.Slice.Eq.{bytes_eq-Decides}
 use Rattle.wf_def.specs.Definition.{Definition}
 use Rattle.wf_def.specs.Limits.{IsWithinLimits}
 use Rattle.wf_def.specs.EqualityLaws.{definition_eq-Decides}
-use Rattle.wf_canon.specs.Canon.{canon}
+use Rattle.wf_spelling.specs.Canon.{canon}
 use Rattle.wf_canon.proofs.MeaningLaw.{one_definition}
 use Rattle.wf_canon.proofs.equality.CanonPartialEq.eq.Goals as goal
 

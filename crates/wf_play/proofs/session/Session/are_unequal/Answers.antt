@@ -1,6 +1,6 @@
 -- Two maps that are published under one sequence are one, and so are their texts.
 use Rattle.std.proofs.Common.{◌∙◌, sym, ap, subst}
-use Rattle.wf_canon.specs.Canon.{canon}
+use Rattle.wf_spelling.specs.Canon.{canon}
 use Rattle.wf_farm.specs.Agreement.{HasOneHistory}
 use Rattle.wf_play.specs.Session.{Session}
 use Rattle.wf_play.proofs.Playing.{published_once, same_texts}

@@ -1,8 +1,0 @@
-use Rattle.wf_canon.proofs.Writing.{both}
-use Rattle.wf_token.specs.Spelling.{line}
-use Rattle.wf_canon.proofs.layer.push_attribute_names.Goals as goal
-
-pub returns : goal.returns
-unfolding line
-returns c =
-    both c.push.ensures.bytes (both (rw c.quote_for-quote.ensures at c.push-2.ensures.bytes) (both c.push-3.ensures.bytes (both (both c.push-4.ensures.bytes (rw c.quote_for-quote.ensures at c.push-5.ensures.bytes)) c.push-6.ensures.bytes)))

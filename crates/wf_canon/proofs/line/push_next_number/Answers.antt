@@ -1,6 +1,0 @@
-use Rattle.wf_canon.proofs.Writing.{both}
-use Rattle.wf_canon.proofs.line.push_next_number.Goals as goal
-
-pub returns : goal.returns
-returns c =
-    both c.push.ensures.bytes c.push_number.ensures

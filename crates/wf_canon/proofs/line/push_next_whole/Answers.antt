@@ -1,6 +1,0 @@
-use Rattle.wf_canon.proofs.Writing.{both}
-use Rattle.wf_canon.proofs.line.push_next_whole.Goals as goal
-
-pub returns : goal.returns
-returns c =
-    both c.push.ensures.bytes (rw c.from.ensures at c.push_whole.ensures)

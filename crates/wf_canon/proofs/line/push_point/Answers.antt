@@ -1,8 +1,0 @@
-use Rattle.wf_canon.proofs.Writing.{both}
-use Rattle.wf_token.specs.Spelling.{line}
-use Rattle.wf_canon.proofs.line.push_point.Goals as goal
-
-pub returns : goal.returns
-unfolding line
-returns c =
-    both c.push_number.ensures (both c.push_next_number.ensures c.push.ensures.bytes)

@@ -1,9 +1,0 @@
-use Rattle.std.specs.List.{flat_map}
-use Rattle.wf_token.specs.Spelling.{text_of}
-use Rattle.wf_canon.specs.Canon.{class_lines}
-use Rattle.wf_canon.specs.Scan.{Scans}
-use Rattle.wf_canon.proofs.scan.layer.scan_classes.Given as goal
-
--- the lines so far are those of the elements so far
-abbrev pub invariant-loop : goal.invariant-loop
-invariant-loop l = Scans l.fn.cursor (text_of (flat_map class_lines l.classes)) l.cursor

@@ -1,8 +1,0 @@
-use Rattle.wf_canon.proofs.Scanning.{both}
-use Rattle.wf_token.specs.Spelling.{line}
-use Rattle.wf_canon.proofs.scan.line.scan_alone.Goals as goal
-
-pub returns : goal.returns
-unfolding line
-returns c =
-    both (rw c.as_bytes.ensures.value at c.take.ensures) c.take-2.ensures

@@ -1,6 +1,0 @@
-use Rattle.wf_canon.proofs.Scanning.{both}
-use Rattle.wf_canon.proofs.scan.line.scan_quoted.Goals as goal
-
-pub returns : goal.returns
-returns c =
-    both (rw c.quote_for-quote.ensures at c.take.ensures) (both c.take-2.ensures (rw c.quote_for-quote.ensures at c.take-3.ensures))

@@ -1,8 +1,0 @@
-use Rattle.wf_canon.proofs.Scanning.{both}
-use Rattle.wf_token.specs.Spelling.{line}
-use Rattle.wf_canon.proofs.scan.line.scan_with_color.Goals as goal
-
-pub returns : goal.returns
-unfolding line
-returns c =
-    both (rw c.as_bytes.ensures.value at c.take.ensures) (both c.in_ok-r.ensures (both c.in_ok-g.ensures (both c.in_ok-b.ensures c.take-2.ensures)))

@@ -1,9 +1,0 @@
-use Rattle.wf_canon.proofs.Writing.{both, last_line}
-use Rattle.wf_token.specs.Spelling.{line}
-use Rattle.wf_canon.specs.Canon.{end_line}
-use Rattle.wf_canon.proofs.writer.push_projection.Goals as goal
-
-pub returns : goal.returns
-unfolding line
-returns c =
-    both c.push_alone.ensures (both (both (rw (c.as_bytes.ensures.value, c.projection_text.ensures) at c.push_quoted.ensures) c.push.ensures.bytes) (last_line end_line c.push_alone-2.ensures))

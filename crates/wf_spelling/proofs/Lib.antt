@@ -1,0 +1,4 @@
+pub mod ScannedBlock
+pub mod ScannedNumber
+pub mod Scanning
+pub mod Writing

@@ -1,0 +1,9 @@
+use Rattle.std.specs.List.{flat_map}
+use Rattle.wf_token.specs.Spelling.{text_of}
+use Rattle.wf_spelling.specs.Canon.{style_lines}
+use Rattle.wf_spelling.specs.Scan.{Scans}
+use Rattle.wf_spelling.proofs.scan.class.scan_styles.Given as goal
+
+-- the lines so far are those of the elements so far
+abbrev pub invariant-loop : goal.invariant-loop
+invariant-loop l = Scans l.fn.cursor (text_of (flat_map style_lines l.styles)) l.cursor

@@ -1,0 +1,8 @@
+use Rattle.wf_spelling.proofs.Scanning.{both}
+use Rattle.wf_token.specs.Spelling.{line}
+use Rattle.wf_spelling.proofs.scan.line.scan_with_color.Goals as goal
+
+pub returns : goal.returns
+unfolding line
+returns c =
+    both (rw c.as_bytes.ensures.value at c.take.ensures) (both c.in_ok-r.ensures (both c.in_ok-g.ensures (both c.in_ok-b.ensures c.take-2.ensures)))

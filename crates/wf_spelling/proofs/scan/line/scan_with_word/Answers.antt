@@ -1,0 +1,8 @@
+use Rattle.wf_spelling.proofs.Scanning.{both}
+use Rattle.wf_token.specs.Spelling.{line}
+use Rattle.wf_spelling.proofs.scan.line.scan_with_word.Goals as goal
+
+pub returns : goal.returns
+unfolding line
+returns c =
+    both (rw c.as_bytes.ensures.value at c.take.ensures) (both c.take-2.ensures (both (rw c.as_bytes-2.ensures.value at c.take-3.ensures) c.take-4.ensures))

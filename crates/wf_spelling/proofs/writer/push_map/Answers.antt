@@ -1,0 +1,13 @@
+use Rattle.wf_spelling.specs.Canon.{canon}
+use Rattle.wf_spelling.proofs.Writing.{pieces, both, last_line}
+use Rattle.wf_spelling.proofs.writer.push_map.Goals as goal
+
+pub returns-clause-written : goal.returns-clause-written
+unfolding canon
+returns-clause-written c =
+    simp pieces (simp pieces at
+    (both c.push_heading.ensures.written
+    (both (rw c.projection.ensures.value at c.push_projection.ensures)
+    (both c.push_web.ensures
+    (both c.push_layers.ensures
+    (last_line _ c.push_alone.ensures))))))

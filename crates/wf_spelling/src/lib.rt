@@ -1,0 +1,23 @@
+//! The canonical text of a map: its definition, how it is written, and a quick reader of it.
+//!
+//! A canonical text is a mapfile with one item a line, single spaces, keywords in capitals and every default filled in (MapServer
+//! mapfile reference). `specs/Canon.antt` defines it as the lines of a definition, one after the other. wf_token defines how tokens
+//! are written on a line, wf_text how a number is written.
+//!
+//! Promises: [`text::text_of`] returns exactly the text of its definition. [`scan::map::scan`] accepts canonical texts alone, and
+//! returns their definition. Not here: whether bytes that the scanner leaves are a canonical text (wf_canon decides it).
+//!
+//! Modules: `draft` is a text while it is written, `line` writes the lines of one item; `class`, `feature`, `layer` and `writer`
+//! write blocks of lines; `text` writes a whole text; `scan` reads them, in files of the same names.
+#![tactic(auto)]
+
+mod class;
+mod draft;
+pub mod fault;
+mod feature;
+mod layer;
+mod line;
+mod number;
+pub mod scan;
+pub mod text;
+mod writer;

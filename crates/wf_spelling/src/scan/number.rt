@@ -1,0 +1,99 @@
+//! Scans the numbers of a canonical text.
+
+ghost use Rattle.std.specs.Prelude.{◌≡◌, ◌<◌, ◌≤◌, ◌^◌, IfSome};
+ghost use Rattle.std.specs.Fmt.{decimal};
+ghost use Rattle.wf_text.specs.NumberText.{fraction_digits, fraction_text, magnitude_text, number_text};
+ghost use Rattle.wf_spelling.specs.Scan.{Scans};
+
+use crate::scan::cursor::Cursor;
+use wf_def::micro::Micro;
+
+/// The number of millionths in a unit.
+const UNIT: u64 = 1_000_000;
+
+/// The number of digits of a fraction in millionths.
+const FRACTION_DIGITS: u32 = 6;
+
+/// The least integer behind which no further digit is scanned.
+const MANY: u32 = 100_000_000;
+
+/// Scans an integer below 1,000,000,000, which has no leading zero.
+pub fn scan_whole(cursor: &mut Cursor<'_>) -> Option<u32>
+    ensures scanned { IfSome result (λ whole. Scans cursor.old (decimal whole) cursor.new) }
+    ensures most { IfSome result (λ whole. whole < 1000000000) }
+{
+    let first = cursor.digit()?;
+    let mut whole = u32::from(first);
+    for _ in 0..8 {
+        if whole == 0 || whole >= MANY {
+            break;
+        }
+        match cursor.digit() {
+            Some(digit) => whole = whole * 10 + u32::from(digit),
+            None => break,
+        }
+    }
+    Some(whole)
+}
+
+/// Scans the digits of a fraction of that many places at most, the last of which isn't zero.
+fn scan_fraction_digits(cursor: &mut Cursor<'_>, places: u32) -> Option<u32>
+    requires { places ≤ 6 }
+    ensures scanned { IfSome result (λ parts. Scans cursor.old (fraction_digits places parts) cursor.new) }
+    ensures most { IfSome result (λ parts. parts < 10 ^ places) }
+{
+    if places == 0 {
+        return Some(0);
+    }
+    let digit = match cursor.digit() {
+        Some(digit) => digit,
+        None => return Some(0),
+    };
+    let behind = scan_fraction_digits(cursor, places - 1)?;
+    let unit = 10u32.pow(places - 1);
+    let parts = u32::from(digit) * unit + behind;
+    if parts == 0 {
+        return None;
+    }
+    Some(parts)
+}
+
+/// Scans a point and the digits of a fraction in millionths, if a point is ahead.
+fn scan_fraction(cursor: &mut Cursor<'_>) -> Option<u32>
+    ensures scanned { IfSome result (λ parts. Scans cursor.old (fraction_text parts) cursor.new) }
+    ensures most { IfSome result (λ parts. parts < 1000000) }
+{
+    if !cursor.skip(b".") {
+        return Some(0);
+    }
+    let parts = scan_fraction_digits(cursor, FRACTION_DIGITS)?;
+    if parts == 0 {
+        return None;
+    }
+    Some(parts)
+}
+
+/// Scans a number of millionths without its sign.
+fn scan_magnitude(cursor: &mut Cursor<'_>) -> Option<u64>
+    ensures scanned { IfSome result (λ millionths. Scans cursor.old (magnitude_text millionths) cursor.new) }
+    ensures most { IfSome result (λ millionths. millionths < 1000000000000000) }
+{
+    let whole = scan_whole(cursor)?;
+    let parts = scan_fraction(cursor)?;
+    Some(u64::from(whole) * UNIT + u64::from(parts))
+}
+
+/// Scans a number of millionths.
+pub fn scan_number(cursor: &mut Cursor<'_>) -> Option<Micro>
+    ensures { IfSome result (λ number. Scans cursor.old (number_text number) cursor.new) }
+{
+    if cursor.skip(b"-") {
+        let millionths = scan_magnitude(cursor)?;
+        if millionths == 0 {
+            return None;
+        }
+        return Micro::from_millionths(-(millionths as i64));
+    }
+    let millionths = scan_magnitude(cursor)?;
+    Micro::from_millionths(millionths as i64)
+}
