@@ -4,8 +4,8 @@ use std::alloc::Global;
 use std::io::ErrorKind;
 use wf_edge::hearing::hear;
 use wf_edge::outcome::Outcome;
-use wf_edge::request::Request;
-use wf_edge::resource::Asked as Resource;
+use wf_http::request::Request;
+use wf_http::resource::Asked as Resource;
 use wf_stream::{Output, Stream};
 use wf_table::{Answer, Answered, Asked, Unanswered, Words};
 

@@ -1,12 +1,12 @@
 -- From the reason why there is no request, and the response written for it, to its outcome.
 use Rattle.std.proofs.Common.{◌≡◌, ℕ, List, sym, subst}
 use Rattle.std.specs.Prelude.{Option, Err, IfSome}
-use Rattle.wf_edge.specs.Request.{Request, IsRequestFault, CountsReads}
-use Rattle.wf_edge.specs.Response.{Response}
+use Rattle.wf_http.specs.Request.{Request, IsRequestFault, CountsReads}
+use Rattle.wf_http.specs.Response.{Response}
 use Rattle.wf_edge.specs.Saying.{IsSaid, IsFaultSaid}
 use Rattle.wf_edge.specs.Hearing.{IsUnheard, CountsHearing}
-use Rattle.wf_edge.specs.declared.fault.RequestFault.{RequestFault}
-use Rattle.wf_edge.specs.declared.fault.RequestFault.TheVariants as fault
+use Rattle.wf_http.specs.declared.fault.RequestFault.{RequestFault}
+use Rattle.wf_http.specs.declared.fault.RequestFault.TheVariants as fault
 use Rattle.wf_edge.specs.declared.outcome.Outcome.{Outcome}
 use Rattle.wf_edge.specs.declared.outcome.Outcome.TheVariants as outcome
 

@@ -1,13 +1,5 @@
-mod BodyLaw
-mod CheckLaw
 mod EndingLaw
-mod FieldLaw
-mod HeadLaw
 mod HearingLaw
-mod NumberLaw
 mod PublishLaw
-mod RequestLaw
-mod Room
 mod ServiceLaw
 mod ServingLaw
-mod Written

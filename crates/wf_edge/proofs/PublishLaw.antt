@@ -23,7 +23,7 @@ use Rattle.wf_node.specs.Storing.{bytes_of}
 use Rattle.wf_node.specs.declared.fault.NodeFault.{NodeFault}
 use Rattle.wf_node.specs.declared.fault.NodeFault.TheVariants as node
 use Rattle.wf_tape.specs.Tape.{IsUnchanged, IsExtended, HasRisen}
-use Rattle.wf_edge.specs.Response.{Response}
+use Rattle.wf_http.specs.Response.{Response}
 use Rattle.wf_edge.specs.Page.{accepted_page}
 use Rattle.wf_edge.specs.Publish.{IsMapOf, IsText, IsWhyNoMap, IsProposed, IsPublished, unwritten}
 use Rattle.wf_edge.specs.declared.publish_fault.PublishFault.{PublishFault}

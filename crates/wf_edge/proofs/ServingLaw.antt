@@ -3,23 +3,23 @@ use Rattle.std.proofs.Common.{◌≡◌, ℕ, List, [], Vec, refl, sym, subst}
 use Rattle.std.specs.Prelude.{Option, Result, Ok, Err, IfSome}
 use Rattle.wf_codec.specs.declared.message.Message.{Message}
 use Rattle.wf_node.specs.Node.{Node}
-use Rattle.wf_edge.specs.Request.{Request, IsRequestFault, BeginsWith}
-use Rattle.wf_edge.specs.Response.{Response}
+use Rattle.wf_http.specs.Request.{Request, IsRequestFault, BeginsWith}
+use Rattle.wf_http.specs.Response.{Response}
 use Rattle.wf_edge.specs.Notice.{response_of}
 use Rattle.wf_edge.specs.Publish.{IsPublished}
 use Rattle.wf_edge.specs.Saying.{IsSaid, IsFaultSaid}
 use Rattle.wf_edge.specs.Hearing.{IsUnheard, CountsHearing}
 use Rattle.wf_edge.specs.Serving.{Asks, TellsPublish, GivesPublish, GivesTo, Gives, IsServed, MovesOnce, Stays, Proposes, IsOutcome}
-use Rattle.wf_edge.specs.declared.fault.RequestFault.{RequestFault}
-use Rattle.wf_edge.specs.declared.fault.RequestFault.TheVariants as fault
+use Rattle.wf_http.specs.declared.fault.RequestFault.{RequestFault}
+use Rattle.wf_http.specs.declared.fault.RequestFault.TheVariants as fault
 use Rattle.wf_edge.specs.declared.notice.Notice.{Notice}
 use Rattle.wf_edge.specs.declared.notice.Notice.TheVariants as notice
 use Rattle.wf_edge.specs.declared.outcome.Outcome.{Outcome}
 use Rattle.wf_edge.specs.declared.outcome.Outcome.TheVariants as outcome
 use Rattle.wf_edge.specs.declared.publish_fault.PublishFault.{PublishFault}
 use Rattle.wf_edge.specs.declared.publish_fault.PublishFault.TheVariants as publish
-use Rattle.wf_edge.specs.declared.resource.Asked.{Asked}
-use Rattle.wf_edge.specs.declared.resource.Asked.TheVariants as asked
+use Rattle.wf_http.specs.declared.resource.Asked.{Asked}
+use Rattle.wf_http.specs.declared.resource.Asked.TheVariants as asked
 use Rattle.wf_edge.proofs.HearingLaw.{calm_reads}
 
 module _ {T A : Type 0} (honest : Type 0) (content : T → List ℕ) (images : T → List ℕ → Type 0) (failures : T → ℕ) where

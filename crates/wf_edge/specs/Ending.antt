@@ -1,29 +1,21 @@
 -- How writing a response ends: a call that fails is the last one, and where there is no response no call is made. This holds of
 -- each writer, also of one whose bytes aren't known.
-use Rattle.std.specs.Prelude.{◌≡◌, ◌≤◌, ℕ, Bool, true, false, List, length, take, Option, IfSome}
-use Rattle.std.specs.Io.KnownBytes.{Appends}
-use Rattle.wf_stream.specs.Reading.{EndsByFailing}
+use Rattle.std.specs.Prelude.{◌≡◌, ℕ, List, Option, IfSome}
 use Rattle.wf_edge.specs.Notice.{notice_response}
-use Rattle.wf_edge.specs.Request.{IsRequestFault}
-use Rattle.wf_edge.specs.Response.{Response, response_bytes, IsCount}
-use Rattle.wf_edge.specs.declared.fault.RequestFault.{RequestFault}
-use Rattle.wf_edge.specs.declared.fault.RequestFault.TheVariants as fault
+use Rattle.wf_http.specs.Request.{IsRequestFault}
+use Rattle.wf_http.specs.Breaking.{BreaksOff}
+use Rattle.wf_http.specs.Response.{Response, response_bytes}
+use Rattle.wf_http.specs.declared.fault.RequestFault.{RequestFault}
+use Rattle.wf_http.specs.declared.fault.RequestFault.TheVariants as fault
 use Rattle.wf_edge.specs.declared.notice.Notice.TheVariants as notice
 use Rattle.wf_edge.specs.declared.outcome.Outcome.{Outcome}
 use Rattle.wf_edge.specs.declared.outcome.Outcome.TheVariants as outcome
 
 module _ {K : Type 0} (written : K → Option (List ℕ)) (failures : K → ℕ) (fails : K → K → Type 0) where
-  -- this many first bytes were written without a failure; then a call failed, and no call came after it
-  pub record BreaksOff (bytes : List ℕ) (old new : K) (count : ℕ) : Type 0 where
-    pub part : ℕ
-    pub within : part ≤ length bytes
-    pub counts : IsCount part count
-    pub ends : EndsByFailing written failures fails (take part bytes) old new
-
   -- how the response ended: nothing more is said where it was written completely
   abbrev pub IsEnded : Response → K → K → Outcome → Type 0
   IsEnded response old new (outcome.Sent status count) = Unit {0}
-  IsEnded response old new (outcome.WriteFailed status count) = BreaksOff (response_bytes response) old new count × (status ≡ response.status)
+  IsEnded response old new (outcome.WriteFailed status count) = BreaksOff written failures fails (response_bytes response) old new count × (status ≡ response.status)
   IsEnded response old new outcome.ReadFailed = ⊥
   IsEnded response old new outcome.NoRequest = ⊥
 
@@ -39,10 +31,3 @@ module _ {K : Type 0} (written : K → Option (List ℕ)) (failures : K → ℕ)
     pub why : RequestFault
     pub is : IfSome input (λ bytes. IsRequestFault bytes why)
     pub ended : IsFaultEnded why old new said
-
-  -- ---- how the code writes: piece by piece, until one fails
-
-  -- all the bytes were written without a failure; or writing them broke off
-  abbrev pub IsWriting : K → List ℕ → K → ℕ → Bool → Type 0
-  IsWriting first bytes now count false = Appends (written first) (written now) bytes × (failures now ≡ failures first) × IsCount (length bytes) count
-  IsWriting first bytes now count true = BreaksOff bytes first now count

@@ -1,9 +1,9 @@
 -- What is read of a request, or the response if there is none.
 use Rattle.std.specs.Prelude.{◌≡◌, ℕ, List, Option, IfSome}
 use Rattle.wf_stream.specs.Reading.{Rises}
-use Rattle.wf_edge.specs.Request.{IsRequestFault}
+use Rattle.wf_http.specs.Request.{IsRequestFault}
 use Rattle.wf_edge.specs.Saying.{IsFaultSaid}
-use Rattle.wf_edge.specs.declared.fault.RequestFault.{RequestFault}
+use Rattle.wf_http.specs.declared.fault.RequestFault.{RequestFault}
 use Rattle.wf_edge.specs.declared.outcome.Outcome.{Outcome}
 use Rattle.wf_edge.specs.declared.outcome.Outcome.TheVariants as outcome
 

@@ -6,11 +6,11 @@ use Rattle.wf_learner.specs.History.{map_at}
 use Rattle.wf_node.specs.Node.{Node}
 use Rattle.wf_wms.specs.Answer.{AsksForMap, subject}
 use Rattle.wf_edge.specs.Page.{IsServicePage}
-use Rattle.wf_edge.specs.Request.{Request, BeginsWith}
-use Rattle.wf_edge.specs.Response.{Response, response_bytes}
+use Rattle.wf_http.specs.Request.{Request, BeginsWith}
+use Rattle.wf_http.specs.Response.{Response, response_bytes}
 use Rattle.wf_edge.specs.Serving.{Responds}
-use Rattle.wf_edge.specs.Target.{query_of}
-use Rattle.wf_edge.specs.declared.resource.Asked.TheVariants.{Wms}
+use Rattle.wf_http.specs.Target.{query_of}
+use Rattle.wf_http.specs.declared.resource.Asked.TheVariants.{Wms}
 
 -- the input begins with a request to the map service, of that query
 pub record AsksMapService (input query : List ℕ) : Type 0 where

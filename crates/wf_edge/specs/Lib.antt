@@ -1,16 +1,10 @@
-pub mod Checks
 pub mod Contents
 pub mod Ending
-pub mod Fields
 pub mod Growth
-pub mod Head
 pub mod Hearing
 pub mod Law
 pub mod Notice
 pub mod Page
 pub mod Publish
-pub mod Request
-pub mod Response
 pub mod Saying
 pub mod Serving
-pub mod Target

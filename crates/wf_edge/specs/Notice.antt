@@ -2,12 +2,12 @@
 use Rattle.std.specs.Prelude.{ℕ, List, ◌++◌, codes, Option, Some, None, Result, Ok, Err}
 use Rattle.wf_node.specs.declared.fault.NodeFault.{NodeFault}
 use Rattle.wf_node.specs.declared.fault.NodeFault.TheVariants as node
-use Rattle.wf_edge.specs.Response.{Response}
-use Rattle.wf_edge.specs.declared.fault.RequestFault.{RequestFault}
-use Rattle.wf_edge.specs.declared.fault.RequestFault.TheVariants as fault
-use Rattle.wf_edge.specs.declared.refusal.Allowed.{Allowed}
-use Rattle.wf_edge.specs.declared.refusal.Refusal.{Refusal}
-use Rattle.wf_edge.specs.declared.refusal.Refusal.TheVariants as refusal
+use Rattle.wf_http.specs.Response.{Response}
+use Rattle.wf_http.specs.declared.fault.RequestFault.{RequestFault}
+use Rattle.wf_http.specs.declared.fault.RequestFault.TheVariants as fault
+use Rattle.wf_http.specs.declared.refusal.Allowed.{Allowed}
+use Rattle.wf_http.specs.declared.refusal.Refusal.{Refusal}
+use Rattle.wf_http.specs.declared.refusal.Refusal.TheVariants as refusal
 use Rattle.wf_edge.specs.declared.notice.Notice.{Notice}
 use Rattle.wf_edge.specs.declared.notice.Notice.TheVariants as notice
 

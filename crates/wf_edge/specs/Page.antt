@@ -8,7 +8,7 @@ use Rattle.wf_proposer.specs.Standing.{standing_of}
 use Rattle.wf_proposer.specs.declared.standing.Standing.{Standing}
 use Rattle.wf_proposer.specs.declared.standing.Standing.TheVariants as standing
 use Rattle.wf_wms.specs.Answer.{AnswerValue, IsAnswerOf}
-use Rattle.wf_edge.specs.Response.{Response}
+use Rattle.wf_http.specs.Response.{Response}
 use Rattle.wf_edge.specs.Notice.{plain, text_line}
 use Rattle.wf_edge.specs.declared.notice.Notice.{Notice}
 use Rattle.wf_edge.specs.declared.notice.Notice.TheVariants as notice

@@ -15,7 +15,7 @@ use Rattle.wf_node.specs.Node.{Node}
 use Rattle.wf_node.specs.Step.{IsStep}
 use Rattle.wf_node.specs.declared.fault.NodeFault.{NodeFault}
 use Rattle.wf_node.specs.declared.fault.NodeFault.TheVariants.{Halted}
-use Rattle.wf_edge.specs.Response.{Response}
+use Rattle.wf_http.specs.Response.{Response}
 use Rattle.wf_edge.specs.Notice.{notice_of}
 use Rattle.wf_edge.specs.Page.{accepted_page, bad_map_page}
 use Rattle.wf_edge.specs.declared.notice.Notice.{Notice}

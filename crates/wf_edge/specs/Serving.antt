@@ -5,21 +5,22 @@ use Rattle.wf_codec.specs.declared.message.Message.{Message}
 use Rattle.wf_def.specs.Definition.{Definition}
 use Rattle.wf_node.specs.Node.{Node}
 use Rattle.wf_node.specs.declared.fault.NodeFault.{NodeFault}
-use Rattle.wf_edge.specs.Ending.{BreaksOff, IsEnded}
-use Rattle.wf_edge.specs.Request.{Request, BeginsWith, IsRequestFault}
-use Rattle.wf_edge.specs.Response.{Response, response_bytes, IsCount, WritesPart}
-use Rattle.wf_edge.specs.Target.{query_of}
+use Rattle.wf_edge.specs.Ending.{IsEnded}
+use Rattle.wf_http.specs.Breaking.{BreaksOff}
+use Rattle.wf_http.specs.Request.{Request, BeginsWith, IsRequestFault}
+use Rattle.wf_http.specs.Response.{Response, response_bytes, IsCount, WritesPart}
+use Rattle.wf_http.specs.Target.{query_of}
 use Rattle.wf_edge.specs.Notice.{response_of}
 use Rattle.wf_edge.specs.Page.{status_page, IsServiceGiven}
 use Rattle.wf_edge.specs.Publish.{IsProposed, IsPublished, TellsFault}
 use Rattle.wf_edge.specs.Saying.{IsSaid}
-use Rattle.wf_edge.specs.declared.fault.RequestFault.{RequestFault}
-use Rattle.wf_edge.specs.declared.fault.RequestFault.TheVariants as fault
+use Rattle.wf_http.specs.declared.fault.RequestFault.{RequestFault}
+use Rattle.wf_http.specs.declared.fault.RequestFault.TheVariants as fault
 use Rattle.wf_edge.specs.declared.notice.Notice.{Notice}
 use Rattle.wf_edge.specs.declared.notice.Notice.TheVariants as notice
 use Rattle.wf_edge.specs.declared.publish_fault.PublishFault.{PublishFault}
-use Rattle.wf_edge.specs.declared.resource.Asked.{Asked}
-use Rattle.wf_edge.specs.declared.resource.Asked.TheVariants as asked
+use Rattle.wf_http.specs.declared.resource.Asked.{Asked}
+use Rattle.wf_http.specs.declared.resource.Asked.TheVariants as asked
 use Rattle.wf_edge.specs.declared.outcome.Outcome.{Outcome}
 use Rattle.wf_edge.specs.declared.outcome.Outcome.TheVariants as outcome
 

@@ -1,15 +1,15 @@
 //! A request is read, or rejected at once.
 ghost use Rattle.std.specs.Prelude.{◌≡◌, Ok, IfOk, IfErr, OnOk, IfSome};
-ghost use Rattle.wf_edge.specs.Checks.{judged};
+ghost use Rattle.wf_http.specs.Checks.{judged};
 ghost use Rattle.wf_edge.specs.Ending.{EndsUnheard};
-ghost use Rattle.wf_edge.specs.Request.{BeginsWith, TakesRequest};
+ghost use Rattle.wf_http.specs.Request.{BeginsWith, TakesRequest};
 ghost use Rattle.wf_edge.specs.Saying.{CountsSaying};
 ghost use Rattle.wf_edge.specs.Hearing.{IsUnheard, CountsHearing};
 
 use crate::outcome::Outcome;
-use crate::request::Request;
 use crate::saying::say_fault;
 use std::alloc::Global;
+use wf_http::request::Request;
 use wf_stream::{Sink, Source};
 
 /// Reads the request at the front of the input, and nothing after it but what came in one piece with the last of its head. Err:

@@ -1,25 +1,16 @@
 //! The HTTP server side of a node, over any reader and writer (RFC 9110, RFC 9112).
 //!
-//! Readers and writers are [`wf_stream::Source`] and [`wf_stream::Sink`], which count their failed calls and report their bytes
-//! if known.
-//! - [`front::Front`] is the head of a request with the bytes read after it; [`check::judge`] checks a head; [`body::read_body`]
-//!   reads a body; [`request::Request`] combines these.
-//! - [`response::Response`] is a response; [`saying::say`] writes it and returns its [`outcome::Outcome`]. A [`notice::Notice`]
-//!   is a response of one line; [`saying::say_fault`] responds if a request can't be read.
+//! Requests and responses are wf_http's; readers and writers are wf_stream's.
+//! - [`saying::say`] writes a response and returns its [`outcome::Outcome`]. A [`notice::Notice`] is a response of one line;
+//!   [`saying::say_fault`] responds if a request can't be read.
 //! - [`hearing::hear`] reads a request, or responds why there is none.
 //! - [`serve::serve_one`] does everything: it reads a request, answers it by a node, and writes the response;
 //!   [`serve::serve_one_cached`] does so with a cache of pictures of the node's maps.
 //!
-//! **Model.** A request is its head, what the head asks for, and its body (`specs/Request.antt`); a response is its status, media
-//! type, allowed method and body (`specs/Response.antt`). `specs/Serving.antt` states the response to a request and the node's
-//! step, with the pages in `specs/Page.antt` and a publish in `specs/Publish.antt`.
+//! **Model.** `specs/Serving.antt` states the response to a request and the node's step, with the pages in `specs/Page.antt` and a
+//! publish in `specs/Publish.antt`.
 //!
 //! **Promises.**
-//! - [`request::Request::read`]: the request is the one at the front of the input; a rejection is for its head, for the first
-//!   check that fails, or for a truncated body; a failed read is reported iff one has failed; and nothing after the request is
-//!   consumed but what came in one piece with the last of its head: no read is made once the request is complete.
-//! - [`response::Response::write`]: exactly the bytes of the response are written, or a prefix of them if the writer failed; the
-//!   failed write is the last call (`specs/Ending.antt`).
 //! - [`hearing::hear`]: either the request is the one at the front of the input and nothing is written yet, or the response for
 //!   the reason why there is none is written (`specs/Notice.antt`), and nothing if the input is empty or a read failed.
 //! - [`serve::serve_one`]: a response to the input is written, or a prefix of it, and the number of bytes written is reported;
@@ -37,13 +28,7 @@
 #![tactic(auto)]
 
 mod answering;
-pub mod body;
-pub mod check;
 mod contents;
-pub mod fault;
-pub mod fields;
-pub mod front;
-mod gathered;
 pub mod hearing;
 pub mod law;
 mod line;
@@ -52,13 +37,7 @@ pub mod outcome;
 mod page;
 mod publish;
 mod publish_fault;
-pub mod refusal;
 mod reply;
-pub mod request;
-pub mod resource;
-pub mod response;
 pub mod saying;
 pub mod serve;
-mod span;
-pub mod target;
 pub mod telling;

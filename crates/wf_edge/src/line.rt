@@ -34,7 +34,7 @@ impl Line {
         self.bytes.as_slice()
     }
 
-    #[tactic(auto, using(crate::proofs::Room::has_room, crate::proofs::Room::is_put))]
+    #[tactic(auto, using(wf_http::specs::RoomLaws::has_room, wf_http::specs::RoomLaws::is_put))]
     fn push_bytes(&mut self, bytes: &[u8])
         requires { length self.old.bytes.items + length bytes.now ≤ most_line_bytes }
         ensures { self.new.bytes.items ≡ self.old.bytes.items ++ bytes.now }
@@ -42,7 +42,7 @@ impl Line {
         self.bytes.try_extend_from_slice(bytes).unwrap();
     }
 
-    #[tactic(auto, using(crate::proofs::Room::pushed))]
+    #[tactic(auto, using(wf_http::specs::RoomLaws::pushed))]
     fn push_text(&mut self, text: &str)
         requires { length self.old.bytes.items + length text.now ≤ most_line_bytes }
         ensures text { self.new.bytes.items ≡ self.old.bytes.items ++ text.now }
@@ -52,7 +52,7 @@ impl Line {
     }
 
     // A number has at most 20 digits.
-    #[tactic(auto, using(crate::proofs::Room::pushed))]
+    #[tactic(auto, using(wf_http::specs::RoomLaws::pushed))]
     fn push_number(&mut self, number: usize)
         requires { length self.old.bytes.items + 20 ≤ most_line_bytes }
         ensures text { self.new.bytes.items ≡ self.old.bytes.items ++ decimal number }

@@ -1,6 +1,6 @@
 //! Responses in place of a page.
 
-use crate::refusal::Refusal;
+use wf_http::refusal::Refusal;
 
 /// A response of one line of plain text, which allocates nothing. Each has its status.
 #[derive(Clone, Copy, PartialEq, Eq)]

@@ -5,10 +5,10 @@ ghost use Rattle.wf_edge.specs.Notice.{plain};
 
 use crate::contents::Contents;
 use crate::line::Line;
-use crate::response::Response;
 use crate::telling::PLAIN;
 use http::StatusCode;
 use std::marker::Model;
+use wf_http::response::Response;
 
 /// A response whose body is in memory.
 #[derive(Drop)]
@@ -21,7 +21,7 @@ pub(crate) struct Page {
 impl Model for Page {
     ghost use Rattle.std.specs.Prelude.{None};
     ghost use Rattle.wf_edge.specs.Contents.{bytes_of};
-    ghost use Rattle.wf_edge.specs.Response.{Response as ResponseValue};
+    ghost use Rattle.wf_http.specs.Response.{Response as ResponseValue};
 
     ghost Value = { ResponseValue };
 

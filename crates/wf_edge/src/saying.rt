@@ -2,11 +2,11 @@
 ghost use Rattle.wf_edge.specs.Ending.{IsEnded, IsFaultEnded};
 ghost use Rattle.wf_edge.specs.Saying.{IsSaid, IsFaultSaid, CountsSaying};
 
-use crate::fault::RequestFault;
 use crate::notice::Notice;
 use crate::outcome::Outcome;
-use crate::response::Response;
 use crate::telling::told;
+use wf_http::fault::RequestFault;
+use wf_http::response::Response;
 use wf_stream::Sink;
 
 /// Writes a response: all of it if `Sent`, otherwise a prefix, and no call comes after the failed one. Both report the response's

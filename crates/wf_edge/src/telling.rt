@@ -2,11 +2,11 @@
 ghost use Rattle.std.specs.Prelude.{◌≡◌};
 ghost use Rattle.wf_edge.specs.Notice.{text_line, refusal_status, refusal_words, allowed_by, status_of, words_of, allowed_of, notice_response, notice_of, notice_of_fault};
 
-use crate::fault::RequestFault;
 use crate::notice::Notice;
-use crate::refusal::{Allowed, Refusal};
-use crate::response::Response;
 use http::StatusCode;
+use wf_http::fault::RequestFault;
+use wf_http::refusal::{Allowed, Refusal};
+use wf_http::response::Response;
 use wf_node::NodeFault;
 
 /// The media type of a line of text.

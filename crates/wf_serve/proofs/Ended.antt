@@ -2,7 +2,7 @@
 use Rattle.std.proofs.Common.{ℕ, List, Vec, take}
 use Rattle.std.specs.Prelude.{Option}
 use Rattle.wf_codec.specs.declared.message.Message.{Message}
-use Rattle.wf_edge.specs.Response.{response_bytes}
+use Rattle.wf_http.specs.Response.{response_bytes}
 use Rattle.wf_edge.specs.Serving.{IsEnding}
 use Rattle.wf_edge.specs.declared.outcome.Outcome.{Outcome}
 use Rattle.wf_edge.specs.declared.outcome.Outcome.TheVariants as outcome

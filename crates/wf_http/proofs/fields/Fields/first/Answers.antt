@@ -1,0 +1,6 @@
+use Rattle.std.proofs.Common.{◌∙◌}
+use Rattle.wf_http.proofs.FieldLaw.{first_value}
+use Rattle.wf_http.proofs.fields.Fields.first.Goals as goal
+
+pub returns : goal.returns
+returns c = c.found.ensures ∙ first_value c.args.name.now c.args.self.now

@@ -1,0 +1,71 @@
+//! The body of a request.
+ghost use Rattle.std.specs.Prelude.{◌≡◌, ◌<◌, ◌-◌, ◌++◌, IfOk, IfErr, IfSome, IsOk, length};
+ghost use Rattle.wf_http.specs.Request.{IsBody, IsBodyFault, CountsReads};
+ghost use Rattle.wf_stream.specs.Reading.{TakesUpTo};
+
+use crate::fault::RequestFault;
+use crate::refusal::Refusal;
+use std::alloc::{AllocError, Global};
+use std::io::ErrorKind;
+use wf_stream::{Source, read_up_to};
+
+fn join(alloc: Global, front: &[u8], rest: &[u8]) -> Result<Vec<u8>, AllocError>
+    ensures { IfOk result (λ whole. whole.items ≡ front.now ++ rest.now) }
+{
+    let mut whole = Vec::from_slice(alloc, front)?;
+    whole.extend_from_slice(rest)?;
+    Ok(whole)
+}
+
+// Reads a body of `bytes` bytes, some of which may have been read with the head.
+#[tactic(auto, using(crate::proofs::BodyLaw::body_joined, crate::proofs::BodyLaw::body_cut, crate::proofs::BodyLaw::body_unheld, crate::proofs::BodyLaw::missing_taken))]
+fn read_missing<S: Source>(
+    alloc: Global,
+    source: &mut S,
+    behind: &[u8],
+    bytes: usize,
+) -> Result<Vec<u8>, RequestFault>
+    requires { 0 < bytes }
+    ensures ok { IfOk result (λ body. IfSome (S.left source.old) (λ left. IsBody (behind.now ++ left) bytes body.items)) }
+    ensures err { IfErr result (λ fault. IfSome (S.left source.old) (λ left. IsBodyFault (behind.now ++ left) bytes fault)) }
+    ensures takes { TakesUpTo (bytes - length behind.now) (S.left source.old) (S.left source.new) }
+    ensures reads { CountsReads result (S.failures source.old) (S.failures source.new) }
+{
+    let front = behind.split_at(behind.len().min(bytes)).0;
+    let missing = bytes - front.len();
+    match read_up_to(alloc, source, missing) {
+        Ok(rest) => {
+            if rest.len() != missing {
+                return Err(RequestFault::Refused(Refusal::BadRequest));
+            }
+            match join(alloc, front, &rest) {
+                Ok(body) => Ok(body),
+                Err(_) => Err(RequestFault::Memory),
+            }
+        }
+        Err(error) if error.kind() == ErrorKind::OutOfMemory => Err(RequestFault::Memory),
+        Err(_) => Err(RequestFault::ReadFailed),
+    }
+}
+
+/// Reads a body of `bytes` bytes, of which those in `behind` were read with the head. Bytes after the body may be among them, and
+/// are ignored; no further ones are read: if all of the body came with the head, nothing is read. An empty body allocates nothing
+/// either.
+#[tactic(auto, using(crate::proofs::BodyLaw::nothing_taken))]
+pub fn read_body<S: Source>(
+    alloc: Global,
+    source: &mut S,
+    behind: &[u8],
+    bytes: usize,
+) -> Result<Vec<u8>, RequestFault>
+    ensures ok { IfOk result (λ body. IfSome (S.left source.old) (λ left. IsBody (behind.now ++ left) bytes body.items)) }
+    ensures err { IfErr result (λ fault. IfSome (S.left source.old) (λ left. IsBodyFault (behind.now ++ left) bytes fault)) }
+    ensures takes { TakesUpTo (bytes - length behind.now) (S.left source.old) (S.left source.new) }
+    ensures reads { CountsReads result (S.failures source.old) (S.failures source.new) }
+    ensures empty { bytes ≡ 0 → IsOk result × (source.new ≡ source.old) }
+{
+    if bytes == 0 {
+        return Ok(Vec::new(alloc));
+    }
+    read_missing(alloc, source, behind, bytes)
+}

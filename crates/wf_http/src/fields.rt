@@ -1,0 +1,160 @@
+//! The header fields of a request.
+ghost use Rattle.std.specs.Prelude.{◌≡◌, ◌≤◌, ◌^◌, ◌-◌, ◌&&◌, not, is_some, bytes_eq, min, length, map, find, option_map};
+ghost use Rattle.std.specs.Char.{is_ascii_digit};
+ghost use Rattle.std.specs.List.{list_all, prefix_len};
+ghost use Rattle.httparse.specs.Spans.{header_bytes};
+ghost use Rattle.wf_http.specs.Fields.{is_named, is_digits, is_zero, number, significant, values, first_of};
+
+use crate::span::covered;
+use httparse::spans::HeaderSpan;
+use std::marker::Model;
+
+/// The name of the field with a body's transfer codings (RFC 9112, section 6.1).
+pub const TRANSFER_ENCODING: &[u8] = b"Transfer-Encoding";
+
+/// The name of the field with a body's length (RFC 9110, section 8.6).
+pub const CONTENT_LENGTH: &[u8] = b"Content-Length";
+
+fn are_all_digits(bytes: &[u8]) -> bool
+    ensures { result ≡ list_all is_ascii_digit bytes.now }
+{
+    bytes.iter().all(|byte| byte.is_ascii_digit())
+}
+
+// Whether a value is one or more decimal digits.
+fn is_digits(value: &[u8]) -> bool
+    ensures { result ≡ is_digits value.now }
+{
+    match value {
+        [] => false,
+        [_, ..] => are_all_digits(value),
+    }
+}
+
+fn count_zeros(digits: &[u8]) -> usize
+    ensures value { result ≡ prefix_len is_zero digits.now }
+    ensures within { result ≤ length digits.now }
+{
+    digits.iter().take_while(|digit| **digit == b'0').count()
+}
+
+// The digits without leading zeros.
+fn significant(digits: &[u8]) -> &[u8]
+    ensures { result.now ≡ significant digits.now }
+{
+    digits.split_at(count_zeros(digits)).1
+}
+
+/// The whole number with these digits, or `u64::MAX` if it is greater.
+pub fn number(digits: &[u8]) -> u64
+    ensures { result ≡ min (number digits.now) (2 ^ 64 - 1) }
+{
+    let mut number = 0u64;
+    for digit in digits {
+        number = number
+            .saturating_mul(10)
+            .saturating_add(u64::from(digit.saturating_sub(b'0')));
+    }
+    number
+}
+
+// Whether the field at a span has this name.
+fn is_named(bytes: &[u8], span: &HeaderSpan, name: &[u8]) -> bool
+    ensures { result ≡ is_named name.now (header_bytes bytes.now span.now) }
+{
+    covered(bytes, span.name).eq_ignore_ascii_case(name)
+}
+
+// Whether the field at a span has this name, and its value isn't digits.
+fn has_no_digits(bytes: &[u8], span: &HeaderSpan, name: &[u8]) -> bool
+    ensures { result ≡ (is_named name.now (header_bytes bytes.now span.now) && not (is_digits (header_bytes bytes.now span.now).1)) }
+{
+    is_named(bytes, span, name) && !is_digits(covered(bytes, span.value))
+}
+
+// Whether the field at a span has this name, and its value differs from this one, leading zeros aside.
+fn has_other(bytes: &[u8], span: &HeaderSpan, name: &[u8], first: &[u8]) -> bool
+    ensures { result ≡ (is_named name.now (header_bytes bytes.now span.now)
+        && not (bytes_eq (significant (header_bytes bytes.now span.now).1) (significant first.now))) }
+{
+    is_named(bytes, span, name) && significant(covered(bytes, span.value)) != significant(first)
+}
+
+/// The header fields of a request, as spans of its bytes.
+#[derive(Drop)]
+pub struct Fields<'b> {
+    bytes: &'b [u8],
+    spans: &'b [HeaderSpan],
+}
+
+impl<'b> Model for Fields<'b> {
+    ghost use Rattle.std.specs.Prelude.{ℕ, List, map};
+    ghost use Rattle.httparse.specs.Spans.{header_bytes};
+
+    ghost Value = { List (List ℕ × List ℕ) };
+
+    ghost view = { λ f. map (header_bytes f.bytes.now) f.spans.now };
+}
+
+impl<'b> Fields<'b> {
+    /// The fields at these spans.
+    pub fn new(bytes: &'b [u8], spans: &'b [HeaderSpan]) -> Self
+        ensures { result ≡ map (header_bytes bytes.now) spans.now }
+    {
+        Fields { bytes, spans }
+    }
+
+    fn found(&self, name: &[u8]) -> Option<&'b [u8]>
+        ensures { option_map (λ value. value.now) result ≡ option_map (λ field. field.1) (find (is_named name.now) self.now) }
+    {
+        for span in self.spans {
+            if is_named(self.bytes, span, name) {
+                return Some(covered(self.bytes, span.value));
+            }
+        }
+        None
+    }
+
+    fn found_no_digits(&self, name: &[u8]) -> bool
+        ensures { result ≡ is_some (find (λ field. is_named name.now field && not (is_digits field.1)) self.now) }
+    {
+        for span in self.spans {
+            if has_no_digits(self.bytes, span, name) {
+                return true;
+            }
+        }
+        false
+    }
+
+    fn found_other(&self, name: &[u8], first: &[u8]) -> bool
+        ensures { result ≡ is_some (find (λ field. is_named name.now field && not (bytes_eq (significant field.1) (significant first.now))) self.now) }
+    {
+        for span in self.spans {
+            if has_other(self.bytes, span, name, first) {
+                return true;
+            }
+        }
+        false
+    }
+
+    /// The value of the first field of that name.
+    pub fn first(&self, name: &[u8]) -> Option<&'b [u8]>
+        ensures { option_map (λ value. value.now) result ≡ first_of (values name.now self.now) }
+    {
+        self.found(name)
+    }
+
+    /// Whether the value of each field of that name is one or more decimal digits.
+    pub fn are_digits(&self, name: &[u8]) -> bool
+        ensures { result ≡ list_all is_digits (values name.now self.now) }
+    {
+        !self.found_no_digits(name)
+    }
+
+    /// Whether the value of each field of that name is this one, leading zeros aside.
+    pub fn are_same(&self, name: &[u8], first: &[u8]) -> bool
+        ensures { result ≡ list_all (λ value. bytes_eq (significant value) (significant first.now)) (values name.now self.now) }
+    {
+        !self.found_other(name, first)
+    }
+}

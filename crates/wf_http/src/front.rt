@@ -1,0 +1,215 @@
+//! The front of a request: its head, and the bytes read after it.
+ghost use Rattle.std.specs.Prelude.{◌≡◌, ◌≢◌, ◌≤◌, ◌<◌, ◌+◌, ◌-◌, ◌++◌, ℕ, List, Option, None, Ok, length, IfOk, IfErr, IfSome, OnOk};
+ghost use Rattle.std.specs.Io.KnownBytes.{Consumes, IsAtEnd};
+ghost use Rattle.httparse.specs.Grammar.{HasNoRequest};
+ghost use Rattle.wf_http.specs.Head.{most_head_bytes, most_fields, Begins};
+ghost use Rattle.wf_http.specs.Request.{front_of, TakesFront, TakesMore, TakesPiece, TakesHead, IsUnfinished, IsHeadRefusal, IsHeadFault, CountsReads};
+ghost use Rattle.wf_http.specs.Checks.{judged, most_body_bytes};
+ghost use Rattle.wf_http.specs.declared.fault.RequestFault.TheVariants.{ReadFailed, Memory};
+ghost use Rattle.wf_stream.specs.Reading.{Counts, ReadsPiece};
+
+use crate::check::{MOST_BODY_BYTES, judge};
+use crate::fault::RequestFault;
+use crate::fields::Fields;
+use crate::refusal::Refusal;
+use crate::resource::Asked;
+use crate::span::covered;
+use arrayvec::ArrayVec;
+use httparse::spans::{EMPTY_HEADER_SPAN, HeaderSpan, RequestSpans, parse_request};
+use httparse::{Error, Status};
+use std::io;
+use std::marker::Model;
+use wf_stream::Source;
+
+/// The greatest length of a head, in bytes, with the empty lines before it.
+pub const MOST_HEAD_BYTES: usize = 8_192;
+
+/// The greatest number of fields of a head.
+pub const MOST_FIELDS: usize = 32;
+
+/// The limits in the code equal those in the specifications.
+pub fn limits_are_as_defined()
+    ensures bytes { MOST_HEAD_BYTES ≡ most_head_bytes }
+    ensures fields { MOST_FIELDS ≡ most_fields }
+    ensures body { MOST_BODY_BYTES ≡ most_body_bytes }
+{}
+
+// The spans of the parts of a head.
+#[derive(Clone, Copy)]
+struct Parts {
+    fields: [HeaderSpan; MOST_FIELDS],
+    spans: RequestSpans,
+}
+
+// The head at the front of the bytes; none if they may still become one.
+#[tactic(auto, using(crate::proofs::HeadLaw::small, crate::proofs::HeadLaw::overflows))]
+fn parse(bytes: &[u8]) -> Result<Option<Parts>, Refusal>
+    requires { length bytes.now ≤ most_head_bytes }
+    ensures found { IfOk result (λ found. IfSome found (λ parts.
+        Begins bytes.now (front_of bytes.now parts.fields parts.spans).head (front_of bytes.now parts.fields parts.spans).behind)) }
+    ensures none { result ≡ Ok None → HasNoRequest bytes.now }
+    // Whatever bytes follow.
+    ensures refused { IfErr result (λ refusal. (more : List ℕ) → IsHeadRefusal (bytes.now ++ more) refusal) }
+{
+    let mut fields = [EMPTY_HEADER_SPAN; MOST_FIELDS];
+    match parse_request(bytes, &mut fields) {
+        Ok(Status::Complete(spans)) => Ok(Some(Parts { fields, spans })),
+        Ok(Status::Partial) => Ok(None),
+        Err(Error::TooManyHeaders) => Err(Refusal::HeadTooLarge),
+        Err(_) => Err(Refusal::BadRequest),
+    }
+}
+
+// The result if the input ends without a complete head.
+fn ended(bytes: &[u8]) -> RequestFault
+    requires { IsUnfinished bytes.now }
+    ensures fault { IsHeadFault bytes.now result }
+    ensures calm { result ≢ ReadFailed }
+    ensures no_memory { result ≢ Memory }
+{
+    if bytes.is_empty() {
+        RequestFault::NoRequest
+    } else {
+        RequestFault::Refused(Refusal::BadRequest)
+    }
+}
+
+// The bytes read while looking for a head, stored inline: allocates nothing.
+type HeadBytes = ArrayVec<u8, MOST_HEAD_BYTES>;
+
+// Appends a piece.
+#[tactic(auto, using(crate::specs::RoomLaws::has_room, crate::specs::RoomLaws::is_put, crate::specs::RoomLaws::pushed))]
+fn extend(bytes: &mut HeadBytes, piece: &[u8])
+    requires { length bytes.old.items + length piece.now ≤ most_head_bytes }
+    ensures items { bytes.new.items ≡ bytes.old.items ++ piece.now }
+    ensures size { length bytes.new.items ≡ length bytes.old.items + length piece.now }
+{
+    bytes.try_extend_from_slice(piece).unwrap();
+}
+
+// Reads once, at most as many bytes as there is room for, and appends them.
+#[tactic(auto, using(crate::proofs::HeadLaw::piece_kept, crate::proofs::HeadLaw::piece_taken))]
+fn read_on<S: Source>(source: &mut S, bytes: &mut HeadBytes) -> io::Result<usize>
+    requires { length bytes.old.items < most_head_bytes }
+    ensures read { IfOk result (λ count. ReadsPiece count (S.left source.old) (S.left source.new) bytes.old.items bytes.new.items) }
+    ensures within { OnOk result (length bytes.new.items ≤ most_head_bytes) }
+    ensures end { IfOk result (λ count. count ≡ 0 → IsAtEnd (S.left source.new)) }
+    ensures takes { TakesPiece (S.piece source.old) (most_head_bytes - length bytes.old.items) (S.left source.old) (S.left source.new) }
+    ensures piece { S.piece source.new ≡ S.piece source.old }
+    ensures cause { Counts result (S.failures source.old) (S.failures source.new) }
+{
+    let mut piece = [0u8; MOST_HEAD_BYTES];
+    let room = MOST_HEAD_BYTES - bytes.len();
+    match source.read(&mut piece[..room]) {
+        Ok(count) => {
+            extend(bytes, &piece[..count]);
+            Ok(count)
+        }
+        Err(error) => Err(error),
+    }
+}
+
+// Reads one more piece, and looks for a head in the bytes so far.
+#[tactic(auto, using(crate::proofs::HeadLaw::fault_at_end, crate::proofs::HeadLaw::nothing_more, crate::proofs::HeadLaw::head_looked_for, wf_stream::specs::KnownLaws::piece_length))]
+fn read_more<S: Source>(
+    source: &mut S,
+    bytes: &mut HeadBytes,
+) -> Result<Option<Parts>, RequestFault>
+    requires room { length bytes.old.items < most_head_bytes }
+    requires unfinished { IsUnfinished bytes.old.items }
+    ensures taken { OnOk result (TakesMore (S.left source.old) (S.left source.new) bytes.old.items bytes.new.items) }
+    ensures room { OnOk result (length bytes.new.items ≤ most_head_bytes) }
+    ensures found { IfOk result (λ found. IfSome found (λ parts.
+        Begins bytes.new.items (front_of bytes.new.items parts.fields parts.spans).head (front_of bytes.new.items parts.fields parts.spans).behind)) }
+    ensures none { result ≡ Ok None → HasNoRequest bytes.new.items }
+    ensures err { IfErr result (λ fault. (start : Option (List ℕ)) → Consumes start (S.left source.old) bytes.old.items
+        → IfSome start (λ input. IsHeadFault input fault)) }
+    ensures takes { (piece : Option ℕ) (start : Option (List ℕ)) → S.piece source.old ≡ piece → Consumes start (S.left source.old) bytes.old.items
+        → TakesHead piece start (S.left source.new) }
+    ensures piece { S.piece source.new ≡ S.piece source.old }
+    ensures no_memory { IfErr result (λ fault. fault ≢ Memory) }
+    ensures reads { CountsReads result (S.failures source.old) (S.failures source.new) }
+{
+    match read_on(source, bytes) {
+        Ok(0) => Err(ended(bytes.as_slice())),
+        Ok(_) => match parse(bytes.as_slice()) {
+            Ok(found) => Ok(found),
+            Err(refusal) => Err(RequestFault::Refused(refusal)),
+        },
+        Err(_) => Err(RequestFault::ReadFailed),
+    }
+}
+
+/// A head, and the bytes read after it.
+#[derive(Drop)]
+pub struct Front {
+    bytes: HeadBytes,
+    parts: Parts,
+}
+
+impl Model for Front {
+    ghost use Rattle.wf_http.specs.Request.{Front as FrontValue, front_of};
+
+    ghost Value = { FrontValue };
+
+    ghost view = { λ f. front_of f.bytes.items f.parts.fields f.parts.spans };
+}
+
+impl Front {
+    /// Reads from the front of the input until a head is complete, and no further: at most 8,192 bytes, in at most that many
+    /// calls, since each call returns a byte, the end or an error. Allocates nothing.
+    #[tactic(auto, using(crate::proofs::HeadLaw::fault_at_limit, crate::proofs::HeadLaw::taken_at_limit))]
+    pub fn read<S: Source>(source: &mut S) -> Result<Self, RequestFault>
+        ensures ok { IfOk result (TakesFront (S.left source.old) (S.left source.new)) }
+        ensures err { IfErr result (λ fault. IfSome (S.left source.old) (λ input. IsHeadFault input fault)) }
+        ensures takes { TakesHead (S.piece source.old) (S.left source.old) (S.left source.new) }
+        ensures no_memory { IfErr result (λ fault. fault ≢ Memory) }
+        ensures reads { CountsReads result (S.failures source.old) (S.failures source.new) }
+    {
+        let mut bytes = ArrayVec::new();
+        while bytes.len() < MOST_HEAD_BYTES {
+            match read_more(source, &mut bytes) {
+                Ok(Some(parts)) => return Ok(Front { bytes, parts }),
+                Ok(None) => {}
+                Err(fault) => return Err(fault),
+            }
+        }
+        Err(RequestFault::Refused(Refusal::HeadTooLarge))
+    }
+
+    /// The target of the request.
+    pub fn target(&self) -> &[u8]
+        ensures { result.now ≡ self.now.head.target }
+    {
+        covered(self.bytes.as_slice(), self.parts.spans.path)
+    }
+
+    /// The bytes read after the head.
+    pub fn behind(&self) -> &[u8]
+        ensures { result.now ≡ self.now.behind }
+    {
+        let length = self.parts.spans.len.min(self.bytes.len());
+        self.bytes.as_slice().split_at(length).1
+    }
+
+    fn method(&self) -> &[u8]
+        ensures { result.now ≡ self.now.head.method }
+    {
+        covered(self.bytes.as_slice(), self.parts.spans.method)
+    }
+
+    #[tactic(auto, using(crate::proofs::HeadLaw::taken_within))]
+    fn fields(&self) -> Fields<'_>
+        ensures { result ≡ self.now.head.fields }
+    {
+        let count = self.parts.spans.headers.min(self.parts.fields.len());
+        Fields::new(self.bytes.as_slice(), self.parts.fields.split_at(count).0)
+    }
+
+    /// What the head asks for, or the rejection by the first check that fails.
+    pub fn judge(&self) -> Result<Asked, Refusal>
+        ensures { result ≡ judged self.now.head }
+    {
+        judge(self.method(), self.target(), &self.fields())
+    }
+}

@@ -1,0 +1,186 @@
+//! Responses, and how they are written.
+ghost use Rattle.std.specs.Prelude.{◌≡◌, ◌≤◌, ◌++◌, ℕ, false, List, [], Option, length, take, IfOk, IfErr, OnOk, OnErr};
+ghost use Rattle.std.specs.Io.KnownBytes.{Appends};
+ghost use Rattle.wf_stream.specs.Reading.{Rises};
+ghost use Rattle.wf_http.specs.Breaking.{BreaksOff, IsWriting};
+ghost use Rattle.wf_http.specs.Response.{reason, allow_line, head_bytes, response_bytes, IsCount, WritesPart, IsProgress, CountsProgress};
+
+use crate::gathered::Gathered;
+use crate::refusal::Allowed;
+use http::StatusCode;
+use itoa::Buffer;
+use std::marker::Model;
+use wf_stream::{Sink, write_all};
+
+/// A writer failed. This many bytes were written before.
+#[derive(Clone, Copy)]
+pub struct CutShort {
+    pub written: u64,
+}
+
+// The progress of writing a response.
+#[derive(Drop)]
+struct Progress {
+    // the number of bytes written
+    written: u64,
+    // the writer has failed, and nothing more is written
+    failed: bool,
+}
+
+impl Progress {
+    // Nothing is written yet.
+    fn start() -> Self
+        ensures { result ≡ record { written = 0; failed = false } }
+    {
+        Progress {
+            written: 0,
+            failed: false,
+        }
+    }
+}
+
+// Writes one more piece, unless the writer has failed.
+fn put<K: Sink>(sink: &mut K, progress: &mut Progress, piece: &[u8])
+    ensures written { (start : Option (List ℕ)) (bytes : List ℕ) → IsProgress start bytes (K.written sink.old) progress.old.written progress.old.failed
+        → IsProgress start (bytes ++ piece.now) (K.written sink.new) progress.new.written progress.new.failed }
+    ensures failures { (first : ℕ) → CountsProgress first (K.failures sink.old) progress.old.failed
+        → CountsProgress first (K.failures sink.new) progress.new.failed }
+    ensures last { (first : K) (bytes : List ℕ) → IsWriting K.written K.failures K.fails first bytes sink.old progress.old.written progress.old.failed
+        → IsWriting K.written K.failures K.fails first (bytes ++ piece.now) sink.new progress.new.written progress.new.failed }
+{
+    if progress.failed {
+        return;
+    }
+    match write_all(sink, piece) {
+        Ok(()) => progress.written = progress.written.saturating_add(piece.len() as u64),
+        Err(count) => {
+            progress.written = progress.written.saturating_add(count as u64);
+            progress.failed = true;
+        }
+    }
+}
+
+// The phrase of a status.
+#[tactic(auto, unfolding(crate::specs::Response::reason))]
+fn reason(status: StatusCode) -> &'static str
+    ensures { result.now ≡ reason status }
+{
+    match status.canonical_reason() {
+        Some(phrase) => phrase,
+        None => "",
+    }
+}
+
+// The line with the allowed method.
+fn allow_line(allowed: Option<Allowed>) -> &'static [u8]
+    ensures { result.now ≡ allow_line allowed }
+{
+    match allowed {
+        None => b"",
+        Some(Allowed::Get) => b"Allow: GET\r\n",
+        Some(Allowed::Post) => b"Allow: POST\r\n",
+    }
+}
+
+/// A response.
+#[derive(Drop)]
+pub struct Response<'b> {
+    status: StatusCode,
+    media: &'b str,
+    allowed: Option<Allowed>,
+    body: &'b [u8],
+}
+
+impl<'b> Model for Response<'b> {
+    ghost use Rattle.wf_http.specs.Response.{Response as ResponseValue};
+
+    ghost Value = { ResponseValue };
+
+    ghost view = { λ r. record { status = r.status; media = r.media.now; allowed = r.allowed; body = r.body.now } };
+}
+
+impl<'b> Response<'b> {
+    /// A response with a status, and a body of a media type; with status 405 the allowed method.
+    pub fn new(status: StatusCode, media: &'b str, allowed: Option<Allowed>, body: &'b [u8]) -> Self
+        ensures { result ≡ record { status = status; media = media.now; allowed = allowed; body = body.now } }
+    {
+        Response {
+            status,
+            media,
+            allowed,
+            body,
+        }
+    }
+
+    /// The status code.
+    pub fn status(&self) -> u16
+        ensures { result ≡ self.now.status }
+    {
+        self.status.as_u16()
+    }
+
+    // Writes the lines before the body.
+    fn put_lines<K: Sink>(&self, sink: &mut K, progress: &mut Progress)
+        ensures written { (start : Option (List ℕ)) → IsProgress start [] (K.written sink.old) progress.old.written progress.old.failed
+            → IsProgress start (head_bytes self.now) (K.written sink.new) progress.new.written progress.new.failed }
+        ensures failures { (first : ℕ) → CountsProgress first (K.failures sink.old) progress.old.failed
+            → CountsProgress first (K.failures sink.new) progress.new.failed }
+        ensures last { (first : K) → IsWriting K.written K.failures K.fails first [] sink.old progress.old.written progress.old.failed
+            → IsWriting K.written K.failures K.fails first (head_bytes self.now) sink.new progress.new.written progress.new.failed }
+    {
+        let mut digits = Buffer::new();
+        put(sink, progress, b"HTTP/1.1 ");
+        put(sink, progress, self.status.as_str().as_bytes());
+        put(sink, progress, b" ");
+        put(sink, progress, reason(self.status).as_bytes());
+        put(sink, progress, b"\r\nContent-Type: ");
+        put(sink, progress, self.media.as_bytes());
+        put(sink, progress, b"\r\nContent-Length: ");
+        put(sink, progress, digits.format(self.body.len()).as_bytes());
+        put(sink, progress, b"\r\n");
+        put(sink, progress, allow_line(self.allowed));
+        put(sink, progress, b"Connection: close\r\n\r\n");
+    }
+
+    // Writes the lines before the body, in one piece if they fit the buffer.
+    fn put_head<K: Sink>(&self, sink: &mut K, progress: &mut Progress)
+        ensures written { (start : Option (List ℕ)) → IsProgress start [] (K.written sink.old) progress.old.written progress.old.failed
+            → IsProgress start (head_bytes self.now) (K.written sink.new) progress.new.written progress.new.failed }
+        ensures failures { (first : ℕ) → CountsProgress first (K.failures sink.old) progress.old.failed
+            → CountsProgress first (K.failures sink.new) progress.new.failed }
+        ensures last { (first : K) → IsWriting K.written K.failures K.fails first [] sink.old progress.old.written progress.old.failed
+            → IsWriting K.written K.failures K.fails first (head_bytes self.now) sink.new progress.new.written progress.new.failed }
+    {
+        let mut head = Gathered::new();
+        let mut gathering = Progress::start();
+        self.put_lines(&mut head, &mut gathering);
+        if gathering.failed {
+            self.put_lines(sink, progress);
+            return;
+        }
+        put(sink, progress, head.bytes());
+    }
+
+    /// Writes the response without allocating, its head in one piece and its body in another, and returns its number of bytes. If
+    /// the writer fails, a prefix of the response is written, and the failed call is the last.
+    pub fn write<K: Sink>(&self, sink: &mut K) -> Result<u64, CutShort>
+        ensures whole { OnOk result (Appends (K.written sink.old) (K.written sink.new) (response_bytes self.now)) }
+        ensures count { IfOk result (IsCount (length (response_bytes self.now))) }
+        ensures part { IfErr result (λ cut. WritesPart (response_bytes self.now) (K.written sink.old) (K.written sink.new) cut.written) }
+        ensures calm { OnOk result (K.failures sink.new ≡ K.failures sink.old) }
+        ensures cause { OnErr result (Rises (K.failures sink.old) (K.failures sink.new)) }
+        // No call comes after one that failed.
+        ensures last { IfErr result (λ cut. BreaksOff K.written K.failures K.fails (response_bytes self.now) sink.old sink.new cut.written) }
+    {
+        let mut progress = Progress::start();
+        self.put_head(sink, &mut progress);
+        put(sink, &mut progress, self.body);
+        if progress.failed {
+            Err(CutShort {
+                written: progress.written,
+            })
+        } else {
+            Ok(progress.written)
+        }
+    }
+}

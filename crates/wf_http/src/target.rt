@@ -1,0 +1,69 @@
+//! The target of a request.
+ghost use Rattle.std.specs.Prelude.{◌≡◌, ◌≤◌, length};
+ghost use Rattle.std.specs.List.{position_or_len};
+ghost use Rattle.wf_http.specs.Target.{is_question_mark, path_of, query_of, resource_at, method_of, method_name};
+
+use crate::refusal::Allowed;
+use crate::resource::Resource;
+
+// The length of the target's path.
+fn path_length(target: &[u8]) -> usize
+    ensures value { result ≡ position_or_len is_question_mark target.now }
+    ensures within { result ≤ length target.now }
+{
+    target.iter().take_while(|byte| **byte != b'?').count()
+}
+
+/// The bytes before the first question mark of a target.
+pub fn path_of(target: &[u8]) -> &[u8]
+    ensures { result.now ≡ path_of target.now }
+{
+    target.split_at(path_length(target)).0
+}
+
+/// The bytes after the first question mark of a target; none if it has none.
+pub fn query_of(target: &[u8]) -> &[u8]
+    ensures { result.now ≡ query_of target.now }
+{
+    let behind = target.split_at(path_length(target)).1;
+    match behind {
+        [_, query @ ..] => query,
+        [] => behind,
+    }
+}
+
+/// The resource at a path.
+#[tactic(auto, unfolding(crate::specs::Target::resource_at))]
+pub fn resource_at(path: &[u8]) -> Option<Resource>
+    ensures { result ≡ resource_at path.now }
+{
+    if path == b"/wms".as_slice() {
+        Some(Resource::Wms)
+    } else if path == b"/status".as_slice() {
+        Some(Resource::Status)
+    } else if path == b"/publish".as_slice() {
+        Some(Resource::Publish)
+    } else {
+        None
+    }
+}
+
+/// The method of a resource.
+pub fn method_of(resource: Resource) -> Allowed
+    ensures { result ≡ method_of resource }
+{
+    match resource {
+        Resource::Wms | Resource::Status => Allowed::Get,
+        Resource::Publish => Allowed::Post,
+    }
+}
+
+/// A method's name.
+pub fn method_name(method: Allowed) -> &'static [u8]
+    ensures { result.now ≡ method_name method }
+{
+    match method {
+        Allowed::Get => b"GET",
+        Allowed::Post => b"POST",
+    }
+}
