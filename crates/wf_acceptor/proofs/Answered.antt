@@ -14,8 +14,8 @@ use Rattle.wf_def.specs.Definition.{Definition}
 use Rattle.wf_codec.specs.Message.{view}
 use Rattle.wf_codec.specs.declared.message.Message.{Message}
 use Rattle.wf_codec.specs.declared.message.Message.TheVariants.{Promise, Accepted, Nack}
-use Rattle.wf_tape.specs.declared.record.Record.TheVariants as record_
-use Rattle.wf_tape.specs.declared.record.Record.TheVariants.{Promised}
+use Rattle.wf_journal.specs.declared.record.Record.TheVariants as record_
+use Rattle.wf_journal.specs.declared.record.Record.TheVariants.{Promised}
 use Rattle.wf_acceptor.specs.Acceptor.{Part, ActsFor, promises_of, votes_of}
 use Rattle.wf_acceptor.specs.Prepared.{nack_of}
 use Rattle.wf_acceptor.specs.Answer.{Answers, Stores}

@@ -11,9 +11,9 @@ use Rattle.wf_model.specs.Stored as model
 use Rattle.wf_model.specs.Stored.{Stored, published, put, with_record, nothing_stored}
 use Rattle.wf_def.specs.Definition.{Definition}
 use Rattle.wf_codec.specs.Message.{view_vote}
-use Rattle.wf_tape.specs.Record.{view}
-use Rattle.wf_tape.specs.declared.record.Record.{Record}
-use Rattle.wf_tape.specs.declared.record.Record.TheVariants.{Tried, Promised, Accepted, Published}
+use Rattle.wf_journal.specs.Record.{view}
+use Rattle.wf_journal.specs.declared.record.Record.{Record}
+use Rattle.wf_journal.specs.declared.record.Record.TheVariants.{Tried, Promised, Accepted, Published}
 use Rattle.wf_acceptor.specs.Acceptor.{Acceptor, Part, ActsFor, Applies, IsNext}
 use Rattle.wf_acceptor.specs.Prepared.{with_entry, with_open}
 

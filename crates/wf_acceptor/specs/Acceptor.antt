@@ -9,8 +9,8 @@ use Rattle.wf_model.specs.Stored as model
 use Rattle.wf_model.specs.Stored.{Stored, published, with_record}
 use Rattle.wf_def.specs.Definition.{Definition}
 use Rattle.wf_codec.specs.Message.{view_vote}
-use Rattle.wf_tape.specs.declared.record.Record.{Record}
-use Rattle.wf_tape.specs.declared.record.Record.TheVariants.{Tried, Promised, Accepted, Published}
+use Rattle.wf_journal.specs.declared.record.Record.{Record}
+use Rattle.wf_journal.specs.declared.record.Record.TheVariants.{Tried, Promised, Accepted, Published}
 
 -- An acceptor's part of its node's stored state: the node's number, the number of published definitions, and the promise and the
 -- vote at each slot.

@@ -6,7 +6,7 @@ use Rattle.wf_model.specs.Working.{Working}
 use Rattle.wf_model.specs.Table.{Row}
 use Rattle.wf_def.specs.Definition.{Definition}
 use Rattle.wf_codec.specs.Message as message
-use Rattle.wf_tape.specs.Record as record_
+use Rattle.wf_journal.specs.Record as record_
 use Rattle.wf_acceptor.specs.Acceptor.{Part, ActsFor}
 use Rattle.wf_acceptor.specs.declared.answer.Answer.{Answer}
 

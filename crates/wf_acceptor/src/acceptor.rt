@@ -12,7 +12,7 @@ use std::marker::Model;
 use wf_ballot::{Ballot, NodeId, Slot};
 use wf_canon::Canon;
 use wf_codec::Message;
-use wf_tape::Record;
+use wf_journal::Record;
 
 /// A node's promises and votes. A promise is the ballot below which the node rejects everything at a slot; a vote is the ballot
 /// at which it voted there, with the definition.
@@ -75,7 +75,7 @@ impl Acceptor {
     ghost use Rattle.wf_model.specs.Table.{on_prepare as prepare_row, on_accept as accept_row, votes_at};
     ghost use Rattle.std.specs.Option.{option_copied};
     ghost use Rattle.wf_codec.specs.Message.{view_vote};
-    ghost use Rattle.wf_tape.specs.Record.{view as record_view};
+    ghost use Rattle.wf_journal.specs.Record.{view as record_view};
     ghost use Rattle.wf_acceptor.specs.Acceptor.{promises_of, votes_of, ActsFor, Applies, IsNext, HasRoomFor};
     ghost use Rattle.wf_acceptor.specs.Answer.{Answers, Stores};
     ghost use Rattle.wf_acceptor.specs.Prepared.{nack_of, with_open, with_entry, with_entry_at, with_published};

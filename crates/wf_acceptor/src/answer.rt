@@ -1,5 +1,5 @@
 use wf_codec::Message;
-use wf_tape::Record;
+use wf_journal::Record;
 
 /// An acceptor's answer to a Prepare or an Accept.
 #[derive(Drop)]

@@ -1,11 +1,11 @@
 //! Equality of records.
 
 ghost use Rattle.std.specs.Prelude.{◌≡◌, ◌↔◌, IsTrue};
-ghost use Rattle.wf_tape.specs.declared.record.Record.TheVariants.{Tried, Promised, Accepted, Published};
+ghost use Rattle.wf_journal.specs.declared.record.Record.TheVariants.{Tried, Promised, Accepted, Published};
 
 use wf_ballot::{Ballot, Round, Slot};
 use wf_canon::Canon;
-use wf_tape::Record;
+use wf_journal::Record;
 
 /// Whether the two records are equal.
 pub fn is_same_record(a: &Record, b: &Record) -> bool

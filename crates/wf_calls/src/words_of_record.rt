@@ -4,7 +4,7 @@ use crate::telling::write_field;
 use crate::words_of_message::{write_at, write_definition, write_message};
 use wf_codec::Message;
 use wf_table::Answer;
-use wf_tape::Record;
+use wf_journal::Record;
 
 /// Appends a line: the record to store and the messages to send after that, each `nothing` where there is
 /// none.

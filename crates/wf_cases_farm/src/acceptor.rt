@@ -16,7 +16,7 @@ use wf_calls::telling::{tell_done, tell_whether};
 use wf_calls::words;
 use wf_calls::words_of_record::tell_step;
 use wf_table::{Answer, Answered, Asked, Unanswered, Words};
-use wf_tape::Record;
+use wf_journal::Record;
 
 #[derive(Drop)]
 struct Session<'a> {

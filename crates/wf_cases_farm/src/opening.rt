@@ -5,7 +5,8 @@ use wf_calls::telling::write_field;
 use wf_calls::words_of_tape::{bytes_on, tape_of, tell_length};
 use wf_node::Node;
 use wf_table::{Answer, Answered, Asked, Unanswered};
-use wf_tape::{MemoryTape, OpenFault};
+use wf_journal::OpenFault;
+use wf_tape::MemoryTape;
 
 /// The node on a tape; or the tape again, and why the node doesn't open.
 pub(crate) fn open(

@@ -12,7 +12,7 @@ use Rattle.wf_model.specs.World as world
 use Rattle.wf_model.specs.World.{World, Event, Stop, Restart, after_restart, happens, steps, start, after}
 use Rattle.wf_node.specs.Images.{StandsFor}
 use Rattle.wf_node.specs.Node.{Node, stored_of}
-use Rattle.wf_tape.specs.Records.{AreReadOneWay}
+use Rattle.wf_journal.specs.Records.{AreReadOneWay}
 use Rattle.wf_farm.specs.Delivering.{AnyPart, StandFor, IsNodeBy, Shows}
 use Rattle.wf_farm.specs.Leading.{AreReached}
 use Rattle.wf_farm.specs.Reopening.{AreReopened, HasStoredAgain, ReopenedAreReached, ReopenedOnTape}

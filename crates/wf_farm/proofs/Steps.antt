@@ -22,10 +22,10 @@ use Rattle.wf_node.specs.Opening.{IsFoldOf}
 use Rattle.wf_node.specs.Step.{row_of, refusal_at, IsRow, IsSameNode}
 use Rattle.wf_node.specs.declared.fault.NodeFault.{NodeFault}
 use Rattle.wf_node.specs.declared.fault.NodeFault.TheVariants as fault_case
-use Rattle.wf_tape.specs.Journal.{Follows, ReadsSame}
+use Rattle.wf_journal.specs.Journal.{Follows, ReadsSame}
 use Rattle.wf_tape.specs.MemoryTape as tape
 use Rattle.wf_tape.specs.MemoryTape.{IsImageOf, NeverFails}
-use Rattle.wf_tape.specs.Records.{AreReadOneWay, IsReadAsNone}
+use Rattle.wf_journal.specs.Records.{AreReadOneWay, IsReadAsNone}
 use Rattle.wf_tape.specs.Tape.{IsBeginning}
 use Rattle.wf_farm.specs.declared.place.Place.{Place}
 use Rattle.wf_farm.specs.declared.place.Place.TheVariants.{Running, Stopped}

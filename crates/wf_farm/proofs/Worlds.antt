@@ -10,7 +10,7 @@ use Rattle.wf_model.specs.Steps.{StepsInTurn}
 use Rattle.wf_model.specs.Stored.{Stored, definition_at}
 use Rattle.wf_model.specs.World as world
 use Rattle.wf_model.specs.World.{World, Event, start, after, steps}
-use Rattle.wf_tape.specs.Records.{AreReadOneWay}
+use Rattle.wf_journal.specs.Records.{AreReadOneWay}
 use Rattle.wf_farm.specs.declared.place.Place.{Place}
 use Rattle.wf_farm.specs.declared.place.Place.TheVariants.{Running, Stopped}
 use Rattle.wf_farm.specs.Agreement.{HasStored, HasOneHistory, IsOneWorld}

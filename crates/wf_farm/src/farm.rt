@@ -9,7 +9,8 @@ use wf_canon::Canon;
 use wf_codec::Message;
 use wf_model::steps_in_turn;
 use wf_node::Node;
-use wf_tape::{MemoryTape, records_are_read_one_way};
+use wf_journal::records_are_read_one_way;
+use wf_tape::MemoryTape;
 
 /// A farm: its nodes, running or stopped, and all messages that they ever sent. Every farm is reached from the start by some
 /// events, so its nodes agree ([`Farm::agree`]).

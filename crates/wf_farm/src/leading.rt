@@ -8,7 +8,8 @@ ghost use Rattle.wf_farm.specs.Reopening.{ReopenedAreReached, ReopenedOnTape};
 use wf_canon::Canon;
 use wf_law::earlier_messages;
 use wf_node::Node;
-use wf_tape::{Tape, records_are_read_one_way};
+use wf_journal::records_are_read_one_way;
+use wf_tape::Tape;
 use wf_wms::law::{asked_maps_are_answered_alike, each_query_has_one_answer};
 
 /// A step Propose, Retry or CatchUp of a node leads the nodes on, whatever it returns, and sends exactly the messages that it

@@ -16,7 +16,8 @@ use crate::place::Place;
 use std::alloc::{AllocError, Global};
 use wf_ballot::NodeId;
 use wf_node::Node;
-use wf_tape::{MemoryTape, records_are_read_one_way};
+use wf_journal::records_are_read_one_way;
+use wf_tape::MemoryTape;
 
 impl Cluster {
     /// Returns n nodes, all running, with all parts empty, and no message.

@@ -15,7 +15,8 @@ use wf_canon::Canon;
 use wf_codec::Message;
 use wf_model::rows_are_short;
 use wf_node::{Input, Node, NodeFault};
-use wf_tape::{MemoryTape, records_are_read_one_way};
+use wf_journal::records_are_read_one_way;
+use wf_tape::MemoryTape;
 
 impl Place {
     /// Performs a step of the node. A stopped node sends nothing. An error leaves the node unchanged.

@@ -5,8 +5,8 @@ use Rattle.std.proofs.lemmas.List.{append-nil, append_cancel_left, map-append, n
 use Rattle.std.specs.Prelude.{Result, Ok, Err, OnOk}
 use Rattle.wf_def.specs.Definition.{Definition}
 use Rattle.wf_model.specs.Stored.{Record}
-use Rattle.wf_tape.specs.Records.{AreReadOneWay, IsCleanOrTorn, IsTorn, Splits, length_of}
-use Rattle.wf_tape.specs.Spelling.{spelling}
+use Rattle.wf_journal.specs.Records.{AreReadOneWay, IsCleanOrTorn, IsTorn, Splits, length_of}
+use Rattle.wf_journal.specs.Spelling.{spelling}
 use Rattle.wf_listing.specs.declared.rest.Rest.{Rest}
 use Rattle.wf_listing.specs.declared.rest.Rest.TheVariants as rests
 use Rattle.wf_listing.proofs.Splits.{length_splits}

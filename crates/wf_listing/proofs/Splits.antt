@@ -4,10 +4,10 @@ use Rattle.std.proofs.lemmas.List.{nil_from_length, take_at}
 use Rattle.wf_ballot.specs.Frame.{frame}
 use Rattle.wf_def.specs.Definition.{Definition}
 use Rattle.wf_model.specs.Stored.{Record}
-use Rattle.wf_tape.specs.Journal.{IsBadAt}
-use Rattle.wf_tape.specs.Record.{texts}
-use Rattle.wf_tape.specs.Records.{AreReadOneWay, AreRecords, BeginsWithNone, IsTapeOf, ReadsAs, Splits, length_of}
-use Rattle.wf_tape.specs.Spelling.{spelling, text_spelling}
+use Rattle.wf_journal.specs.Journal.{IsBadAt}
+use Rattle.wf_journal.specs.Record.{texts}
+use Rattle.wf_journal.specs.Records.{AreReadOneWay, AreRecords, BeginsWithNone, IsTapeOf, ReadsAs, Splits, length_of}
+use Rattle.wf_journal.specs.Spelling.{spelling, text_spelling}
 use Rattle.wf_listing.specs.Listing.{AreFound}
 
 -- the records of bytes are as long as the bytes without the rest

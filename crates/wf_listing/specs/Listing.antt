@@ -5,8 +5,8 @@ use Rattle.wf_ballot.specs.Ballot.{Ballot, ballot_text}
 use Rattle.wf_spelling.specs.Canon.{canon}
 use Rattle.wf_def.specs.Definition.{Definition}
 use Rattle.wf_model.specs.Stored.{Record, Tried, Promised, Accepted, Published}
-use Rattle.wf_tape.specs.Records.{Reads, IsTorn, IsBad, IsCleanOrTorn, length_of}
-use Rattle.wf_tape.specs.Spelling.{spelling}
+use Rattle.wf_journal.specs.Records.{Reads, IsTorn, IsBad, IsCleanOrTorn, length_of}
+use Rattle.wf_journal.specs.Spelling.{spelling}
 use Rattle.wf_listing.specs.declared.rest.Rest.{Rest}
 use Rattle.wf_listing.specs.declared.rest.Rest.TheVariants as rests
 

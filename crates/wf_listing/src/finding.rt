@@ -1,12 +1,13 @@
 //! The records of bytes.
 ghost use Rattle.std.specs.Prelude.{◌≡◌, ◌<◌, ◌^◌, true, IfErr, IfOk, IsErrOf, map};
 ghost use Rattle.wf_listing.specs.Listing.{AreFound};
-ghost use Rattle.wf_tape.specs.Journal.{IsWhereBad};
-ghost use Rattle.wf_tape.specs.Record.{view};
-ghost use Rattle.wf_tape.specs.Records.{IsTapeOf, length_of};
+ghost use Rattle.wf_journal.specs.Journal.{IsWhereBad};
+ghost use Rattle.wf_journal.specs.Record.{view};
+ghost use Rattle.wf_journal.specs.Records.{IsTapeOf, length_of};
 
 use std::alloc::{AllocError, Global};
-use wf_tape::{Found, MemoryTape, OpenFault, Record, records_are_read_one_way};
+use wf_journal::{Found, OpenFault, Record, records_are_read_one_way};
+use wf_tape::MemoryTape;
 
 /// The whole records that bytes begin with, the oldest first, and whether what follows them is bad.
 pub(crate) fn find(alloc: Global, bytes: &[u8]) -> Result<(Vec<Record>, bool), AllocError>

@@ -2,13 +2,13 @@
 ghost use Rattle.std.specs.Prelude.{◌≡◌, ◌++◌, OnOk};
 ghost use Rattle.std.specs.String.{string_bytes};
 ghost use Rattle.wf_listing.specs.Listing.{accepted_line, left_line, promised_line, published_line, record_line, rest_line, tried_line};
-ghost use Rattle.wf_tape.specs.Record.{view};
+ghost use Rattle.wf_journal.specs.Record.{view};
 
 use crate::rest::Rest;
 use std::alloc::AllocError;
 use std::fmt::Write;
 use wf_ballot::{Ballot, Round, Slot};
-use wf_tape::Record;
+use wf_journal::Record;
 
 /// Appends the line of the record at a byte offset.
 pub(crate) fn push_record(out: &mut String, offset: usize, entry: &Record) -> Result<(), AllocError>

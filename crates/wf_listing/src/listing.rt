@@ -2,14 +2,14 @@
 ghost use Rattle.std.specs.Prelude.{◌≡◌, ◌++◌, ◌<◌, ◌^◌, [], IfOk, OnOk, map};
 ghost use Rattle.std.specs.String.{string_bytes};
 ghost use Rattle.wf_listing.specs.Listing.{AreFound, IsListing, record_lines, rest_of};
-ghost use Rattle.wf_tape.specs.Record.{view};
-ghost use Rattle.wf_tape.specs.Records.{length_of};
+ghost use Rattle.wf_journal.specs.Record.{view};
+ghost use Rattle.wf_journal.specs.Records.{length_of};
 
 use crate::finding::find;
 use crate::line::{push_record, push_rest};
 use crate::rest::Rest;
 use std::alloc::{AllocError, Global};
-use wf_tape::Record;
+use wf_journal::Record;
 
 /// The listing of a tape's bytes: a line for each whole record, the oldest first, and a line for what follows them. Each line
 /// begins with a byte offset. The only error is allocation failure.

@@ -16,8 +16,8 @@ use Rattle.wf_proposer.specs.Proposer.{Proposer, working_of}
 use Rattle.wf_proposer.specs.Refusal.{refusal_of}
 use Rattle.wf_proposer.specs.declared.refusal.Refusal as held
 use Rattle.wf_proposer.specs.declared.refusal.Refusal.TheVariants as held_case
-use Rattle.wf_tape.specs.Journal.{Journal}
-use Rattle.wf_tape.specs.Record.{view}
+use Rattle.wf_journal.specs.Journal.{Journal}
+use Rattle.wf_journal.specs.Record.{view}
 use Rattle.wf_node.specs.declared.fault.NodeFault.{NodeFault}
 use Rattle.wf_node.specs.declared.fault.NodeFault.TheVariants.{Memory}
 use Rattle.wf_node.specs.Act.{IsAct, IsChange, IsRefusedOr, IsReply}

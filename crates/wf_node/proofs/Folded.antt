@@ -4,12 +4,12 @@ use Rattle.std.proofs.lemmas.List.{append-nil, map-append}
 use Rattle.std.proofs.lemmas.Option.{none-some, same_Some}
 use Rattle.wf_def.specs.Definition.{Definition}
 use Rattle.wf_model.specs.Stored.{Stored, Record, fits, with_record, fold_from, fold, nothing_stored}
-use Rattle.wf_tape.specs.Record.{view}
-use Rattle.wf_tape.specs.Spelling.{spelling}
-use Rattle.wf_tape.specs.Records.{length_of}
-use Rattle.wf_tape.specs.declared.record.Record as code
-use Rattle.wf_tape.specs.declared.opening.OpenFault.{OpenFault}
-use Rattle.wf_tape.specs.declared.opening.OpenFault.TheVariants.{TapeFailed, BadRecord, Memory}
+use Rattle.wf_journal.specs.Record.{view}
+use Rattle.wf_journal.specs.Spelling.{spelling}
+use Rattle.wf_journal.specs.Records.{length_of}
+use Rattle.wf_journal.specs.declared.record.Record as code
+use Rattle.wf_journal.specs.declared.opening.OpenFault.{OpenFault}
+use Rattle.wf_journal.specs.declared.opening.OpenFault.TheVariants.{TapeFailed, BadRecord, Memory}
 use Rattle.wf_node.specs.Opening.{IsUnfitAt, IsTaken, IsWhyRefused, IsWhyUnfolded}
 use Rattle.wf_node.proofs.Folding.{fold_more}
 

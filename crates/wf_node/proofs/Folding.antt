@@ -4,7 +4,7 @@ use Rattle.std.proofs.lemmas.Option.{none-some, same_Some}
 use Rattle.wf_def.specs.Definition.{Definition}
 use Rattle.wf_model.specs.Stored.{Stored, Record, fits, with_record, fold_from, fold, nothing_stored}
 use Rattle.wf_model.specs.Table.{store}
-use Rattle.wf_tape.specs.Journal.{Follows, ReadsOneMore, ReadsSameOrOneMore}
+use Rattle.wf_journal.specs.Journal.{Follows, ReadsOneMore, ReadsSameOrOneMore}
 use Rattle.wf_node.specs.Images.{StandsFor, ReadsOn, ReadsWith}
 use Rattle.wf_node.specs.Storing.{IsStoredBy, IsTornAt, IsCutAt}
 

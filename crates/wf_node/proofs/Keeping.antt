@@ -10,9 +10,9 @@ use Rattle.wf_model.specs.Stored as model
 use Rattle.wf_model.specs.Stored.{Stored, published, next_sequence, put, with_record, fits, promise_at}
 use Rattle.wf_model.specs.Working.{Working, Idle}
 use Rattle.wf_model.specs.Table.{Row, store, on_prepare, prepare_open, promise_to, on_accept, accept_open, vote_for, told, nack, says, quiet, stores, is_above, is_refused, votes_at}
-use Rattle.wf_tape.specs.Record.{view}
-use Rattle.wf_tape.specs.declared.record.Record.{Record}
-use Rattle.wf_tape.specs.declared.record.Record.TheVariants.{Tried, Promised, Accepted, Published}
+use Rattle.wf_journal.specs.Record.{view}
+use Rattle.wf_journal.specs.declared.record.Record.{Record}
+use Rattle.wf_journal.specs.declared.record.Record.TheVariants.{Tried, Promised, Accepted, Published}
 use Rattle.wf_acceptor.specs.Acceptor as acceptor
 use Rattle.wf_acceptor.specs.Acceptor.{Part, ActsFor, Applies, IsNext}
 use Rattle.wf_acceptor.specs.Answer as answers

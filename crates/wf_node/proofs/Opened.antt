@@ -3,11 +3,11 @@ use Rattle.std.proofs.Common.{◌≡◌, ℕ, ◌≤◌, List, Some, drop, subst
 use Rattle.std.proofs.lemmas.Bool.{cases_lt}
 use Rattle.wf_def.specs.Definition.{Definition}
 use Rattle.wf_model.specs.Stored.{Stored, Record, fold}
-use Rattle.wf_tape.specs.Front.{HasRead}
-use Rattle.wf_tape.specs.Journal.{AllReadAs, Follows, ReadsSame, IsWhereBad, IsNotBad, IsWhyFailed}
+use Rattle.wf_journal.specs.Front.{HasRead}
+use Rattle.wf_journal.specs.Journal.{AllReadAs, Follows, ReadsSame, IsWhereBad, IsNotBad, IsWhyFailed}
 use Rattle.wf_tape.specs.Tape.{LeavesNoOther, IsUnchanged, HasRisen}
-use Rattle.wf_tape.specs.declared.opening.OpenFault.{OpenFault}
-use Rattle.wf_tape.specs.declared.opening.OpenFault.TheVariants.{TapeFailed, BadRecord, Memory}
+use Rattle.wf_journal.specs.declared.opening.OpenFault.{OpenFault}
+use Rattle.wf_journal.specs.declared.opening.OpenFault.TheVariants.{TapeFailed, BadRecord, Memory}
 use Rattle.wf_node.specs.Images.{AllStandFor}
 use Rattle.wf_node.specs.Opening.{IsFoldOf, HasNoFold, IsWhyBad, IsWhyUnfolded}
 use Rattle.wf_node.proofs.Folded.{none_where_unfit}

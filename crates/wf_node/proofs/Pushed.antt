@@ -7,8 +7,8 @@ use Rattle.wf_def.specs.Definition.{Definition}
 use Rattle.wf_model.specs.Message.{Vote}
 use Rattle.wf_model.specs.Stored.{Stored, Record, Tried, Promised, Accepted, Published, definition_at, promise_at}
 use Rattle.wf_model.specs.Table.{votes_at}
-use Rattle.wf_tape.specs.Record.{view}
-use Rattle.wf_tape.specs.declared.record.Record as code
+use Rattle.wf_journal.specs.Record.{view}
+use Rattle.wf_journal.specs.declared.record.Record as code
 use Rattle.wf_node.specs.Shortening.{tried_records, vote_records, promise_records, open_records, records_by, records_at, records_from}
 
 pub one_more : (before after : List code.Record) (r : code.Record) → after ≡ before ++ r ∷ [] → map view after ≡ map view before ++ view r ∷ []

@@ -9,10 +9,10 @@ use Rattle.wf_model.specs.Message as model
 use Rattle.wf_model.specs.Table.{Row, says, store}
 use Rattle.wf_proposer.specs.Next.{Next}
 use Rattle.wf_proposer.specs.Proposer.{Proposer, row_of, working_of}
-use Rattle.wf_tape.specs.Journal.{Journal, Follows, IsAdded, ReadsOneMore, ReadsSameOrOneMore}
-use Rattle.wf_tape.specs.Record.{view}
-use Rattle.wf_tape.specs.declared.record.Record as tape
-use Rattle.wf_tape.specs.Spelling.{spelling}
+use Rattle.wf_journal.specs.Journal.{Journal, Follows, IsAdded, ReadsOneMore, ReadsSameOrOneMore}
+use Rattle.wf_journal.specs.Record.{view}
+use Rattle.wf_journal.specs.declared.record.Record as tape
+use Rattle.wf_journal.specs.Spelling.{spelling}
 use Rattle.wf_tape.specs.Tape.{IsUnchanged, IsExtended, HasRisen}
 use Rattle.wf_node.specs.declared.fault.NodeFault.{NodeFault}
 use Rattle.wf_node.specs.declared.fault.NodeFault.TheVariants.{Memory, Busy, SequenceFull, RoundsFull, Halted, TapeFailed, Nothing}

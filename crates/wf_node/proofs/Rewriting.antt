@@ -4,7 +4,7 @@ use Rattle.wf_def.specs.Definition.{Definition}
 use Rattle.wf_model.specs.Fits.{FoldsAreOpen, VotesArePromised}
 use Rattle.wf_model.specs.Stored.{Stored, Record}
 use Rattle.wf_proposer.specs.Proposer.{Proposer}
-use Rattle.wf_tape.specs.Journal.{Journal}
+use Rattle.wf_journal.specs.Journal.{Journal}
 use Rattle.wf_node.specs.declared.fault.NodeFault.{NodeFault}
 use Rattle.wf_node.specs.declared.fault.NodeFault.TheVariants.{Memory, Busy, SequenceFull, RoundsFull, Halted, TapeFailed, Nothing}
 use Rattle.wf_node.specs.Images.{AllStandFor}

@@ -15,9 +15,9 @@ use Rattle.wf_model.specs.PutLaws.{put-same, put-other, at_put}
 use Rattle.wf_model.specs.Stored.{Stored, Record, Tried, Promised, Accepted, Published, nothing_stored, published, next_sequence, definition_at, promise_at, put, with_record, fits, fold_from, fold}
 use Rattle.wf_model.specs.Table.{votes_at}
 use Rattle.wf_model.specs.Working.{same_ballot}
-use Rattle.wf_tape.specs.Journal.{Follows, IsSameOrReads}
-use Rattle.wf_tape.specs.Record.{IsRecord}
-use Rattle.wf_tape.specs.Records.{Splits}
+use Rattle.wf_journal.specs.Journal.{Follows, IsSameOrReads}
+use Rattle.wf_journal.specs.Record.{IsRecord}
+use Rattle.wf_journal.specs.Records.{Splits}
 use Rattle.wf_node.specs.Images.{StandsFor, AllStandFor}
 use Rattle.wf_node.specs.Shortening.{tried_records, vote_records, promise_records, open_records, records_by, records_at, records_from, shortened}
 

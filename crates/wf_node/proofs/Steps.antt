@@ -9,7 +9,7 @@ use Rattle.wf_model.specs.Fits.{IsForNext, RowFits, RecordsFit}
 use Rattle.wf_model.specs.Stored.{Stored}
 use Rattle.wf_model.specs.Table.{Row, Input, Refusal, row, refusal, store}
 use Rattle.wf_proposer.specs.Proposer.{Proposer, working_of}
-use Rattle.wf_tape.specs.Journal.{Journal}
+use Rattle.wf_journal.specs.Journal.{Journal}
 use Rattle.wf_tape.specs.Tape.{IsExtended, LeavesNoOther}
 use Rattle.wf_node.specs.declared.fault.NodeFault.{NodeFault}
 use Rattle.wf_node.specs.declared.fault.NodeFault.TheVariants.{Memory, Busy, SequenceFull, RoundsFull, Halted, TapeFailed, Nothing}

@@ -11,9 +11,9 @@ use Rattle.wf_model.specs.Stored.{Record}
 use Rattle.wf_model.specs.Table.{Row, Input, Refusal, row, refusal, store, ends}
 use Rattle.wf_model.specs.Working as model_working
 use Rattle.wf_proposer.specs.Proposer.{Proposer, runs_for, working_of}
-use Rattle.wf_tape.specs.Journal.{Journal}
-use Rattle.wf_tape.specs.declared.record.Record as tape
-use Rattle.wf_tape.specs.declared.record.Record.TheVariants as tape_case
+use Rattle.wf_journal.specs.Journal.{Journal}
+use Rattle.wf_journal.specs.declared.record.Record as tape
+use Rattle.wf_journal.specs.declared.record.Record.TheVariants as tape_case
 use Rattle.wf_node.specs.declared.fault.NodeFault.{NodeFault}
 use Rattle.wf_node.specs.declared.fault.NodeFault.TheVariants.{Memory, Busy, SequenceFull, RoundsFull, Halted, TapeFailed, Nothing}
 use Rattle.wf_node.specs.Fault.{refused_by}

@@ -2,7 +2,7 @@
 use Rattle.std.specs.Prelude.{◌≡◌, ◌⊎◌, ℕ, List, [], ◌∷◌, ◌++◌, Option, Some, None}
 use Rattle.wf_def.specs.Definition.{Definition}
 use Rattle.wf_model.specs.Stored.{Stored, Record, fold}
-use Rattle.wf_tape.specs.Records.{ReadsAs}
+use Rattle.wf_journal.specs.Records.{ReadsAs}
 
 -- the bytes read as records that fold to this
 pub record StandsFor (stored : Stored Definition) (bytes : List ℕ) : Type 0 where

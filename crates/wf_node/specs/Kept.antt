@@ -6,8 +6,8 @@ use Rattle.wf_model.specs.Working.{Working}
 use Rattle.wf_model.specs.Table.{Row}
 use Rattle.wf_acceptor.specs.Answer.{row_of}
 use Rattle.wf_acceptor.specs.declared.answer.Answer.{Answer}
-use Rattle.wf_tape.specs.declared.record.Record.{Record}
-use Rattle.wf_tape.specs.declared.record.Record.TheVariants.{Tried, Promised, Accepted, Published}
+use Rattle.wf_journal.specs.declared.record.Record.{Record}
+use Rattle.wf_journal.specs.declared.record.Record.TheVariants.{Tried, Promised, Accepted, Published}
 use Rattle.wf_learner.specs.History.{with_chosen}
 use Rattle.wf_node.specs.Parts as parts
 use Rattle.wf_node.specs.Parts.{Parts}

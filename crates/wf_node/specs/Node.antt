@@ -6,7 +6,7 @@ use Rattle.wf_model.specs.Stored.{Stored}
 use Rattle.wf_model.specs.Working as model
 use Rattle.wf_proposer.specs.Proposer as proposer
 use Rattle.wf_proposer.specs.Proposer.{Proposer}
-use Rattle.wf_tape.specs.Journal.{Journal}
+use Rattle.wf_journal.specs.Journal.{Journal}
 use Rattle.wf_node.specs.Images.{AllStandFor}
 use Rattle.wf_node.specs.Kept as keeping
 use Rattle.wf_node.specs.Kept.{Kept}

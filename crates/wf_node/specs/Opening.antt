@@ -2,11 +2,11 @@
 use Rattle.std.specs.Prelude.{◌≡◌, ◌⊎◌, ℕ, ◌+◌, false, true, List, ◌∷◌, ◌++◌, length, Some, None}
 use Rattle.wf_def.specs.Definition.{Definition}
 use Rattle.wf_model.specs.Stored.{Stored, Record, fits, with_record, fold}
-use Rattle.wf_tape.specs.Journal.{IsBadAt}
-use Rattle.wf_tape.specs.Spelling.{spelling}
-use Rattle.wf_tape.specs.Records.{ReadsAs, IsTapeOf, length_of}
-use Rattle.wf_tape.specs.declared.opening.OpenFault.{OpenFault}
-use Rattle.wf_tape.specs.declared.opening.OpenFault.TheVariants.{TapeFailed, BadRecord, Memory}
+use Rattle.wf_journal.specs.Journal.{IsBadAt}
+use Rattle.wf_journal.specs.Spelling.{spelling}
+use Rattle.wf_journal.specs.Records.{ReadsAs, IsTapeOf, length_of}
+use Rattle.wf_journal.specs.declared.opening.OpenFault.{OpenFault}
+use Rattle.wf_journal.specs.declared.opening.OpenFault.TheVariants.{TapeFailed, BadRecord, Memory}
 
 -- the content's records fold to this, and what follows them isn't bad
 pub record IsFoldOf (stored : Stored Definition) (content : List ℕ) : Type 0 where

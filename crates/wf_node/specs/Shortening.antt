@@ -6,7 +6,7 @@ use Rattle.wf_def.specs.Definition.{Definition}
 use Rattle.wf_model.specs.Message.{Vote}
 use Rattle.wf_model.specs.Stored.{Stored, Record, Tried, Promised, Accepted, Published, definition_at, promise_at}
 use Rattle.wf_model.specs.Table.{votes_at}
-use Rattle.wf_tape.specs.Journal.{Holds}
+use Rattle.wf_journal.specs.Journal.{Holds}
 use Rattle.wf_tape.specs.Tape.{IsUnchanged, HasRisen}
 use Rattle.wf_node.specs.declared.fault.NodeFault.{NodeFault}
 use Rattle.wf_node.specs.declared.fault.NodeFault.TheVariants.{Memory, Halted, TapeFailed}

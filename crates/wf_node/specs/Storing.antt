@@ -4,8 +4,8 @@ use Rattle.wf_def.specs.Definition.{Definition}
 use Rattle.wf_model.specs.Fits.{Fits}
 use Rattle.wf_model.specs.Stored.{Stored, Record}
 use Rattle.wf_model.specs.Table.{store}
-use Rattle.wf_tape.specs.Journal.{Journal, Holds, Follows, IsSameOrReads}
-use Rattle.wf_tape.specs.Spelling.{spelling}
+use Rattle.wf_journal.specs.Journal.{Journal, Holds, Follows, IsSameOrReads}
+use Rattle.wf_journal.specs.Spelling.{spelling}
 use Rattle.wf_tape.specs.Tape.{IsUnchanged, IsExtended, HasRisen}
 use Rattle.wf_node.specs.declared.fault.NodeFault.{NodeFault}
 use Rattle.wf_node.specs.declared.fault.NodeFault.TheVariants.{Memory, Busy, SequenceFull, RoundsFull, Halted, TapeFailed, Nothing}

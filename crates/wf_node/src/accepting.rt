@@ -8,7 +8,7 @@ ghost use Rattle.wf_model.specs.Table as table;
 ghost use Rattle.wf_node.specs.Act.{IsAct, IsChange, IsReady};
 ghost use Rattle.wf_node.specs.Kept.{stored_of, HasRoomFor};
 ghost use Rattle.wf_proposer.specs.Proposer.{working_of};
-ghost use Rattle.wf_tape.specs.Record.{view as view_record};
+ghost use Rattle.wf_journal.specs.Record.{view as view_record};
 ghost use Rattle.wf_node.specs.Storing.{left_from};
 
 use crate::fault::NodeFault;

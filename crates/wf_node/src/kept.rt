@@ -3,7 +3,7 @@
 ghost use Rattle.std.specs.Prelude.{◌≡◌, OnOk, OnErr, IsOk};
 ghost use Rattle.wf_acceptor.specs.Acceptor.{Applies, IsNext};
 ghost use Rattle.wf_node.specs.Kept.{IsRoomy, IsRoomFor, tried_after, definitions_after, publication_of};
-ghost use Rattle.wf_tape.specs.Record.{view};
+ghost use Rattle.wf_journal.specs.Record.{view};
 
 use std::alloc::{AllocError, Global};
 use std::marker::Model;
@@ -11,7 +11,7 @@ use wf_acceptor::{Acceptor, Answer};
 use wf_ballot::{Ballot, NodeId, Seq, Slot};
 use wf_canon::Canon;
 use wf_learner::History;
-use wf_tape::Record;
+use wf_journal::Record;
 
 /// The stored part of a node: the fold of its records.
 #[derive(Drop)]
@@ -54,7 +54,7 @@ impl Kept {
     ghost use Rattle.wf_codec.specs.Message.{view_vote};
     ghost use Rattle.wf_model.specs.Stored.{fits, nothing_stored, promise_at, with_record};
     ghost use Rattle.wf_model.specs.Table.{on_accept as accept_row, on_prepare as prepare_row, store, votes_at};
-    ghost use Rattle.wf_tape.specs.Record.{view};
+    ghost use Rattle.wf_journal.specs.Record.{view};
     ghost use Rattle.wf_node.specs.Kept.{stored_of, HasRoomFor, HasRoomIfOwn, IsRow, Stores};
 
     /// The stored part of a node that has stored nothing yet.

@@ -19,7 +19,8 @@ use wf_ballot::Slot;
 use wf_canon::Canon;
 use wf_codec::Message;
 use wf_proposer::Proposer;
-use wf_tape::{Record, Tape};
+use wf_journal::Record;
+use wf_tape::Tape;
 
 impl<T: Tape> Machine<T> {
     /// Asks for the next definition, unless the last one is published.

@@ -40,7 +40,7 @@ impl<T: Tape> Node<T> {
     ghost use Rattle.wf_node.specs.Node.{stored_of, working_of};
     ghost use Rattle.wf_proposer.specs.Standing.{standing_of};
     ghost use Rattle.wf_proposer.specs.declared.standing.Standing.TheVariants.{None};
-    ghost use Rattle.wf_tape.specs.Journal.{IsSettled};
+    ghost use Rattle.wf_journal.specs.Journal.{IsSettled};
 
     /// The node's number.
     pub fn id(&self) -> NodeId

@@ -7,10 +7,10 @@ ghost use Rattle.wf_node.specs.Images.{AllStandFor};
 ghost use Rattle.wf_node.specs.Kept as kept_;
 ghost use Rattle.wf_node.specs.Node.{stored_of, working_of};
 ghost use Rattle.wf_node.specs.Opening.{IsFoldOf, IsWhyBad, IsTaken, IsWhyRefused, IsWhyUnfolded};
-ghost use Rattle.wf_tape.specs.Journal.{Follows, ReadsSame, IsWhyFailed};
-ghost use Rattle.wf_tape.specs.Record.{view};
-ghost use Rattle.wf_tape.specs.Records.{length_of};
-ghost use Rattle.wf_tape.specs.Spelling.{spelling};
+ghost use Rattle.wf_journal.specs.Journal.{Follows, ReadsSame, IsWhyFailed};
+ghost use Rattle.wf_journal.specs.Record.{view};
+ghost use Rattle.wf_journal.specs.Records.{length_of};
+ghost use Rattle.wf_journal.specs.Spelling.{spelling};
 ghost use Rattle.wf_tape.specs.Tape.{IsUnchanged};
 
 use crate::kept::Kept;
@@ -19,7 +19,8 @@ use crate::node::Node;
 use std::alloc::Global;
 use wf_ballot::NodeId;
 use wf_proposer::Proposer;
-use wf_tape::{Found, Journal, OpenFault, Record, Tape};
+use wf_journal::{Found, Journal, OpenFault, Record};
+use wf_tape::Tape;
 
 impl<T: Tape> Node<T> {
     /// Node `id` of `n` nodes, with the stored part of its tape and no proposal. A torn record after the whole ones is removed,
@@ -28,7 +29,7 @@ impl<T: Tape> Node<T> {
     /// if allocation failed. Each record is moved once, so opening takes time in proportion to the tape. A crash at each moment
     /// inside the call leaves what reads as something that a crash could have left before it. A tape that won't fail still won't,
     /// and P1 isn't returned.
-    #[tactic(auto, using(crate::proofs::Opened::fold_of, crate::proofs::Opened::stands_all, crate::proofs::Opened::bad_read, crate::proofs::Opened::bad_fold, crate::proofs::Opened::bad_settle, crate::proofs::Opened::unfolded_soundly, crate::proofs::Opened::same_before, wf_tape::specs::MomentLaws::inside_opened, crate::proofs::Opened::follows_before, crate::proofs::Opened::unchanged_before, crate::proofs::Opened::why_failed_before))]
+    #[tactic(auto, using(crate::proofs::Opened::fold_of, crate::proofs::Opened::stands_all, crate::proofs::Opened::bad_read, crate::proofs::Opened::bad_fold, crate::proofs::Opened::bad_settle, crate::proofs::Opened::unfolded_soundly, crate::proofs::Opened::same_before, wf_journal::specs::MomentLaws::inside_opened, crate::proofs::Opened::follows_before, crate::proofs::Opened::unchanged_before, crate::proofs::Opened::why_failed_before))]
     pub fn open(alloc: Global, tape: T, id: NodeId, n: u8) -> Result<Node<T>, (T, OpenFault)>
         requires nodes { n ≤ 64 }
         requires member { id < n }

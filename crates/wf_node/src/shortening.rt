@@ -7,8 +7,8 @@ ghost use Rattle.wf_model.specs.Stored.{promise_at};
 ghost use Rattle.wf_node.specs.Kept.{stored_of as stored_in};
 ghost use Rattle.wf_node.specs.Shortening.{tried_records, vote_records, promise_records, open_records, records_at, records_from, shortened};
 ghost use Rattle.wf_node.specs.Storing.{IsReplacement, left_from};
-ghost use Rattle.wf_tape.specs.Journal.{Follows, IsSameOrReads};
-ghost use Rattle.wf_tape.specs.Record.{view};
+ghost use Rattle.wf_journal.specs.Journal.{Follows, IsSameOrReads};
+ghost use Rattle.wf_journal.specs.Record.{view};
 
 use crate::fault::NodeFault;
 use crate::kept::Kept;
@@ -18,7 +18,8 @@ use std::alloc::{AllocError, Global};
 use wf_ballot::{Round, SEQUENCES, Slot};
 use wf_canon::Canon;
 use wf_model::{folds_are_open, votes_are_promised};
-use wf_tape::{AddFault, Journal, Record, Tape};
+use wf_journal::{AddFault, Journal, Record};
+use wf_tape::Tape;
 
 impl<T: Tape> Node<T> {
     ghost use Rattle.std.specs.Prelude.{◌≡◌, ◌≢◌, true, false, None, Err, IfErr, OnOk};
@@ -27,7 +28,7 @@ impl<T: Tape> Node<T> {
     ghost use Rattle.wf_node.specs.Node.{stored_of};
     ghost use Rattle.wf_node.specs.Shortening.{shortened, IsShortening};
     ghost use Rattle.wf_node.specs.Step.{IsSameNode};
-    ghost use Rattle.wf_tape.specs.Journal.{Holds};
+    ghost use Rattle.wf_journal.specs.Journal.{Holds};
     ghost use Rattle.wf_tape.specs.Tape.{HasRisen, IsUnchanged};
 
     /// Rewrites the node's tape, in one call of it: after Ok it holds the last round tried, the published definitions, and the

@@ -3,11 +3,12 @@
 ghost use Rattle.std.specs.Prelude.{◌≡◌, false, option_map};
 ghost use Rattle.std.specs.Option.{option_copied};
 ghost use Rattle.wf_node.specs.Storing.{IsWrite, left_from};
-ghost use Rattle.wf_tape.specs.Record.{view};
+ghost use Rattle.wf_journal.specs.Record.{view};
 
 use crate::fault::NodeFault;
 use std::alloc::Global;
-use wf_tape::{AddFault, Journal, Record, Tape};
+use wf_journal::{AddFault, Journal, Record};
+use wf_tape::Tape;
 
 /// Adds the record to the journal, if there is one.
 pub(crate) fn store<T: Tape>(

@@ -2,9 +2,9 @@
 use Rattle.std.specs.Prelude.{◌≡◌, ℕ, List, [], ◌∷◌, map, Option, Some, None, option_map}
 use Rattle.wf_ballot.specs.Ballot.{Ballot}
 use Rattle.wf_def.specs.Definition.{Definition}
-use Rattle.wf_tape.specs.declared.record.Record.{Record}
-use Rattle.wf_tape.specs.declared.record.Record.TheVariants.{Tried}
-use Rattle.wf_tape.specs.Record as record_of_tape
+use Rattle.wf_journal.specs.declared.record.Record.{Record}
+use Rattle.wf_journal.specs.declared.record.Record.TheVariants.{Tried}
+use Rattle.wf_journal.specs.Record as record_of_tape
 use Rattle.wf_codec.specs.declared.message.Message.{Message}
 use Rattle.wf_codec.specs.declared.message.Message.TheVariants.{Prepare}
 use Rattle.wf_codec.specs.Message as message

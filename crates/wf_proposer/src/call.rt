@@ -23,7 +23,7 @@ use std::alloc::Global;
 use wf_ballot::{Ballot, NodeId, ROUNDS, Seq, Slot};
 use wf_canon::Canon;
 use wf_codec::Message;
-use wf_tape::Record;
+use wf_journal::Record;
 
 impl Proposer {
     /// The proposer of node `id` in a farm of `n` nodes, with no proposal.

@@ -5,7 +5,7 @@ use crate::change::Change;
 use std::alloc::{AllocError, Global};
 use std::marker::Model;
 use wf_codec::Message;
-use wf_tape::Record;
+use wf_journal::Record;
 
 /// A proposer's result: a record to store, messages to send once it is stored, and the change of the working part.
 pub struct Next {

@@ -26,7 +26,7 @@ use std::mem::replace;
 use wf_ballot::{Ballot, NodeId, Round, Slot};
 use wf_canon::Canon;
 use wf_codec::Message;
-use wf_tape::Record;
+use wf_journal::Record;
 
 impl Proposal {
     /// A proposal of `own` begins at the ballot: its round is stored before any Prepare is sent.

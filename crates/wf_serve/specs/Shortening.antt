@@ -7,7 +7,7 @@ use Rattle.wf_node.specs.Images.{AllStandFor}
 use Rattle.wf_node.specs.Node.{Node, stored_of, working_of}
 use Rattle.wf_node.specs.Opening.{IsFoldOf}
 use Rattle.wf_node.specs.Shortening.{shortened}
-use Rattle.wf_tape.specs.Journal.{Follows, Holds, ReadsSame}
+use Rattle.wf_journal.specs.Journal.{Follows, Holds, ReadsSame}
 
 module _ {T : Type 0} (content : T → List ℕ) (images : T → List ℕ → Type 0) where
   -- If the tape is shortened, it holds exactly the records of a shortened tape for what the node has stored, all synced.

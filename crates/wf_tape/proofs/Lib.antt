@@ -1,12 +1,4 @@
-pub mod Texts
-pub mod Fields
-pub mod Headers
-pub mod Judged
-pub mod Lists
-pub mod Settling
 pub mod Images
-pub mod Written
 pub mod Fuses
 pub mod Noted
 pub mod Called
-pub mod Moments

@@ -2,12 +2,3 @@ pub mod Tape
 pub mod Fuse
 pub mod MemoryTape
 pub mod MemoryMoments
-pub mod Kind
-pub mod Record
-pub mod Spelling
-pub mod Records
-pub mod Judging
-pub mod Front
-pub mod OpenFault
-pub mod Journal
-pub mod MomentLaws

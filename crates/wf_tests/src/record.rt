@@ -2,7 +2,7 @@
 use crate::value::{MAP_A, ballot, map, round, slot};
 use std::process::Abort;
 use wf_ballot::{Ballot, Slot};
-use wf_tape::Record;
+use wf_journal::Record;
 
 /// A record's numbers: its kind, round or slot, ballot's round and ballot's node.
 fn numbers(record: &Record) -> (&'static str, u32, u32, u8) {

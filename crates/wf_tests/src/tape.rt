@@ -4,7 +4,8 @@ use std::alloc::Global;
 use std::fs;
 use std::process::Abort;
 use std::rt::Files;
-use wf_tape::{AddFault, FileTape, Journal, OpenFault, Record, Tape, TapeFault};
+use wf_journal::{AddFault, Journal, OpenFault, Record};
+use wf_tape::{FileTape, Tape, TapeFault};
 
 /// The bytes of a Tried record of round 1, and a prefix of one that is torn.
 const TRIED: &[u8] = &[1, 1, 0, 0, 0, 4, 0, 0, 0, 1];

@@ -1,9 +1,9 @@
 -- What is read before the bad bytes is all that stands there, and none of it is bad.
 use Rattle.std.proofs.Common.{◌≡◌, List, ℕ, map, subst, take}
-use Rattle.wf_tape.specs.Journal.{IsBadAt, IsWhereBad}
-use Rattle.wf_tape.specs.Record.{view}
-use Rattle.wf_tape.specs.Records.{IsTapeOf}
-use Rattle.wf_tape.specs.declared.opening.OpenFault.{OpenFault}
+use Rattle.wf_journal.specs.Journal.{IsBadAt, IsWhereBad}
+use Rattle.wf_journal.specs.Record.{view}
+use Rattle.wf_journal.specs.Records.{IsTapeOf}
+use Rattle.wf_journal.specs.declared.opening.OpenFault.{OpenFault}
 use Rattle.wf_listing.proofs.Splits.{bad_found, none_bad_before}
 use Rattle.wf_listing.proofs.finding.before.Goals as goal
 

@@ -2,7 +2,7 @@
 use Rattle.std.proofs.Common.{◌≡◌, ◌∙◌, ◌-◌, ◌++◌, map, length, subst, arith, refl}
 use Rattle.std.specs.Prelude.{OnOk}
 use Rattle.std.specs.String.{string_bytes}
-use Rattle.wf_tape.specs.Record.{view}
+use Rattle.wf_journal.specs.Record.{view}
 use Rattle.wf_listing.proofs.Lines.{ends_within, listed}
 use Rattle.wf_listing.proofs.listing.push_all.Goals as goal
 

@@ -3,9 +3,9 @@ use Rattle.std.proofs.Common.{◌≡◌, ◌∙◌, ◌++◌, ◌+◌, ◌≤◌
 use Rattle.std.proofs.lemmas.List.{take_all}
 use Rattle.std.specs.String.{string_bytes}
 use Rattle.wf_listing.specs.Listing.{record_lines}
-use Rattle.wf_tape.specs.declared.record.Record.{Record}
-use Rattle.wf_tape.specs.Record.{view}
-use Rattle.wf_tape.specs.Records.{length_of}
+use Rattle.wf_journal.specs.declared.record.Record.{Record}
+use Rattle.wf_journal.specs.Record.{view}
+use Rattle.wf_journal.specs.Records.{length_of}
 use Rattle.wf_listing.proofs.Lines.{no_lines, no_length, next_length, next_lines, length_taken, lines_joined}
 use Rattle.wf_listing.proofs.listing.push_records.Goals as goal
 

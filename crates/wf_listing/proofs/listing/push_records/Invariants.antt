@@ -2,8 +2,8 @@
 use Rattle.std.proofs.Common.{◌≡◌, ◌++◌, map, take}
 use Rattle.std.specs.String.{string_bytes}
 use Rattle.wf_listing.specs.Listing.{record_lines}
-use Rattle.wf_tape.specs.Record.{view}
-use Rattle.wf_tape.specs.Records.{length_of}
+use Rattle.wf_journal.specs.Record.{view}
+use Rattle.wf_journal.specs.Records.{length_of}
 use Rattle.wf_listing.proofs.listing.push_records.Given as goal
 
 abbrev pub invariant-loop-entry : goal.invariant-loop-entry

@@ -1,6 +1,6 @@
 -- First the vote, then the promise.
 use Rattle.std.proofs.Common.{map}
-use Rattle.wf_tape.specs.Record.{view}
+use Rattle.wf_journal.specs.Record.{view}
 use Rattle.wf_node.specs.Shortening.{open_records}
 use Rattle.wf_node.proofs.Pushed.{appends_both}
 use Rattle.wf_node.proofs.shortening.push_open.Goals as goal

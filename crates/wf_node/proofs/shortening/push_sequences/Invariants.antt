@@ -1,7 +1,7 @@
 -- The records so far, followed by those still to come, are those of all sequences.
 use Rattle.std.proofs.Common.{◌≡◌, ℕ, ◌+◌, ◌≤◌, ◌++◌, map}
 use Rattle.wf_ballot.specs.Sequence.{last_sequence}
-use Rattle.wf_tape.specs.Record.{view}
+use Rattle.wf_journal.specs.Record.{view}
 use Rattle.wf_node.specs.Kept.{stored_of}
 use Rattle.wf_node.specs.Shortening.{records_from}
 use Rattle.wf_node.proofs.shortening.push_sequences.Given as goal

@@ -1,5 +1,5 @@
 -- A record that is on the tape, and one that is there or not.
-use Rattle.wf_tape.specs.Record.{view}
+use Rattle.wf_journal.specs.Record.{view}
 use Rattle.wf_node.proofs.Replies.{written, broken, spared_some}
 use Rattle.wf_node.specs.Storing.{left_from}
 use Rattle.wf_node.proofs.storing.add.Goals as goal

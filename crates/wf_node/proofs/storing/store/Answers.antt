@@ -1,7 +1,7 @@
 -- Without a record nothing is written.
 use Rattle.std.proofs.Common.{option_map, ap}
 use Rattle.std.specs.Option.{option_copied}
-use Rattle.wf_tape.specs.Record.{view}
+use Rattle.wf_journal.specs.Record.{view}
 use Rattle.wf_node.proofs.Replies.{written_none}
 use Rattle.wf_node.specs.Storing.{left_from}
 use Rattle.wf_node.proofs.storing.store.Goals as goal

@@ -5,8 +5,8 @@ use Rattle.std.specs.Ordering.{nat_cmp}
 use Rattle.std.specs.FinMap.{FinMap, insert}
 use Rattle.wf_ballot.specs.Ballot.{Ballot}
 use Rattle.wf_def.specs.Definition.{Definition}
-use Rattle.wf_tape.specs.declared.record.Record.{Record}
-use Rattle.wf_tape.specs.declared.record.Record.TheVariants.{Accepted}
+use Rattle.wf_journal.specs.declared.record.Record.{Record}
+use Rattle.wf_journal.specs.declared.record.Record.TheVariants.{Accepted}
 use Rattle.wf_acceptor.specs.Slots.{by_slot}
 use Rattle.wf_acceptor.specs.Acceptor.{Acceptor, Part}
 use Rattle.wf_acceptor.specs.Prepared.{definition_of, with_open}

@@ -1,7 +1,7 @@
 -- The record's effect on the acceptor and the history is that of the fold.
 use Rattle.std.proofs.Common.{◌≡◌, true, sym, ap, subst, ◌∙◌}
 use Rattle.wf_model.specs.Stored.{fits, with_record}
-use Rattle.wf_tape.specs.Record.{view}
+use Rattle.wf_journal.specs.Record.{view}
 use Rattle.wf_node.specs.Kept.{Kept, stored_of, definitions_after}
 use Rattle.wf_node.specs.Parts as parts
 use Rattle.wf_node.proofs.Keeping.{parts_of, next_where_fits, applied, as_many_after}

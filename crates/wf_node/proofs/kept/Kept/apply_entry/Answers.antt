@@ -1,6 +1,6 @@
 -- There is room for the record, so it is applied.
 use Rattle.std.proofs.Common.{Option, IfSome, subst}
-use Rattle.wf_tape.specs.declared.record.Record.{Record}
+use Rattle.wf_journal.specs.declared.record.Record.{Record}
 use Rattle.wf_node.specs.Kept.{stored_of, HasRoomFor}
 use Rattle.wf_node.proofs.Keeping.{applied_entry, nothing_applied}
 use Rattle.wf_node.proofs.kept.Kept.apply_entry.Goals as goal

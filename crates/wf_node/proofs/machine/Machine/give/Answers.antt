@@ -2,7 +2,7 @@
 use Rattle.std.proofs.Common.{Global, Err, option_map, refl, subst}
 use Rattle.wf_acceptor.specs.Answer as answered
 use Rattle.wf_proposer.specs.Proposer.{working_of}
-use Rattle.wf_tape.specs.Record.{view}
+use Rattle.wf_journal.specs.Record.{view}
 use Rattle.wf_node.specs.Storing.{IsWrite, left_from}
 use Rattle.wf_node.proofs.Replies.{write_fails}
 use Rattle.wf_node.proofs.machine.Machine.give.Goals as goal

@@ -1,7 +1,7 @@
 -- If the record can't be written, the parts are unchanged.
 use Rattle.std.proofs.Common.{Global, Err, option_map, subst}
 use Rattle.wf_proposer.specs.Proposer.{row_of}
-use Rattle.wf_tape.specs.Record.{view}
+use Rattle.wf_journal.specs.Record.{view}
 use Rattle.wf_node.specs.Storing.{IsWrite, left_from}
 use Rattle.wf_node.proofs.Replies.{write_fails}
 use Rattle.wf_node.proofs.machine.Machine.perform.Goals as goal

@@ -1,7 +1,7 @@
 -- The journal holds the records of the stored part, or nothing has changed.
 use Rattle.std.proofs.Common.{map, refl, ap, subst, ◌∙◌, inl}
-use Rattle.wf_tape.specs.Journal.{Follows, IsSameOrReads}
-use Rattle.wf_tape.specs.Record.{view}
+use Rattle.wf_journal.specs.Journal.{Follows, IsSameOrReads}
+use Rattle.wf_journal.specs.Record.{view}
 use Rattle.wf_node.specs.Storing.{IsReplacement, left_from}
 use Rattle.wf_node.proofs.Replies.{spared}
 use Rattle.wf_node.proofs.machine.Machine.rewrite.Goals as goal

@@ -1,7 +1,7 @@
 -- The tape is read, and then settled.
 use Rattle.std.proofs.Common.{sym, subst}
-use Rattle.wf_tape.specs.Journal.{Follows, ReadsSame}
-use Rattle.wf_tape.specs.MomentLaws.{inside_opened}
+use Rattle.wf_journal.specs.Journal.{Follows, ReadsSame}
+use Rattle.wf_journal.specs.MomentLaws.{inside_opened}
 use Rattle.wf_node.proofs.Opened.{follows_before}
 use Rattle.wf_node.proofs.node.Node.open.Goals as goal
 

@@ -1,0 +1,8 @@
+pub mod Fields
+pub mod Headers
+pub mod Judged
+pub mod Lists
+pub mod Moments
+pub mod Settling
+pub mod Texts
+pub mod Written

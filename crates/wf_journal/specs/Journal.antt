@@ -1,0 +1,88 @@
+-- A journal over a tape: whole records, all of them synced, and the effect of each call on them.
+use Rattle.std.specs.Prelude.{◌≡◌, ◌⊎◌, ℕ, Bool, List, [], ◌∷◌, ◌++◌, drop}
+use Rattle.wf_model.specs.Stored.{Record}
+use Rattle.wf_def.specs.Definition.{Definition}
+use Rattle.wf_journal.specs.declared.opening.OpenFault.{OpenFault}
+use Rattle.wf_journal.specs.declared.opening.OpenFault.TheVariants.{TapeFailed, BadRecord}
+use Rattle.wf_tape.specs.Tape.{IsOnlyImage, HasRisen}
+use Rattle.wf_journal.specs.Spelling.{Spells}
+use Rattle.wf_journal.specs.Records.{Splits, ReadsAs, AreRecords, IsBad}
+
+-- the model of a journal: its tape, and whether it is halted
+pub record Journal (T : Type 0) : Type 0 where
+  pub tape : T
+  pub halted : Bool
+
+-- the model of a tape that was read: the tape, the bytes that were read, and how many of them are the records'
+pub record Found (T : Type 0) : Type 0 where
+  pub tape : T
+  pub bytes : List ℕ
+  pub front : ℕ
+
+-- the bytes are a tape's content, which is one of its images
+pub record IsContent (bytes content : List ℕ) (images : List ℕ → Type 0) : Type 0 where
+  pub same : bytes ≡ content
+  pub is_image : images content
+
+-- The tape holds exactly these records, and they are its only image.
+pub record Holds (content : List ℕ) (images : List ℕ → Type 0) (records : List (Record Definition)) : Type 0 where
+  pub are_records : AreRecords content records
+  pub only : IsOnlyImage content images
+
+-- the tape holds only whole records, all of them synced
+abbrev pub IsSettled : List ℕ → (List ℕ → Type 0) → Type 0
+IsSettled content images = (records : List (Record Definition)) × Holds content images records
+
+-- each new image comes from an old one by the step
+abbrev pub Follows : (List ℕ → List ℕ → Type 0) → (List ℕ → Type 0) → (List ℕ → Type 0) → Type 0
+Follows step old new = (image : List ℕ) → new image → (earlier : List ℕ) × old earlier × step earlier image
+
+-- each image reads as these records
+abbrev pub AllReadAs : (List ℕ → Type 0) → List (Record Definition) → Type 0
+AllReadAs images records = (image : List ℕ) → images image → ReadsAs image records
+
+-- the second bytes read as the same records as the first
+abbrev pub ReadsSame : List ℕ → List ℕ → Type 0
+ReadsSame old new = (records : List (Record Definition)) → ReadsAs old records → ReadsAs new records
+
+-- the second bytes read as the records of the first with one more
+abbrev pub ReadsOneMore : Record Definition → List ℕ → List ℕ → Type 0
+ReadsOneMore r old new = (records : List (Record Definition)) → ReadsAs old records → ReadsAs new (records ++ r ∷ [])
+
+-- the second bytes read as the records of the first, or with one more
+abbrev pub ReadsSameOrOneMore : Record Definition → List ℕ → List ℕ → Type 0
+ReadsSameOrOneMore r old new = (records : List (Record Definition)) → ReadsAs old records → ReadsAs new records ⊎ ReadsAs new (records ++ r ∷ [])
+
+-- the second bytes are the first, or exactly these records
+abbrev pub IsSameOrRecords : List (Record Definition) → List ℕ → List ℕ → Type 0
+IsSameOrRecords records old new = (new ≡ old) ⊎ AreRecords new records
+
+-- the second bytes are the first, or read as these records
+abbrev pub IsSameOrReads : List (Record Definition) → List ℕ → List ℕ → Type 0
+IsSameOrReads records old new = (new ≡ old) ⊎ ReadsAs new records
+
+-- the new content is the old one followed by the record's bytes, and that is its only image
+pub record IsAdded (r : Record Definition) (old new : List ℕ) (images : List ℕ → Type 0) : Type 0 where
+  pub spelled : List ℕ
+  pub spells : Spells r spelled
+  pub content : new ≡ old ++ spelled
+  pub only : IsOnlyImage new images
+
+-- at this byte offset, after whole records, the content is bad
+abbrev pub IsBadAt : List ℕ → ℕ → Type 0
+IsBadAt content place = (records : List (Record Definition)) × Splits content records (drop place content) × IsBad (drop place content)
+
+-- a bad record is returned only if there is one at that byte offset
+abbrev pub IsWhereBad : OpenFault → List ℕ → Type 0
+IsWhereBad (BadRecord place) content = IsBadAt content place
+IsWhereBad fault content = Unit {0}
+
+-- the error isn't a bad record
+abbrev pub IsNotBad : OpenFault → Type 0
+IsNotBad (BadRecord place) = ⊥
+IsNotBad fault = Unit {0}
+
+-- the tape's failure is returned only if the count of failures rose
+abbrev pub IsWhyFailed : OpenFault → ℕ → ℕ → Type 0
+IsWhyFailed TapeFailed before now = HasRisen before now
+IsWhyFailed fault before now = Unit {0}

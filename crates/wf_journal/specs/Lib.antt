@@ -1,0 +1,9 @@
+pub mod Front
+pub mod Journal
+pub mod Judging
+pub mod Kind
+pub mod MomentLaws
+pub mod OpenFault
+pub mod Record
+pub mod Records
+pub mod Spelling

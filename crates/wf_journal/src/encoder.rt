@@ -1,0 +1,130 @@
+ghost use Rattle.std.specs.Prelude.{◌≡◌, ◌≤◌, ◌++◌, length, map, OnOk, IfOk};
+ghost use Rattle.wf_journal.specs.Record.{view, texts, HasText, IsRecord};
+ghost use Rattle.wf_journal.specs.Records.{AreRecords};
+ghost use Rattle.wf_journal.specs.Spelling.{kind_of, body, spelling, Spells};
+ghost use Rattle.wf_spelling.specs.Canon.{canon};
+
+use crate::decoder::{HEADER_BYTES, VERSION};
+use crate::kind::Kind;
+use crate::record::Record;
+use std::alloc::{AllocError, Global};
+use wf_canon::Canon;
+
+/// The record's encoding.
+pub fn encode(alloc: Global, entry: &Record) -> Result<Vec<u8>, AllocError>
+    ensures { IfOk result (λ bytes. Spells (view entry.now) bytes.items) }
+{
+    let mut bytes = Vec::new(alloc);
+    push(&mut bytes, entry)?;
+    Ok(bytes)
+}
+
+/// The encodings of the records, one after the other.
+pub fn encode_all(alloc: Global, records: &[Record]) -> Result<Vec<u8>, AllocError>
+    ensures { IfOk result (λ bytes. AreRecords bytes.items (map view records.now)) }
+{
+    let mut bytes = Vec::new(alloc);
+    for entry in records {
+        push(&mut bytes, entry)?;
+    }
+    Ok(bytes)
+}
+
+/// Appends the record's encoding.
+#[tactic(auto, using(crate::proofs::Written::written))]
+fn push(out: &mut Vec<u8>, entry: &Record) -> Result<(), AllocError>
+    ensures is_record { IsRecord (view entry.now) }
+    ensures spelled { OnOk result (out.new.items ≡ out.old.items ++ spelling (view entry.now)) }
+{
+    let length = body_length(entry);
+    out.extend_from_slice(&[VERSION, kind_of(entry).byte()])?;
+    out.extend_from_slice(&(length as u32).to_be_bytes())?;
+    push_body(out, entry)?;
+    Ok(())
+}
+
+impl Record {
+    ghost use Rattle.std.specs.Prelude.{◌≡◌, length};
+    ghost use Rattle.wf_journal.specs.Record.{view};
+    ghost use Rattle.wf_journal.specs.Spelling.{spelling};
+
+    /// The number of bytes of the record on a tape.
+    #[tactic(auto, using(crate::proofs::Judged::header_and_body))]
+    pub fn length(&self) -> usize
+        ensures { result ≡ length (spelling (view self.now)) }
+    {
+        HEADER_BYTES + body_length(self)
+    }
+}
+
+/// The record's kind.
+fn kind_of(entry: &Record) -> Kind
+    ensures { result ≡ kind_of (texts (view entry.now)) }
+{
+    match entry {
+        Record::Tried(_) => Kind::Tried,
+        Record::Promised(_, _) => Kind::Promised,
+        Record::Accepted(_, _, _) => Kind::Accepted,
+        Record::Published(_, _) => Kind::Published,
+    }
+}
+
+/// The number of bytes of the record's body.
+#[tactic(auto, using(crate::proofs::Fields::body_has_length))]
+fn body_length(entry: &Record) -> usize
+    ensures value { result ≡ length (body (texts (view entry.now))) }
+    ensures most { result ≤ 32775 }
+    ensures is_record { IsRecord (view entry.now) }
+{
+    match entry {
+        Record::Tried(round) => {
+            let _ = round.number();
+            4
+        }
+        Record::Promised(slot, ballot) => {
+            let _ = (slot.seq(), ballot.round());
+            7
+        }
+        Record::Accepted(slot, ballot, canon) => {
+            let _ = (slot.seq(), ballot.round());
+            7 + text_length(canon)
+        }
+        Record::Published(slot, canon) => {
+            let _ = slot.seq();
+            2 + text_length(canon)
+        }
+    }
+}
+
+/// The number of bytes of a canonical text.
+fn text_length(text: &Canon) -> usize
+    ensures value { result ≡ length (canon text.now) }
+    ensures has_text { HasText text.now }
+{
+    let _ = text.def();
+    text.text().len()
+}
+
+/// Appends the body.
+#[tactic(auto, unfolding(crate::specs::Spelling::body))]
+fn push_body(out: &mut Vec<u8>, entry: &Record) -> Result<(), AllocError>
+    ensures { OnOk result (out.new.items ≡ out.old.items ++ body (texts (view entry.now))) }
+{
+    match entry {
+        Record::Tried(round) => out.extend_from_slice(&round.bytes())?,
+        Record::Promised(slot, ballot) => {
+            out.extend_from_slice(&slot.bytes())?;
+            out.extend_from_slice(&ballot.bytes())?;
+        }
+        Record::Accepted(slot, ballot, canon) => {
+            out.extend_from_slice(&slot.bytes())?;
+            out.extend_from_slice(&ballot.bytes())?;
+            out.extend_from_slice(canon.text())?;
+        }
+        Record::Published(slot, canon) => {
+            out.extend_from_slice(&slot.bytes())?;
+            out.extend_from_slice(canon.text())?;
+        }
+    }
+    Ok(())
+}

@@ -1,0 +1,144 @@
+//! A tape that was read and not yet changed.
+
+ghost use Rattle.std.specs.Prelude.{◌≡◌, ◌≢◌, ◌≤◌, ◌<◌, ◌^◌, false, map, take, length, IfOk, IfErr, OnOk, IsErrOf};
+ghost use Rattle.wf_tape.specs.declared.fault.TapeFault.TheVariants.{Memory};
+ghost use Rattle.wf_journal.specs.Record.{view};
+ghost use Rattle.wf_journal.specs.Records.{length_of};
+ghost use Rattle.wf_tape.specs.Tape.{IsOnlyImage, IsUnchanged, LeavesNoOther, LeavesOldOr, Elapses, HasCause};
+ghost use Rattle.wf_journal.specs.Front.{HasRead};
+ghost use Rattle.wf_journal.specs.OpenFault.{open_fault};
+ghost use Rattle.wf_journal.specs.Journal.{Holds, AllReadAs, Follows, ReadsSame, IsWhereBad, IsNotBad, IsWhyFailed};
+
+use crate::journal::Journal;
+use crate::opening::OpenFault;
+use crate::reading::read_records;
+use crate::record::Record;
+use std::alloc::Global;
+use std::marker::Model;
+use wf_canon::one_text_one_map;
+use wf_tape::{Tape, TapeFault};
+
+/// A tape that was read and isn't a journal's yet: its records are known, and nothing is changed on it. So a caller that rejects
+/// the records gets the tape back as it was. Model: the tape, the bytes that were read, and how many of them are the records'.
+#[derive(Drop)]
+pub struct Found<T: Tape> {
+    tape: T,
+    bytes: Vec<u8>,
+    front: usize,
+}
+
+impl<T: Tape> Model for Found<T> {
+    ghost use Rattle.wf_journal.specs.Front.{HasRead};
+    ghost use Rattle.wf_journal.specs.Journal.{Found, IsContent};
+
+    ghost Value = { Found T };
+
+    ghost view = { λ f. record { tape = f.tape; bytes = f.bytes.items; front = f.front } };
+
+    ghost invariant = { λ f. ((records : _) × HasRead f.bytes.items records f.front) × (T.honest → IsContent f.bytes.items (T.content f.tape) (T.images f.tape)) };
+}
+
+impl<T: Tape> Found<T> {
+    /// Reads the tape: its records are the longest list that its content begins with, the oldest first. The tape is unchanged; an
+    /// error returns it. A tape that won't fail still won't, and doesn't.
+    #[tactic(auto, using(crate::proofs::Lists::length_of_read))]
+    pub fn read(alloc: Global, tape: T) -> Result<(Found<T>, Vec<Record>), (T, OpenFault)>
+        ensures records { IfOk result (λ x. HasRead x.0.bytes (map view x.1.items) x.0.front) }
+        ensures size { IfOk result (λ x. length_of (map view x.1.items) < 2 ^ 64) }
+        ensures content { T.honest → IfOk result (λ x. x.0.bytes ≡ T.content tape) }
+        ensures unchanged { T.honest → IfOk result (λ x. IsUnchanged (T.content tape) (T.content x.0.tape) (T.images tape) (T.images x.0.tape)) }
+        ensures unchanged_err { T.honest → IfErr result (λ e. IsUnchanged (T.content tape) (T.content e.0) (T.images tape) (T.images e.0)) }
+        ensures time { T.honest → IfOk result (λ x. Elapses (T.moment tape) (T.moment x.0.tape) (T.left_since tape) (T.left_since x.0.tape)) }
+        ensures time_err { T.honest → IfErr result (λ e. Elapses (T.moment tape) (T.moment e.0) (T.left_since tape) (T.left_since e.0)) }
+        ensures inside { T.honest → IfOk result (λ x. LeavesNoOther (T.images tape) (T.left_since x.0.tape (T.moment tape))) }
+        ensures inside_err { T.honest → IfErr result (λ e. LeavesNoOther (T.images tape) (T.left_since e.0 (T.moment tape))) }
+        ensures bad { T.honest → IfErr result (λ e. IsWhereBad e.1 (T.content tape)) }
+        ensures later { IfOk result (λ x. T.failed tape ≤ T.failed x.0.tape) }
+        ensures failed { IfErr result (λ e. IsWhyFailed e.1 (T.failed tape) (T.failed e.0)) }
+        ensures sturdy { T.never_fails tape → IfOk result (λ x. T.never_fails x.0.tape) }
+        ensures sturdy_err { T.never_fails tape → IfErr result (λ e. T.never_fails e.0) }
+        ensures sound { T.never_fails tape → IfErr result (λ e. e.1 ≢ OpenFault.TapeFailed) }
+    {
+        let mut tape = tape;
+        let bytes = match tape.read(alloc) {
+            Ok(bytes) => bytes,
+            Err(fault) => return Err((tape, open_fault(fault))),
+        };
+        match read_records(alloc, &bytes) {
+            Ok((records, front)) => Ok((Found { tape, bytes, front }, records)),
+            Err(fault) => Err((tape, fault)),
+        }
+    }
+
+    /// The journal of the tape. A torn record after the whole ones is removed, and what is kept is synced. An error returns the
+    /// tape, unchanged unless the tape itself failed. A tape that won't fail still won't, and doesn't.
+    pub fn settle(self) -> Result<Journal<T>, (T, OpenFault)>
+        ensures running { IfOk result (λ journal. journal.halted ≡ false) }
+        ensures synced { T.honest → (records : _) → HasRead self.bytes records self.front → IfOk result (λ journal. Holds (T.content journal.tape) (T.images journal.tape) records) }
+        ensures reads { T.honest → (records : _) → HasRead self.bytes records self.front → IfOk result (λ journal. AllReadAs (T.images journal.tape) records) }
+        ensures images { T.honest → IfOk result (λ journal. Follows ReadsSame (T.images self.tape) (T.images journal.tape)) }
+        ensures images_err { T.honest → IfErr result (λ e. Follows ReadsSame (T.images self.tape) (T.images e.0)) }
+        ensures unchanged { T.honest → IfErr result (λ e. e.1 ≢ OpenFault.TapeFailed → IsUnchanged (T.content self.tape) (T.content e.0) (T.images self.tape) (T.images e.0)) }
+        ensures time { T.honest → IfOk result (λ journal. Elapses (T.moment self.tape) (T.moment journal.tape) (T.left_since self.tape) (T.left_since journal.tape)) }
+        ensures time_err { T.honest → IfErr result (λ e. Elapses (T.moment self.tape) (T.moment e.0) (T.left_since self.tape) (T.left_since e.0)) }
+        ensures inside { T.honest → IfOk result (λ journal. Follows ReadsSame (T.images self.tape) (T.left_since journal.tape (T.moment self.tape))) }
+        ensures inside_err { T.honest → IfErr result (λ e. Follows ReadsSame (T.images self.tape) (T.left_since e.0 (T.moment self.tape))) }
+        ensures not_bad { IfErr result (λ e. IsNotBad e.1) }
+        ensures later { IfErr result (λ e. T.failed self.tape ≤ T.failed e.0) }
+        ensures failed { IfErr result (λ e. IsWhyFailed e.1 (T.failed self.tape) (T.failed e.0)) }
+        ensures sturdy { T.never_fails self.tape → IfOk result (λ journal. T.never_fails journal.tape) }
+        ensures sturdy_err { T.never_fails self.tape → IfErr result (λ e. T.never_fails e.0) }
+        ensures sound { T.never_fails self.tape → IfErr result (λ e. e.1 ≢ OpenFault.TapeFailed) }
+    {
+        // The theorem: maps with equal texts are equal, so no record reads as another.
+        one_text_one_map();
+        let Found {
+            mut tape,
+            bytes,
+            front,
+        } = self;
+        match settle(&mut tape, &bytes, front) {
+            Ok(()) => Ok(Journal::over(tape)),
+            Err(fault) => Err((tape, open_fault(fault))),
+        }
+    }
+
+    /// Returns the tape unchanged.
+    pub fn close(self) -> T
+        ensures { result ≡ self.tape }
+    {
+        let Found { tape, .. } = self;
+        tape
+    }
+}
+
+/// Keeps the first bytes of the content, and syncs them.
+fn settle<T: Tape>(tape: &mut T, bytes: &[u8], front: usize) -> Result<(), TapeFault>
+    requires within { front ≤ length bytes.now }
+    ensures ok { T.honest → OnOk result (T.content tape.old ≡ bytes.now → T.content tape.new ≡ take front bytes.now) }
+    ensures only { T.honest → OnOk result (IsOnlyImage (T.content tape.new) (T.images tape.new)) }
+    ensures images { T.honest → LeavesOldOr (take front bytes.now) (T.images tape.old) (T.images tape.new) }
+    ensures memory { T.honest → IsErrOf result Memory → IsUnchanged (T.content tape.old) (T.content tape.new) (T.images tape.old) (T.images tape.new) }
+    ensures time { T.honest → Elapses (T.moment tape.old) (T.moment tape.new) (T.left_since tape.old) (T.left_since tape.new) }
+    ensures inside { T.honest → LeavesOldOr (take front bytes.now) (T.images tape.old) (T.left_since tape.new (T.moment tape.old)) }
+    ensures cause { HasCause (T.failed tape.old) (T.failed tape.new) result }
+    ensures sturdy { T.never_fails tape.old → T.never_fails tape.new }
+    ensures sound { T.never_fails tape.old → IfErr result (λ fault. fault ≢ TapeFault.Device) }
+{
+    if front < bytes.len() {
+        tape.replace(bytes.split_at(front).0)
+    } else {
+        tape.sync()
+    }
+}
+
+/// The error of opening a journal, given the tape's.
+fn open_fault(fault: TapeFault) -> OpenFault
+    ensures value { result ≡ open_fault fault }
+    ensures sound { fault ≢ TapeFault.Device → result ≢ OpenFault.TapeFailed }
+{
+    match fault {
+        TapeFault::Device => OpenFault::TapeFailed,
+        TapeFault::Memory => OpenFault::Memory,
+    }
+}

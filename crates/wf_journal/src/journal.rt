@@ -1,0 +1,176 @@
+//! The journal: whole records on a tape, each written and synced before it is acknowledged.
+
+ghost use Rattle.std.specs.Prelude.{◌≡◌, ◌≢◌, ◌++◌, ◌∷◌, [], false, true, map, IfOk, IfErr, OnOk, OnErr, IsErrOf};
+ghost use Rattle.wf_tape.specs.declared.fault.TapeFault.TheVariants.{Memory};
+ghost use Rattle.wf_journal.specs.Record.{view};
+ghost use Rattle.wf_journal.specs.Records.{IsTapeOf};
+ghost use Rattle.wf_journal.specs.Spelling.{spelling};
+ghost use Rattle.wf_tape.specs.Tape.{IsOnlyImage, IsUnchanged, IsExtended, IsCutShort, LeavesOldOrCut, Elapses, HasCause, HasRisen, IsNotMemory};
+ghost use Rattle.wf_tape.specs.MemoryTape.{with_fuse};
+ghost use Rattle.wf_journal.specs.Journal.{Holds, IsSettled, Follows, ReadsSame, ReadsOneMore, ReadsSameOrOneMore, IsAdded, IsWhereBad, IsWhyFailed};
+
+use crate::encoder::encode;
+use crate::found::Found;
+use crate::opening::{AddFault, OpenFault};
+use crate::record::Record;
+use std::alloc::Global;
+use std::marker::Model;
+use wf_canon::one_text_one_map;
+use wf_tape::{MemoryTape, Tape, TapeFault};
+
+/// The records of a node on its tape. Model: the tape, and whether the journal is halted; if it isn't, an honest tape holds only
+/// whole records, all of them synced.
+#[derive(Drop)]
+pub struct Journal<T: Tape> {
+    pub(crate) tape: T,
+    pub(crate) halted: bool,
+}
+
+impl<T: Tape> Model for Journal<T> {
+    ghost use Rattle.std.specs.Prelude.{◌≡◌, false};
+    ghost use Rattle.wf_journal.specs.Journal.{Journal, IsSettled};
+
+    ghost Value = { Journal T };
+
+    ghost view = { λ j. record { tape = j.tape; halted = j.halted } };
+
+    ghost invariant = { λ j. T.honest → j.halted ≡ false → IsSettled (T.content j.tape) (T.images j.tape) };
+}
+
+impl<T: Tape> Journal<T> {
+    /// The journal of the tape, and its records, the oldest first. A torn record after the whole ones is removed, and what is
+    /// kept is synced. An error returns the tape, unchanged unless the tape itself failed. A crash at each moment inside the call
+    /// leaves what reads as something that a crash could have left before it. A tape that won't fail still won't, and doesn't.
+    #[tactic(auto, using(crate::proofs::Settling::followed_on, crate::proofs::Settling::unchanged_on, crate::proofs::Settling::why_failed_on, crate::proofs::Settling::not_bad_anywhere))]
+    pub fn open(alloc: Global, tape: T) -> Result<(Journal<T>, Vec<Record>), (T, OpenFault)>
+        ensures running { IfOk result (λ x. x.0.halted ≡ false) }
+        ensures records { T.honest → IfOk result (λ x. (rest : _) × IsTapeOf (T.content tape) (map view x.1.items) rest) }
+        ensures synced { T.honest → IfOk result (λ x. Holds (T.content x.0.tape) (T.images x.0.tape) (map view x.1.items)) }
+        ensures images { T.honest → IfOk result (λ x. Follows ReadsSame (T.images tape) (T.images x.0.tape)) }
+        ensures images_err { T.honest → IfErr result (λ e. Follows ReadsSame (T.images tape) (T.images e.0)) }
+        ensures time { T.honest → IfOk result (λ x. Elapses (T.moment tape) (T.moment x.0.tape) (T.left_since tape) (T.left_since x.0.tape)) }
+        ensures time_err { T.honest → IfErr result (λ e. Elapses (T.moment tape) (T.moment e.0) (T.left_since tape) (T.left_since e.0)) }
+        ensures inside { T.honest → IfOk result (λ x. Follows ReadsSame (T.images tape) (T.left_since x.0.tape (T.moment tape))) }
+        ensures inside_err { T.honest → IfErr result (λ e. Follows ReadsSame (T.images tape) (T.left_since e.0 (T.moment tape))) }
+        ensures unchanged { T.honest → IfErr result (λ e. e.1 ≢ OpenFault.TapeFailed → IsUnchanged (T.content tape) (T.content e.0) (T.images tape) (T.images e.0)) }
+        ensures bad { T.honest → IfErr result (λ e. IsWhereBad e.1 (T.content tape)) }
+        ensures failed { IfErr result (λ e. IsWhyFailed e.1 (T.failed tape) (T.failed e.0)) }
+        ensures sturdy { T.never_fails tape → IfOk result (λ x. T.never_fails x.0.tape) }
+        ensures sturdy_err { T.never_fails tape → IfErr result (λ e. T.never_fails e.0) }
+        ensures sound { T.never_fails tape → IfErr result (λ e. e.1 ≢ OpenFault.TapeFailed) }
+    {
+        match Found::read(alloc, tape) {
+            Ok((found, records)) => match found.settle() {
+                Ok(journal) => Ok((journal, records)),
+                Err(refusal) => {
+                    discard(records);
+                    Err(refusal)
+                }
+            },
+            Err(refusal) => Err(refusal),
+        }
+    }
+
+    /// The journal of a tape that holds only whole records, all of them synced.
+    pub(crate) fn over(tape: T) -> Journal<T>
+        requires { T.honest → IsSettled (T.content tape) (T.images tape) }
+        ensures { result ≡ record { tape = tape; halted = false } }
+    {
+        Journal {
+            tape,
+            halted: false,
+        }
+    }
+
+    /// Adds a record: after Ok it is on the tape and synced. After a failure of the tape the journal is halted until it is opened
+    /// again, since a prefix of the record's bytes may be on the tape, after what was there. A crash at each moment inside the call
+    /// leaves what reads as the records from before, or with the new one. A tape that won't fail still won't, and doesn't.
+    #[tactic(auto, using(crate::proofs::Settling::same_or_more, crate::proofs::Settling::same_kept, crate::proofs::Settling::now_more, crate::proofs::Settling::settled_more, crate::proofs::Settling::settled_same))]
+    pub fn add(&mut self, alloc: Global, entry: &Record) -> Result<(), AddFault>
+        requires { self.old.halted ≡ false }
+        ensures ok { T.honest → OnOk result (IsAdded (view entry.now) (T.content self.old.tape) (T.content self.new.tape) (T.images self.new.tape)) }
+        ensures one_more { T.honest → OnOk result (Follows (ReadsOneMore (view entry.now)) (T.images self.old.tape) (T.images self.new.tape)) }
+        ensures images { T.honest → Follows (ReadsSameOrOneMore (view entry.now)) (T.images self.old.tape) (T.images self.new.tape) }
+        ensures time { T.honest → Elapses (T.moment self.old.tape) (T.moment self.new.tape) (T.left_since self.old.tape) (T.left_since self.new.tape) }
+        ensures inside { T.honest → Follows (ReadsSameOrOneMore (view entry.now)) (T.images self.old.tape) (T.left_since self.new.tape (T.moment self.old.tape)) }
+        ensures running { OnOk result (self.new.halted ≡ false) }
+        ensures failed { IsErrOf result AddFault.TapeFailed → HasRisen (T.failed self.old.tape) (T.failed self.new.tape) }
+        ensures part { T.honest → IsErrOf result AddFault.TapeFailed → IsExtended (T.content self.old.tape) (spelling (view entry.now)) (T.content self.new.tape) }
+        ensures halted { IsErrOf result AddFault.TapeFailed → self.new.halted ≡ true }
+        ensures memory { T.honest → IsErrOf result AddFault.Memory → IsUnchanged (T.content self.old.tape) (T.content self.new.tape) (T.images self.old.tape) (T.images self.new.tape) }
+        ensures still_running { IsErrOf result AddFault.Memory → self.new.halted ≡ false }
+        ensures sturdy { T.never_fails self.old.tape → T.never_fails self.new.tape }
+        ensures sound { T.never_fails self.old.tape → IfErr result (λ fault. fault ≢ AddFault.TapeFailed) }
+    {
+        // The theorem: maps with equal texts are equal, so no record reads as another.
+        one_text_one_map();
+        let Ok(bytes) = encode(alloc, entry) else {
+            return Err(AddFault::Memory);
+        };
+        match write(&mut self.tape, &bytes) {
+            Ok(()) => Ok(()),
+            Err(TapeFault::Memory) => Err(AddFault::Memory),
+            Err(TapeFault::Device) => {
+                self.halted = true;
+                Err(AddFault::TapeFailed)
+            }
+        }
+    }
+
+    /// Whether the tape failed. Then no record can be written until the journal is opened again.
+    pub fn is_halted(&self) -> bool
+        ensures value { result ≡ self.now.halted }
+        ensures settled { T.honest → self.now.halted ≡ false → IsSettled (T.content self.now.tape) (T.images self.now.tape) }
+    {
+        self.halted
+    }
+
+    /// The tape. Unless the journal is halted, an honest one holds only whole records, all of them synced.
+    pub fn tape(&self) -> &T
+        ensures value { result.now ≡ self.now.tape }
+        ensures settled { T.honest → self.now.halted ≡ false → IsSettled (T.content self.now.tape) (T.images self.now.tape) }
+    {
+        &self.tape
+    }
+
+    /// Returns the tape unchanged.
+    pub fn close(self) -> T
+        ensures { result ≡ self.tape }
+    {
+        let Journal { tape, .. } = self;
+        tape
+    }
+}
+
+impl Journal<MemoryTape> {
+    /// Sets a failure of the tape (`MemoryTape::set_fuse`), and changes nothing else.
+    pub fn set_fuse(&mut self, call: usize, kept: usize)
+        ensures tape { self.new.tape ≡ with_fuse call kept self.old.tape }
+        ensures halted { self.new.halted ≡ self.old.halted }
+    {
+        self.tape.set_fuse(call, kept);
+    }
+}
+
+/// Appends the bytes and syncs them.
+#[tactic(auto, using(crate::proofs::Settling::cut_shorter, crate::proofs::Settling::cut_synced, crate::proofs::Settling::extended_whole))]
+fn write<T: Tape>(tape: &mut T, bytes: &[u8]) -> Result<(), TapeFault>
+    ensures ok { T.honest → OnOk result (T.content tape.new ≡ T.content tape.old ++ bytes.now) }
+    ensures only { T.honest → OnOk result (IsOnlyImage (T.content tape.new) (T.images tape.new)) }
+    ensures part { T.honest → OnErr result (IsExtended (T.content tape.old) bytes.now (T.content tape.new)) }
+    ensures images { T.honest → IsNotMemory result → IsCutShort (T.content tape.old ++ bytes.now) (T.images tape.old) (T.images tape.new) }
+    ensures memory { T.honest → IsErrOf result Memory → IsUnchanged (T.content tape.old) (T.content tape.new) (T.images tape.old) (T.images tape.new) }
+    ensures time { T.honest → Elapses (T.moment tape.old) (T.moment tape.new) (T.left_since tape.old) (T.left_since tape.new) }
+    ensures inside { T.honest → LeavesOldOrCut (T.content tape.old ++ bytes.now) (T.images tape.old) (T.left_since tape.new (T.moment tape.old)) }
+    ensures cause { HasCause (T.failed tape.old) (T.failed tape.new) result }
+    ensures sturdy { T.never_fails tape.old → T.never_fails tape.new }
+    ensures sound { T.never_fails tape.old → IfErr result (λ fault. fault ≢ TapeFault.Device) }
+{
+    match tape.append(bytes) {
+        Ok(()) => tape.sync(),
+        Err(fault) => Err(fault),
+    }
+}
+
+/// Drops records that aren't needed.
+fn discard(_records: Vec<Record>) {}

@@ -1,0 +1,32 @@
+//! The records of a node on its tape, and the journal that adds them.
+//!
+//! Model: a `Record` is that of wf_model, with definitions (`specs/Record.antt`); its encoding is that of `specs/Spelling.antt`. The
+//! records of bytes are the longest list of whole records that the bytes begin with (`specs/Records.antt`). A `Journal` is its tape,
+//! and whether it is halted.
+//!
+//! Promises, of an honest tape (wf_tape): a journal opens with the records of the content, and then the only image is their bytes.
+//! After a record is added, the only image is the bytes from before followed by the record's. Whatever a call returns, each image
+//! reads as the records from before, or with the new one. After the records are rewritten, the only image is the bytes of the new
+//! ones; if the tape fails at that, each image is one from before or those bytes. The same holds of a crash at each moment inside
+//! these calls. Of every tape: a failure is returned only if the tape counted one, and never of a tape that won't fail.
+//!
+//! Not here: what the records mean, and which record may follow which.
+#![tactic(auto)]
+
+mod decoder;
+mod encoder;
+mod fault;
+mod found;
+mod journal;
+mod kind;
+mod law;
+mod opening;
+mod reading;
+mod record;
+mod rewriting;
+
+pub use found::Found;
+pub use journal::Journal;
+pub use law::records_are_read_one_way;
+pub use opening::{AddFault, OpenFault};
+pub use record::Record;
