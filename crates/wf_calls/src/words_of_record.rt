@@ -3,8 +3,8 @@ use crate::script::Maps;
 use crate::telling::write_field;
 use crate::words_of_message::{write_at, write_definition, write_message};
 use wf_codec::Message;
-use wf_table::Answer;
 use wf_journal::Record;
+use wf_table::Answer;
 
 /// Appends a line: the record to store and the messages to send after that, each `nothing` where there is
 /// none.

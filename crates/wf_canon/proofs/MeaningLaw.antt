@@ -1,6 +1,6 @@
 -- The canonical text of a map means that map.
-use Rattle.std.proofs.Common.{◌≡◌, ℕ, ◌<◌, ◌≤◌, Bool, true, false, not, ◌&&◌, cond, leb, nat_le, List, [], ◌∷◌, length, Option, Some, None, Err, refl, sym, ap, ◌∙◌, arith}
-use Rattle.std.specs.Prelude.{codes}
+use Rattle.std.proofs.Common.{subst, ◌≡◌, ℕ, ◌<◌, ◌≤◌, Bool, true, false, not, ◌&&◌, cond, leb, nat_le, List, [], ◌∷◌, length, Option, Some, None, Err, refl, sym, ap, ◌∙◌, arith}
+use Rattle.std.specs.Prelude.{codes, IfSome}
 use Rattle.std.specs.List.{list_all}
 use Rattle.std.specs.Str.{is_utf8, bytes_eq}
 use Rattle.std.proofs.lemmas.Slice.Eq.{bytes_eq-Decides}
@@ -142,6 +142,12 @@ pub why_unread : (unread : MapFault) (fault : CanonFault) (bytes : List ℕ) →
 why_unread unread fault bytes short is utf8 none =
     why_unread_by (is_memory unread) unread fault bytes short refl is (λ other. utf8 (omega arith) other) none
 
--- bytes that are a canonical text are rejected only if allocation fails
-pub why_copy_fails : (bytes : List ℕ) (d : Definition) → IsCanon bytes d → IsWhyRefused Memory bytes
-why_copy_fails bytes d is = (is.short, ap is_utf8 is.spelled ∙ canon-is_utf8 d is.within)
+-- bytes that are a canonical text mean their map
+canonical_means : (bytes : List ℕ) (d : Definition) → IsCanon bytes d → Means bytes d
+canonical_means bytes d is =
+    let short_text : length (canon d) ≤ 65536 = let e : length bytes ≡ length (canon d) = ap length is.spelled in let short = is.short in omega arith in
+    subst (λ (text : List ℕ). Means text d) (sym is.spelled) (canon_means d is.within short_text)
+
+pub scanned_means : (bytes : List ℕ) (d : Definition) (result : Option Definition) → IsCanon bytes d → IfSome result (λ c. c ≡ d) → IfSome result (Means bytes)
+scanned_means bytes d None is none = tt
+scanned_means bytes d (Some c) is same = subst (λ (x : Definition). Means bytes x) (sym same) (canonical_means bytes d is)

@@ -1,6 +1,6 @@
 //! Map definitions with their canonical texts.
 
-ghost use Rattle.std.specs.Prelude.{◌≡◌, ◌<◌, ◌≤◌, true, length, if◌then◌else◌, IfOk, IfErr, OnOk};
+ghost use Rattle.std.specs.Prelude.{◌≡◌, ◌<◌, ◌≤◌, true, length, if◌then◌else◌, IfOk, IfErr, IfSome, OnOk, OnSome};
 ghost use Rattle.std.specs.Str.{is_utf8};
 ghost use Rattle.wf_def.specs.Limits.{IsWithinLimits};
 ghost use Rattle.wf_mapfile.specs.Meaning.{Means};
@@ -86,12 +86,30 @@ impl Canon {
             return Err(CanonFault::TooBig);
         }
         // The quick reader accepts canonical texts alone. What it leaves is decided by reading and writing again.
-        if let Some(def) = scan(alloc, bytes) {
-            return of_scanned(alloc, bytes, def);
+        if let Some(canonical) = Self::scanned(alloc, bytes) {
+            return Ok(canonical);
         }
         let def = definition_of(alloc, bytes)?;
         let text = same_text(alloc, &def, bytes)?;
         Ok(share(alloc, text, def)?)
+    }
+
+    /// The definition of a canonical text, if the quick reader accepts the text. `None` says nothing of the bytes: they may still be a
+    /// canonical text or any other mapfile, or an allocation failed.
+    #[tactic(auto, using(crate::proofs::MeaningLaw::scanned_means))]
+    pub fn scanned(alloc: Global, bytes: &[u8]) -> Option<Self>
+        ensures text { IfSome result (λ canonical. canon canonical ≡ bytes.now) }
+        ensures short { OnSome result (length bytes.now ≤ most_canon_bytes) }
+        ensures within { IfSome result IsWithinLimits }
+        ensures means { IfSome result (Means bytes.now) }
+    {
+        if bytes.len() > MOST_CANON_BYTES {
+            return None;
+        }
+        match scan(alloc, bytes) {
+            Some(def) => of_scanned(alloc, bytes, def),
+            None => None,
+        }
     }
 
     /// A copy, for a message or a history that owns its value. It shares the text and the definition, so it allocates nothing. The
@@ -131,20 +149,19 @@ fn share(alloc: Global, text: Vec<u8>, def: MapDef) -> Result<Canon, AllocError>
     Ok(Canon { shared })
 }
 
-/// A canonical text that was scanned, with its definition.
-fn of_scanned(alloc: Global, bytes: &[u8], def: MapDef) -> Result<Canon, CanonFault>
+/// A canonical text that was scanned, with its definition; `None` if an allocation fails.
+fn of_scanned(alloc: Global, bytes: &[u8], def: MapDef) -> Option<Canon>
     requires { IsCanon bytes.now def }
-    ensures value { IfOk result (λ canonical. canonical ≡ def) }
-    ensures cause { IfErr result (λ fault. IsWhyRefused fault bytes.now) }
+    ensures { IfSome result (λ canonical. canonical ≡ def) }
 {
     match copied(alloc, bytes) {
         Ok(text) => match share(alloc, text, def) {
-            Ok(canonical) => Ok(canonical),
-            Err(AllocError) => Err(CanonFault::Memory),
+            Ok(canonical) => Some(canonical),
+            Err(AllocError) => None,
         },
         Err(AllocError) => {
             drop(def);
-            Err(CanonFault::Memory)
+            None
         }
     }
 }

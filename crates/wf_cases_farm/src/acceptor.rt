@@ -15,8 +15,8 @@ use wf_calls::script::{Maps, read_script};
 use wf_calls::telling::{tell_done, tell_whether};
 use wf_calls::words;
 use wf_calls::words_of_record::tell_step;
-use wf_table::{Answer, Answered, Asked, Unanswered, Words};
 use wf_journal::Record;
+use wf_table::{Answer, Answered, Asked, Unanswered, Words};
 
 #[derive(Drop)]
 struct Session<'a> {

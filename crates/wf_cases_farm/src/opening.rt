@@ -3,9 +3,9 @@ use std::alloc::Global;
 use wf_calls::member::Member;
 use wf_calls::telling::write_field;
 use wf_calls::words_of_tape::{bytes_on, tape_of, tell_length};
+use wf_journal::OpenFault;
 use wf_node::Node;
 use wf_table::{Answer, Answered, Asked, Unanswered};
-use wf_journal::OpenFault;
 use wf_tape::MemoryTape;
 
 /// The node on a tape; or the tape again, and why the node doesn't open.

@@ -6,8 +6,8 @@ use wf_calls::telling::tell_printed;
 use wf_calls::words_of_record::write_head;
 use wf_calls::words_of_tape::{bytes_on, tape_of, tell_length};
 use wf_canon::Canon;
-use wf_table::{Answer, Answered, Asked, Unanswered};
 use wf_journal::{Journal, OpenFault, Record};
+use wf_table::{Answer, Answered, Asked, Unanswered};
 use wf_tape::MemoryTape;
 
 pub(crate) fn ask(mut asked: Asked<'_>, answer: &mut Answer) -> Answered {

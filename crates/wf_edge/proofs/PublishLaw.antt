@@ -101,6 +101,10 @@ why_unwritten body d why told means cause is = subst (λ f. IsWhyNoMap body f) (
 pub is_map : (body : List ℕ) (d c : Definition) → Means body d → c ≡ d → length (canon d) ≤ most_canon_bytes → IsMapOf body c
 is_map body d c means is short = subst (λ x. IsMapOf body x) (sym is) (record { means = means; short = short })
 
+-- a body that is a map's canonical text
+pub is_scanned : (body : List ℕ) (c : Definition) → Means body c → canon c ≡ body → length body ≤ most_canon_bytes → IsMapOf body c
+is_scanned body c means text short = record { means = means; short = subst (λ t. length t ≤ most_canon_bytes) (sym text) short }
+
 module _ {T A : Type 0} (honest : Type 0) (content : T → List ℕ) (images : T → List ℕ → Type 0) (failures : T → ℕ) where
   -- ---- the step
 

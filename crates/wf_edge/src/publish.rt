@@ -63,11 +63,16 @@ fn canon_of(alloc: Global, body: &[u8], map: MapDef) -> Result<Canon, PublishFau
     }
 }
 
-// The map in a body, with its canonical text.
+// The map in a body, with its canonical text. A body that is a canonical text, as `wfarm canon` writes it, is scanned: that takes a
+// fraction of the time.
+#[tactic(auto, using(crate::proofs::PublishLaw::is_scanned))]
 fn canon_in(alloc: Global, body: &[u8]) -> Result<Canon, PublishFault>
     ensures ok { IfOk result (IsMapOf body.now) }
     ensures err { IfErr result (IsWhyNoMap body.now) }
 {
+    if let Some(canon) = Canon::scanned(alloc, body) {
+        return Ok(canon);
+    }
     match map_in(alloc, body) {
         Ok(map) => canon_of(alloc, body, map),
         Err(fault) => Err(fault),

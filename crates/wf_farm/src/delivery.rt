@@ -17,8 +17,8 @@ use crate::fault::{FarmFault, fault_after};
 use crate::receiving::deliver_to;
 use std::alloc::Global;
 use wf_canon::Canon;
-use wf_model::steps_in_turn;
 use wf_journal::records_are_read_one_way;
+use wf_model::steps_in_turn;
 
 impl Farm {
     /// Delivers message `number` to the node, as the carrier brings it: one event of the model, whatever the carrier. A delivery

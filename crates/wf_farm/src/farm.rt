@@ -7,9 +7,9 @@ use std::alloc::Global;
 use std::marker::Model;
 use wf_canon::Canon;
 use wf_codec::Message;
+use wf_journal::records_are_read_one_way;
 use wf_model::steps_in_turn;
 use wf_node::Node;
-use wf_journal::records_are_read_one_way;
 use wf_tape::MemoryTape;
 
 /// A farm: its nodes, running or stopped, and all messages that they ever sent. Every farm is reached from the start by some

@@ -6,9 +6,9 @@ ghost use Rattle.wf_farm.specs.Leading.{AreReached, BothAreSaid, DeliveriesLeadO
 ghost use Rattle.wf_farm.specs.Reopening.{ReopenedAreReached, ReopenedOnTape};
 
 use wf_canon::Canon;
+use wf_journal::records_are_read_one_way;
 use wf_law::earlier_messages;
 use wf_node::Node;
-use wf_journal::records_are_read_one_way;
 use wf_tape::Tape;
 use wf_wms::law::{asked_maps_are_answered_alike, each_query_has_one_answer};
 

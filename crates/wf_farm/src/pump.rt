@@ -18,8 +18,8 @@ use crate::round::{Round, deliver_rounds};
 use crate::targets::targets_of;
 use std::alloc::Global;
 use wf_canon::Canon;
-use wf_model::steps_in_turn;
 use wf_journal::records_are_read_one_way;
+use wf_model::steps_in_turn;
 
 impl Farm {
     /// Delivers each message not pumped yet, in order of number and including new ones, once to each named node, ascending; to

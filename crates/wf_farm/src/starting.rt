@@ -15,8 +15,8 @@ use crate::cluster::Cluster;
 use crate::place::Place;
 use std::alloc::{AllocError, Global};
 use wf_ballot::NodeId;
-use wf_node::Node;
 use wf_journal::records_are_read_one_way;
+use wf_node::Node;
 use wf_tape::MemoryTape;
 
 impl Cluster {

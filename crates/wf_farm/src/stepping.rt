@@ -13,9 +13,9 @@ use std::mem::replace;
 use wf_ballot::NodeId;
 use wf_canon::Canon;
 use wf_codec::Message;
+use wf_journal::records_are_read_one_way;
 use wf_model::rows_are_short;
 use wf_node::{Input, Node, NodeFault};
-use wf_journal::records_are_read_one_way;
 use wf_tape::MemoryTape;
 
 impl Place {

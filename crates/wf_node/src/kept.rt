@@ -10,8 +10,8 @@ use std::marker::Model;
 use wf_acceptor::{Acceptor, Answer};
 use wf_ballot::{Ballot, NodeId, Seq, Slot};
 use wf_canon::Canon;
-use wf_learner::History;
 use wf_journal::Record;
+use wf_learner::History;
 
 /// The stored part of a node: the fold of its records.
 #[derive(Drop)]

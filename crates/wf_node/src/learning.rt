@@ -18,8 +18,8 @@ use std::alloc::Global;
 use wf_ballot::Slot;
 use wf_canon::Canon;
 use wf_codec::Message;
-use wf_proposer::Proposer;
 use wf_journal::Record;
+use wf_proposer::Proposer;
 use wf_tape::Tape;
 
 impl<T: Tape> Machine<T> {

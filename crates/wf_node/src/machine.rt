@@ -13,8 +13,8 @@ use crate::input::Input;
 use crate::kept::Kept;
 use std::alloc::Global;
 use wf_codec::Message;
-use wf_proposer::Proposer;
 use wf_journal::Journal;
+use wf_proposer::Proposer;
 use wf_tape::Tape;
 
 /// The journal of a node, its stored part in memory, and its proposer.

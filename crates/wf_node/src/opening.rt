@@ -18,8 +18,8 @@ use crate::machine::Machine;
 use crate::node::Node;
 use std::alloc::Global;
 use wf_ballot::NodeId;
-use wf_proposer::Proposer;
 use wf_journal::{Found, Journal, OpenFault, Record};
+use wf_proposer::Proposer;
 use wf_tape::Tape;
 
 impl<T: Tape> Node<T> {

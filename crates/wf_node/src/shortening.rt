@@ -17,8 +17,8 @@ use crate::node::Node;
 use std::alloc::{AllocError, Global};
 use wf_ballot::{Round, SEQUENCES, Slot};
 use wf_canon::Canon;
-use wf_model::{folds_are_open, votes_are_promised};
 use wf_journal::{AddFault, Journal, Record};
+use wf_model::{folds_are_open, votes_are_promised};
 use wf_tape::Tape;
 
 impl<T: Tape> Node<T> {
