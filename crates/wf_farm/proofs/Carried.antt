@@ -1,16 +1,14 @@
 -- A delivery by a carrier: one event, or none.
-use Rattle.std.proofs.Common.{◌≡◌, ◌⊎◌, ◌∙◌, ℕ, Bool, false, true, List, [], ◌∷◌, Option, Result, Ok, Err, IfErr, IfOk, OnErr, IsOk, refl, sym, ap, subst, inl, inr}
+use Rattle.std.proofs.Common.{◌≡◌, ◌∙◌, ℕ, Bool, List, [], ◌∷◌, Option, Result, Ok, Err, IfErr, IfOk, OnErr, IsOk, refl, sym, ap, subst, inl, inr}
 use Rattle.std.proofs.lemmas.Bool.{false≢true}
 use Rattle.wf_codec.specs.declared.message.Message.{Message}
 use Rattle.wf_def.specs.Definition.{Definition}
-use Rattle.wf_def.specs.Equality.{definition_eq}
 use Rattle.wf_model.specs.Table as table
 use Rattle.wf_model.specs.Table.{Action}
-use Rattle.wf_model.specs.World.{World, Event, Deliver, happens, steps}
+use Rattle.wf_model.specs.World.{Event, Deliver, happens, steps}
 use Rattle.wf_farm.specs.declared.carrier.CarrierFault.{CarrierFault}
 use Rattle.wf_farm.specs.declared.carrier.CarrierFault.TheVariants as carrier
 use Rattle.wf_farm.specs.declared.fault.FarmFault.{FarmFault}
-use Rattle.wf_farm.specs.declared.fault.FarmFault.TheVariants.{Memory, Carried}
 use Rattle.wf_farm.specs.declared.place.Place.{Place}
 use Rattle.wf_farm.specs.Allocating.{TakesStep}
 use Rattle.wf_farm.specs.Carrying.{ChangesByStep, IsMemory, IsUndelivered, fault_after}

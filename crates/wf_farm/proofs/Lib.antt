@@ -14,3 +14,6 @@ mod Answered
 pub mod Deliveries
 mod OneRun
 mod Reopened
+mod CutTapes
+mod Tried
+mod TriedEvents

@@ -18,3 +18,4 @@ pub mod PlaceLaws
 pub mod DeliveringLaws
 pub mod Leading
 pub mod Reopening
+pub mod Fused

@@ -13,6 +13,8 @@
 //! - Messages may be brought to the nodes by a [`Carrier`]: a delivery ([`Farm::deliver_by`]) or a pump ([`Farm::pump_by`]) is what
 //!   it would be without, whatever the carrier does. A message that isn't brought, or isn't the one that was sent, is an error and
 //!   not delivered.
+//! - A run in which one call of a node's tape fails ([`run_fused`]) is the model's run of the same events, but for the event within
+//!   whose step the tape failed a crash within that step and a restart of the node (`specs/Fused.antt`). No other tape of a farm fails.
 //! - What a node published stays a prefix of what it publishes after a run, a pump or a delivery.
 //! - No two nodes, running or stopped, publish different definitions under one sequence, since every farm is reached from the
 //!   start: [`Farm::agree`].
@@ -39,11 +41,16 @@
 mod answering;
 mod carrier;
 mod cluster;
+mod crashing;
 mod delivering;
 mod delivery;
 mod event;
+mod failing;
 mod farm;
+mod fate;
 mod fault;
+mod fuse;
+mod fused;
 mod happening;
 mod law;
 mod leading;
@@ -65,6 +72,7 @@ pub use delivering::{Pumped, deliver_all};
 pub use event::{Action, Event, Kept};
 pub use farm::Farm;
 pub use fault::FarmFault;
+pub use fused::{Fused, run_fused};
 pub use law::{agreement, kept_promises, limits_are_as_defined, own_ballots, promised_majority};
 pub use leading::{
     a_step_leads_on, deliveries_lead_on, fresh_nodes_are_reached, leading_goes_on,

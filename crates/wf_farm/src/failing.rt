@@ -1,0 +1,306 @@
+//! Events of a farm one of whose tapes fails at a chosen call.
+
+ghost use Rattle.std.specs.Prelude.{◌≡◌, ◌<◌, ◌≤◌, ◌+◌, ℕ, true, length, map, drop, option_map, Some, None, IfOk, IfErr, OnOk};
+ghost use Rattle.wf_codec.specs.Message.{view as view_message};
+ghost use Rattle.wf_def.specs.Definition.{Definition};
+ghost use Rattle.wf_def.specs.Equality.{definition_eq};
+ghost use Rattle.wf_model.specs.Table.{Action as ModelAction};
+ghost use Rattle.wf_model.specs.World as world;
+ghost use Rattle.wf_model.specs.World.{happens, input_of};
+ghost use Rattle.wf_node.specs.Input.{view as view_input};
+ghost use Rattle.wf_farm.specs.Cluster.{AreMembers, KeepMembers, Moves, Turns};
+ghost use Rattle.wf_farm.specs.Event.{view};
+ghost use Rattle.wf_farm.specs.Fused.{GivesInput, HappensOrTears, IsDoneOrTorn, IsStepOf, IsStepOfNode, IsTold, is_heard, with_torn};
+
+use crate::cluster::Cluster;
+use crate::event::{Event, Kept};
+use crate::fate::Fate;
+use crate::fuse::Fuse;
+use std::alloc::{AllocError, Global};
+use wf_ballot::NodeId;
+use wf_codec::Message;
+use wf_node::Input;
+
+impl Cluster {
+    /// Applies the events in order, with the fuse on the tape of this node. Returns the number of the event within whose step the tape
+    /// failed, and what the crash left; None if it didn't fail within a step. Err: the number of events that were applied before an
+    /// allocation failed.
+    #[tactic(auto, using(crate::proofs::Events::same_members))]
+    pub(crate) fn run_fused(
+        &mut self,
+        alloc: Global,
+        events: &[Event],
+        node: usize,
+        fuse: Fuse,
+    ) -> Result<Option<(usize, Kept)>, usize>
+        requires members { AreMembers self.old.places.items }
+        requires size { length self.old.places.items ≤ 64 }
+        ensures done { IfOk result (λ torn. Moves (with_torn (map view events.now) torn) self.old.places.items self.old.sent.items self.new.places.items self.new.sent.items) }
+        ensures which { IfOk result (IsStepOfNode node (map view events.now)) }
+        ensures most { IfErr result (λ done. done < length events.now) }
+        ensures members { OnOk result (KeepMembers self.old.places.items self.new.places.items) }
+        ensures grows { OnOk result (length self.old.sent.items ≤ length self.new.sent.items) }
+    {
+        let mut fuse = fuse;
+        for done in 0..events.len() {
+            match self.happen_fused(alloc, &events[done], node, &mut fuse) {
+                Ok(None) => (),
+                Ok(Some(kept)) => return self.go_on(alloc, events, done, kept),
+                Err(_) => return Err(done),
+            }
+        }
+        Ok(None)
+    }
+
+    /// Applies the events after the one of this number, within whose step the tape failed.
+    fn go_on(
+        &mut self,
+        alloc: Global,
+        events: &[Event],
+        done: usize,
+        kept: Kept,
+    ) -> Result<Option<(usize, Kept)>, usize>
+        requires within { done < length events.now }
+        requires members { AreMembers self.old.places.items }
+        requires size { length self.old.places.items ≤ 64 }
+        ensures rest { OnOk result (Moves (drop (done + 1) (map view events.now)) self.old.places.items self.old.sent.items self.new.places.items self.new.sent.items) }
+        ensures torn { IfOk result (λ torn. torn ≡ Some (done, kept)) }
+        ensures most { IfErr result (λ done. done < length events.now) }
+        ensures members { KeepMembers self.old.places.items self.new.places.items }
+        ensures grows { length self.old.sent.items ≤ length self.new.sent.items }
+    {
+        let (_, rest) = events.split_at(done + 1);
+        match self.run(alloc, rest) {
+            Ok(_) => Ok(Some((done, kept))),
+            Err(more) => Err(done + 1 + more),
+        }
+    }
+
+    /// Applies the event, with the fuse on the tape of this node if it is about that node. Returns what the crash left if the tape
+    /// failed within the event's step. Err if an allocation fails.
+    #[tactic(auto, using(crate::proofs::TriedEvents::happened))]
+    fn happen_fused(
+        &mut self,
+        alloc: Global,
+        event: &Event,
+        node: usize,
+        fuse: &mut Fuse,
+    ) -> Result<Option<Kept>, AllocError>
+        requires members { AreMembers self.old.places.items }
+        requires size { length self.old.places.items ≤ 64 }
+        ensures done { IfOk result (λ torn. HappensOrTears node (view event.now) torn self.old.places.items self.old.sent.items self.new.places.items self.new.sent.items) }
+        ensures members { OnOk result (KeepMembers self.old.places.items self.new.places.items) }
+        ensures grows { OnOk result (length self.old.sent.items ≤ length self.new.sent.items) }
+    {
+        match event {
+            Event::Restart(number) => self.restart_fused(alloc, *number, node, fuse),
+            _ => self.step_fused(alloc, event, node, fuse),
+        }
+    }
+
+    /// The same for an event that isn't a restart. One that isn't a step of the node, or has no input or no effect there, doesn't touch
+    /// its tape.
+    #[tactic(auto, using(crate::proofs::TriedEvents::happened, crate::proofs::TriedEvents::tried_event))]
+    fn step_fused(
+        &mut self,
+        alloc: Global,
+        event: &Event,
+        node: usize,
+        fuse: &mut Fuse,
+    ) -> Result<Option<Kept>, AllocError>
+        requires members { AreMembers self.old.places.items }
+        requires size { length self.old.places.items ≤ 64 }
+        ensures done { IfOk result (λ torn. HappensOrTears node (view event.now) torn self.old.places.items self.old.sent.items self.new.places.items self.new.sent.items) }
+        ensures members { OnOk result (KeepMembers self.old.places.items self.new.places.items) }
+        ensures grows { OnOk result (length self.old.sent.items ≤ length self.new.sent.items) }
+    {
+        if !is_step_of(event, node) {
+            return self.pass(alloc, event);
+        }
+        if !self.takes(event, node) {
+            return self.pass(alloc, event);
+        }
+        match self.event_input(event) {
+            Ok(Some(input)) => self.act_fused(alloc, node, input, is_heard(event), fuse),
+            Ok(None) => self.pass(alloc, event),
+            Err(fault) => Err(fault),
+        }
+    }
+
+    /// Applies an event that doesn't touch the tape with the fuse.
+    fn pass(&mut self, alloc: Global, event: &Event) -> Result<Option<Kept>, AllocError>
+        requires members { AreMembers self.old.places.items }
+        requires size { length self.old.places.items ≤ 64 }
+        ensures none { IfOk result (λ torn. torn ≡ None) }
+        ensures done { OnOk result (Turns (λ w. happens definition_eq w (view event.now)) self.old.places.items self.old.sent.items self.new.places.items self.new.sent.items) }
+        ensures members { KeepMembers self.old.places.items self.new.places.items }
+        ensures grows { length self.old.sent.items ≤ length self.new.sent.items }
+    {
+        match self.happen(alloc, event) {
+            Ok(_) => Ok(None),
+            Err(fault) => Err(fault),
+        }
+    }
+
+    /// Whether a step of the node would be done now: the node runs, and doesn't reject it. A rejection takes precedence over
+    /// allocation failure.
+    fn takes(&self, event: &Event, node: usize) -> bool
+        ensures { result ≡ true → node < length self.now.places.items }
+    {
+        if !self.runs(node) {
+            return false;
+        }
+        match event {
+            Event::Propose(_, _) => self.places[node].proposal_refusal().is_none(),
+            Event::Torn(_, action, _) => self.places[node].refusal(action).is_none(),
+            Event::Retry(_) => self.places[node].retry_refusal().is_none(),
+            _ => true,
+        }
+    }
+
+    /// The input of the event's step; None if its message wasn't sent, or if it isn't a step that is done before the node stops.
+    #[tactic(auto, using(crate::proofs::TriedEvents::proposal_gives, crate::proofs::TriedEvents::retry_gives, crate::proofs::TriedEvents::question_gives, crate::proofs::TriedEvents::delivery_gives, crate::proofs::TriedEvents::torn_gives))]
+    fn event_input(&self, event: &Event) -> Result<Option<Input>, AllocError>
+        ensures { IfOk result (λ input. GivesInput (map view_message self.now.sent.items) (view event.now) (option_map view_input input)) }
+    {
+        match event {
+            Event::Propose(_, canon) => match canon.copy() {
+                Ok(own) => Ok(Some(Input::Propose(own))),
+                Err(fault) => Err(fault),
+            },
+            Event::Retry(_) => Ok(Some(Input::Retry)),
+            Event::CatchUp(_) => Ok(Some(Input::CatchUp)),
+            Event::Deliver(_, number) => self.message(*number),
+            Event::Torn(_, action, Kept::After) => self.input_of(action),
+            Event::Torn(_, _, Kept::Before) | Event::Stop(_) | Event::Restart(_) => Ok(None),
+        }
+    }
+
+    /// A step of this node with the fuse on its tape. Its messages are sent if it is heard, else the node stops. Err if an allocation
+    /// fails; the world is lost then.
+    fn act_fused(
+        &mut self,
+        alloc: Global,
+        node: usize,
+        input: Input,
+        heard: bool,
+        fuse: &mut Fuse,
+    ) -> Result<Option<Kept>, AllocError>
+        requires node { node < length self.old.places.items }
+        requires members { AreMembers self.old.places.items }
+        requires size { length self.old.places.items ≤ 64 }
+        ensures done { (action : ModelAction Definition ℕ) → input_of (map view_message self.old.sent.items) action ≡ Some (view_input input) →
+            IfOk result (λ torn. IsDoneOrTorn torn heard node action self.old.places.items self.old.sent.items self.new.places.items self.new.sent.items) }
+        ensures members { OnOk result (KeepMembers self.old.places.items self.new.places.items) }
+        ensures grows { OnOk result (length self.old.sent.items ≤ length self.new.sent.items) }
+    {
+        let n = self.places.len();
+        // There are at most 64 nodes, so each index is a node number.
+        let id = NodeId::new(node as u8).unwrap();
+        match self.places[node].try_step(fuse, alloc, id, n as u8, input) {
+            Ok(Fate::Done(said)) => self.tell(alloc, node, said, heard),
+            Ok(Fate::Rejected) => Ok(None),
+            Ok(Fate::Torn(kept)) => Ok(Some(kept)),
+            Err(fault) => Err(fault),
+        }
+    }
+
+    /// Sends the messages of a node's step if it is heard; else they are lost, and the node stops. Nothing was torn.
+    #[tactic(auto, using(crate::proofs::TriedEvents::sent_told))]
+    fn tell(
+        &mut self,
+        alloc: Global,
+        node: usize,
+        said: Vec<Message>,
+        heard: bool,
+    ) -> Result<Option<Kept>, AllocError>
+        requires { node < length self.old.places.items }
+        ensures told { OnOk result (IsTold heard node said.items self.old.places.items self.old.sent.items self.new.places.items self.new.sent.items) }
+        ensures none { IfOk result (λ torn. torn ≡ None) }
+    {
+        if !heard {
+            drop(said);
+            self.places[node].stop(alloc);
+            return Ok(None);
+        }
+        let mut said = said;
+        match self.sent.append(&mut said) {
+            Ok(()) => Ok(None),
+            Err(_) => Err(AllocError),
+        }
+    }
+
+    /// Restarts a stopped node, if it exists; with the fuse on its tape if it is this one.
+    fn restart_fused(
+        &mut self,
+        alloc: Global,
+        number: usize,
+        node: usize,
+        fuse: &mut Fuse,
+    ) -> Result<Option<Kept>, AllocError>
+        requires members { AreMembers self.old.places.items }
+        requires size { length self.old.places.items ≤ 64 }
+        ensures none { IfOk result (λ torn. torn ≡ None) }
+        ensures done { OnOk result (Turns (λ w. happens definition_eq w (world.Restart number)) self.old.places.items self.old.sent.items self.new.places.items self.new.sent.items) }
+        ensures members { OnOk result (KeepMembers self.old.places.items self.new.places.items) }
+        ensures grows { OnOk result (length self.old.sent.items ≤ length self.new.sent.items) }
+    {
+        let n = self.places.len();
+        if number != node {
+            return self.restart_whole(alloc, number);
+        }
+        if number >= n {
+            return self.restart_whole(alloc, number);
+        }
+        // There are at most 64 nodes, so each index is a node number.
+        let id = NodeId::new(number as u8).unwrap();
+        match self.places[number].restart_fused(fuse, alloc, id, n as u8) {
+            Ok(()) => Ok(None),
+            Err(fault) => Err(fault),
+        }
+    }
+
+    /// Restarts a stopped node, if it exists, from a tape without a fuse.
+    fn restart_whole(&mut self, alloc: Global, number: usize) -> Result<Option<Kept>, AllocError>
+        requires members { AreMembers self.old.places.items }
+        requires size { length self.old.places.items ≤ 64 }
+        ensures none { IfOk result (λ torn. torn ≡ None) }
+        ensures done { OnOk result (Turns (λ w. happens definition_eq w (world.Restart number)) self.old.places.items self.old.sent.items self.new.places.items self.new.sent.items) }
+        ensures members { KeepMembers self.old.places.items self.new.places.items }
+        ensures grows { length self.old.sent.items ≤ length self.new.sent.items }
+    {
+        match self.restart(alloc, number) {
+            Ok(_) => Ok(None),
+            Err(fault) => Err(fault),
+        }
+    }
+}
+
+/// Whether the event is a step of this node, also one that is a crash within a step.
+fn is_step_of(event: &Event, node: usize) -> bool
+    ensures { result ≡ true → IsStepOf node (view event.now) }
+{
+    match event {
+        Event::Propose(number, _) => *number == node,
+        Event::Retry(number) => *number == node,
+        Event::CatchUp(number) => *number == node,
+        Event::Deliver(number, _) => *number == node,
+        Event::Torn(number, _, _) => *number == node,
+        Event::Stop(_) | Event::Restart(_) => false,
+    }
+}
+
+/// Whether the messages of the event's step are sent.
+fn is_heard(event: &Event) -> bool
+    ensures { result ≡ is_heard (view event.now) }
+{
+    match event {
+        Event::Torn(_, _, _) => false,
+        Event::Propose(_, _)
+        | Event::Retry(_)
+        | Event::CatchUp(_)
+        | Event::Deliver(_, _)
+        | Event::Stop(_)
+        | Event::Restart(_) => true,
+    }
+}
