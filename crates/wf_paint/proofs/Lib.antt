@@ -16,6 +16,7 @@ pub mod StripLemmas
 pub mod BandLemmas
 pub mod InsideLemmas
 pub mod WalkLemmas
+pub mod MarksLemmas
 pub mod SegmentsLemmas
 pub mod GridLemmas
 pub mod MovedLemmas

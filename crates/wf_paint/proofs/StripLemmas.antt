@@ -1,18 +1,24 @@
 -- Strips: where the pixels of a row begin and end, and how that changes from row to row.
-use Rattle.std.proofs.Common.{◌≡◌, Bool, true, false, ℕ, ◌+◌, ◌*◌, ◌^◌, ◌<◌, ◌≤◌, ◌&&◌, not, nat_lt, max, min, ⊎_elim, ℤ, pos, ◌+ℤ◌, ◌*ℤ◌, neg_ℤ, nat_abs, ◌≤ℤ◌, negsuc, refl, sym, ap, ◌∙◌, arith}
+use Rattle.std.proofs.Common.{◌≡◌, Bool, true, false, ℕ, suc, ◌+◌, ◌*◌, ◌^◌, ◌<◌, ◌≤◌, inl, inr, ◌&&◌, ◌||◌, not, nat_lt, max, min, ⊎_elim, ℤ, pos, ◌+ℤ◌, ◌*ℤ◌, neg_ℤ, nat_abs, ◌≤ℤ◌, negsuc, refl, sym, ap, ◌∙◌, arith}
 use Rattle.std.proofs.lemmas.Bool.{and_left, and_right, cases_lt}
+use Rattle.std.proofs.lemmas.Bool.Decides.{nat_tests}
 use Rattle.std.proofs.lemmas.Int.{ints}
-use Rattle.std.proofs.Math.IntN.{pos-*ℤ-pos}
-use Rattle.std.proofs.Math.Nat.{mul_assoc, mul_comm}
+use Rattle.std.proofs.Math.IntN.{pos-*ℤ-pos, negsuc-*ℤ-pos}
+use Rattle.std.proofs.Math.Nat.{mul_assoc, mul_comm, mul-le-mul}
 use Rattle.wf_paint.specs.Exact.{plus, difference, product, opposite, is_less}
+use Rattle.wf_def.specs.declared.color.Color.{Color}
+use Rattle.wf_paint.specs.Canvas.{CanvasValue}
+use Rattle.wf_paint.specs.Shown.{IsColored}
 use Rattle.wf_paint.specs.Level.{level, row_level, level_at, is_in_margin}
 use Rattle.wf_paint.specs.Quotient.{number_of}
 use Rattle.wf_paint.specs.Span.{IsSpanOf, is_within, shared}
-use Rattle.wf_paint.specs.Strip.{is_in_strip, IsPart}
+use Rattle.wf_paint.specs.Strip.{is_in_strip, IsPart, IsEnd, IsStepped, IsBetween}
 use Rattle.wf_paint.specs.declared.levels.Levels.{Levels}
 use Rattle.wf_paint.specs.declared.quotient.Quotient.{Quotient}
 use Rattle.wf_paint.specs.declared.span.Span.{Span}
+use Rattle.wf_paint.specs.declared.stepped.Stepped.{Stepped}
 use Rattle.wf_paint.proofs.AlongLemmas.{times_sum, sixteen}
+use Rattle.wf_paint.proofs.ColoredLemmas.{IsColored-either, IsColored-alike}
 use Rattle.wf_paint.proofs.LevelLemmas.{opposed, level_still, rising_span}
 use Rattle.wf_paint.proofs.StepsLemmas.{multiples_to}
 use Rattle.wf_paint.proofs.SpanLemmas.{is_within-before, is_within-after, is_within-inside, shared_within}
@@ -107,12 +113,7 @@ strip_mirrored l m rows columns u v same is =
 
 -- ---- the ends of a row's pixels
 
--- a quotient that tells which pixels of a row lie below a bound
-pub record IsEnd (bound start change : ℤ) (step row : ℕ) (q : Quotient) : Type 0 where
-  pub value : plus (number_of step q) (pos 1) ≡ difference bound (level start change (pos row))
-  pub rest : q.rest < step
-
--- and is near enough to 0 for the sums that follow
+-- a quotient that tells where a row's pixels end, and is near enough to 0 for the sums that follow
 pub record IsEdge (bound start change : ℤ) (step row : ℕ) (q : Quotient) : Type 0 where
   pub ends : IsEnd bound start change step row q
   pub within : nat_abs q.whole ≤ (row + 1) * 2 ^ 51
@@ -126,6 +127,28 @@ pub edge_begins : (bound start change here : ℤ) (step row : ℕ) (q : Quotient
 edge_begins bound start change here step row q is value rest within = record {
   ends = record { value = one_more (number_of step q) bound here value ∙ ap (difference bound) is; rest = rest };
   within = omega arith;
+}
+
+pub edge_stepped : (l : Levels) (bound : ℤ) (row : ℕ) (s : Stepped) → IsStepped l bound row s → IsEdge bound l.origin (product (pos 16) l.up) s.step row s.now
+edge_stepped l bound row s is = record { ends = is.begins; within = omega (arith, is.near) }
+
+pub end_begins : (l : Levels) (bound here : ℤ) (row step : ℕ) (q : Quotient) → here ≡ row_level l row →
+    number_of step q ≡ difference (difference bound here) (pos 1) → q.rest < step → IsEnd bound l.origin (product (pos 16) l.up) step row q
+unfolding row_level
+end_begins l bound here row step q is value rest = record { value = one_more (number_of step q) bound here value ∙ ap (difference bound) is; rest = rest }
+
+pub stepped_begins : (l : Levels) (bound here : ℤ) (row step : ℕ) (now change : Quotient) → pos step ≡ product (pos 16) l.across → step ≤ 2 ^ 60 →
+    here ≡ row_level l row → number_of step now ≡ difference (difference bound here) (pos 1) → now.rest < step → nat_abs now.whole ≤ 2 ^ 50 →
+    number_of step change ≡ opposite (product (pos 16) l.up) → change.rest < step → nat_abs change.whole ≤ 2 ^ 50 →
+    IsStepped l bound row (record { now = now; change = change; step = step })
+stepped_begins l bound here row step now change across most is value rest near moves further slow = record {
+  across = across;
+  most = most;
+  begins = end_begins l bound here row step now is value rest;
+  near = near;
+  moves = moves;
+  rest = further;
+  slow = slow;
 }
 
 lowered : (n c next bound z change further : ℤ) → plus n (pos 1) ≡ difference bound z → c ≡ opposite change → next ≡ plus n c → further ≡ plus z change →
@@ -217,6 +240,74 @@ end_further m start change w step row low high is sum twice rest = record {
   rest = omega (arith, is.rest, rest);
 }
 
+-- ---- rows between the first and the last one
+
+numbers : (n m bound here there : ℤ) → plus n (pos 1) ≡ difference bound here → plus m (pos 1) ≡ difference bound there → there ≤ℤ here → n ≤ℤ m
+unfolding plus difference
+numbers n m bound here there first second lower = omega (arith, ints)
+
+-- of two numbers the lesser has no greater whole part
+whole_order : (d r s : ℕ) (v w : ℤ) → s < d → plus (product v (pos d)) (pos r) ≤ℤ plus (product w (pos d)) (pos s) → v ≤ℤ w
+unfolding plus product
+whole_order d r s (pos a) (pos b) below less = elim (cases_lt a (b + 1)) [
+  | inl before ↦ omega (arith, ints)
+  | inr after ↦
+      let more : (b + 1) * d ≤ a * d = mul-le-mul after (omega arith) in
+      absurd (omega (arith, ints, pos-*ℤ-pos a d, pos-*ℤ-pos b d))
+]
+whole_order d r s (pos a) (negsuc b) below less =
+    let some : 1 * d ≤ suc b * d = mul-le-mul (omega arith) (omega arith) in
+    absurd (omega (arith, ints, pos-*ℤ-pos a d, negsuc-*ℤ-pos b d))
+whole_order d r s (negsuc a) (pos b) below less = omega (arith, ints)
+whole_order d r s (negsuc a) (negsuc b) below less = elim (cases_lt a b) [
+  | inl before ↦
+      let more : (suc a + 1) * d ≤ suc b * d = mul-le-mul (omega arith) (omega arith) in
+      absurd (omega (arith, ints, negsuc-*ℤ-pos a d, negsuc-*ℤ-pos b d))
+  | inr after ↦ omega (arith, ints)
+]
+
+end_order : (bound start change : ℤ) (step a b : ℕ) (p q : Quotient) → IsEnd bound start change step a p → IsEnd bound start change step b q →
+    level start change (pos b) ≤ℤ level start change (pos a) → p.whole ≤ℤ q.whole
+unfolding number_of
+end_order bound start change step a b p q first second lower =
+    whole_order step p.rest q.rest p.whole q.whole second.rest
+    (numbers (number_of step p) (number_of step q) bound (level start change (pos a)) (level start change (pos b)) first.value second.value lower)
+
+level_rises : (start : ℤ) (c a b : ℕ) → a ≤ b → level start (pos c) (pos a) ≤ℤ level start (pos c) (pos b)
+unfolding level plus product
+level_rises start c a b order =
+    let more : c * a ≤ c * b = mul-le-mul (omega arith) order in
+    omega (arith, ints, pos-*ℤ-pos c a, pos-*ℤ-pos c b)
+
+level_falls : (start : ℤ) (c a b : ℕ) → a ≤ b → level start (negsuc c) (pos b) ≤ℤ level start (negsuc c) (pos a)
+unfolding level plus product
+level_falls start c a b order =
+    let more : suc c * a ≤ suc c * b = mul-le-mul (omega arith) order in
+    omega (arith, ints, negsuc-*ℤ-pos c a, negsuc-*ℤ-pos c b)
+
+between_wholes : (columns : Span) (width : ℕ) (p q r : Quotient) → IsBetween columns width p → IsBetween columns width r → p.whole ≤ℤ q.whole → q.whole ≤ℤ r.whole →
+    IsBetween columns width q
+unfolding plus
+between_wholes columns width p q r first last under over = record {
+  least = first.least;
+  most = first.most;
+  from = omega (arith, ints, first.from);
+  to = omega (arith, ints, last.to);
+}
+
+-- a row's pixels lie in the columns if those of a row before and of one after it do
+pub row_between : (bound start change : ℤ) (step first row last width : ℕ) (columns : Span) (p q r : Quotient) → first ≤ row → row ≤ last →
+    IsEnd bound start change step first p → IsEnd bound start change step row q → IsEnd bound start change step last r →
+    IsBetween columns width p → IsBetween columns width r → IsBetween columns width q
+row_between bound start (pos c) step first row last width columns p q r after before begin here end low high =
+    between_wholes columns width r q p high low
+    (end_order bound start (pos c) step last row r q end here (level_rises start c row last before))
+    (end_order bound start (pos c) step row first q p here begin (level_rises start c first row after))
+row_between bound start (negsuc c) step first row last width columns p q r after before begin here end low high =
+    between_wholes columns width p q r low high
+    (end_order bound start (negsuc c) step first row p q begin here (level_falls start c first row after))
+    (end_order bound start (negsuc c) step row last q r here end (level_falls start c row last before))
+
 -- the same where the multiples below both borders are counted
 pub counted_row : (l : Levels) (step start lower upper : ℤ) (row most : ℕ) (span : Span) → span.to ≤ most → step ≡ product (pos 16) l.across → start ≡ row_level l row →
     lower ≡ difference (opposite l.margin) start → upper ≡ difference l.margin start →
@@ -259,6 +350,47 @@ strip_row l rows columns span width row within from to levels = record {
       ∙ sym (shared_within columns span u ∙ and_left (is_within columns u) (is_within span u) (is_within-after columns u after)))
       (cases_lt u columns.to);
 }
+
+-- the upper end of a row of `width` pixels
+abbrev pub upper_end : Quotient → ℕ → Quotient
+upper_end q width = record { whole = plus q.whole (pos width); rest = q.rest }
+
+further_end : (step width : ℕ) (q : Quotient) → number_of step (upper_end q width) ≡ plus (number_of step q) (product (pos width) (pos step))
+unfolding number_of plus
+further_end step width q = further_sum step q.rest q.whole (pos width) (q.whole +ℤ pos width) refl
+
+-- the upper end lies twice the margin further
+end_beyond : (m start change : ℤ) (step row : ℕ) (low gap high : Quotient) → IsEnd (opposite m) start change step row low → number_of step gap ≡ plus m m →
+    number_of step high ≡ plus (number_of step low) (number_of step gap) → high.rest < step → IsEnd m start change step row high
+end_beyond m start change step row low gap high is twice sum rest = record {
+  value = raised (number_of step low) (number_of step high) (number_of step gap) m (level start change (pos row)) is.value sum twice;
+  rest = rest;
+}
+
+-- the pixels between the two ends, where both lie among the columns, are the row's part of the strip
+pub wide_row : (l : Levels) (step row count wide from : ℕ) (rows columns : Span) (low gap high : Quotient) → pos step ≡ product (pos 16) l.across → columns.to ≤ wide →
+    rows.from ≤ row → row < rows.to → IsEnd (opposite l.margin) l.origin (product (pos 16) l.up) step row low → number_of step gap ≡ plus l.margin l.margin →
+    number_of step high ≡ plus (number_of step low) (number_of step gap) → high.rest < step → pos from ≡ plus low.whole (pos 1) → pos (from + count) ≡ plus high.whole (pos 1) →
+    columns.from ≤ from → from + count ≤ columns.to → IsSpanOf (λ u. is_in_strip l rows columns u row) wide (record { from = from; to = from + count })
+wide_row l step row count wide from rows columns low gap high same within after before is twice sum rest begins ends first last =
+    let part = part_inside columns low high from (from + count) begins ends first last in
+    rw part.value (strip_row l rows columns part.within wide row within after before
+    (rising_row l l.margin step row columns.to low high part.within same is (end_beyond l.margin l.origin (product (pos 16) l.up) step row low gap high is twice sum rest)
+    part.from part.to part.to_within))
+
+-- where all of them are in the columns, they are the row's part of the strip
+pub whole_row : (l : Levels) (step row width wide from : ℕ) (rows columns : Span) (q : Quotient) → pos 1 ≤ℤ l.across → l.margin ≡ product (pos (8 * width)) l.across →
+    pos step ≡ product (pos 16) l.across → columns.to ≤ wide → rows.from ≤ row → row < rows.to →
+    IsEnd (opposite l.margin) l.origin (product (pos 16) l.up) step row q → IsBetween columns width q → pos from ≡ plus q.whole (pos 1) →
+    IsSpanOf (λ u. is_in_strip l rows columns u row) wide (record { from = from; to = from + width })
+unfolding plus
+whole_row l step row width wide from rows columns q rising even same within after before is between begins =
+    let high : IsEnd l.margin l.origin (product (pos 16) l.up) step row (upper_end q width) =
+    end_further l.margin l.origin (product (pos 16) l.up) (product (pos width) (pos step)) step row q (upper_end q width) is (further_end step width q)
+    (even_margin width step l.across l.margin rising even same) refl in
+    let part = part_inside columns q (upper_end q width) from (from + width) begins (omega (arith, ints)) (omega (arith, ints, between.from)) (omega (arith, ints, between.to)) in
+    rw part.value (strip_row l rows columns part.within wide row within after before
+    (rising_row l l.margin step row columns.to q (upper_end q width) part.within same is high part.from part.to part.to_within))
 
 module _ (l : Levels) (rows columns : Span) (u v : ℕ) where
   out_of_rows : is_within rows v ≡ false → is_in_strip l rows columns u v ≡ false
@@ -305,3 +437,31 @@ module _ (l : Levels) (rows columns : Span) (u v : ℕ) where
   unfolding is_in_strip
   strip_of_rows shown is none =
       is ∙ near_columns (is_within columns u) (is_within rows v && is_in_margin l.margin (level_at l u v)) (λ out. sym is ∙ none out)
+
+-- ---- rows after rows
+
+both_rows : (from middle to v : ℕ) → from ≤ middle → middle ≤ to →
+    is_within (record { from = from; to = to }) v ≡ (is_within (record { from = from; to = middle }) v || is_within (record { from = middle; to = to }) v)
+unfolding is_within
+both_rows from middle to v first second = grind (arith, nat_tests)
+
+spread : (c x y m : Bool) → (c && ((x || y) && m)) ≡ ((c && (x && m)) || (c && (y && m)))
+spread false x y m = refl
+spread true true y true = refl
+spread true true true false = refl
+spread true true false false = refl
+spread true false true m = refl
+spread true false false m = refl
+
+-- a strip is that of its first rows and then that of the others
+pub strip_joined : (l : Levels) (columns : Span) (from middle to : ℕ) (color : Color) (a b c : CanvasValue) → from ≤ middle → middle ≤ to →
+    IsColored (is_in_strip l (record { from = from; to = middle }) columns) color a b → IsColored (is_in_strip l (record { from = middle; to = to }) columns) color b c →
+    IsColored (is_in_strip l (record { from = from; to = to }) columns) color a c
+unfolding is_in_strip
+strip_joined l columns from middle to color a b c order further before after =
+    IsColored-alike (λ column row. is_in_strip l (record { from = from; to = middle }) columns column row || is_in_strip l (record { from = middle; to = to }) columns column row)
+    (is_in_strip l (record { from = from; to = to }) columns) color a c
+    (λ column row wide high.
+    ap (λ (t : Bool). is_within columns column && (t && is_in_margin l.margin (level_at l column row))) (both_rows from middle to row order further)
+    ∙ spread (is_within columns column) (is_within (record { from = from; to = middle }) row) (is_within (record { from = middle; to = to }) row) (is_in_margin l.margin (level_at l column row)))
+    (IsColored-either (is_in_strip l (record { from = from; to = middle }) columns) (is_in_strip l (record { from = middle; to = to }) columns) color a b c before after)

@@ -1,11 +1,10 @@
 -- The columns that a walk through a row's sorted reaches covers, and the pixels that the rows of a canvas cover, one after
 -- another.
-use Rattle.std.proofs.Common.{◌≡◌, ℕ, ◌+◌, ◌-◌, ◌%◌, ◌<◌, ◌≤◌, ◌==◌, ◌&&◌, ◌||◌, Bool, true, false, not, cond, nat_lt, List, length, get_or, pos, refl, sym, ap, ◌∙◌, subst, ⊎_elim, arith}
+use Rattle.std.proofs.Common.{◌≡◌, ℕ, ◌+◌, ◌-◌, ◌%◌, ◌<◌, ◌≤◌, ◌==◌, ◌&&◌, ◌||◌, Bool, true, false, not, nat_lt, List, length, get_or, pos, refl, sym, ap, ◌∙◌, subst, ⊎_elim, arith}
 use Rattle.std.specs.List.{count_by}
-use Rattle.std.specs.List.Sorted.{IsNonDecreasing, IsPermutation}
+use Rattle.std.specs.List.Sorted.{IsNonDecreasing}
 use Rattle.std.proofs.lemmas.Bool.{lt-ltb, le-ltb, eq-eqb, ne_eqb, cases_lt, cases_order}
 use Rattle.std.proofs.lemmas.Bool.Decides.{nat_tests}
-use Rattle.std.proofs.lemmas.List.Sorted.{sum_by-IsPermutation}
 use Rattle.wf_def.specs.declared.color.Color.{Color}
 use Rattle.wf_paint.specs.Place.{centre}
 use Rattle.wf_paint.specs.Coverage.{crosses, is_inside}
@@ -123,14 +122,14 @@ walked_all row reaches k from is_covered color a b all walked =
 -- ---- a row
 
 pub row_filled : (row width : ℕ) (edges : List Segment) (reaches sorted : List ℕ) (color : Color) (a b : CanvasValue) → a.width ≡ width →
-    ((u : ℕ) → u < width → count_by (nat_lt u) reaches ≡ count_by (crosses (centre (pos u) (pos row))) edges) → IsPermutation reaches sorted →
+    ((u : ℕ) → u < width → count_by (nat_lt u) reaches ≡ count_by (crosses (centre (pos u) (pos row))) edges) →
+    ((u : ℕ) → count_by (nat_lt u) sorted % 2 ≡ count_by (nat_lt u) reaches % 2) →
     IsColored (λ column r. (r == row) && is_odd_behind sorted column) color a b →
     IsColored (λ column r. (r == row) && is_inside (centre (pos column) (pos row)) edges) color a b
 unfolding is_inside
-row_filled row width edges reaches sorted color a b wide count moved colored =
+row_filled row width edges reaches sorted color a b wide count parity colored =
     IsColored-alike (λ column r. (r == row) && is_odd_behind sorted column) (λ column r. (r == row) && is_inside (centre (pos column) (pos row)) edges) color a b
-    (λ column r within high. ap (λ (n : ℕ). (r == row) && (n % 2 == 1))
-    (sym (count column (omega arith)) ∙ sym (sum_by-IsPermutation (λ reach. cond (nat_lt column reach) 1 0) reaches sorted moved)))
+    (λ column r within high. ap (λ (n : ℕ). (r == row) && (n == 1)) (ap (λ (n : ℕ). n % 2) (sym (count column (omega arith))) ∙ sym (parity column)))
     colored
 
 -- ---- rows one after another

@@ -15,6 +15,7 @@ pub mod Quotient
 pub mod Level
 pub mod Span
 pub mod Strip
+pub mod Marks
 pub mod Grid
 pub mod Tile
 pub mod Drawing

@@ -1,12 +1,13 @@
 -- The pixels of some rows and columns whose level lies within a margin.
-use Rattle.std.specs.Prelude.{◌≡◌, ℕ, ◌<◌, ◌≤◌, ◌&&◌, Bool, nat_lt, pos}
-use Rattle.wf_paint.specs.Exact.{plus, product, is_less}
-use Rattle.wf_paint.specs.Level.{level_at, is_in_margin}
+use Rattle.std.specs.Prelude.{◌≡◌, ℕ, ◌^◌, ◌<◌, ◌≤◌, ◌&&◌, Bool, nat_lt, ℤ, pos, nat_abs, ◌≤ℤ◌}
+use Rattle.wf_paint.specs.Exact.{plus, difference, product, opposite, is_less}
+use Rattle.wf_paint.specs.Level.{level, level_at, is_in_margin}
 use Rattle.wf_paint.specs.Quotient.{number_of}
 use Rattle.wf_paint.specs.Span.{is_within, shared}
 use Rattle.wf_paint.specs.declared.levels.Levels.{Levels}
 use Rattle.wf_paint.specs.declared.quotient.Quotient.{Quotient}
 use Rattle.wf_paint.specs.declared.span.Span.{Span}
+use Rattle.wf_paint.specs.declared.stepped.Stepped.{Stepped}
 
 unfoldable pub is_in_strip : Levels → Span → Span → ℕ → ℕ → Bool
 is_in_strip l rows columns column row = is_within columns column && (is_within rows row && is_in_margin l.margin (level_at l column row))
@@ -21,3 +22,30 @@ pub record IsPart (columns : Span) (low high : Quotient) (span : Span) : Type 0 
   pub to : (divisor u : ℕ) → high.rest < divisor → u < columns.to →
       is_less (product (pos divisor) (pos u)) (plus (number_of divisor high) (pos 1)) ≡ nat_lt u within.to
   pub value : span ≡ shared columns within
+
+-- the whole part tells which pixels of the row lie below the bound: those up to it
+pub record IsEnd (bound start change : ℤ) (step row : ℕ) (q : Quotient) : Type 0 where
+  pub value : plus (number_of step q) (pos 1) ≡ difference bound (level start change (pos row))
+  pub rest : q.rest < step
+
+-- the quotient is that of this row, and its change leads to those of the next ones
+pub record IsStepped (l : Levels) (bound : ℤ) (row : ℕ) (s : Stepped) : Type 0 where
+  pub across : pos s.step ≡ product (pos 16) l.across
+  pub most : s.step ≤ 2 ^ 60
+  pub begins : IsEnd bound l.origin (product (pos 16) l.up) s.step row s.now
+  pub near : nat_abs s.now.whole ≤ 2 ^ 50
+  pub moves : number_of s.step s.change ≡ opposite (product (pos 16) l.up)
+  pub rest : s.change.rest < s.step
+  pub slow : nat_abs s.change.whole ≤ 2 ^ 50
+
+-- the `width` pixels after those that the number counts, 1 to 64, are all in the columns
+pub record IsBetween (columns : Span) (width : ℕ) (q : Quotient) : Type 0 where
+  pub least : 1 ≤ width
+  pub most : width ≤ 64
+  pub from : pos columns.from ≤ℤ plus q.whole (pos 1)
+  pub to : plus (plus q.whole (pos 1)) (pos width) ≤ℤ pos columns.to
+
+-- the same in each row
+pub record StaysBetween (l : Levels) (step width : ℕ) (rows columns : Span) : Type 0 where
+  pub each : (row : ℕ) → rows.from ≤ row → row < rows.to → (q : Quotient) →
+      IsEnd (opposite l.margin) l.origin (product (pos 16) l.up) step row q → IsBetween columns width q

@@ -82,6 +82,20 @@ impl Canvas {
         }
     }
 
+    /// The same for 1 to 64 pixels of a row, from a column on.
+    #[inline(always)]
+    pub(crate) fn cover_few(&mut self, row: u32, from: u32, count: u32, color: Color)
+        requires row_within { row < self.old.height }
+        requires least { 1 ≤ count }
+        requires most { count ≤ 64 }
+        requires to_within { from + count ≤ self.old.width }
+        ensures { IsColored (is_in_run row from (from + count)) color self.old self.new }
+    {
+        let left = (self.height - 1 - row) * self.width;
+        let end = left + (from + count);
+        cover_window(&mut self.bytes, &mut self.free, left + from, end, color);
+    }
+
     /// Whether all pixels are painted. No pixel changes.
     pub(crate) fn is_full(&mut self) -> bool
         ensures alike { IsAlike self.old self.new }
@@ -150,8 +164,7 @@ fn write_set(bytes: &mut Vec<u8>, first: u32, bits: u64, color: Color)
     }
 }
 
-/// Writes the colour to the free pixels in start..end. Most lines that make a picture dear run over painted pixels, so that is tested
-/// first.
+/// Writes the colour to the free pixels in start..end.
 #[inline(always)]
 fn cover_range(bytes: &mut Vec<u8>, free: &mut Vec<u64>, start: u32, end: u32, color: Color)
     requires cells { IsCells free.old.items bytes.old.items }
@@ -159,26 +172,38 @@ fn cover_range(bytes: &mut Vec<u8>, free: &mut Vec<u64>, start: u32, end: u32, c
     requires within { end ≤ 64 * length free.old.items }
     ensures { IsRangePainted start end color free.old.items bytes.old.items free.new.items bytes.new.items }
 {
-    if is_painted(free, start, end) {
-        return;
+    if end - start <= 64 {
+        cover_window(bytes, free, start, end, color);
+    } else {
+        paint_range(bytes, free, start, end, color);
     }
-    paint_range(bytes, free, start, end, color);
 }
 
-/// Whether the range has at most 64 pixels and none of them is free.
+/// The same for at most 64 pixels. Most lines that make a picture dear run over painted pixels, so that is tested first.
 #[inline(always)]
-fn is_painted(free: &Vec<u64>, start: u32, end: u32) -> bool
+fn cover_window(bytes: &mut Vec<u8>, free: &mut Vec<u64>, start: u32, end: u32, color: Color)
+    requires cells { IsCells free.old.items bytes.old.items }
     requires order { start < end }
+    requires most { end ≤ start + 64 }
+    requires within { end ≤ 64 * length free.old.items }
+    ensures { IsRangePainted start end color free.old.items bytes.old.items free.new.items bytes.new.items }
+{
+    if !is_window_painted(free, start, end) {
+        paint_range(bytes, free, start, end, color);
+    }
+}
+
+/// Whether none of these pixels, at most 64, is free.
+#[inline(always)]
+fn is_window_painted(free: &Vec<u64>, start: u32, end: u32) -> bool
+    requires order { start < end }
+    requires most { end ≤ start + 64 }
     requires within { end ≤ 64 * length free.now.items }
     ensures { result ≡ true → (i : ℕ) → start ≤ i → i < end → is_free free.now.items i ≡ false }
 {
-    let count = end - start;
-    if count > 64 {
-        return false;
-    }
     let first = word_at(free, start / 64);
     let last = word_at(free, (end - 1) / 64);
-    joined(first, last, start % 64) << (64 - count) == 0
+    joined(first, last, start % 64) << (64 - (end - start)) == 0
 }
 
 /// The bits of the first word from `bit` on, and above them those of the last word from its lowest on.

@@ -1,5 +1,5 @@
 //! The inside of edges, row by row: between the sorted positions where the edges cross the row.
-ghost use Rattle.std.specs.Prelude.{◌≡◌, ℕ, ◌%◌, ◌<◌, ◌≤◌, ◌==◌, ◌&&◌, nat_lt, true, false, ℤ, pos, ◌≤ℤ◌, OnOk};
+ghost use Rattle.std.specs.Prelude.{◌≡◌, ℕ, ◌+◌, ◌%◌, ◌<◌, ◌≤◌, ◌==◌, ◌&&◌, nat_lt, true, false, length, ℤ, pos, ◌≤ℤ◌, OnOk, IfOk};
 ghost use Rattle.std.specs.List.{All, count_by};
 ghost use Rattle.std.specs.List.Sorted.{IsNonDecreasing};
 ghost use Rattle.wf_paint.specs.Near.{IsNear};
@@ -7,7 +7,9 @@ ghost use Rattle.wf_paint.specs.Exact.{difference, product};
 ghost use Rattle.wf_paint.specs.Place.{middle, centre};
 ghost use Rattle.wf_paint.specs.Coverage.{is_left_of, is_beside, crosses, is_inside};
 ghost use Rattle.wf_paint.specs.Operation.{in_color, FillOf};
+ghost use Rattle.wf_paint.specs.Marks.{IsClear, IsMarked};
 ghost use Rattle.wf_paint.specs.Shown.{IsShown, IsColored};
+ghost use Rattle.wf_paint.specs.View.{most_pixels};
 
 use crate::canvas::Canvas;
 use crate::exact::{area_difference, difference, is_less, product};
@@ -16,6 +18,9 @@ use crate::segment::Segment;
 use crate::steps::{centres_below, steps_below};
 use std::alloc::{AllocError, Global};
 use wf_def::color::Color;
+
+/// From so many reaches in a row on, marks are faster than sorting.
+const MANY: usize = 128;
 
 /// Paints the inside of the edges; nothing if `color` is None. Returns Ok unless allocation fails.
 pub(crate) fn draw_inside(
@@ -45,8 +50,9 @@ fn fill(
     let start = centres_below(lowest(edges), height);
     let end = centres_below(highest(edges), height);
     let mut reaches = Vec::new(alloc);
+    let mut odd = unmarked(alloc, canvas.width())?;
     for row in start..end {
-        fill_row(canvas, edges, row, &mut reaches, color)?;
+        fill_row(canvas, edges, row, &mut reaches, &mut odd, color)?;
     }
     Ok(())
 }
@@ -73,20 +79,90 @@ fn highest(edges: &[Segment]) -> i64
     highest
 }
 
-/// Fills one row. The list of reaches is cleared first.
+/// Marks for the numbers up to `most`, of which none is marked.
+fn unmarked(alloc: Global, most: u32) -> Result<Vec<u8>, AllocError>
+    ensures size { IfOk result (λ marks. length marks.items ≡ most + 1) }
+    ensures clear { IfOk result (λ marks. IsClear marks.items) }
+{
+    let marks = vec![in alloc; 0; most as usize + 1]?;
+    Ok(marks)
+}
+
+/// Fills one row. The list of reaches is cleared first. No number is marked in `odd`, as before.
 fn fill_row(
     canvas: &mut Canvas,
     edges: &[Segment],
     row: u32,
     reaches: &mut Vec<u32>,
+    odd: &mut Vec<u8>,
     color: Color,
 ) -> Result<(), AllocError>
-    requires { row < canvas.old.height }
-    ensures { OnOk result (IsColored (λ column r. (r == row) && is_inside (centre (pos column) (pos row)) edges.now) color canvas.old canvas.new) }
+    requires row { row < canvas.old.height }
+    requires size { length odd.old.items ≡ canvas.old.width + 1 }
+    requires clear { IsClear odd.old.items }
+    ensures filled { OnOk result (IsColored (λ column r. (r == row) && is_inside (centre (pos column) (pos row)) edges.now) color canvas.old canvas.new) }
+    ensures size { OnOk result (length odd.new.items ≡ length odd.old.items) }
+    ensures clear { OnOk result (IsClear odd.new.items) }
 {
     find_reaches(edges, row, canvas.width(), reaches)?;
-    reaches.sort_unstable();
+    sort_reaches(reaches, odd)?;
     cover_between(canvas, row, reaches, color);
+    Ok(())
+}
+
+/// Sorts the reaches. Of many, only those stay that are there an odd number of times, each once: the number of reaches after a column
+/// then differs by an even number. No number is marked in `odd`, as before.
+fn sort_reaches(reaches: &mut Vec<u32>, odd: &mut Vec<u8>) -> Result<(), AllocError>
+    requires within { All (λ reach. reach < length odd.old.items) reaches.old.items }
+    requires most { length odd.old.items ≤ most_pixels + 1 }
+    requires clear { IsClear odd.old.items }
+    ensures within { OnOk result (All (λ reach. reach < length odd.old.items) reaches.new.items) }
+    ensures sorted { OnOk result (IsNonDecreasing reaches.new.items) }
+    ensures parity { OnOk result ((u : ℕ) → count_by (nat_lt u) reaches.new.items % 2 ≡ count_by (nat_lt u) reaches.old.items % 2) }
+    ensures size { OnOk result (length odd.new.items ≡ length odd.old.items) }
+    ensures clear { OnOk result (IsClear odd.new.items) }
+{
+    if reaches.len() < MANY {
+        reaches.sort_unstable();
+        Ok(())
+    } else {
+        mark_odd(reaches, odd);
+        take_marked(reaches, odd)
+    }
+}
+
+/// Marks the reaches that are there an odd number of times.
+fn mark_odd(reaches: &Vec<u32>, odd: &mut Vec<u8>)
+    requires within { All (λ reach. reach < length odd.old.items) reaches.now.items }
+    requires clear { IsClear odd.old.items }
+    ensures size { length odd.new.items ≡ length odd.old.items }
+    ensures marked { IsMarked reaches.now.items odd.new.items }
+{
+    for reach in reaches {
+        let index = *reach as usize;
+        odd[index] = 1 - odd[index];
+    }
+}
+
+/// Replaces the list by the marked numbers, from the least to the greatest, and clears the marks.
+fn take_marked(reaches: &mut Vec<u32>, odd: &mut Vec<u8>) -> Result<(), AllocError>
+    requires within { All (λ reach. reach < length odd.old.items) reaches.old.items }
+    requires most { length odd.old.items ≤ most_pixels + 1 }
+    requires marked { IsMarked reaches.old.items odd.old.items }
+    ensures within { OnOk result (All (λ reach. reach < length odd.old.items) reaches.new.items) }
+    ensures sorted { OnOk result (IsNonDecreasing reaches.new.items) }
+    ensures parity { OnOk result ((u : ℕ) → count_by (nat_lt u) reaches.new.items % 2 ≡ count_by (nat_lt u) reaches.old.items % 2) }
+    ensures size { OnOk result (length odd.new.items ≡ length odd.old.items) }
+    ensures clear { OnOk result (IsClear odd.new.items) }
+{
+    reaches.clear();
+    let end = odd.len() as u32;
+    for number in 0..end {
+        if odd[number as usize] == 1 {
+            odd[number as usize] = 0;
+            reaches.push(number)?;
+        }
+    }
     Ok(())
 }
 

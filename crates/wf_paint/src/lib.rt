@@ -44,6 +44,7 @@ pub mod segment;
 mod segments;
 mod span;
 mod square;
+mod stepped;
 mod steps;
 mod strip;
 mod tile;

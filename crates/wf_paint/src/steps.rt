@@ -102,6 +102,7 @@ fn rest(number: i128, divisor: u64) -> u64
 
 /// The sum of two numbers with the same divisor.
 #[inline(always)]
+#[tactic(auto, unfolding(crate::specs::Exact::plus))]
 pub(crate) fn sum(a: Quotient, b: Quotient, divisor: u64) -> Quotient
     requires divisor { divisor ≤ 2 ^ 60 }
     requires first { a.rest < divisor }
@@ -110,6 +111,8 @@ pub(crate) fn sum(a: Quotient, b: Quotient, divisor: u64) -> Quotient
     requires second_within { nat_abs b.whole ≤ 2 ^ 50 }
     ensures value { number_of divisor result ≡ plus (number_of divisor a) (number_of divisor b) }
     ensures rest { result.rest < divisor }
+    ensures least { plus a.whole b.whole ≤ℤ result.whole }
+    ensures most { result.whole ≤ℤ plus (plus a.whole b.whole) (pos 1) }
     ensures within { nat_abs result.whole ≤ nat_abs a.whole + 2 ^ 51 }
 {
     let whole = a.whole + b.whole;

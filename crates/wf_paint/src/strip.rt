@@ -1,12 +1,13 @@
 //! Strips: the pixels whose level lies within a margin, painted row by row. The ends of a row's pixels are those of the row before,
 //! moved by a constant, so no row but the first takes a division. Only lines whose numbers are too large for it take one in each row.
-ghost use Rattle.std.specs.Prelude.{◌≡◌, ℕ, ◌*◌, ◌^◌, ◌<◌, ◌≤◌, nat_abs, pos, ◌≤ℤ◌, ◌<ℤ◌, true};
+ghost use Rattle.std.specs.Prelude.{◌≡◌, ℕ, ◌+◌, ◌*◌, ◌^◌, ◌<◌, ◌≤◌, nat_abs, pos, ◌≤ℤ◌, ◌<ℤ◌, true, IfSome};
 ghost use Rattle.wf_paint.specs.Near.{IsReach, IsArea};
-ghost use Rattle.wf_paint.specs.Exact.{difference, product, opposite};
+ghost use Rattle.wf_paint.specs.Exact.{plus, difference, product, opposite};
+ghost use Rattle.wf_paint.specs.Quotient.{number_of};
 ghost use Rattle.wf_paint.specs.Level.{level_at, row_level, is_in_margin};
 ghost use Rattle.wf_paint.specs.Shown.{IsColored};
 ghost use Rattle.wf_paint.specs.Span.{IsSpanOf, shared};
-ghost use Rattle.wf_paint.specs.Strip.{is_in_strip, IsPart};
+ghost use Rattle.wf_paint.specs.Strip.{is_in_strip, IsPart, IsBetween, IsStepped, StaysBetween};
 ghost use Rattle.wf_paint.specs.View.{most_pixels};
 
 use crate::canvas::Canvas;
@@ -15,8 +16,12 @@ use crate::level::level_within;
 use crate::levels::Levels;
 use crate::quotient::Quotient;
 use crate::span::Span;
+use crate::stepped::Stepped;
 use crate::steps::{further, multiples_up_to, quotient, steps_below, sum};
 use wf_def::color::Color;
+
+/// In so many rows at each end, at most, a line that isn't steeper than 1 to 1 is cut off by its ends: it is up to 16 pixels wide.
+const MOST_CUT: u32 = 18;
 
 /// Paints the pixels of these rows and columns whose level lies within the margin about 0.
 pub(crate) fn draw_strip(
@@ -83,24 +88,120 @@ fn draw_even(
     requires up { IsReach levels.up }
     requires margin { IsArea levels.margin }
     requires even { levels.margin ≡ product (pos (8 * width)) levels.across }
-    requires order { rows.from ≤ rows.to }
+    requires order { rows.from < rows.to }
     requires rows { rows.to ≤ canvas.old.height }
     requires most_rows { rows.to ≤ most_pixels }
     requires columns { columns.to ≤ canvas.old.width }
     ensures { IsColored (is_in_strip levels rows columns) color canvas.old canvas.new }
 {
+    let Some(low) = end_in(levels, opposite(levels.margin), rows.from) else {
+        return draw_far(canvas, levels, rows, columns, color);
+    };
+    if stays_between(levels, low, width, rows, columns) {
+        draw_whole(canvas, levels, low, width, rows, columns, color);
+    } else {
+        draw_cut(canvas, levels, low, width, rows, columns, color);
+    }
+}
+
+/// Where the pixels of a row end whose level lies below the bound, and how that changes from row to row. None if 64 bits don't hold it.
+fn end_in(levels: Levels, bound: i128, row: u32) -> Option<Stepped>
+    requires origin { nat_abs levels.origin ≤ 2 ^ 110 }
+    requires across { IsReach levels.across }
+    requires rising { pos 1 ≤ℤ levels.across }
+    requires up { IsReach levels.up }
+    requires bound { IsArea bound }
+    requires row { row ≤ most_pixels }
+    ensures { IfSome result (IsStepped levels bound row) }
+{
     let step = step(levels.across);
-    let start = row_level(levels, rows.from);
     let Some(change) = quotient(opposite(product(16, levels.up)), step) else {
-        return draw_far(canvas, levels, rows, columns, color);
+        return None;
     };
-    let Some(mut low) = quotient(room(opposite(levels.margin), start), step) else {
-        return draw_far(canvas, levels, rows, columns, color);
+    let Some(now) = quotient(room(bound, row_level(levels, row)), step) else {
+        return None;
     };
+    Some(Stepped { now, change, step })
+}
+
+/// Whether in each row the `width` pixels from its lower end on, at least one and at most 64, lie in the columns. They do if those of
+/// the first and of the last row do, since the lower end moves by a constant.
+fn stays_between(levels: Levels, low: Stepped, width: u8, rows: Span, columns: Span) -> bool
+    requires origin { nat_abs levels.origin ≤ 2 ^ 110 }
+    requires up { IsReach levels.up }
+    requires margin { IsArea levels.margin }
+    requires order { rows.from < rows.to }
+    requires most_rows { rows.to ≤ most_pixels }
+    requires low { IsStepped levels (opposite levels.margin) rows.from low }
+    ensures { result ≡ true → StaysBetween levels low.step width rows columns }
+{
+    let last = row_level(levels, rows.to - 1);
+    match quotient(room(opposite(levels.margin), last), low.step) {
+        Some(end) => is_between(columns, low.now, width) && is_between(columns, end, width),
+        None => false,
+    }
+}
+
+/// Whether the `width` pixels from this lower end of a row on, at least one and at most 64, lie in the columns.
+fn is_between(columns: Span, low: Quotient, width: u8) -> bool
+    requires { nat_abs low.whole ≤ 2 ^ 61 }
+    ensures { result ≡ true → IsBetween columns width low }
+{
+    let from = low.whole + 1;
+    width <= 64 && lies_in(columns, from, from + i64::from(width))
+}
+
+/// The same as `draw_even` where each row has `width` pixels in the columns.
+fn draw_whole(
+    canvas: &mut Canvas,
+    levels: Levels,
+    low: Stepped,
+    width: u8,
+    rows: Span,
+    columns: Span,
+    color: Color,
+)
+    requires rising { pos 1 ≤ℤ levels.across }
+    requires even { levels.margin ≡ product (pos (8 * width)) levels.across }
+    requires order { rows.from < rows.to }
+    requires rows { rows.to ≤ canvas.old.height }
+    requires most_rows { rows.to ≤ most_pixels }
+    requires columns { columns.to ≤ canvas.old.width }
+    requires low { IsStepped levels (opposite levels.margin) rows.from low }
+    requires between { StaysBetween levels low.step width rows columns }
+    ensures { IsColored (is_in_strip levels rows columns) color canvas.old canvas.new }
+{
+    let mut end = low.now;
     for row in rows.from..rows.to {
-        let span = part(columns, low, further(low, width));
+        canvas.cover_few(row, count(end.whole + 1), u32::from(width), color);
+        end = sum(end, low.change, low.step);
+    }
+}
+
+/// The same as `draw_even` where some rows have fewer pixels in the columns.
+fn draw_cut(
+    canvas: &mut Canvas,
+    levels: Levels,
+    low: Stepped,
+    width: u8,
+    rows: Span,
+    columns: Span,
+    color: Color,
+)
+    requires rising { pos 1 ≤ℤ levels.across }
+    requires even { levels.margin ≡ product (pos (8 * width)) levels.across }
+    requires order { rows.from < rows.to }
+    requires rows { rows.to ≤ canvas.old.height }
+    requires most_rows { rows.to ≤ most_pixels }
+    requires columns { columns.to ≤ canvas.old.width }
+    requires low { IsStepped levels (opposite levels.margin) rows.from low }
+    ensures { IsColored (is_in_strip levels rows columns) color canvas.old canvas.new }
+{
+    let mut end = low.now;
+    for row in rows.from..rows.to {
+        let span = part(columns, end, further(end, width));
         canvas.cover(row, span.from, span.to, color);
-        low = sum(low, change, step);
+        end = sum(end, low.change, low.step);
     }
 }
 
@@ -144,8 +245,117 @@ fn mirrored(levels: Levels) -> Levels
     }
 }
 
-/// The same for levels that rise from column to column.
+/// The same for levels that rise from column to column. Of a long line the ends of the columns, which are its own ends, cut off pixels in
+/// the first and the last rows alone.
 fn draw_rising(canvas: &mut Canvas, levels: Levels, rows: Span, columns: Span, color: Color)
+    requires origin { nat_abs levels.origin ≤ 2 ^ 110 }
+    requires across { IsReach levels.across }
+    requires rising { pos 1 ≤ℤ levels.across }
+    requires up { IsReach levels.up }
+    requires margin { IsArea levels.margin }
+    requires order { rows.from ≤ rows.to }
+    requires rows { rows.to ≤ canvas.old.height }
+    requires most_rows { rows.to ≤ most_pixels }
+    requires columns { columns.to ≤ canvas.old.width }
+    ensures { IsColored (is_in_strip levels rows columns) color canvas.old canvas.new }
+{
+    if rows.to - rows.from <= 4 * MOST_CUT {
+        draw_some(canvas, levels, rows, columns, color);
+        return;
+    }
+    let (first, last) = (rows.from + MOST_CUT, rows.to - MOST_CUT);
+    draw_some(canvas, levels, span(rows.from, first), columns, color);
+    draw_middle(canvas, levels, span(first, last), columns, color);
+    draw_some(canvas, levels, span(last, rows.to), columns, color);
+}
+
+/// The numbers in from..to.
+fn span(from: u32, to: u32) -> Span
+    ensures { result ≡ record { from = from; to = to } }
+{
+    Span { from, to }
+}
+
+/// The same for at least one row. In most lines no pixel is cut off.
+fn draw_middle(canvas: &mut Canvas, levels: Levels, rows: Span, columns: Span, color: Color)
+    requires origin { nat_abs levels.origin ≤ 2 ^ 110 }
+    requires across { IsReach levels.across }
+    requires rising { pos 1 ≤ℤ levels.across }
+    requires up { IsReach levels.up }
+    requires margin { IsArea levels.margin }
+    requires order { rows.from < rows.to }
+    requires rows { rows.to ≤ canvas.old.height }
+    requires most_rows { rows.to ≤ most_pixels }
+    requires columns { columns.to ≤ canvas.old.width }
+    ensures { IsColored (is_in_strip levels rows columns) color canvas.old canvas.new }
+{
+    let Some(low) = end_in(levels, opposite(levels.margin), rows.from) else {
+        return draw_far(canvas, levels, rows, columns, color);
+    };
+    let Some(gap) = quotient(doubled(levels.margin), low.step) else {
+        return draw_far(canvas, levels, rows, columns, color);
+    };
+    if is_few(gap) && stays_between(levels, low, gap.whole as u8 + 1, rows, columns) {
+        draw_wide(canvas, levels, low, gap, rows, columns, color);
+    } else {
+        draw_some(canvas, levels, rows, columns, color);
+    }
+}
+
+/// Twice the margin.
+#[tactic(auto, unfolding(crate::specs::Exact::plus))]
+fn doubled(margin: i128) -> i128
+    requires { IsArea margin }
+    ensures value { result ≡ plus margin margin }
+    ensures within { nat_abs result ≤ 2 ^ 112 }
+{
+    2 * margin
+}
+
+/// Whether a row has at least one and at most 64 pixels, if this is how far its ends lie apart.
+fn is_few(gap: Quotient) -> bool
+    ensures { result ≡ true → (pos 1 ≤ℤ gap.whole) × (gap.whole <ℤ pos 64) }
+{
+    1 <= gap.whole && gap.whole < 64
+}
+
+/// The same as `draw_rising` where each row has its pixels in the columns; its ends lie `gap` apart.
+fn draw_wide(
+    canvas: &mut Canvas,
+    levels: Levels,
+    low: Stepped,
+    gap: Quotient,
+    rows: Span,
+    columns: Span,
+    color: Color,
+)
+    requires order { rows.from < rows.to }
+    requires rows { rows.to ≤ canvas.old.height }
+    requires most_rows { rows.to ≤ most_pixels }
+    requires columns { columns.to ≤ canvas.old.width }
+    requires low { IsStepped levels (opposite levels.margin) rows.from low }
+    requires gap { number_of low.step gap ≡ plus levels.margin levels.margin }
+    requires rest { gap.rest < low.step }
+    requires least { pos 1 ≤ℤ gap.whole }
+    requires most { gap.whole <ℤ pos 64 }
+    requires between { StaysBetween levels low.step (nat_abs gap.whole + 1) rows columns }
+    ensures { IsColored (is_in_strip levels rows columns) color canvas.old canvas.new }
+{
+    let mut end = low.now;
+    for row in rows.from..rows.to {
+        let high = sum(end, gap, low.step);
+        canvas.cover_few(
+            row,
+            count(end.whole + 1),
+            count(high.whole - end.whole),
+            color,
+        );
+        end = sum(end, low.change, low.step);
+    }
+}
+
+/// The same where the ends of the columns may cut off pixels of each row.
+fn draw_some(canvas: &mut Canvas, levels: Levels, rows: Span, columns: Span, color: Color)
     requires origin { nat_abs levels.origin ≤ 2 ^ 110 }
     requires across { IsReach levels.across }
     requires rising { pos 1 ≤ℤ levels.across }

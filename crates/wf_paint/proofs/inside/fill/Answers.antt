@@ -9,14 +9,18 @@ use Rattle.wf_paint.proofs.inside.fill.Goals as goal
 pub loop-row-init : goal.loop-row-init
 loop-row-init c =
     let high = c.height-height.ensures.value in
-    let fits : FitsSigned w64 c.lowest.result = search rules in
-    rows_none c.args.edges.now c.centres_below-start.result c.args.color c.args.canvas.now (λ column r within before.
-    let counted : is_less (middle (pos r)) c.lowest.result ≡ nat_lt r c.centres_below-start.result = simp to_z-of_z at (c.centres_below-start.ensures.below r (omega arith)) in
-    inside_below (centre (pos column) (pos r)) c.args.edges.now c.lowest.result (counted ∙ lt-ltb r c.centres_below-start.result before) c.lowest.ensures)
+    let fits : FitsSigned w64 c.lowest.result = search rules in (
+      rows_none c.args.edges.now c.centres_below-start.result c.args.color c.args.canvas.now (λ column r within before.
+          let counted : is_less (middle (pos r)) c.lowest.result ≡ nat_lt r c.centres_below-start.result = simp to_z-of_z at (c.centres_below-start.ensures.below r (omega arith)) in
+          inside_below (centre (pos column) (pos r)) c.args.edges.now c.lowest.result (counted ∙ lt-ltb r c.centres_below-start.result before) c.lowest.ensures),
+      (omega (arith, c.in_ok-odd.ensures.size, c.width.ensures.value), c.in_ok-odd.ensures.clear),
+    )
 
 pub loop-row-preserved : goal.loop-row-preserved
-loop-row-preserved c =
-    rows_more c.args.edges.now c.loop-row.row c.args.color c.args.canvas.now c.loop-row.canvas c.fill_row.new.canvas c.loop-row.invariant c.in_ok-fill_row.ensures
+loop-row-preserved c = (
+  rows_more c.args.edges.now c.loop-row.row c.args.color c.args.canvas.now c.loop-row.canvas c.fill_row.new.canvas c.loop-row.invariant.0 c.in_ok-fill_row.ensures.filled,
+  (c.in_ok-fill_row.ensures.size ∙ c.loop-row.invariant.1.0, c.in_ok-fill_row.ensures.clear),
+)
 
 pub returns : goal.returns
 returns c =
@@ -26,4 +30,4 @@ returns c =
     rows_all c.args.edges.now c.loop-row.row c.args.color c.args.canvas.now c.loop-row.canvas (λ column r within after.
     let counted : is_less (middle (pos r)) c.highest.result ≡ nat_lt r c.centres_below-end.result = simp to_z-of_z at (c.centres_below-end.ensures.below r (omega arith)) in
     inside_above (centre (pos column) (pos r)) c.args.edges.now c.highest.result (counted ∙ le-ltb r c.centres_below-end.result (omega arith)) c.highest.ensures)
-    c.loop-row.invariant
+    c.loop-row.invariant.0

@@ -1,5 +1,4 @@
-use Rattle.std.proofs.Common.{◌≡◌, ◌+ℤ◌, pos, to_z, of_z, arith}
-use Rattle.std.specs.Int.{w64}
+use Rattle.std.proofs.Common.{arith}
 use Rattle.std.proofs.lemmas.Int.{ints}
 use Rattle.wf_paint.specs.Exact.{plus}
 use Rattle.wf_paint.proofs.StripLemmas.{part_inside}
