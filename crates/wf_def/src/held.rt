@@ -38,6 +38,18 @@ impl<T: Drop> Held<T> {
         ensures pushed { OnOk result (held_members self.new ≡ held_members self.old ++ member ∷ []) }
         ensures unchanged { OnErr result (held_members self.new ≡ held_members self.old) }
     {
+        match self {
+            Held::Many(members) => push_to(members, member),
+            _ => self.push_anew(alloc, member),
+        }
+    }
+
+    /// Appends a member to members that are taken out and put back: right for all, meant for those that have no memory of their own.
+    #[inline]
+    fn push_anew(&mut self, alloc: Global, member: T) -> Result<(), AllocError>
+        ensures pushed { OnOk result (held_members self.new ≡ held_members self.old ++ member ∷ []) }
+        ensures unchanged { OnErr result (held_members self.new ≡ held_members self.old) }
+    {
         match replace(self, Held::Nothing) {
             Held::Nothing => {
                 *self = Held::One([member]);
@@ -59,6 +71,15 @@ impl<T: Drop> Held<T> {
                 *self = Held::Many(members);
                 is_pushed
             }
+        }
+    }
+
+    /// Gives back the memory that the members don't need.
+    pub(crate) fn shrink_to_fit(&mut self)
+        ensures { held_members self.new ≡ held_members self.old }
+    {
+        if let Held::Many(members) = self {
+            members.shrink_to_fit();
         }
     }
 }

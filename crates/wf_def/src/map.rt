@@ -131,6 +131,13 @@ impl MapDef {
         Err(LayerFault::OutOfMemory)
     }
 
+    /// Gives back the memory that the list of layers doesn't need, if no more will come.
+    pub fn shrink_to_fit(&mut self)
+        ensures { self.new ≡ self.old }
+    {
+        self.layers.shrink_to_fit();
+    }
+
     /// The number of layers.
     pub fn layer_count(&self) -> usize
         ensures value { result ≡ length self.now.layers }

@@ -88,12 +88,20 @@ impl<T: Limited> Members<T> {
 
 impl<T: Limited + Drop> Members<T> {
     /// Appends a member. After allocation failure the list is unchanged.
+    #[inline]
     pub fn push(&mut self, member: T) -> Result<(), AllocError>
         ensures pushed { OnOk result (self.new ≡ self.old ++ member ∷ []) }
         ensures unchanged { OnErr result (self.new ≡ self.old) }
     {
         member.know();
         self.held.push(self.alloc, member)
+    }
+
+    /// Gives back the memory that the members don't need, if no more will come.
+    pub fn shrink_to_fit(&mut self)
+        ensures { self.new ≡ self.old }
+    {
+        self.held.shrink_to_fit();
     }
 }
 

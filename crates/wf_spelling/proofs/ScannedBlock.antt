@@ -8,8 +8,9 @@ use Rattle.wf_def.specs.declared.choice.LayerKind.{LayerKind}
 use Rattle.wf_def.specs.Layer.{feature_of, layer_of, has_enough_points}
 use Rattle.wf_def.specs.Limit.{most_items_bytes}
 use Rattle.wf_feature.specs.Layers.{is_layer_name}
-use Rattle.wf_token.specs.Spelling.{text_of}
-use Rattle.wf_spelling.specs.Canon.{feature_lines}
+use Rattle.std.specs.Prelude.{codes}
+use Rattle.wf_token.specs.Spelling.{line, text_of}
+use Rattle.wf_spelling.specs.Canon.{alone, end_line, feature_lines}
 use Rattle.wf_spelling.specs.declared.scan.cursor.Cursor.{Cursor}
 use Rattle.wf_spelling.specs.Scan.{Scans}
 
@@ -20,6 +21,15 @@ chosen false x P p = tt
 given : {X : Type 0} (so : Bool) (x y : X) → Some y ≡ (if so then Some x else None) → y ≡ x
 given true x y e = cc
 given false x y e = absurd (let impossible : ⊥ = cc in impossible)
+
+-- a keyword with its LF is its line
+pub feature_line : {a b : Cursor} → Scans a (codes "FEATURE\n") b → Scans a (line (alone (codes "FEATURE"))) b
+unfolding line
+feature_line scanned = scanned
+
+pub end_line_scanned : {a b : Cursor} → Scans a (codes "END\n") b → Scans a (line end_line) b
+unfolding line
+end_line_scanned scanned = scanned
 
 pub feature_is : {a b : Cursor} (parts : List (List Point)) (items text : List ℕ) (r : Option FeatureDefinition) → r ≡ feature_of parts items text
     → Scans a (text_of (feature_lines (record { parts = parts; items = items; text = text }))) b → IfSome r (λ f. Scans a (text_of (feature_lines f)) b)

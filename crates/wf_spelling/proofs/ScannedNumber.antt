@@ -1,12 +1,12 @@
 -- The digits of a number, one after the other, are those that are written.
 use Rattle.std.proofs.lemmas.Int.{to_z_pos, to_z-of_z}
-use Rattle.std.proofs.Common.{to_z, of_z, w64, rules, subst, ◌≡◌, ◌≢◌, ℕ, zero, suc, ◌+◌, ◌*◌, ◌/◌, ◌%◌, ◌^◌, ◌<◌, [], ◌∷◌, ◌++◌, refl, sym, ◌∙◌, arith}
+use Rattle.std.proofs.Common.{to_z, of_z, w64, rules, subst, ◌≡◌, ◌≢◌, ℕ, zero, suc, ◌+◌, ◌-◌, ◌*◌, ◌/◌, ◌%◌, ◌^◌, ◌<◌, ◌≤◌, [], ◌∷◌, ◌++◌, refl, ap, sym, ◌∙◌, lit<, arith}
 use Rattle.std.specs.Prelude.{ℤ, pos, negsuc, neg_ℤ, ◌-ℤ◌}
 use Rattle.std.specs.Fmt.{decimal}
 use Rattle.std.proofs.lemmas.Fmt.{decimal_digit, decimal_step}
 use Rattle.std.proofs.lemmas.Bool.{ne_eqb}
 use Rattle.std.proofs.lemmas.Nat.{div-mul-add, mod-mul-add}
-use Rattle.std.proofs.Math.Nat.{pow-suc}
+use Rattle.std.proofs.Math.Nat.{one-le-pow, pow-suc}
 use Rattle.wf_text.specs.NumberText.{fraction_digits, fraction_text, magnitude_text, number_text}
 use Rattle.wf_text.specs.NumberTextLaws.{fraction_digits-zero, fraction_digits-suc}
 use Rattle.wf_spelling.specs.declared.scan.cursor.Cursor.{Cursor}
@@ -47,12 +47,58 @@ pub fraction_digit : {a b c : Cursor} (places before digit behind unit : ℕ) �
 fraction_digit places before digit behind unit one_more power below some first second =
     rw (one_more, power) (digit_and_digits before digit behind below (rw power at some) first second)
 
+-- a digit before fewer millionths than its own unit
 digit_below : (digit behind unit : ℕ) → digit < 10 → behind < unit → digit * unit + behind < unit * 10
 digit_below digit behind unit few below = grind arith
 
-pub fraction_below : (places before digit behind unit : ℕ) → places ≡ suc before → unit ≡ 10 ^ before → digit < 10 → behind < 10 ^ before → digit * unit + behind < 10 ^ places
-fraction_below places before digit behind unit one_more power few below =
-    rw (one_more, power, pow-suc 10 before) (digit_below digit behind (10 ^ before) few below)
+-- not all digits are zero
+some_digit : (digit behind unit : ℕ) → behind < unit → digit + behind ≢ 0 → digit * unit + behind ≢ 0
+some_digit zero behind unit below some = λ none. some (omega (arith, none))
+some_digit (suc digit) behind unit below some = λ none. grind (arith, none, below)
+
+digit_within : (digit parts unit tenth : ℕ) → digit < 10 → unit ≡ tenth * 10 → parts + unit ≤ 1000000 → parts + digit * tenth + tenth ≤ 1000000
+digit_within digit parts unit tenth few whole below = grind arith
+
+-- the digits so far, and the millionths of any behind them, are those of a fraction, unless the last digit is zero
+pub record IsFraction (start : Cursor) (places unit parts last : ℕ) (now : Cursor) : Type 0 where
+  pub behind : (rest : ℕ) (end : Cursor) → rest < unit → last + rest ≢ 0 → Scans now (fraction_digits places rest) end → Scans start (fraction_digits 6 (parts + rest)) end
+  pub power : unit ≡ 10 ^ places
+  pub below : parts + unit ≤ 1000000
+
+pub fraction_begins : (a : Cursor) → IsFraction a 6 1000000 0 0 a
+fraction_begins a = record {
+  behind = λ rest end below some scanned. subst (λ (n : ℕ). Scans a (fraction_digits 6 n) end) (omega arith) scanned;
+  power = refl;
+  below = omega arith;
+}
+
+pub fraction_goes_on : {a b c : Cursor} (places unit parts last digit : ℕ) → 0 < places → digit < 10 → IsFraction a places unit parts last b → Scans b ((48 + digit) ∷ []) c
+    → IsFraction a (places - 1) (unit / 10) (parts + digit * (unit / 10)) digit c
+fraction_goes_on {a = a} {b = b} {c = c} places unit parts last digit some few before scanned =
+    let one_more : places ≡ suc (places - 1) = omega (arith, some) in
+    let power : unit ≡ 10 ^ (places - 1) * 10 = before.power ∙ ap (λ (n : ℕ). 10 ^ n) one_more ∙ pow-suc 10 (places - 1) in
+    let tenth : unit / 10 ≡ 10 ^ (places - 1) = omega (arith, power) in
+    let whole : unit ≡ unit / 10 * 10 = omega (arith, power) in
+    record {
+      behind = λ rest end below is_some more.
+          let digits : Scans b (fraction_digits places (digit * (unit / 10) + rest)) end =
+          fraction_digit places (places - 1) digit rest (unit / 10) one_more tenth (subst (λ (n : ℕ). rest < n) tenth below) (some_digit digit rest (unit / 10) below is_some) scanned more in
+          let within : digit * (unit / 10) + rest < unit = subst (λ (n : ℕ). digit * (unit / 10) + rest < n) (sym whole) (digit_below digit rest (unit / 10) few below) in
+          let all = before.behind (digit * (unit / 10) + rest) end within (λ none. some_digit digit rest (unit / 10) below is_some (omega (arith, none))) digits in
+          subst (λ (n : ℕ). Scans a (fraction_digits 6 n) end) (omega arith) all;
+      power = tenth;
+      below = digit_within digit parts unit (unit / 10) few whole before.below;
+    }
+
+pub fraction_ends : {a b c : Cursor} (places unit parts last : ℕ) → last ≢ 0 → IsFraction a places unit parts last b → Scans b [] c → Scans a (fraction_digits 6 parts) c
+fraction_ends {a = a} {c = c} places unit parts last some before unchanged =
+    let all = before.behind 0 c (subst (λ (n : ℕ). 0 < n) (sym before.power) (one-le-pow places 10 (lit< tt))) (λ none. some (omega (arith, none))) (no_digits places unchanged) in
+    subst (λ (n : ℕ). Scans a (fraction_digits 6 n) c) (omega arith) all
+
+pub fraction_most : {a b : Cursor} (places unit parts last : ℕ) → IsFraction a places unit parts last b → parts < 1000000
+fraction_most places unit parts last before =
+    let some : 0 < unit = subst (λ (n : ℕ). 0 < n) (sym before.power) (one-le-pow places 10 (lit< tt)) in
+    omega (arith, some, before.below)
 
 pub no_fraction : {a b : Cursor} → Scans a [] b → Scans a (fraction_text 0) b
 unfolding fraction_text

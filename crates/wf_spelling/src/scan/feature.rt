@@ -16,7 +16,7 @@ fn scan_points(cursor: &mut Cursor<'_>) -> Option<Part>
 {
     let mut part = Part::new(cursor.alloc());
     for _ in 0..cursor.len() {
-        if cursor.is_at(b"END") {
+        if cursor.is_at(b"END\n") {
             break;
         }
         let Some(point) = scan_point(cursor) else {
@@ -37,7 +37,7 @@ fn scan_part(cursor: &mut Cursor<'_>) -> Option<Part>
 {
     scan_alone(cursor, "POINTS");
     let part = scan_points(cursor);
-    scan_alone(cursor, "END");
+    cursor.take(b"END\n");
     part
 }
 
@@ -66,9 +66,10 @@ fn scan_parts(cursor: &mut Cursor<'_>) -> Option<Parts>
 pub fn scan_feature(cursor: &mut Cursor<'_>) -> Option<Feature>
     ensures { IfSome result (λ feature. Scans cursor.old (text_of (feature_lines feature)) cursor.new) }
 {
-    scan_alone(cursor, "FEATURE");
-    let items = scan_with_rare_text(cursor, "ITEMS", b"ITEMS \"\"\n")?;
-    let Some(text) = scan_with_rare_text(cursor, "TEXT", b"TEXT \"\"\n") else {
+    // A map is read in the time of its features, so their lines are compared in pieces of at most eight bytes: each is a comparison.
+    cursor.take(b"FEATURE\n");
+    let items = scan_with_rare_text(cursor, "ITEMS", b"ITEMS \"\"")?;
+    let Some(text) = scan_with_rare_text(cursor, "TEXT", b"TEXT \"\"") else {
         drop(items);
         return None;
     };
@@ -77,6 +78,6 @@ pub fn scan_feature(cursor: &mut Cursor<'_>) -> Option<Feature>
         drop(text);
         return None;
     };
-    scan_alone(cursor, "END");
+    cursor.take(b"END\n");
     Feature::new(parts, items, text)
 }

@@ -99,6 +99,8 @@ fn scan_features(cursor: &mut Cursor<'_>) -> Option<Features>
             return None;
         };
     }
+    // Most of a map's memory is its features.
+    features.shrink_to_fit();
     Some(features)
 }
 

@@ -1,6 +1,6 @@
 //! Scans the lines of a canonical text: tokens separated by single spaces, followed by LF.
 
-ghost use Rattle.std.specs.Prelude.{◌≡◌, ◌<◌, [], ◌∷◌, IfSome};
+ghost use Rattle.std.specs.Prelude.{◌≡◌, ◌<◌, [], ◌∷◌, ◌++◌, IfSome};
 ghost use Rattle.std.specs.Fmt.{decimal};
 ghost use Rattle.wf_text.specs.NumberText.{number_text};
 ghost use Rattle.wf_token.specs.Spelling.{quote_for, quoted, line, text_of};
@@ -88,13 +88,15 @@ pub fn scan_optional_text(cursor: &mut Cursor<'_>, keyword: &str) -> Option<Opti
     }
 }
 
-/// Scans a line of a keyword and a text that most values lack, given the line of an empty text: one comparison does for that line.
+/// Scans a line of a keyword and a text that most values lack, given the line of an empty text without its LF: one comparison does
+/// for all of it.
 #[inline(always)]
 pub fn scan_with_rare_text(cursor: &mut Cursor<'_>, keyword: &str, empty: &[u8]) -> Option<Text>
-    requires { empty.now ≡ line (with_text keyword.now []) }
+    requires { empty.now ++ 10 ∷ [] ≡ line (with_text keyword.now []) }
     ensures { IfSome result (λ text. Scans cursor.old (line (with_text keyword.now text)) cursor.new) }
 {
     if cursor.skip(empty) {
+        cursor.take(b"\n");
         return empty_text(cursor.alloc());
     }
     scan_with_text(cursor, keyword)

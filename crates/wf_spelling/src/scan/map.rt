@@ -155,6 +155,15 @@ fn scan_layers(cursor: &mut Cursor<'_>) -> Option<Layers>
     Some(layers)
 }
 
+/// The map, without the memory that it doesn't need: a list of layers has room for nine at first, and most maps have fewer.
+fn fitted(map: MapDef) -> MapDef
+    ensures { result ≡ map }
+{
+    let mut whole = map;
+    whole.shrink_to_fit();
+    whole
+}
+
 /// Scans a map.
 fn scan_map(cursor: &mut Cursor<'_>) -> Option<MapDef>
     ensures { IfSome result (λ map. Scans cursor.old (canon map) cursor.new) }
@@ -166,7 +175,7 @@ fn scan_map(cursor: &mut Cursor<'_>) -> Option<MapDef>
     };
     scan_alone(cursor, "END");
     match layers.into_map(map) {
-        Ok(map) => Some(map),
+        Ok(map) => Some(fitted(map)),
         Err(_) => None,
     }
 }

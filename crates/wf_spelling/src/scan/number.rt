@@ -1,6 +1,6 @@
 //! Scans the numbers of a canonical text.
 
-ghost use Rattle.std.specs.Prelude.{◌≡◌, ◌<◌, ◌≤◌, ◌^◌, IfSome};
+ghost use Rattle.std.specs.Prelude.{◌≡◌, ◌≢◌, ◌<◌, ◌≤◌, ◌^◌, IfSome};
 ghost use Rattle.std.specs.Fmt.{decimal};
 ghost use Rattle.wf_text.specs.NumberText.{fraction_digits, fraction_text, magnitude_text, number_text};
 ghost use Rattle.wf_spelling.specs.Scan.{Scans};
@@ -11,6 +11,9 @@ use wf_def::micro::Micro;
 /// The number of millionths in a unit.
 const UNIT: u64 = 1_000_000;
 
+/// The same, as a fraction is counted.
+const ALL_PARTS: u32 = 1_000_000;
+
 /// The number of digits of a fraction in millionths.
 const FRACTION_DIGITS: u32 = 6;
 
@@ -18,6 +21,7 @@ const FRACTION_DIGITS: u32 = 6;
 const MANY: u32 = 100_000_000;
 
 /// Scans an integer below 1,000,000,000, which has no leading zero.
+#[inline(always)]
 pub fn scan_whole(cursor: &mut Cursor<'_>) -> Option<u32>
     ensures scanned { IfSome result (λ whole. Scans cursor.old (decimal whole) cursor.new) }
     ensures most { IfSome result (λ whole. whole < 1000000000) }
@@ -36,29 +40,42 @@ pub fn scan_whole(cursor: &mut Cursor<'_>) -> Option<u32>
     Some(whole)
 }
 
-/// Scans the digits of a fraction of that many places at most, the last of which isn't zero.
-fn scan_fraction_digits(cursor: &mut Cursor<'_>, places: u32) -> Option<u32>
-    requires { places ≤ 6 }
-    ensures scanned { IfSome result (λ parts. Scans cursor.old (fraction_digits places parts) cursor.new) }
-    ensures most { IfSome result (λ parts. parts < 10 ^ places) }
+/// Scans the digits of a fraction in millionths, the last of which isn't zero.
+#[inline(always)]
+fn scan_fraction_digits(cursor: &mut Cursor<'_>) -> Option<u32>
+    ensures scanned { IfSome result (λ parts. Scans cursor.old (fraction_digits 6 parts) cursor.new) }
+    ensures most { IfSome result (λ parts. parts < 1000000) }
 {
-    if places == 0 {
-        return Some(0);
+    let mut places = FRACTION_DIGITS;
+    let mut unit = ALL_PARTS;
+    let mut parts = 0;
+    let mut last = 0;
+    while places > 0 {
+        match cursor.digit() {
+            Some(digit) => {
+                places -= 1;
+                unit /= 10;
+                parts += u32::from(digit) * unit;
+                last = digit;
+            }
+            None => return ended(parts, last),
+        }
     }
-    let digit = match cursor.digit() {
-        Some(digit) => digit,
-        None => return Some(0),
-    };
-    let behind = scan_fraction_digits(cursor, places - 1)?;
-    let unit = 10u32.pow(places - 1);
-    let parts = u32::from(digit) * unit + behind;
-    if parts == 0 {
+    ended(parts, last)
+}
+
+/// The millionths of digits of which this is the last, unless it is zero.
+fn ended(parts: u32, last: u8) -> Option<u32>
+    ensures { IfSome result (λ whole. (whole ≡ parts) × (last ≢ 0)) }
+{
+    if last == 0 {
         return None;
     }
     Some(parts)
 }
 
 /// Scans a point and the digits of a fraction in millionths, if a point is ahead.
+#[inline(always)]
 fn scan_fraction(cursor: &mut Cursor<'_>) -> Option<u32>
     ensures scanned { IfSome result (λ parts. Scans cursor.old (fraction_text parts) cursor.new) }
     ensures most { IfSome result (λ parts. parts < 1000000) }
@@ -66,7 +83,7 @@ fn scan_fraction(cursor: &mut Cursor<'_>) -> Option<u32>
     if !cursor.skip(b".") {
         return Some(0);
     }
-    let parts = scan_fraction_digits(cursor, FRACTION_DIGITS)?;
+    let parts = scan_fraction_digits(cursor)?;
     if parts == 0 {
         return None;
     }
@@ -74,6 +91,7 @@ fn scan_fraction(cursor: &mut Cursor<'_>) -> Option<u32>
 }
 
 /// Scans a number of millionths without its sign.
+#[inline(always)]
 fn scan_magnitude(cursor: &mut Cursor<'_>) -> Option<u64>
     ensures scanned { IfSome result (λ millionths. Scans cursor.old (magnitude_text millionths) cursor.new) }
     ensures most { IfSome result (λ millionths. millionths < 1000000000000000) }
@@ -84,6 +102,7 @@ fn scan_magnitude(cursor: &mut Cursor<'_>) -> Option<u64>
 }
 
 /// Scans a number of millionths.
+#[inline(always)]
 pub fn scan_number(cursor: &mut Cursor<'_>) -> Option<Micro>
     ensures { IfSome result (λ number. Scans cursor.old (number_text number) cursor.new) }
 {

@@ -9,6 +9,6 @@ unfolding canon
 returns-in-Ok c =
     let m = c.in_ok-map.map in
     let layers = flat_map layer_lines c.in-Some.layers in
-    rw c.in-Ok.ensures
+    rw (c.fitted.ensures, c.in-Ok.ensures)
     (lines (heading_lines m ++ projection_lines m.projection ++ web_lines m) (layers ++ end_line ∷ []) c.in_ok-map.ensures.scanned
     (lines layers (end_line ∷ []) c.in-Some.ensures (last_line end_line c.scan_alone.ensures)))
