@@ -1,5 +1,4 @@
 pub mod Fields
-pub mod Headers
 pub mod Judged
 pub mod Lists
 pub mod Moments

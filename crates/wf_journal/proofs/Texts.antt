@@ -1,28 +1,24 @@
 -- Records with definitions, and the same records with canonical texts.
-use Rattle.std.proofs.Common.{◌≡◌, ℕ, ◌≤◌, List, length, refl, arith}
+use Rattle.std.proofs.Common.{◌≡◌, ◌≤◌, length, refl, arith}
+use Rattle.std.specs.Prelude.{IsSomeAnd}
 use Rattle.wf_def.specs.Definition.{Definition}
-use Rattle.wf_spelling.specs.Canon.{canon, line}
+use Rattle.wf_spelling.specs.Canon.{canon, line, most_canon_bytes}
 use Rattle.wf_canon.specs.Saying.{OneTextOneMap}
+use Rattle.wf_frame.specs.Ending.{IsText}
 use Rattle.wf_model.specs.Stored.{Record, Tried, Promised, Accepted, Published}
-use Rattle.wf_journal.specs.Kind.{most_text}
-use Rattle.wf_journal.specs.Record.{texts, HasText, IsRecordOf, IsRecord}
-use Rattle.wf_journal.specs.Judging.{HasBadText}
-
--- a text that a record may have
-pub record IsText (text : List ℕ) : Type 0 where
-  pub least : 1 ≤ length text
-  pub most : length text ≤ most_text
+use Rattle.wf_journal.specs.Record.{texts, definition_of, HasText, IsRecordOf, IsRecord}
+use Rattle.wf_journal.specs.Judging.{IsNoText}
 
 -- a canonical text begins with MAP
 not_empty : (d : Definition) → 1 ≤ length (canon d)
 unfolding canon line
 not_empty d = omega arith
 
-canon_is_text : (d : Definition) → HasText d → IsText (canon d)
-canon_is_text d has = record { least = not_empty d; most = has.short }
+canon_is_text : (d : Definition) → HasText d → IsText most_canon_bytes (canon d)
+canon_is_text d has = record { least = not_empty d; within = has.short }
 
 -- a record's text is a text
-pub texts_fit : (r : Record Definition) → IsRecord r → IsRecordOf IsText (texts r)
+pub texts_fit : (r : Record Definition) → IsRecord r → IsRecordOf (IsText most_canon_bytes) (texts r)
 texts_fit (Tried round) p = p
 texts_fit (Promised s b) p = p
 texts_fit (Accepted s b d) p = (p.0, p.1, canon_is_text d p.2)
@@ -40,7 +36,7 @@ texts_apart one_map (Published s d) (Published t f) p q e = let same : d ≡ f =
 texts_apart one_map (Published s d) r p q e = absurd cc
 
 -- a record's text is canonical
-pub not_bad : (r : Record Definition) → IsRecord r → HasBadText (texts r) → ⊥
+pub not_bad : (r : Record Definition) → IsRecord r → IsSomeAnd (definition_of (texts r)) IsNoText → ⊥
 not_bad (Tried round) p bad = bad
 not_bad (Promised s b) p bad = bad
 not_bad (Accepted s b d) p bad = bad d p.2 refl

@@ -1,5 +1,9 @@
--- The four kinds of record: the byte of each, and the lengths that its body can have.
-use Rattle.std.specs.Prelude.{ℕ, ◌+◌, ◌==◌, ◌&&◌, nat_lt, nat_le, Bool, List, [], ◌∷◌, Option, find}
+-- The four kinds of record: the byte of each, and the layout of its body.
+use Rattle.std.specs.Prelude.{ℕ, ◌==◌, List, [], ◌∷◌, Option, find}
+use Rattle.wf_spelling.specs.Canon.{most_canon_bytes}
+use Rattle.wf_frame.specs.Field.{SlotField, RoundField, BallotField}
+use Rattle.wf_frame.specs.Ending.{Nothing, Text}
+use Rattle.wf_frame.specs.Layout.{Layout}
 use Rattle.wf_journal.specs.declared.kind.Kind.{Kind}
 use Rattle.wf_journal.specs.declared.kind.Kind.TheVariants.{Tried, Promised, Accepted, Published}
 
@@ -16,17 +20,13 @@ all_kinds = Tried ∷ Promised ∷ Accepted ∷ Published ∷ []
 unfoldable pub kind_of_byte : ℕ → Option Kind
 kind_of_byte byte = find (λ kind. byte == kind_byte kind) all_kinds
 
--- the most bytes of a canonical text
-abbrev pub most_text : ℕ
-most_text = 32768
+-- the fields of a body, and what it ends with
+abbrev pub layout : Kind → Layout
+layout Tried = record { fields = RoundField ∷ []; ending = Nothing }
+layout Promised = record { fields = SlotField ∷ BallotField ∷ []; ending = Nothing }
+layout Accepted = record { fields = SlotField ∷ BallotField ∷ []; ending = Text most_canon_bytes }
+layout Published = record { fields = SlotField ∷ []; ending = Text most_canon_bytes }
 
--- a text, which isn't empty, after that many bytes of other fields
-abbrev pub has_text_behind : ℕ → ℕ → Bool
-has_text_behind fields n = nat_lt fields n && nat_le n (fields + most_text)
-
--- A round has 4 bytes, a sequence 2, a ballot 5.
-unfoldable pub can_have : Kind → ℕ → Bool
-can_have Tried n = n == 4
-can_have Promised n = n == 7
-can_have Accepted n = has_text_behind 7 n
-can_have Published n = has_text_behind 2 n
+-- the longest body, in bytes: that of a vote for the longest text
+abbrev pub most_body_bytes : ℕ
+most_body_bytes = 32775

@@ -1,3 +1,4 @@
+pub mod FormatLaws
 pub mod Front
 pub mod Journal
 pub mod Judging

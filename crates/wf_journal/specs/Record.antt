@@ -6,8 +6,7 @@ use Rattle.wf_ballot.specs.Ballot.{IsBallot}
 use Rattle.wf_model.specs.Stored as model
 use Rattle.wf_def.specs.Definition.{Definition}
 use Rattle.wf_def.specs.Limits.{IsWithinLimits}
-use Rattle.wf_spelling.specs.Canon.{canon}
-use Rattle.wf_journal.specs.Kind.{most_text}
+use Rattle.wf_spelling.specs.Canon.{canon, most_canon_bytes}
 use Rattle.wf_journal.specs.declared.record.Record.{Record}
 use Rattle.wf_journal.specs.declared.record.Record.TheVariants as code
 
@@ -39,7 +38,7 @@ HasDefinition r = IsSome (definition_of r)
 -- a map whose canonical text has at most 32,768 bytes
 pub record HasText (d : Definition) : Type 0 where
   pub within : IsWithinLimits d
-  pub short : length (canon d) ≤ most_text
+  pub short : length (canon d) ≤ most_canon_bytes
 
 -- A record's numbers are in their ranges, rounds and sequences from 1 on, and P holds of its definition.
 abbrev pub IsRecordOf : {V : Type 0} → (V → Type 0) → model.Record V → Type 0

@@ -1,11 +1,9 @@
 -- The records of bytes: the longest list of whole records that the bytes begin with. What follows them is nothing, torn or bad.
-use Rattle.std.specs.Prelude.{◌≡◌, ℕ, ◌+◌, ◌<◌, ◌⊎◌, List, [], ◌∷◌, ◌++◌, length, take, true}
-use Rattle.std.specs.Int.{w32, from_be_bytes}
+use Rattle.std.specs.Prelude.{◌≡◌, ℕ, ◌+◌, ◌⊎◌, List, [], ◌∷◌, ◌++◌, length}
 use Rattle.wf_model.specs.Stored.{Record}
 use Rattle.wf_def.specs.Definition.{Definition}
-use Rattle.wf_journal.specs.declared.kind.Kind.{Kind}
-use Rattle.wf_journal.specs.Kind.{kind_byte, can_have}
-use Rattle.wf_journal.specs.Spelling.{record_version, spelling, Spells}
+use Rattle.wf_frame.specs.Frame.{IsUnfinished}
+use Rattle.wf_journal.specs.Spelling.{spelling, format, Spells}
 
 -- the bytes are the encodings of the records, followed by the rest
 abbrev pub Splits : List ℕ → List (Record Definition) → List ℕ → Type 0
@@ -42,20 +40,11 @@ unfoldable pub length_of : List (Record Definition) → ℕ
 length_of [] = 0
 length_of (r ∷ records) = length (spelling r) + length_of records
 
--- the length of the body, as the first four bytes state it
-abbrev pub stated_length : List ℕ → ℕ
-stated_length bytes = from_be_bytes w32 (take 4 bytes)
-
--- The header isn't whole, or it states a length that the kind can have and the body isn't whole.
-abbrev pub LacksBody : Kind → List ℕ → Type 0
-LacksBody kind bytes = (length bytes < 4) ⊎ ((can_have kind (stated_length bytes) ≡ true) × (length bytes < 4 + stated_length bytes))
-
--- Part of a record: its header has no error as far as it is there, and its bytes end too early. The length is checked once its
--- four bytes are there.
+-- Part of a record, at least one byte: its version, its kind and its length have no error as far as they are there, and its bytes
+-- end too early. The length is checked once its four bytes are there.
 abbrev pub IsTorn : List ℕ → Type 0
 IsTorn [] = ⊥
-IsTorn (version ∷ []) = version ≡ record_version
-IsTorn (version ∷ byte ∷ bytes) = (version ≡ record_version) × ((kind : Kind) × (byte ≡ kind_byte kind) × LacksBody kind bytes)
+IsTorn (byte ∷ bytes) = IsUnfinished format (byte ∷ bytes)
 
 -- Bytes that are neither a record nor a torn one.
 pub record IsBad (bytes : List ℕ) : Type 0 where

@@ -1,8 +1,10 @@
-ghost use Rattle.std.specs.Prelude.{◌≡◌, ◌≢◌, [], IfOk, IfErr, IsErrOf, MatchResult};
+ghost use Rattle.std.specs.Prelude.{◌≡◌, ◌≢◌, [], IfOk, IfErr, IsErrOf};
 ghost use Rattle.wf_journal.specs.declared.kind.Kind.TheVariants as kinds;
 ghost use Rattle.wf_journal.specs.Record.{view};
 ghost use Rattle.wf_journal.specs.Records.{IsTorn, IsBad, BeginsWithNone};
-ghost use Rattle.wf_journal.specs.Judging.{frame_front, kind_front, length_front, body_front, fields_of, ReadsBody, ReadsText, IsJudged, IsFaultOfBytes};
+ghost use Rattle.wf_frame.specs.Frame.{frame_front};
+ghost use Rattle.wf_journal.specs.Spelling.{format};
+ghost use Rattle.wf_journal.specs.Judging.{record_fault, fields_of, ReadsBody, ReadsText, IsJudged, IsFaultOfBytes};
 ghost use Rattle.wf_journal.specs.Front.{BeginsWith};
 
 use crate::fault::RecordFault;
@@ -10,13 +12,17 @@ use crate::kind::Kind;
 use crate::record::Record;
 use std::alloc::Global;
 use wf_ballot::{split_ballot, split_round, split_slot};
-use wf_canon::{Canon, CanonFault};
+use wf_canon::{Canon, CanonFault, MOST_CANON_BYTES};
+use wf_frame::{FrameFault, split_frame};
 
 /// The version of the records that this crate reads and writes.
 pub const VERSION: u8 = 1;
 
 /// The number of bytes before a record's body: its version, its kind and the body's length.
-pub const HEADER_BYTES: usize = 6;
+pub const HEADER_BYTES: usize = wf_frame::HEADER_BYTES;
+
+/// The most bytes of a body: those of a vote for the longest text.
+pub const BODY_BYTES: usize = 7 + MOST_CANON_BYTES;
 
 /// The record at the front of the bytes, and its length in bytes. What follows isn't looked at.
 pub fn decode(alloc: Global, bytes: &[u8]) -> Result<(Record, usize), RecordFault>
@@ -29,63 +35,28 @@ pub fn decode(alloc: Global, bytes: &[u8]) -> Result<(Record, usize), RecordFaul
 }
 
 fn judge(alloc: Global, bytes: &[u8]) -> Result<(Record, usize), RecordFault>
-    ensures { IsJudged view result (frame_front bytes.now) }
+    ensures { IsJudged view result (frame_front format bytes.now) }
 {
-    let (kind, body) = split_frame(bytes)?;
+    let (kind, body) = match split_frame::<Kind>(bytes) {
+        Ok(frame) => frame,
+        Err(fault) => return Err(record_fault(fault)),
+    };
     let length = body.len();
     let record = record_of(alloc, kind, body)?;
     Ok((record, HEADER_BYTES + length))
 }
 
-/// The kind and the body of the record at the front.
-#[tactic(auto, unfolding(crate::specs::Judging::frame_front))]
-fn split_frame(bytes: &[u8]) -> Result<(Kind, &[u8]), RecordFault>
-    ensures { MatchResult result (λ x. frame_front bytes.now ≡ Ok (x.0, x.1.now)) (λ e. frame_front bytes.now ≡ Err e) }
+/// The decoder's error for that of the frame.
+fn record_fault(fault: FrameFault) -> RecordFault
+    ensures { result ≡ record_fault fault }
 {
-    match bytes {
-        [] => Err(RecordFault::Torn),
-        [version, rest @ ..] if *version == VERSION => split_kind(rest),
-        _ => Err(RecordFault::Bad),
+    match fault {
+        FrameFault::Short => RecordFault::Torn,
+        FrameFault::BadVersion
+        | FrameFault::BadKind
+        | FrameFault::TooLong
+        | FrameFault::BadLength => RecordFault::Bad,
     }
-}
-
-#[tactic(auto, unfolding(crate::specs::Judging::kind_front, crate::specs::Judging::length_front))]
-fn split_kind(bytes: &[u8]) -> Result<(Kind, &[u8]), RecordFault>
-    ensures { MatchResult result (λ x. kind_front bytes.now ≡ Ok (x.0, x.1.now)) (λ e. kind_front bytes.now ≡ Err e) }
-{
-    match bytes {
-        [] => Err(RecordFault::Torn),
-        [byte, rest @ ..] => match Kind::of_byte(*byte) {
-            None => Err(RecordFault::Bad),
-            Some(kind) => split_length(kind, rest),
-        },
-    }
-}
-
-#[tactic(auto, unfolding(crate::specs::Judging::length_front))]
-fn split_length(kind: Kind, bytes: &[u8]) -> Result<(Kind, &[u8]), RecordFault>
-    ensures { MatchResult result (λ x. length_front (Some kind) bytes.now ≡ Ok (x.0, x.1.now)) (λ e. length_front (Some kind) bytes.now ≡ Err e) }
-{
-    match bytes {
-        [a, b, c, d, rest @ ..] => {
-            split_body(kind, u32::from_be_bytes([*a, *b, *c, *d]) as usize, rest)
-        }
-        _ => Err(RecordFault::Torn),
-    }
-}
-
-#[tactic(auto, unfolding(crate::specs::Judging::body_front))]
-fn split_body(kind: Kind, length: usize, bytes: &[u8]) -> Result<(Kind, &[u8]), RecordFault>
-    ensures { MatchResult result (λ x. body_front kind length bytes.now ≡ Ok (x.0, x.1.now)) (λ e. body_front kind length bytes.now ≡ Err e) }
-{
-    if !kind.can_have(length) {
-        return Err(RecordFault::Bad);
-    }
-    if bytes.len() < length {
-        return Err(RecordFault::Torn);
-    }
-    let (body, _) = bytes.split_at(length);
-    Ok((kind, body))
 }
 
 fn record_of(alloc: Global, kind: Kind, body: &[u8]) -> Result<Record, RecordFault>

@@ -1,14 +1,16 @@
-ghost use Rattle.std.specs.Prelude.{◌≡◌, ◌≤◌, ◌++◌, length, map, OnOk, IfOk};
+ghost use Rattle.std.specs.Prelude.{◌≡◌, ◌+◌, ◌≤◌, ◌++◌, length, map, vec_len, vec_capacity, OnOk, IfOk};
 ghost use Rattle.wf_journal.specs.Record.{view, texts, HasText, IsRecord};
 ghost use Rattle.wf_journal.specs.Records.{AreRecords};
+ghost use Rattle.wf_journal.specs.Kind.{most_body_bytes};
 ghost use Rattle.wf_journal.specs.Spelling.{kind_of, body, spelling, Spells};
 ghost use Rattle.wf_spelling.specs.Canon.{canon};
 
-use crate::decoder::{HEADER_BYTES, VERSION};
+use crate::decoder::HEADER_BYTES;
 use crate::kind::Kind;
 use crate::record::Record;
 use std::alloc::{AllocError, Global};
 use wf_canon::Canon;
+use wf_frame::{put, put_header};
 
 /// The record's encoding.
 pub fn encode(alloc: Global, entry: &Record) -> Result<Vec<u8>, AllocError>
@@ -31,15 +33,14 @@ pub fn encode_all(alloc: Global, records: &[Record]) -> Result<Vec<u8>, AllocErr
 }
 
 /// Appends the record's encoding.
-#[tactic(auto, using(crate::proofs::Written::written))]
 fn push(out: &mut Vec<u8>, entry: &Record) -> Result<(), AllocError>
     ensures is_record { IsRecord (view entry.now) }
     ensures spelled { OnOk result (out.new.items ≡ out.old.items ++ spelling (view entry.now)) }
 {
     let length = body_length(entry);
-    out.extend_from_slice(&[VERSION, kind_of(entry).byte()])?;
-    out.extend_from_slice(&(length as u32).to_be_bytes())?;
-    push_body(out, entry)?;
+    out.reserve(HEADER_BYTES + length)?;
+    put_header(out, kind_of(entry), length);
+    put_body(out, entry);
     Ok(())
 }
 
@@ -73,7 +74,7 @@ fn kind_of(entry: &Record) -> Kind
 #[tactic(auto, using(crate::proofs::Fields::body_has_length))]
 fn body_length(entry: &Record) -> usize
     ensures value { result ≡ length (body (texts (view entry.now))) }
-    ensures most { result ≤ 32775 }
+    ensures most { result ≤ most_body_bytes }
     ensures is_record { IsRecord (view entry.now) }
 {
     match entry {
@@ -105,26 +106,26 @@ fn text_length(text: &Canon) -> usize
     text.text().len()
 }
 
-/// Appends the body.
-#[tactic(auto, unfolding(crate::specs::Spelling::body))]
-fn push_body(out: &mut Vec<u8>, entry: &Record) -> Result<(), AllocError>
-    ensures { OnOk result (out.new.items ≡ out.old.items ++ body (texts (view entry.now))) }
+/// Appends the body, for which there is room.
+#[tactic(auto, using(crate::proofs::Fields::body_has_length), unfolding(crate::specs::Spelling::body))]
+fn put_body(out: &mut Vec<u8>, entry: &Record)
+    requires { vec_len out.old + length (body (texts (view entry.now))) ≤ vec_capacity out.old }
+    ensures { out.new.items ≡ out.old.items ++ body (texts (view entry.now)) }
 {
     match entry {
-        Record::Tried(round) => out.extend_from_slice(&round.bytes())?,
+        Record::Tried(round) => put(out, &round.bytes()),
         Record::Promised(slot, ballot) => {
-            out.extend_from_slice(&slot.bytes())?;
-            out.extend_from_slice(&ballot.bytes())?;
+            put(out, &slot.bytes());
+            put(out, &ballot.bytes());
         }
         Record::Accepted(slot, ballot, canon) => {
-            out.extend_from_slice(&slot.bytes())?;
-            out.extend_from_slice(&ballot.bytes())?;
-            out.extend_from_slice(canon.text())?;
+            put(out, &slot.bytes());
+            put(out, &ballot.bytes());
+            put(out, canon.text());
         }
         Record::Published(slot, canon) => {
-            out.extend_from_slice(&slot.bytes())?;
-            out.extend_from_slice(canon.text())?;
+            put(out, &slot.bytes());
+            put(out, canon.text());
         }
     }
-    Ok(())
 }

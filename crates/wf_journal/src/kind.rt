@@ -1,4 +1,6 @@
+use crate::decoder::{BODY_BYTES, VERSION};
 use wf_canon::MOST_CANON_BYTES;
+use wf_frame::{FrameKind, has_text_behind};
 
 /// The kinds of record.
 #[derive(Clone, Copy, Debug, PartialEq, Eq)]
@@ -9,27 +11,18 @@ pub enum Kind {
     Published,
 }
 
-impl Kind {
-    ghost use Rattle.std.specs.Prelude.{◌≡◌, ◌+◌, ◌^◌, ◌<◌};
-    ghost use Rattle.wf_journal.specs.Kind.{kind_byte, kind_of_byte, most_text, can_have, has_text_behind};
+impl FrameKind for Kind {
+    ghost use Rattle.wf_journal.specs.Spelling.{format as format_of_records};
+    ghost use Rattle.wf_journal.specs.FormatLaws.{is_format as records_have_a_format};
 
-    /// The kind's byte.
-    pub fn byte(self) -> u8
-        ensures { result ≡ kind_byte self }
-    {
-        match self {
-            Kind::Tried => 1,
-            Kind::Promised => 2,
-            Kind::Accepted => 3,
-            Kind::Published => 4,
-        }
+    ghost format = { format_of_records };
+
+    fn reads(version: u8) -> bool {
+        version == VERSION
     }
 
-    /// The kind with this byte; None if there is none.
     #[tactic(auto, unfolding(crate::specs::Kind::kind_of_byte))]
-    pub fn of_byte(byte: u8) -> Option<Kind>
-        ensures { result ≡ kind_of_byte byte }
-    {
+    fn with(_version: u8, byte: u8) -> Option<Self> {
         match byte {
             1 => Some(Kind::Tried),
             2 => Some(Kind::Promised),
@@ -39,24 +32,31 @@ impl Kind {
         }
     }
 
-    /// Whether a body of this kind can have that many bytes.
-    #[tactic(auto, unfolding(crate::specs::Kind::can_have))]
-    pub fn can_have(self, length: usize) -> bool
-        ensures { result ≡ can_have self length }
-    {
+    fn version(self) -> u8 {
+        VERSION
+    }
+
+    fn byte(self) -> u8 {
         match self {
-            Kind::Tried => length == 4,
-            Kind::Promised => length == 7,
-            Kind::Accepted => Kind::has_text_behind(7, length),
-            Kind::Published => Kind::has_text_behind(2, length),
+            Kind::Tried => 1,
+            Kind::Promised => 2,
+            Kind::Accepted => 3,
+            Kind::Published => 4,
         }
     }
 
-    /// Whether a body of that many bytes can have a text after its other fields.
-    fn has_text_behind(fields: usize, length: usize) -> bool
-        requires { fields + most_text < 2 ^ 64 }
-        ensures { result ≡ has_text_behind fields length }
-    {
-        fields < length && length <= fields + MOST_CANON_BYTES
+    fn longest() -> usize {
+        BODY_BYTES
     }
+
+    fn can_have(self, length: usize) -> bool {
+        match self {
+            Kind::Tried => length == 4,
+            Kind::Promised => length == 7,
+            Kind::Accepted => has_text_behind(MOST_CANON_BYTES, 7, length),
+            Kind::Published => has_text_behind(MOST_CANON_BYTES, 2, length),
+        }
+    }
+
+    ghost is_format = { records_have_a_format };
 }
