@@ -3,3 +3,4 @@ mod HearingLaw
 mod PublishLaw
 mod ServiceLaw
 mod ServingLaw
+mod UnavailableLaw

@@ -10,7 +10,8 @@ use Rattle.wf_spelling.specs.declared.fault.CanonFault.{CanonFault}
 use Rattle.wf_spelling.specs.declared.fault.CanonFault.TheVariants as canonical
 use Rattle.wf_codec.specs.declared.message.Message.{Message}
 use Rattle.wf_def.specs.Definition.{Definition}
-use Rattle.wf_mapfile.specs.Meaning.{Means, MeansNothing, meaning, longest_mapfile}
+use Rattle.wf_mapfile.specs.Meaning.{Means, meaning, longest_mapfile}
+use Rattle.wf_mapfile.specs.Rejection.{HasError}
 use Rattle.wf_block.specs.Reading.{is_memory, IsNotUtf8}
 use Rattle.wf_block.specs.declared.fault.MapFault.{MapFault}
 use Rattle.wf_block.specs.declared.fault.MapFault.TheVariants as map
@@ -63,20 +64,20 @@ is_text body utf8 is too_long not_utf8 = elim (cases_lt longest_mapfile (length 
     text true is within not = record { within = within; utf8 = is }
     text false is within not = absurd (not refl)
 
-unread_step : (body : List ℕ) (why : MapFault) (memory : Bool) → is_memory why ≡ memory → (memory ≡ false → MeansNothing body)
+unread_step : (body : List ℕ) (why : MapFault) (memory : Bool) → is_memory why ≡ memory → (memory ≡ false → HasError body why)
     → (longest_mapfile < length body → why ≡ map.TooLong) → (length body ≤ longest_mapfile → is_utf8 body ≡ false → IsNotUtf8 (rejected why))
     → IsWhyNoMap body (cond memory fault.Memory (fault.Map why))
-unread_step body why true is nothing too_long not_utf8 =
+unread_step body why true is has too_long not_utf8 =
     let same = memory_alone why is in
     is_text body (is_utf8 body) refl (λ over. sym same ∙ too_long over) (λ within no. subst (λ w. IsNotUtf8 (rejected w)) same (not_utf8 within no))
-unread_step body why false is nothing too_long not_utf8 = record { own = is; means_nothing = nothing refl; too_long = too_long; not_utf8 = not_utf8 }
+unread_step body why false is has too_long not_utf8 = record { own = is; is = has refl }
 
 pub why_unread : (body : List ℕ) (why : MapFault) (told : PublishFault) → told ≡ cond (is_memory why) fault.Memory (fault.Map why)
-    → (is_memory why ≡ false → MeansNothing body) → (longest_mapfile < length body → rejected why ≡ rejected map.TooLong)
+    → (is_memory why ≡ false → HasError body why) → (longest_mapfile < length body → rejected why ≡ rejected map.TooLong)
     → (length body ≤ longest_mapfile → is_utf8 body ≡ false → IsNotUtf8 (rejected why)) → IsWhyNoMap body told
-why_unread body why told is nothing too_long not_utf8 =
+why_unread body why told is has too_long not_utf8 =
     subst (λ f. IsWhyNoMap body f) (sym is)
-    (unread_step body why (is_memory why) refl nothing (λ over. same_fault why map.TooLong (too_long over)) not_utf8)
+    (unread_step body why (is_memory why) refl has (λ over. same_fault why map.TooLong (too_long over)) not_utf8)
 
 -- a body that is a map is a text
 text_step : (body : List ℕ) (d : Definition) (meant : Option Definition) (within utf8 : Bool) → nat_le (length body) longest_mapfile ≡ within → is_utf8 body ≡ utf8

@@ -1,16 +1,17 @@
--- A request to the map service has one response, wherever the map that it asks for is the same.
-use Rattle.std.proofs.Common.{◌≡◌, ◌≢◌, ◌∙◌, ◌<◌, ℕ, List, length, Vec, sym, ap, subst, arith}
+-- A request to the map service has one response, wherever the map that it asks for is the same, or its text alone rejects it.
+use Rattle.std.proofs.Common.{◌≡◌, ◌≢◌, ◌∙◌, ◌<◌, ℕ, List, length, Vec, refl, sym, ap, subst, arith}
 use Rattle.std.specs.Prelude.{Some, Result, Ok, Err}
 use Rattle.httparse.proofs.GrammarLemmas.{request_unique}
 use Rattle.wf_codec.specs.declared.message.Message.{Message}
 use Rattle.wf_def.specs.Definition.{Definition}
 use Rattle.wf_learner.specs.History.{map_at}
 use Rattle.wf_node.specs.Node.{Node}
-use Rattle.wf_wms.specs.Answer.{AnswerValue, AskedMapsAreAnsweredAlike, AsksForMap, EachQueryHasOneAnswer, IsAnswerOf, operation_of, or_own, subject, subject_of}
+use Rattle.wf_wms.specs.Answer.{AnswerValue, AskedMapsAreAnsweredAlike, AsksForMap, EachQueryHasOneAnswer, IsAnswerOf, operation_of, or_own, rejection, subject, subject_of}
 use Rattle.wf_wms.specs.Query.{pairs_of}
+use Rattle.wf_wms.specs.Rejection.{TextsAreRejectedAlike}
 use Rattle.wf_http.specs.Checks.{judged}
 use Rattle.wf_http.specs.Head.{Head, Begins, head_of}
-use Rattle.wf_edge.specs.Law.{AsksMapService, stand_alike, are_asked_alike, EachQueryHasOnePage, EqualRequestsHaveEqualResponses}
+use Rattle.wf_edge.specs.Law.{AsksMapService, stand_alike, are_asked_alike, is_rejected_by_text, reject_alike, EachQueryHasOnePage, EqualRequestsHaveEqualResponses}
 use Rattle.wf_edge.specs.Notice.{response_of}
 use Rattle.wf_edge.specs.Page.{service_page, IsServicePage, IsServiceGiven}
 use Rattle.wf_http.specs.Request.{Request, IsRefused, by_head, by_check, by_body, IsHeadRefusal, body_bytes}
@@ -38,15 +39,23 @@ asked_subject m s query asks =
 page_of_answer : (page another : Response) (answer other : AnswerValue) → page ≡ service_page answer → another ≡ service_page other → other ≡ answer → another ≡ page
 page_of_answer page another answer other is also same = also ∙ ap (λ (a : AnswerValue). service_page a) same ∙ sym is
 
-pub one_page : EachQueryHasOneAnswer → AskedMapsAreAnsweredAlike → EachQueryHasOnePage
-one_page law elsewhere query history other page another (stand_alike long same) first second =
+pub one_page : EachQueryHasOneAnswer → AskedMapsAreAnsweredAlike → TextsAreRejectedAlike → EachQueryHasOnePage
+one_page law elsewhere texts query history other page another (stand_alike long same) first second =
     page_of_answer page another first.answer second.answer first.is_page second.is_page
     (law (length history) history other query first.answer second.answer same first.is_answer (subst (λ s. IsAnswerOf s other query second.answer) long second.is_answer))
-one_page law elsewhere query history other page another (are_asked_alike m asks also same) first second =
+one_page law elsewhere texts query history other page another (are_asked_alike m asks also same) first second =
     let about = asked_subject m (length history) query asks in
     page_of_answer page another first.answer second.answer first.is_page second.is_page
     (law (length history) history other query first.answer second.answer (ap (map_at history) about ∙ same ∙ sym (ap (map_at other) about)) first.is_answer
     (elsewhere (length history) (length other) m other query second.answer asks also second.is_answer))
+one_page law elsewhere texts query history other page another (is_rejected_by_text e fails) first second =
+    page_of_answer page another first.answer second.answer first.is_page second.is_page
+    (texts (length other) other query e second.answer fails second.is_answer
+    ∙ sym (texts (length history) history query e first.answer fails first.is_answer))
+one_page law elsewhere texts query history other page another (reject_alike e here there) first second =
+    page_of_answer page another first.answer second.answer first.is_page second.is_page
+    (law (length other) other other query (rejection e) second.answer refl there second.is_answer
+    ∙ sym (law (length history) history history query (rejection e) first.answer refl here first.is_answer))
 
 -- ---- the page is the response
 

@@ -4,7 +4,9 @@ use Rattle.wf_codec.specs.declared.message.Message.{Message}
 use Rattle.wf_def.specs.Definition.{Definition}
 use Rattle.wf_learner.specs.History.{map_at}
 use Rattle.wf_node.specs.Node.{Node}
-use Rattle.wf_wms.specs.Answer.{AsksForMap, subject}
+use Rattle.wf_wms.specs.Answer.{AsksForMap, IsAnswerOf, rejection, subject}
+use Rattle.wf_wms.specs.Rejection.{IsRejectedByText}
+use Rattle.wf_wms.specs.declared.exception.Exception.{Exception}
 use Rattle.wf_edge.specs.Page.{IsServicePage}
 use Rattle.wf_http.specs.Request.{Request, BeginsWith}
 use Rattle.wf_http.specs.Response.{Response, response_bytes}
@@ -19,26 +21,29 @@ pub record AsksMapService (input query : List ℕ) : Type 0 where
   pub of_service : request.asked ≡ Wms
   pub of_query : query_of request.head.target ≡ query
 
--- The query asks for the same map of two lists of published maps: either both have the same length, and the map that the query is
--- about is the same; or the query is a GetMap request for a sequence at which both have the same map, however many more there
--- are.
-pub data HaveOneMap (query : List ℕ) (history other : List Definition) : Type 0 where
+-- Two nodes with these lists of published maps answer the query alike. Either both lists have the same length, and the map that the
+-- query is about is the same; or the query is a GetMap request for a sequence at which both have the same map, however many more
+-- there are. Or the lists may differ in every way, where its text alone rejects the query, or both nodes do by the same exception.
+pub data AnswerAlike (query : List ℕ) (history other : List Definition) : Type 0 where
   stand_alike : length other ≡ length history → map_at history (subject (length history) query) ≡ map_at other (subject (length history) query)
-      → HaveOneMap query history other
+      → AnswerAlike query history other
   are_asked_alike : (m : ℕ) → AsksForMap m (length history) query → AsksForMap m (length other) query → map_at history m ≡ map_at other m
-      → HaveOneMap query history other
+      → AnswerAlike query history other
+  is_rejected_by_text : (e : Exception) → IsRejectedByText query e → AnswerAlike query history other
+  reject_alike : (e : Exception) → IsAnswerOf (length history) history query (rejection e) → IsAnswerOf (length other) other query (rejection e)
+      → AnswerAlike query history other
 
--- Then it has exactly one page.
+-- Then it has exactly one page at both.
 abbrev pub EachQueryHasOnePage : Type 0
-EachQueryHasOnePage = (query : List ℕ) (history other : List Definition) (page another : Response) → HaveOneMap query history other →
+EachQueryHasOnePage = (query : List ℕ) (history other : List Definition) (page another : Response) → AnswerAlike query history other →
     IsServicePage history query page → IsServicePage other query another → another ≡ page
 
 module _ {T : Type 0} (A : Type 0) (honest : Type 0) (content : T → List ℕ) (images : T → List ℕ → Type 0) (failures : T → ℕ) where
-  -- Two nodes, or one node at two times, that receive equal requests to the map service for the same map, respond with equal
+  -- Two nodes, or one node at two times, that receive equal requests to the map service and answer them alike, respond with equal
   -- bytes, if neither responds with allocation failure.
   abbrev pub EqualRequestsHaveEqualResponses : Type 0
   EqualRequestsHaveEqualResponses = (input query : List ℕ) (before after other other_after : Node T) (sent other_sent : Vec Message A) (response another : Response) →
-      AsksMapService input query → HaveOneMap query before.parts.history other.parts.history →
+      AsksMapService input query → AnswerAlike query before.parts.history other.parts.history →
       Responds honest content images failures (Some input) before response sent after → response.status ≢ 503 →
       Responds honest content images failures (Some input) other another other_sent other_after → another.status ≢ 503 →
       response_bytes another ≡ response_bytes response

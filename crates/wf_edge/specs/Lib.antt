@@ -8,3 +8,4 @@ pub mod Page
 pub mod Publish
 pub mod Saying
 pub mod Serving
+pub mod Unavailable

@@ -6,8 +6,9 @@ use Rattle.wf_spelling.specs.declared.fault.CanonFault.{CanonFault}
 use Rattle.wf_spelling.specs.declared.fault.CanonFault.TheVariants as canonical
 use Rattle.wf_codec.specs.declared.message.Message.{Message}
 use Rattle.wf_def.specs.Definition.{Definition}
-use Rattle.wf_mapfile.specs.Meaning.{Means, MeansNothing, longest_mapfile}
-use Rattle.wf_block.specs.Reading.{is_memory, IsNotUtf8}
+use Rattle.wf_mapfile.specs.Meaning.{Means, longest_mapfile}
+use Rattle.wf_mapfile.specs.Rejection.{HasError}
+use Rattle.wf_block.specs.Reading.{is_memory}
 use Rattle.wf_block.specs.declared.fault.MapFault.{MapFault}
 use Rattle.wf_block.specs.declared.fault.MapFault.TheVariants as map
 use Rattle.wf_model.specs.Table.{Propose}
@@ -28,13 +29,10 @@ pub record IsMapOf (body : List ℕ) (d : Definition) : Type 0 where
   pub means : Means body d
   pub short : length (canon d) ≤ most_canon_bytes
 
--- The body has that error, allocation failure aside, as far as the mapfile parser promises which: it isn't a map; one that is too
--- long has this error and no other, and any other that isn't UTF-8 has that one.
+-- The body has that error, allocation failure aside: all that the mapfile reader promises of it comes out here.
 pub record HasFault (body : List ℕ) (why : MapFault) : Type 0 where
   pub own : is_memory why ≡ false
-  pub means_nothing : MeansNothing body
-  pub too_long : longest_mapfile < length body → why ≡ map.TooLong
-  pub not_utf8 : length body ≤ longest_mapfile → is_utf8 body ≡ false → IsNotUtf8 {X = Definition} (Err why)
+  pub is : HasError body why
 
 -- the body is within the limit of a mapfile, and UTF-8; otherwise its error is found without allocating
 pub record IsText (body : List ℕ) : Type 0 where

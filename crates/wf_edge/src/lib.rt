@@ -17,7 +17,8 @@
 //!   and, even for readers and writers whose bytes aren't known, a failed write is the last call, and the node is unchanged or made
 //!   one step Propose, whose messages are returned whether or not the write succeeds.
 //! - [`serve::serve_one_cached`]: the same, and the cache's pictures are still those of the node's maps.
-//! - [`law`]: equal requests to the map service have equal responses, at two nodes too.
+//! - [`law`]: equal requests to the map service have equal responses, at two nodes too, wherever these answer alike; and which
+//!   requests may be answered with 503 (`specs/Unavailable.antt`).
 //!
 //! Only a body, an answer of the map service and the step of a publish allocate: a request that its head rejects, a request for
 //! `/status`, and, once it is read, a body that isn't UTF-8 are never answered with 503 for allocation failure. A body that isn't

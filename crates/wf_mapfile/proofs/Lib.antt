@@ -1,3 +1,4 @@
 pub mod Texts
 pub mod Booleans
 pub mod Counted
+pub mod RejectionLaw

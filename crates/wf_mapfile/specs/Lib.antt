@@ -16,3 +16,4 @@ pub use Rattle.wf_feature.specs.Layers
 pub use Rattle.wf_feature.specs.Gathered
 pub mod Map
 pub mod Meaning
+pub mod Rejection

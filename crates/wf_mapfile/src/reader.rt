@@ -1,8 +1,11 @@
 //! The reader of whole files.
-ghost use Rattle.std.specs.Prelude.{◌≡◌, ◌<◌, ◌≤◌, false, true, length, Err, IfErr, IfOk, OnErr, OnOk};
+ghost use Rattle.std.specs.Prelude.{◌≡◌, ◌<◌, ◌≤◌, false, true, List, length, Err, IfErr, IfOk, OnErr, OnOk, Some};
 ghost use Rattle.std.specs.Str.{is_utf8};
+ghost use Rattle.std.specs.Str.Lossy.{utf8_valid_len};
 ghost use Rattle.wf_mapfile.specs.Meaning.{Means, MeansNothing, file, meaning, longest_mapfile};
 ghost use Rattle.wf_block.specs.Reading.{Gives, IsNotUtf8, is_memory};
+ghost use Rattle.wf_mapfile.specs.Rejection.{HasError, IsErrorOf, begins_map};
+ghost use Rattle.wf_token.specs.Token.{Token as TokenValue, token_value, tokens};
 
 use crate::map::read_map;
 use std::alloc::Global;
@@ -11,7 +14,7 @@ use wf_block::keyword::is_name;
 use wf_block::parser::Parser;
 use wf_def::map::MapDef;
 use wf_token::lexer::tokenize;
-use wf_token::token::LexFault;
+use wf_token::token::{LexFault, Token, TokenKind};
 
 /// The longest mapfile, in bytes.
 pub const MOST_MAPFILE_BYTES: usize = 65_536;
@@ -25,6 +28,7 @@ pub fn limit_of_mapfiles()
 ///
 /// `TooLong` is checked first and `NotUtf8` second, both without allocating; then tokens are checked in order, and a missing
 /// keyword at the END of its block. `Memory` says nothing about the file. Each byte is looked at a bounded number of times.
+#[tactic(auto, using(crate::proofs::RejectionLaw::has_error, crate::proofs::RejectionLaw::not_utf8))]
 pub fn read(alloc: Global, bytes: &[u8]) -> Result<MapDef, MapFault>
     // Over 65,536 bytes nothing else is checked.
     ensures too_long { longest_mapfile < length bytes.now → result ≡ Err MapFault.TooLong }
@@ -34,6 +38,9 @@ pub fn read(alloc: Global, bytes: &[u8]) -> Result<MapDef, MapFault>
     ensures meant { IfOk result (λ map. Means bytes.now map) }
     // An error other than allocation failure is returned only if the bytes mean no map.
     ensures refused { IfErr result (λ fault. is_memory fault ≡ false → MeansNothing bytes.now) }
+    // It is that of the bytes, as far as the definition says which: so M3 with its offset, M9 for a text without a token, M5 for one
+    // that begins with another token than MAP, and M12 for a map with a token after it.
+    ensures told { IfErr result (λ fault. is_memory fault ≡ false → HasError bytes.now fault) }
 {
     read_meaning(alloc, bytes)
 }
@@ -42,8 +49,9 @@ pub fn read(alloc: Global, bytes: &[u8]) -> Result<MapDef, MapFault>
 #[tactic(auto, unfolding(crate::specs::Meaning::meaning))]
 fn read_meaning(alloc: Global, bytes: &[u8]) -> Result<MapDef, MapFault>
     ensures too_long { longest_mapfile < length bytes.now → result ≡ Err MapFault.TooLong }
-    ensures not_utf8 { length bytes.now ≤ longest_mapfile → is_utf8 bytes.now ≡ false → IsNotUtf8 result }
+    ensures not_utf8 { length bytes.now ≤ longest_mapfile → is_utf8 bytes.now ≡ false → result ≡ Err (MapFault.NotUtf8 (utf8_valid_len bytes.now)) }
     ensures meaning { Gives (λ map. map) result (meaning bytes.now) }
+    ensures told { IfErr result (λ fault. is_memory fault ≡ false → length bytes.now ≤ longest_mapfile → is_utf8 bytes.now ≡ true → (file : List TokenValue) → tokens bytes.now ≡ Some file → IsErrorOf file fault) }
 {
     if bytes.len() > MOST_MAPFILE_BYTES {
         return Err(MapFault::TooLong);
@@ -61,7 +69,7 @@ fn read_meaning(alloc: Global, bytes: &[u8]) -> Result<MapDef, MapFault>
 /// Rejects bytes that aren't UTF-8.
 fn check_utf8(bytes: &[u8]) -> Result<(), MapFault>
     ensures ok { OnOk result (is_utf8 bytes.now ≡ true) }
-    ensures err { OnErr result ((is_utf8 bytes.now ≡ false) × IsNotUtf8 result) }
+    ensures err { OnErr result ((is_utf8 bytes.now ≡ false) × (result ≡ Err (MapFault.NotUtf8 (utf8_valid_len bytes.now)))) }
 {
     match str::from_utf8(bytes) {
         Ok(_) => Ok(()),
@@ -80,17 +88,29 @@ fn first_fault(parsed: Result<MapDef, MapFault>, no_tokens: bool, lexed: LexFaul
     }
 }
 
+/// Whether a token is the word MAP.
+#[tactic(auto, unfolding(crate::specs::Rejection::begins_map))]
+fn begins_map(token: &Token<'_>) -> bool
+    ensures { result ≡ begins_map (token_value token.now) }
+{
+    match token.kind {
+        TokenKind::Word => is_name(token.text, "MAP"),
+        TokenKind::Quoted => false,
+    }
+}
+
 /// Reads a whole file: MAP up to its END, and nothing else.
-#[tactic(auto, unfolding(crate::specs::Meaning::file, wf_block::specs::Grammar::word))]
+#[tactic(auto, using(crate::proofs::RejectionLaw::nothing_there, crate::proofs::RejectionLaw::other_first, crate::proofs::RejectionLaw::no_map_follows, crate::proofs::RejectionLaw::error_missing, crate::proofs::RejectionLaw::error_unexpected, crate::proofs::RejectionLaw::error_within, crate::proofs::RejectionLaw::error_trailing))]
 fn read_file(parser: &mut Parser<'_>) -> Result<MapDef, MapFault>
-    ensures { Gives (λ map. map) result (file parser.old) }
+    ensures meaning { Gives (λ map. map) result (file parser.old) }
+    ensures error { IfErr result (λ fault. is_memory fault ≡ false → IsErrorOf parser.old fault) }
 {
     if parser.peek().is_none() {
         return Err(MapFault::Missing);
     }
-    let word = parser.word()?;
-    if !is_name(word.text, "MAP") {
-        return Err(MapFault::UnexpectedWord(word.place));
+    let first = parser.next()?;
+    if !begins_map(&first) {
+        return Err(MapFault::UnexpectedWord(first.place));
     }
     let map = read_map(parser)?;
     match parser.peek() {

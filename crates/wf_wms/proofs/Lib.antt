@@ -4,4 +4,5 @@ pub mod JudgedLaw
 pub mod KeptLaw
 pub mod LayerLines
 pub mod LayersLaw
+pub mod RejectionLaw
 pub mod ServiceLaw

@@ -7,5 +7,6 @@ pub mod Judged
 pub mod Kept
 pub mod MapRequest
 pub mod Query
+pub mod Rejection
 pub mod UpdateSequence
 pub mod Xml

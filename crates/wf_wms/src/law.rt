@@ -1,6 +1,7 @@
 //! Theorems about answers.
 ghost use Rattle.wf_wms.specs.Answer.{AnswersAreDescriptions, AskedMapsAreAnsweredAlike, EachQueryHasOneAnswer};
 ghost use Rattle.wf_wms.specs.Kept.{GrowthKeepsAll};
+ghost use Rattle.wf_wms.specs.Rejection.{TextsAreRejectedAlike};
 
 /// A query has exactly one answer in all histories with the same map at the requested sequence: the answer is a function of the
 /// update sequence, the query and that map, and of nothing else in the history. A theorem: the call does nothing.
@@ -14,6 +15,12 @@ pub fn each_query_has_one_answer()
 /// that answers. A theorem: the call does nothing.
 pub fn asked_maps_are_answered_alike()
     ensures { AskedMapsAreAnsweredAlike }
+{}
+
+/// A request that its text alone rejects has one answer, the report of that exception, at every server: whatever maps it has
+/// published, and however many. A theorem: the call does nothing.
+pub fn texts_are_rejected_alike()
+    ensures { TextsAreRejectedAlike }
 {}
 
 /// Apart from GetMap, the answer of a server is what [`crate::describe`] returns about the map of its update sequence: so the

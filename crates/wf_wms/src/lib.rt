@@ -13,6 +13,8 @@
 //! - a query has one answer, and it depends on the history only through the map that it describes or draws
 //!   ([`law::each_query_has_one_answer`])
 //! - apart from GetMap the answer is what `describe` returns ([`law::answers_are_descriptions`])
+//! - a request that its text alone rejects has one answer at every server, whatever it has published
+//!   ([`law::texts_are_rejected_alike`]); `specs/Rejection.antt` has the checks that look neither at a map nor at a sequence
 //! - [`service::answer_cached`] returns the same answer by a [`cache::Cache`] of pictures, if each entry is its key's picture in
 //!   this history (`specs/Kept.antt`); each still is afterwards, also in any history that extends this one
 //!   ([`law::kept_pictures_outlast_growth`])
