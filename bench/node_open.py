@@ -8,7 +8,7 @@ First on tapes of 1,024, 2,048 and 4,096 published definitions, the longest hist
 each definition is published.
 
 Usage: bench/node_open.py [PROGRAM]    PROGRAM is the built program of the cases of a farm, which reads a table
-(crates/wf_cases_farm/out/wf_cases_farm). Status 1 where a ratio is over 3.
+(crates/wf_test_farm/out/wf_test_farm). Status 1 where a ratio is over 3.
 """
 import os
 import re
@@ -106,8 +106,8 @@ def measure(program, name, tapes, text):
 
 
 def main():
-    crate = os.path.join(os.path.dirname(os.path.abspath(__file__)), "..", "crates", "wf_cases_farm")
-    program = sys.argv[1] if len(sys.argv) > 1 else os.path.join(crate, "out", "wf_cases_farm")
+    crate = os.path.join(os.path.dirname(os.path.abspath(__file__)), "..", "crates", "wf_test_farm")
+    program = sys.argv[1] if len(sys.argv) > 1 else os.path.join(crate, "out", "wf_test_farm")
     text, length = text_of(os.path.join(crate, "stdin"))
     published = [only_published(it, length) for it in (1024, 2048, 4096)]
     held = [with_held(it, length) for it in (512, 1024, 2048)]

@@ -3,7 +3,7 @@
 time of making and opening, the instructions where valgrind is there, and the ratios: each is about 2.
 
 Usage: bench/tape_open.py [PROGRAM]    PROGRAM is the built program of the farm's cases, which reads a table
-(crates/wf_cases_farm/out/wf_cases_farm). Status 1 where a ratio is over 3 or 4,096 records take over 50 ms.
+(crates/wf_test_farm/out/wf_test_farm). Status 1 where a ratio is over 3 or 4,096 records take over 50 ms.
 """
 import os
 import re
@@ -52,8 +52,8 @@ def case_of(path):
 
 
 def main():
-    crate = os.path.join(os.path.dirname(os.path.abspath(__file__)), "..", "crates", "wf_cases_farm")
-    program = sys.argv[1] if len(sys.argv) > 1 else os.path.join(crate, "out", "wf_cases_farm")
+    crate = os.path.join(os.path.dirname(os.path.abspath(__file__)), "..", "crates", "wf_test_farm")
+    program = sys.argv[1] if len(sys.argv) > 1 else os.path.join(crate, "out", "wf_test_farm")
     case = case_of(os.path.join(crate, "stdin"))
     counts = (1024, 2048, 4096)
     start = seconds(program, b"")

@@ -1,11 +1,11 @@
 #!/usr/bin/env python3
 """Makes each allocation of the built programs of cases, and of the tests, fail in turn.
 
-    python3 tools/fail_allocations.py                           the programs of cases below, and wf_tests
-    python3 tools/fail_allocations.py wf_cases_map wf_tests     these alone
-    python3 tools/fail_allocations.py wf_cases_map --case 503   the cases whose names hold this text
+    python3 tools/fail_allocations.py                           the programs of cases below, and wf_test_failures
+    python3 tools/fail_allocations.py wf_test_map wf_test_failures     these alone
+    python3 tools/fail_allocations.py wf_test_map --case 503   the cases whose names hold this text
 
-Run it after `rt ci`, or after `rt run < stdin` in each program of cases and `rt test` in wf_tests. Wants cc, and a C
+Run it after `rt ci`, or after `rt run < stdin` in each program of cases and `rt test` in wf_test_failures. Wants cc, and a C
 library that is linked dynamically.
 
 A program of cases gets each case of its `stdin`, and each line `for` of one, as a table of its own. At each allocation
@@ -40,7 +40,7 @@ from concurrent.futures import ThreadPoolExecutor
 
 from kit import TOP
 
-CRATES = ["wf_cases_map", "wf_cases_farm", "wf_cases_paint", "wf_tests"]
+CRATES = ["wf_test_map", "wf_test_farm", "wf_test_paint", "wf_test_failures"]
 # tests that make each call once, and so fail where an allocation does
 ONCE = (
     "tape::",

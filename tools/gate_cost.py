@@ -1,5 +1,5 @@
 #!/usr/bin/env python3
-"""Runs CI, `rt ci`, and prints what each crate cost.
+"""Runs CI, `rt ci`, anew, and prints what each crate cost.
 
     python3 tools/gate_cost.py [LOG]
 
@@ -90,10 +90,12 @@ def table(seen):
 
 def main():
     log = pathlib.Path(sys.argv[1]) if len(sys.argv) > 1 else TOP.parent / "gate.log"
+    # (the CI of later kits keeps what it proved on a machine, unless it is told not to)
+    anew = ["--anew"] if hasattr(load_rt(), "Kept") else []
     seen = {}
     began = time.time()
     with open(log, "w", encoding="utf-8") as out:
-        gate = subprocess.Popen(["rt", "ci"], cwd=TOP, stdout=out, stderr=subprocess.STDOUT)
+        gate = subprocess.Popen(["rt", "ci", *anew], cwd=TOP, stdout=out, stderr=subprocess.STDOUT)
         while gate.poll() is None:
             look(seen, gate.pid)
             time.sleep(0.5)

@@ -1,4 +1,5 @@
 mod Ended
 mod Judged
+mod Last
 mod Listed
 mod Outcome

@@ -1,8 +1,8 @@
--- A run's count of failed calls.
-use Rattle.std.specs.Prelude.{◌≡◌, ℕ, Result, Ok, Err, false}
+-- A run's count of failed calls, and that a failed write is the last one.
+use Rattle.std.specs.Prelude.{◌≡◌, ◌≢◌, ℕ, List, Option, Result, Ok, Err, false}
 use Rattle.wf_block.specs.Reading.{is_memory}
 use Rattle.wf_script.specs.Fault as script
-use Rattle.wf_stream.specs.Reading.{Rises}
+use Rattle.wf_stream.specs.Reading.{EndsByFailing, Rises}
 use Rattle.wf_commands.specs.declared.fault.RunFault.{RunFault}
 use Rattle.wf_commands.specs.declared.fault.RunFault.TheVariants as faults
 
@@ -22,3 +22,8 @@ CountsReads (Err faults.Serve) old new = new ≡ old
 abbrev pub CountsWrites : {T : Type 0} → Result T RunFault → ℕ → ℕ → Type 0
 CountsWrites (Err faults.Write) old new = Rises old new
 CountsWrites _ old new = new ≡ old
+
+-- If a write has failed, of any writer, it was the last call, and some bytes were written without a failure before it: no text whose
+-- write failed is written once more.
+unfoldable pub FailsLast : {K : Type 0} → (K → Option (List ℕ)) → (K → ℕ) → (K → K → Type 0) → K → K → Type 0
+FailsLast written failures fails old new = failures new ≢ failures old → (bytes : List ℕ) × EndsByFailing written failures fails bytes old new

@@ -26,7 +26,8 @@
 //! - `run` never loses a message on its way; `wire` does and writes what `run` does and writes, whatever the carrier, or returns
 //!   that a message was lost
 //!
-//! Of these: a read error is returned only if a read has failed, a write error iff a write has.
+//! Of these: a read error is returned only if a read has failed, a write error iff a write has; and a failed write is the last call
+//! of the writer, so that no text is written once more.
 //!
 //! [`tapes::run_tape`] promises: after Ok exactly the listing of the file's bytes is written (wf_listing defines it), before a write
 //! error a prefix of it, before any other error nothing. A file with known content is listed unless it is too long or an allocation

@@ -5,7 +5,7 @@ ghost use Rattle.clap.specs.Values.{kind_of};
 ghost use Rattle.std.specs.Process.{exit_status};
 ghost use Rattle.wf_stream.specs.Reading.{TakesUpTo};
 ghost use Rattle.wf_line.specs.CommandLine.{IsRejection, IsWhyRejected};
-ghost use Rattle.wf_commands.specs.Counting.{CountsReads, CountsWrites};
+ghost use Rattle.wf_commands.specs.Counting.{CountsReads, CountsWrites, FailsLast};
 ghost use Rattle.wf_line.specs.Line.{IsInRange};
 ghost use Rattle.wf_commands.specs.Ending.{run_status, reported, rejection_status, unreadable_status};
 ghost use Rattle.wf_commands.specs.Program.{IsDone, IsRun, IsRunOf};
@@ -47,6 +47,7 @@ fn serve<K: Sink, V: Server>(service: Service<'_>, sink: &mut K, server: &V) -> 
     requires { IsService service }
     ensures served { IsServing (V.serves server.now service.entry) (K.written sink.old) (K.written sink.new) result }
     ensures writes { CountsWrites result (K.failures sink.old) (K.failures sink.new) }
+    ensures last { FailsLast K.written K.failures K.fails sink.old sink.new }
 {
     match server.serve(service, sink) {
         Ok(()) => Ok(()),
@@ -70,6 +71,7 @@ fn run<I: Source, K: Sink, V: Server + Tapes, C: Carrier>(
     ensures most { TakesUpTo (most_read line.entry) (I.left source.old) (I.left source.new) }
     ensures reads { CountsReads result (I.failures source.old) (I.failures source.new) }
     ensures writes { CountsWrites result (K.failures sink.old) (K.failures sink.new) }
+    ensures last { FailsLast K.written K.failures K.fails sink.old sink.new }
 {
     match line {
         Line::Serve(service) => serve(service, sink, server),
@@ -117,6 +119,8 @@ pub fn run_command<I: Source, K: Sink, V: Server + Tapes, C: Carrier>(
     requires { IsInRange line }
     ensures run { IsRunOf (V.serves server.now) (V.content server.now) line.entry (I.left source.old) (I.left source.new) (K.written sink.old) (K.written sink.new)
         (I.failures source.old) (I.failures source.new) (K.failures sink.old) (K.failures sink.new) result }
+    // A failed write is the last call of the writer.
+    ensures last { FailsLast K.written K.failures K.fails sink.old sink.new }
     ensures low { result.status ≤ 1 }
 {
     ending_of(run(alloc, line, source, sink, server, carrier))
@@ -126,6 +130,7 @@ pub fn run_command<I: Source, K: Sink, V: Server + Tapes, C: Carrier>(
 ///
 /// Err: no command was run, and nothing was read or written. The error's text is for the user: it is help or the version, if the
 /// words ask for these.
+#[tactic(auto, using(crate::proofs::Last::none_failed))]
 pub fn run_words<'a, S: AsStr, I: Source, K: Sink, V: Server + Tapes, C: Carrier>(
     alloc: Global,
     words: &'a [S],
@@ -136,6 +141,7 @@ pub fn run_words<'a, S: AsStr, I: Source, K: Sink, V: Server + Tapes, C: Carrier
 ) -> Result<Ending, Error>
     ensures run { IfOk result (IsRun (V.serves server.now) (V.content server.now) (map S.text words.entry.now) (I.left source.old) (I.left source.new) (K.written sink.old) (K.written sink.new)
         (I.failures source.old) (I.failures source.new) (K.failures sink.old) (K.failures sink.new)) }
+    ensures last { FailsLast K.written K.failures K.fails sink.old sink.new }
     ensures low { IfOk result (λ ending. ending.status ≤ 1) }
     // Words that ask for a line are rejected only if an allocation fails.
     ensures rejected { IfErr result (λ error. IsWhyRejected (map S.text words.entry.now) (kind_of error)) }

@@ -11,7 +11,7 @@ ghost use Rattle.wf_line.specs.Line.{IsInRange, IsOfInput};
 ghost use Rattle.wf_stream.specs.Reading.{TakesUpTo};
 ghost use Rattle.wf_script.specs.Lines.{most_script_bytes};
 ghost use Rattle.wf_commands.specs.Run.{most_input_bytes, most_read, judged, IsInputFault, IsMapFault, IsReadingFault, IsWriting, IsWritingOf, IsOutcome, IsOutcomeOf, IsCanonical, IsDescription, IsPreview, IsPlayed};
-ghost use Rattle.wf_commands.specs.Counting.{CountsReads, CountsWrites};
+ghost use Rattle.wf_commands.specs.Counting.{CountsReads, CountsWrites, FailsLast};
 
 use crate::fault::RunFault;
 use std::alloc::Global;
@@ -83,9 +83,11 @@ fn map<S: Source>(alloc: Global, source: &mut S) -> Result<MapDef, RunFault>
     }
 }
 
+#[tactic(auto, using(crate::proofs::Last::none_failed, crate::proofs::Last::one_failed))]
 fn write<K: Sink>(sink: &mut K, bytes: &[u8]) -> Result<(), RunFault>
     ensures written { IsWriting bytes.now (λ _. ⊥) (K.written sink.old) (K.written sink.new) result }
     ensures writes { CountsWrites result (K.failures sink.old) (K.failures sink.new) }
+    ensures last { FailsLast K.written K.failures K.fails sink.old sink.new }
 {
     match write_all(sink, bytes) {
         Ok(()) => Ok(()),
@@ -94,6 +96,7 @@ fn write<K: Sink>(sink: &mut K, bytes: &[u8]) -> Result<(), RunFault>
 }
 
 // Writes the answer about a map.
+#[tactic(auto, using(crate::proofs::Last::none_failed))]
 fn write_answer<K: Sink>(
     alloc: Global,
     map: &MapDef,
@@ -104,6 +107,7 @@ fn write_answer<K: Sink>(
     requires { seq ≤ last_sequence }
     ensures written { IsWriting (description seq map.now query.now).bytes (λ _. ⊥) (K.written sink.old) (K.written sink.new) result }
     ensures writes { CountsWrites result (K.failures sink.old) (K.failures sink.new) }
+    ensures last { FailsLast K.written K.failures K.fails sink.old sink.new }
 {
     match describe(alloc, seq, map, query) {
         Ok(answer) => write(sink, &answer.bytes),
@@ -112,7 +116,7 @@ fn write_answer<K: Sink>(
 }
 
 // Writes the answer of a server that has published only this map.
-#[tactic(auto, using(crate::proofs::Outcome::one_written))]
+#[tactic(auto, using(crate::proofs::Outcome::one_written, crate::proofs::Last::none_failed))]
 fn write_preview<K: Sink>(
     alloc: Global,
     map: &MapDef,
@@ -121,6 +125,7 @@ fn write_preview<K: Sink>(
 ) -> Result<(), RunFault>
     ensures written { IsWritingOf (IsPreview query.now map.now) (K.written sink.old) (K.written sink.new) result }
     ensures writes { CountsWrites result (K.failures sink.old) (K.failures sink.new) }
+    ensures last { FailsLast K.written K.failures K.fails sink.old sink.new }
 {
     match preview(alloc, map, query) {
         Ok(drawn) => write(sink, &drawn.bytes),
@@ -129,9 +134,11 @@ fn write_preview<K: Sink>(
 }
 
 // Writes the canonical text of a map.
+#[tactic(auto, using(crate::proofs::Last::none_failed))]
 fn write_canonical<K: Sink>(alloc: Global, map: &MapDef, sink: &mut K) -> Result<(), RunFault>
     ensures written { IsWriting (canon map.now) (λ fault. IsCauseOf fault map.now) (K.written sink.old) (K.written sink.new) result }
     ensures writes { CountsWrites result (K.failures sink.old) (K.failures sink.new) }
+    ensures last { FailsLast K.written K.failures K.fails sink.old sink.new }
 {
     match Canon::of(alloc, map) {
         Ok(canon) => {
@@ -145,7 +152,7 @@ fn write_canonical<K: Sink>(alloc: Global, map: &MapDef, sink: &mut K) -> Result
 
 /// Reads a mapfile to its end, or to the byte that makes it too long, and writes the answer to a query about its map at update
 /// sequence `seq`.
-#[tactic(auto, using(crate::proofs::Outcome::written_outcome, crate::proofs::Outcome::fault_outcome, crate::proofs::Outcome::no_more_reads, crate::proofs::Outcome::no_writes_yet))]
+#[tactic(auto, using(crate::proofs::Outcome::written_outcome, crate::proofs::Outcome::fault_outcome, crate::proofs::Outcome::no_more_reads, crate::proofs::Outcome::no_writes_yet, crate::proofs::Last::none_failed))]
 pub fn run_caps<S: Source, K: Sink>(
     alloc: Global,
     source: &mut S,
@@ -159,6 +166,7 @@ pub fn run_caps<S: Source, K: Sink>(
     ensures most { TakesUpTo most_input_bytes (S.left source.old) (S.left source.new) }
     ensures reads { CountsReads result (S.failures source.old) (S.failures source.new) }
     ensures writes { CountsWrites result (K.failures sink.old) (K.failures sink.new) }
+    ensures last { FailsLast K.written K.failures K.fails sink.old sink.new }
 {
     match map(alloc, source) {
         Ok(map) => {
@@ -172,7 +180,7 @@ pub fn run_caps<S: Source, K: Sink>(
 
 /// Reads a mapfile to its end, or to the byte that makes it too long, and writes the answer to a query of a server that has
 /// published only its map, at update sequence 1: a preview.
-#[tactic(auto, using(crate::proofs::Outcome::one_written_outcome, crate::proofs::Outcome::fault_outcome, crate::proofs::Outcome::no_more_reads_of_one, crate::proofs::Outcome::no_writes_yet))]
+#[tactic(auto, using(crate::proofs::Outcome::one_written_outcome, crate::proofs::Outcome::fault_outcome, crate::proofs::Outcome::no_more_reads_of_one, crate::proofs::Outcome::no_writes_yet, crate::proofs::Last::none_failed))]
 pub fn run_draw<S: Source, K: Sink>(
     alloc: Global,
     source: &mut S,
@@ -184,6 +192,7 @@ pub fn run_draw<S: Source, K: Sink>(
     ensures most { TakesUpTo most_input_bytes (S.left source.old) (S.left source.new) }
     ensures reads { CountsReads result (S.failures source.old) (S.failures source.new) }
     ensures writes { CountsWrites result (K.failures sink.old) (K.failures sink.new) }
+    ensures last { FailsLast K.written K.failures K.fails sink.old sink.new }
 {
     match map(alloc, source) {
         Ok(map) => {
@@ -196,7 +205,7 @@ pub fn run_draw<S: Source, K: Sink>(
 }
 
 /// Reads a mapfile to its end, or to the byte that makes it too long, and writes its canonical text.
-#[tactic(auto, using(crate::proofs::Outcome::written_outcome, crate::proofs::Outcome::fault_outcome, crate::proofs::Outcome::no_more_reads, crate::proofs::Outcome::no_writes_yet))]
+#[tactic(auto, using(crate::proofs::Outcome::written_outcome, crate::proofs::Outcome::fault_outcome, crate::proofs::Outcome::no_more_reads, crate::proofs::Outcome::no_writes_yet, crate::proofs::Last::none_failed))]
 pub fn run_canon<S: Source, K: Sink>(
     alloc: Global,
     source: &mut S,
@@ -207,6 +216,7 @@ pub fn run_canon<S: Source, K: Sink>(
     ensures most { TakesUpTo most_input_bytes (S.left source.old) (S.left source.new) }
     ensures reads { CountsReads result (S.failures source.old) (S.failures source.new) }
     ensures writes { CountsWrites result (K.failures sink.old) (K.failures sink.new) }
+    ensures last { FailsLast K.written K.failures K.fails sink.old sink.new }
 {
     match map(alloc, source) {
         Ok(map) => {
@@ -231,6 +241,7 @@ pub fn run_script<S: Source, K: Sink>(
     ensures most { TakesUpTo (most_script_bytes + 1) (S.left source.old) (S.left source.new) }
     ensures reads { CountsReads result (S.failures source.old) (S.failures source.new) }
     ensures writes { CountsWrites result (K.failures sink.old) (K.failures sink.new) }
+    ensures last { FailsLast K.written K.failures K.fails sink.old sink.new }
 {
     let mut copies = Copies;
     play_script(alloc, &mut copies, source, sink)
@@ -249,11 +260,13 @@ pub fn wire_script<S: Source, K: Sink, C: Carrier>(
     ensures most { TakesUpTo (most_script_bytes + 1) (S.left source.old) (S.left source.new) }
     ensures reads { CountsReads result (S.failures source.old) (S.failures source.new) }
     ensures writes { CountsWrites result (K.failures sink.old) (K.failures sink.new) }
+    ensures last { FailsLast K.written K.failures K.fails sink.old sink.new }
 {
     play_script(alloc, carrier, source, sink)
 }
 
 // Plays the script that the input is. Of a faithful carrier no message is lost.
+#[tactic(auto, using(crate::proofs::Last::play_fails_last))]
 fn play_script<S: Source, K: Sink, C: Carrier>(
     alloc: Global,
     carrier: &mut C,
@@ -266,6 +279,7 @@ fn play_script<S: Source, K: Sink, C: Carrier>(
     ensures most { TakesUpTo (most_script_bytes + 1) (S.left source.old) (S.left source.new) }
     ensures reads { CountsReads result (S.failures source.old) (S.failures source.new) }
     ensures writes { CountsWrites result (K.failures sink.old) (K.failures sink.new) }
+    ensures last { FailsLast K.written K.failures K.fails sink.old sink.new }
 {
     match wf_play::run_script(alloc, carrier, source, sink) {
         Ok(()) => Ok(()),
@@ -291,6 +305,7 @@ pub fn run_line<S: Source, K: Sink, C: Carrier>(
     ensures most { TakesUpTo (most_read line.entry) (S.left source.old) (S.left source.new) }
     ensures reads { CountsReads result (S.failures source.old) (S.failures source.new) }
     ensures writes { CountsWrites result (K.failures sink.old) (K.failures sink.new) }
+    ensures last { FailsLast K.written K.failures K.fails sink.old sink.new }
 {
     match line {
         Line::Caps { seq, query } => run_caps(alloc, source, sink, seq, query.as_bytes()),

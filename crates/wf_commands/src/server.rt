@@ -1,5 +1,6 @@
 //! What serves the nodes of a `serve` line.
 ghost use Rattle.std.specs.Prelude.{ℕ, List, Option, Result};
+ghost use Rattle.wf_commands.specs.Counting.{FailsLast};
 ghost use Rattle.wf_serve.specs.Fault.{CountsWrites};
 ghost use Rattle.wf_serve.specs.Listening.{IsTold};
 ghost use Rattle.wf_service.specs.Service.{IsService};
@@ -23,7 +24,8 @@ pub trait Server {
     fn serve<K: Sink>(&self, service: Service<'_>, sink: &mut K) -> Result<(), ServeFault>
         requires { IsService service }
         ensures served { serves self.now service.entry (K.written sink.old) (K.written sink.new) result }
-        ensures writes { CountsWrites result (K.failures sink.old) (K.failures sink.new) };
+        ensures writes { CountsWrites result (K.failures sink.old) (K.failures sink.new) }
+        ensures last { FailsLast K.written K.failures K.fails sink.old sink.new };
 }
 
 /// The machine: its sockets, files and clock.
@@ -42,6 +44,7 @@ impl<
 > Server for Host<'a, R> {
     ghost serves = { λ _ service old new result. IsTold service.port old new result };
 
+    #[tactic(auto, using(crate::proofs::Last::line_fails_last))]
     fn serve<K: Sink>(&self, service: Service<'_>, sink: &mut K) -> Result<(), ServeFault> {
         serve(self.0, service, sink)
     }

@@ -1,6 +1,6 @@
 //! Where the tape of a `tape` line is read from, and the command that lists it.
 ghost use Rattle.std.specs.Prelude.{◌≡◌, ◌<◌, ℕ, List, None, Option, Some, IfOk, IfSome, IsErrOf, length};
-ghost use Rattle.wf_commands.specs.Counting.{CountsWrites};
+ghost use Rattle.wf_commands.specs.Counting.{CountsWrites, FailsLast};
 ghost use Rattle.wf_commands.specs.Run.{IsListed};
 ghost use Rattle.wf_listing.specs.Reading.{most_tape_bytes};
 
@@ -37,7 +37,7 @@ impl<'a, R: Files> Tapes for Host<'a, R> {
 }
 
 /// Writes the listing of the tape in the file at a path. Nothing is written if the file can't be read or an allocation fails.
-#[tactic(auto, using(crate::proofs::Listed::known_listed, crate::proofs::Listed::unlisted))]
+#[tactic(auto, using(crate::proofs::Listed::known_listed, crate::proofs::Listed::unlisted, crate::proofs::Last::none_failed))]
 pub fn run_tape<K: Sink, V: Tapes>(
     alloc: Global,
     path: &str,
@@ -46,6 +46,7 @@ pub fn run_tape<K: Sink, V: Tapes>(
 ) -> Result<(), RunFault>
     ensures listed { IsListed (V.content tapes.now path.now) (K.written sink.old) (K.written sink.new) result }
     ensures writes { CountsWrites result (K.failures sink.old) (K.failures sink.new) }
+    ensures last { FailsLast K.written K.failures K.fails sink.old sink.new }
 {
     match tapes.read(alloc, path) {
         Ok(bytes) => {
@@ -58,10 +59,11 @@ pub fn run_tape<K: Sink, V: Tapes>(
 }
 
 // Writes the listing of a tape's bytes.
-#[tactic(auto, using(crate::proofs::Listed::listed_whole, crate::proofs::Listed::listed_in_part, crate::proofs::Listed::unlisted_for_memory))]
+#[tactic(auto, using(crate::proofs::Listed::listed_whole, crate::proofs::Listed::listed_in_part, crate::proofs::Listed::unlisted_for_memory, crate::proofs::Last::none_failed, crate::proofs::Last::one_failed))]
 fn write_listing<K: Sink>(alloc: Global, bytes: &[u8], sink: &mut K) -> Result<(), RunFault>
     ensures listed { IsListed (Some bytes.now) (K.written sink.old) (K.written sink.new) result }
     ensures writes { CountsWrites result (K.failures sink.old) (K.failures sink.new) }
+    ensures last { FailsLast K.written K.failures K.fails sink.old sink.new }
 {
     let Ok(text) = list(alloc, bytes) else {
         return Err(RunFault::Tape(TapeReadFault::Memory));

@@ -14,7 +14,7 @@ part_by : (round : ℕ) (p : Progress) (whole : Bool) → (p.some + 1 == round) 
 part_by round p true all part = omega (arith, part)
 part_by round p false some part = grind (arith, some, part)
 
-begun_most : (some : ℕ) → begun some ≤ 1
+pub begun_most : (some : ℕ) → begun some ≤ 1
 begun_most zero = omega arith
 begun_most (suc some) = omega arith
 

@@ -198,7 +198,7 @@ module _ {T : Type 0} where
   goes_of node input goes = turn_goes definition_eq node.n node.id (stored_of node) (working_of node) input goes
 
   module _ (stands : Stored Definition → Type 0) where
-    is_running : (node : Node T) (x : world.Node Definition) → node.halted ≡ false → IsNode stands node x → x ≡ shown_of node
+    pub is_running : (node : Node T) (x : world.Node Definition) → node.halted ≡ false → IsNode stands node x → x ≡ shown_of node
     is_running node x runs is = subst (λ b. IsNodeBy b stands node x) runs is
 
     pub running_is : (node : Node T) (x : world.Node Definition) → node.halted ≡ false → x ≡ shown_of node → IsNode stands node x
@@ -287,7 +287,7 @@ module _ {T : Type 0} (stands : ℕ → Stored Definition → Type 0) (nodes : L
     keeps_shown : (w : World Definition) → ((x : world.Node Definition) → IsNode (stands i) node x → IsNode (stands i) after x) → Shows stands nodes sent w → Shows stands (slice_set nodes i after) sent w
     keeps_shown w keeps shows = record { nodes_are = set_same_nodes w.nodes i node after at shows.nodes_are keeps; messages = shows.messages }
 
-    steps_shown : (w : World Definition) (said : List Message) → node.halted ≡ false → refusal_at node input ≡ None → IsRow node (row_of node input) said after → Shows stands nodes sent w →
+    pub steps_shown : (w : World Definition) (said : List Message) → node.halted ≡ false → refusal_at node input ≡ None → IsRow node (row_of node input) said after → Shows stands nodes sent w →
         Shows stands (slice_set nodes i after) (sent ++ said) (after_turn w i (turn definition_eq w i action))
     unfolding node_after messages_of
     steps_shown w said runs goes is shows =

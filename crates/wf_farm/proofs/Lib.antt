@@ -13,7 +13,12 @@ mod Pumping
 mod Answered
 pub mod Deliveries
 mod OneRun
+mod ThreeNodes
+mod Exactly
+mod Published
+mod NewNodes
 mod Reopened
 mod CutTapes
 mod Tried
 mod TriedEvents
+mod Faring

@@ -1,10 +1,10 @@
 -- The nodes that a pump delivers to.
-use Rattle.std.proofs.Common.{◌≡◌, ℕ, ◌+◌, ◌<◌, List, [], ◌∷◌, ◌++◌, ◌↔◌, length, get_or, Contains, refl, sym, ap, subst, ◌∙◌, inl, inr, arith, eqb, nat_cmp}
+use Rattle.std.proofs.Common.{◌≡◌, ℕ, zero, suc, ◌+◌, ◌<◌, ◌≤◌, List, [], ◌∷◌, ◌++◌, ◌↔◌, length, get_or, Contains, refl, sym, ap, subst, ◌∙◌, inl, inr, arith, eqb, nat_cmp}
 use Rattle.std.proofs.lemmas.Bool.{cases_lt}
 use Rattle.std.proofs.lemmas.List.Filters.{dedup_is}
 use Rattle.std.proofs.lemmas.List.Kept.{Contains-dedup_nat, Contains-from_dedup}
 use Rattle.std.proofs.lemmas.List.Sorted.{Contains-permutation, IsPermutation-sym}
-use Rattle.std.proofs.lemmas.List.{get_or_append_left, get_or_push, length_push}
+use Rattle.std.proofs.lemmas.List.{get_or_append_left, get_or_default, get_or_push, length_push}
 use Rattle.std.proofs.lemmas.Map.Keys.{IsStrictlyIncreasing-dedup}
 use Rattle.std.specs.List.{dedup}
 use Rattle.std.specs.List.Sorted.{IsPermutation, IsSorted, IsStrictlyIncreasing}
@@ -40,6 +40,44 @@ up_to_targets n nodes is = record {
     λ less. (i, omega (arith, less, is.long), is.own i i less),
   );
 }
+
+-- Conversely, if none is named the targets are all the nodes, each at its own index.
+module _ (n : ℕ) (targets : List ℕ) (are : AreTargets n [] targets) where
+  at_least : (k : ℕ) → k < length targets → k ≤ get_or targets k 0
+  at_least zero within = omega arith
+  at_least (suc k) within = let next : get_or targets k 0 < get_or targets (k + 1) 0 = are.ascending k (omega (arith, within)) in omega (arith, subst (λ m. get_or targets k 0 < get_or targets m 0) (let is : k + 1 ≡ suc k = omega arith in is) next, at_least k (omega (arith, within)))
+
+  is_node : (k : ℕ) → k < length targets → get_or targets k 0 < n
+  is_node k within = (are.named (get_or targets k 0)).0 (k, within, get_or_default targets k (get_or targets k 0) 0 within)
+
+  own_below : (m i : ℕ) → i < m → i < n → (i < length targets) × (get_or targets i 0 ≡ i)
+  own_below zero i below less = absurd (omega (arith, below))
+  own_below (suc m) i below less =
+      let there = (are.named i).1 less in
+      let is : get_or targets there.0 0 ≡ i = sym (get_or_default targets there.0 i 0 there.1) ∙ there.2 in
+      elim (cases_lt there.0 i) [
+        | inl lower ↦ absurd (omega (arith, lower, is, (own_below m there.0 (omega (arith, lower, below)) (omega (arith, lower, less))).1))
+        | inr higher ↦
+            let it : there.0 ≡ i = omega (arith, higher, is, at_least there.0 there.1) in
+            (subst (λ k. k < length targets) it there.1, subst (λ k. get_or targets k 0 ≡ k) it (is ∙ sym it))
+      ]
+
+  all_long : length targets ≡ n
+  all_long = elim (cases_lt (length targets) n) [
+    | inl fewer ↦ absurd (omega (arith, (own_below (suc (length targets)) (length targets) (omega arith) fewer).0))
+    | inr enough ↦ elim (cases_lt n (length targets)) [
+      | inl more ↦ absurd (omega (arith, at_least n more, is_node n more))
+      | inr no_more ↦ omega (arith, enough, no_more)
+    ]
+  ]
+
+  pub targets_up_to : IsUpTo n targets
+  targets_up_to = record {
+    long = all_long;
+    own = λ i d less.
+        let here = own_below (suc i) i (omega arith) less in
+        get_or_default targets i d 0 here.0 ∙ here.1;
+  }
 
 -- ---- the nodes that are named
 

@@ -294,7 +294,7 @@ one_each (z ∷ xs) zero x y e = refl
 one_each (z ∷ xs) (suc i) x y e = one_each xs i x y e
 
 module _ {T : Type 0} (stands : ℕ → Stored Definition → Type 0) (nodes : List (Node T)) where
-  fresh_shown : AreFresh nodes → Shows stands nodes [] (start (length nodes))
+  pub fresh_shown : AreFresh nodes → Shows stands nodes [] (start (length nodes))
   unfolding AreFresh start
   fresh_shown fresh = record {
     nodes_are = record {

@@ -27,7 +27,7 @@ to_each_append [] more k = refl
 to_each_append (i ∷ nodes) more k = ap (λ es. Deliver i k ∷ es) (to_each_append nodes more k)
 
 -- one more delivery in a round
-one_more : (targets : List ℕ) (first whole some : ℕ) → some < length targets →
+pub one_more : (targets : List ℕ) (first whole some : ℕ) → some < length targets →
     deliveries targets first whole some ++ Deliver (get_or targets some 0) (first + whole) ∷ [] ≡ deliveries targets first whole (some + 1)
 unfolding to_each deliveries
 one_more targets first whole some within =
@@ -36,7 +36,7 @@ one_more targets first whole some within =
     ∙ ap (λ nodes. to_each nodes (first + whole)) (sym (take_more targets some 0 within)))
 
 -- rounds and one more
-rounds_more : (targets : List ℕ) (first whole : ℕ) → rounds targets first whole ++ to_each targets (first + whole) ≡ rounds targets first (suc whole)
+pub rounds_more : (targets : List ℕ) (first whole : ℕ) → rounds targets first whole ++ to_each targets (first + whole) ≡ rounds targets first (suc whole)
 unfolding rounds
 rounds_more targets first zero = ap (to_each targets) (omega arith) ∙ sym (append-nil (to_each targets first))
 rounds_more targets first (suc whole) =
@@ -44,17 +44,17 @@ rounds_more targets first (suc whole) =
     ∙ ap (λ es. to_each targets first ++ es) (ap (λ k. rounds targets (suc first) whole ++ to_each targets k) (omega arith) ∙ rounds_more targets (suc first) whole)
 
 -- a complete round is one more round
-whole_round : (targets : List ℕ) (first whole some : ℕ) → some ≡ length targets → deliveries targets first whole some ≡ deliveries targets first (whole + 1) 0
+pub whole_round : (targets : List ℕ) (first whole some : ℕ) → some ≡ length targets → deliveries targets first whole some ≡ deliveries targets first (whole + 1) 0
 unfolding to_each deliveries
 whole_round targets first whole some all =
     ap (λ nodes. rounds targets first whole ++ to_each nodes (first + whole)) (take_all some targets (omega (arith, all)))
     ∙ rounds_more targets first whole ∙ ap (rounds targets first) (omega arith) ∙ sym (append-nil (rounds targets first (whole + 1)))
 
-no_deliveries : (targets : List ℕ) (first : ℕ) → deliveries targets first 0 0 ≡ []
+pub no_deliveries : (targets : List ℕ) (first : ℕ) → deliveries targets first 0 0 ≡ []
 unfolding rounds to_each deliveries
 no_deliveries targets first = refl
 
-begun_most : (some : ℕ) → begun some ≤ 1
+pub begun_most : (some : ℕ) → begun some ≤ 1
 begun_most zero = omega arith
 begun_most (suc some) = omega arith
 

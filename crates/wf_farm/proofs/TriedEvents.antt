@@ -199,7 +199,7 @@ module _ (sent : List (model.Message Definition)) where
 
 -- ---- runs
 
-moves_then : (events rest : List (Event Definition)) (places middle after : List Place) (sent said more : List Message) → Moves events places sent middle said → Moves rest middle said after more →
+pub moves_then : (events rest : List (Event Definition)) (places middle after : List Place) (sent said more : List Message) → Moves events places sent middle said → Moves rest middle said after more →
     Moves (events ++ rest) places sent after more
 unfolding Moves
 moves_then events rest places middle after sent said more first second =

@@ -1,11 +1,12 @@
 -- A node that stays the same keeps its index among the others and its list of published maps; a node whose tape failed is
 -- unchanged.
-use Rattle.std.proofs.Common.{◌≡◌, ℕ, List, slice_get, slice_set, Some, length-set, refl, sym, ap, subst, ◌∙◌, inl, inr}
+use Rattle.std.proofs.Common.{◌≡◌, ℕ, Bool, true, false, List, slice_get, slice_set, Some, length-set, refl, sym, ap, subst, ◌∙◌, inl, inr}
 use Rattle.std.proofs.lemmas.Bool.{cases_eq}
 use Rattle.std.proofs.lemmas.Option.{same_Some}
 use Rattle.wf_node.specs.Growth.{IsGrown, grown_itself, grown_twice}
 use Rattle.wf_node.specs.Node.{Node}
 use Rattle.wf_farm.specs.Delivering.{EachGrows, StandAmong, KeepHalted, KeepTurn}
+use Rattle.wf_farm.specs.Publishing.{NoneHalted}
 use Rattle.wf_farm.specs.PlaceLaws.{get_set_same, get_set_other, set_there}
 
 -- ---- the lists
@@ -43,6 +44,15 @@ halted_itself nodes = λ i node at halted. at
 pub halted_twice : {T : Type 0} (nodes middle after : List (Node T)) → KeepHalted nodes middle → KeepHalted middle after → KeepHalted nodes after
 unfolding KeepHalted
 halted_twice nodes middle after first second = λ i node at halted. second i node (first i node at halted) halted
+
+-- If no tape has failed afterwards, none had before.
+pub none_before : {T : Type 0} (nodes after : List (Node T)) → KeepHalted nodes after → NoneHalted after → NoneHalted nodes
+unfolding KeepHalted NoneHalted
+none_before {T} nodes after keeps none = λ i node at. runs_by node.halted i node at refl
+  where
+    runs_by : (halted : Bool) (i : ℕ) (node : Node T) → slice_get nodes i ≡ Some node → node.halted ≡ halted → node.halted ≡ false
+    runs_by true i node at is = none i node (keeps i node at is)
+    runs_by false i node at is = is
 
 -- ---- the turn
 

@@ -1,6 +1,6 @@
 -- A run in which one call of a node's tape fails. If it fails within a step, the node crashes there and is opened again: a crash
 -- within a step and a restart in the model.
-use Rattle.std.specs.Prelude.{◌≡◌, ◌≢◌, ◌⊎◌, ◌<◌, ◌+◌, ℕ, Bool, true, false, ⊤, List, [], ◌∷◌, ◌++◌, length, map, take, drop, slice_get, slice_set, Option, Some, None, Result, Err, IfOk, IfErr, Vec, if◌then◌else◌, nat_lt}
+use Rattle.std.specs.Prelude.{◌≡◌, ◌≢◌, ◌⊎◌, ◌<◌, ◌+◌, ℕ, Bool, true, false, ⊤, List, [], ◌∷◌, ◌++◌, ◌≤◌, length, map, take, drop, slice_get, slice_set, Option, Some, None, Result, Err, IfOk, IfErr, Vec, if◌then◌else◌, nat_lt}
 use Rattle.wf_codec.specs.Message as message
 use Rattle.wf_codec.specs.declared.message.Message.{Message}
 use Rattle.wf_def.specs.Definition.{Definition}
@@ -11,7 +11,7 @@ use Rattle.wf_model.specs.Table as table
 use Rattle.wf_model.specs.Table.{Action, Input, store}
 use Rattle.wf_model.specs.Working.{Idle}
 use Rattle.wf_model.specs.World as world
-use Rattle.wf_model.specs.World.{World, Event, turn, after_turn, after_torn, happens, input_of}
+use Rattle.wf_model.specs.World.{World, Event, turn, after_turn, after_torn, happens, input_of, refused}
 use Rattle.wf_node.specs.Fault.{refused_by}
 use Rattle.wf_node.specs.Images.{AllStandFor, EachIsCut}
 use Rattle.wf_node.specs.Node.{Node, stored_of, working_of}
@@ -29,8 +29,11 @@ use Rattle.wf_farm.specs.declared.fault.FarmFault.{FarmFault}
 use Rattle.wf_farm.specs.declared.fault.FarmFault.TheVariants.{Memory, NoNode, Carried}
 use Rattle.wf_farm.specs.declared.place.Place.{Place}
 use Rattle.wf_farm.specs.declared.place.Place.TheVariants.{Running, Stopped}
-use Rattle.wf_farm.specs.Cluster.{Turns, Moves}
+use Rattle.wf_farm.specs.Cluster.{Turns, Moves, TellsWhy}
 use Rattle.wf_farm.specs.Event.{view_kept}
+use Rattle.wf_farm.specs.Farm.{Farm, Runs, size}
+use Rattle.wf_farm.specs.Pump.{AreTargets, begun, deliveries, most_deliveries}
+use Rattle.wf_farm.specs.declared.progress.Progress.{Progress}
 use Rattle.wf_farm.specs.Place.{IsStepped, IsTornAt, KeepsMember, Restarts, Stops}
 
 -- ---- the events of such a run
@@ -81,6 +84,39 @@ abbrev pub IsStepOfNode : ℕ → List (Event Definition) → Option (ℕ × Kep
 IsStepOfNode i events None = ⊤
 IsStepOfNode i events (Some torn) = (event : Event Definition) × (slice_get events torn.0 ≡ Some event) × IsStepOf i event
 
+-- These events happen to the farm; or one of them is a step of node i, within which the node crashes, and then it restarts.
+pub record RunsOrTears (i : ℕ) (events : List (Event Definition)) (torn : Option (ℕ × Kept)) (before after : Farm) : Type 0 where
+  pub runs : Runs (with_torn events torn) before after
+  pub step : IsStepOfNode i events torn
+
+-- What is reported of one event: why it was rejected, if it was. One whose step was torn wasn't.
+abbrev pub TellsWhyUnlessTorn : Event Definition → Option (ℕ × Kept) → Option ℕ → List Place → List Message → Type 0
+TellsWhyUnlessTorn event None number places sent = TellsWhy (λ w. refused w event) number places sent
+TellsWhyUnlessTorn event (Some torn) number places sent = number ≡ None
+
+-- the same of a farm
+abbrev pub TellsUnlessTorn : Event Definition → Option (ℕ × Kept) → Farm → Farm → Type 0
+TellsUnlessTorn event torn before after = TellsWhyUnlessTorn event torn after.refused before.places before.sent
+
+-- Stopped early, after this many deliveries: the limit is reached and some are left. Otherwise each message sent by now was delivered to
+-- each target.
+abbrev pub IsPumpEnd : Bool → (count next some sent : ℕ) → Type 0
+IsPumpEnd true count next some sent = (count ≡ most_deliveries) × (next < sent)
+IsPumpEnd false count next some sent = (count ≤ most_deliveries) × (some ≡ 0) × (next ≡ sent)
+
+-- A pump to the named nodes, as it would be without a failure (Pump.antt); or one of its deliveries is a step of node i, within which
+-- the node crashes, and then it restarts.
+pub record PumpsOrTears (i : ℕ) (names : List ℕ) (torn : Option (ℕ × Kept)) (stopped : Bool) (before after : Farm) : Type 0 where
+  pub targets : List ℕ
+  pub are_targets : AreTargets (size before) names targets
+  pub whole : ℕ
+  pub some : ℕ
+  pub part : some < length targets
+  pub runs : RunsOrTears i (deliveries targets before.pumped whole some) torn before after
+  pub pumped : after.pumped ≡ before.pumped + whole + begun some
+  pub within : after.pumped ≤ length after.sent
+  pub end : IsPumpEnd stopped (length (deliveries targets before.pumped whole some)) (before.pumped + whole) some (length after.sent)
+
 -- the tape in an entry
 abbrev pub tape_in : Place → tape.Kept
 tape_in (Running node) = node.tape
@@ -102,6 +138,25 @@ FailsWithin n (Carried done) = ⊥
 abbrev pub HappensOrTears : ℕ → Event Definition → Option Kept → List Place → List Message → List Place → List Message → Type 0
 HappensOrTears i event None places sent places_after sent_after = Turns (λ w. happens definition_eq w event) places sent places_after sent_after
 HappensOrTears i event (Some kept) places sent places_after sent_after = IsStepOf i event × Moves (crash_at (view_kept kept) (Some event)) places sent places_after sent_after
+
+-- The same of a farm's nodes and messages.
+pub record HaveFared (i : ℕ) (events : List (Event Definition)) (torn : Option (ℕ × Kept)) (places : List Place) (sent : List Message) (places_after : List Place) (sent_after : List Message) : Type 0 where
+  pub moves : Moves (with_torn events torn) places sent places_after sent_after
+  pub step : IsStepOfNode i events torn
+
+-- One more event of a run, number k: it happened, or it is a step of node i, within which the node crashed. That comes once in a run.
+abbrev pub GoesOn : (i k : ℕ) → Event Definition → Option (ℕ × Kept) → Option (ℕ × Kept) → List Place → List Message → List Place → List Message → Type 0
+GoesOn i k event (Some torn) now places sent places_after sent_after = (now ≡ Some torn) × Turns (λ w. happens definition_eq w event) places sent places_after sent_after
+GoesOn i k event None None places sent places_after sent_after = HappensOrTears i event None places sent places_after sent_after
+GoesOn i k event None (Some now) places sent places_after sent_after = (now.0 ≡ k) × HappensOrTears i event (Some now.1) places sent places_after sent_after
+
+-- The deliveries of a pump so far.
+pub record HasFaredTo (i : ℕ) (targets : List ℕ) (first : ℕ) (p : Progress) (torn : Option (ℕ × Kept)) (places : List Place) (sent : List Message) (places_after : List Place) (sent_after : List Message) : Type 0 where
+  pub fared : HaveFared i (deliveries targets first p.whole p.some) torn places sent places_after sent_after
+  pub count : length (deliveries targets first p.whole p.some) ≡ p.done
+  pub part : p.some < length targets
+  pub within : first + p.whole + begun p.some ≤ length sent_after
+  pub most : p.done ≤ most_deliveries
 
 -- A step of node i was done: if it is heard its messages were sent, else the node stopped after it. Or the node crashed within it and
 -- restarted.

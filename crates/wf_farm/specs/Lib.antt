@@ -19,3 +19,4 @@ pub mod DeliveringLaws
 pub mod Leading
 pub mod Reopening
 pub mod Fused
+pub mod Publishing

@@ -1,21 +1,27 @@
 //! Events of a farm one of whose tapes fails at a chosen call.
 
-ghost use Rattle.std.specs.Prelude.{◌≡◌, ◌<◌, ◌≤◌, ◌+◌, ℕ, true, length, map, drop, option_map, Some, None, IfOk, IfErr, OnOk};
+ghost use Rattle.std.specs.Prelude.{◌≡◌, ◌<◌, ◌≤◌, ◌+◌, ◌∷◌, [], ℕ, true, length, map, drop, option_map, Some, None, IfOk, IfErr, OnOk};
+ghost use Rattle.wf_farm.specs.declared.carrier.CarrierFault.TheVariants as carriers;
 ghost use Rattle.wf_codec.specs.Message.{view as view_message};
 ghost use Rattle.wf_def.specs.Definition.{Definition};
 ghost use Rattle.wf_def.specs.Equality.{definition_eq};
-ghost use Rattle.wf_model.specs.Table.{Action as ModelAction};
+ghost use Rattle.wf_model.specs.Table.{Action as ModelAction, Deliver, Propose, Retry};
 ghost use Rattle.wf_model.specs.World as world;
-ghost use Rattle.wf_model.specs.World.{happens, input_of};
+ghost use Rattle.wf_model.specs.World.{happens, input_of, refused, refused_at};
 ghost use Rattle.wf_node.specs.Input.{view as view_input};
-ghost use Rattle.wf_farm.specs.Cluster.{AreMembers, KeepMembers, Moves, Turns};
-ghost use Rattle.wf_farm.specs.Event.{view};
-ghost use Rattle.wf_farm.specs.Fused.{GivesInput, HappensOrTears, IsDoneOrTorn, IsStepOf, IsStepOfNode, IsTold, is_heard, with_torn};
+ghost use Rattle.wf_farm.specs.Cluster.{AreMembers, KeepMembers, Moves, TellsWhy, Turns};
+ghost use Rattle.wf_farm.specs.Event.{view, view_action};
+ghost use Rattle.wf_farm.specs.Pump.{most_deliveries};
+ghost use Rattle.wf_farm.specs.Fused.{GivesInput, GoesOn, HappensOrTears, HasFaredTo, HaveFared, IsDoneOrTorn, IsStepOf, IsStepOfNode, IsTold, TellsWhyUnlessTorn, is_heard, with_torn};
 
+use crate::carrier::{Carrier, CarrierFault, carried};
 use crate::cluster::Cluster;
-use crate::event::{Event, Kept};
+use crate::event::{Action, Event, Kept};
 use crate::fate::Fate;
+use crate::fault::refusal_number;
 use crate::fuse::Fuse;
+use crate::progress::Progress;
+use crate::round::MOST_DELIVERIES;
 use std::alloc::{AllocError, Global};
 use wf_ballot::NodeId;
 use wf_codec::Message;
@@ -73,6 +79,258 @@ impl Cluster {
         match self.run(alloc, rest) {
             Ok(_) => Ok(Some((done, kept))),
             Err(more) => Err(done + 1 + more),
+        }
+    }
+
+    /// Applies the event, with the fuse on the tape of this node if it is about that node. Returns what the crash left if the tape
+    /// failed within the event's step, with the number 0; and otherwise the number of the event's rejection, if its node rejects. Err if
+    /// an allocation fails.
+    pub(crate) fn tell_fused(
+        &mut self,
+        alloc: Global,
+        event: &Event,
+        node: usize,
+        fuse: &mut Fuse,
+    ) -> Result<(Option<(usize, Kept)>, Option<u8>), AllocError>
+        requires members { AreMembers self.old.places.items }
+        requires size { length self.old.places.items ≤ 64 }
+        ensures done { IfOk result (λ x. HaveFared node (view event.now ∷ []) x.0 self.old.places.items self.old.sent.items self.new.places.items self.new.sent.items) }
+        ensures why { IfOk result (λ x. TellsWhyUnlessTorn (view event.now) x.0 x.1 self.old.places.items self.old.sent.items) }
+        ensures members { OnOk result (KeepMembers self.old.places.items self.new.places.items) }
+        ensures grows { OnOk result (length self.old.sent.items ≤ length self.new.sent.items) }
+    {
+        let why = self.rejection(event);
+        match self.happen_fused(alloc, event, node, fuse) {
+            Ok(None) => Ok((None, why)),
+            Ok(Some(kept)) => Ok((Some((0, kept)), None)),
+            Err(fault) => Err(fault),
+        }
+    }
+
+    /// The number of the event's rejection, if its node would reject it now. Allocates nothing.
+    #[tactic(auto, using(crate::proofs::Faring::proposal_told, crate::proofs::Faring::retry_told, crate::proofs::Faring::question_told, crate::proofs::Faring::delivery_told, crate::proofs::Faring::stop_told, crate::proofs::Faring::restart_told))]
+    fn rejection(&self, event: &Event) -> Option<u8>
+        requires members { AreMembers self.now.places.items }
+        ensures { TellsWhy (λ w. refused w (view event.now)) result self.now.places.items self.now.sent.items }
+    {
+        match event {
+            Event::Propose(node, _) => self.proposal_rejection(*node),
+            Event::Retry(node) => self.retry_rejection(*node),
+            Event::CatchUp(_) | Event::Deliver(_, _) | Event::Stop(_) | Event::Restart(_) => None,
+            Event::Torn(node, action, _) => self.step_rejection(*node, action),
+        }
+    }
+
+    /// The same for a step.
+    #[tactic(auto, using(crate::proofs::Faring::question_quiet, crate::proofs::Faring::delivery_quiet))]
+    fn step_rejection(&self, node: usize, action: &Action) -> Option<u8>
+        requires members { AreMembers self.now.places.items }
+        ensures { TellsWhy (λ w. refused_at w node (view_action action.now)) result self.now.places.items self.now.sent.items }
+    {
+        match action {
+            Action::Propose(_) => self.proposal_rejection(node),
+            Action::Retry => self.retry_rejection(node),
+            Action::CatchUp | Action::Deliver(_) => None,
+        }
+    }
+
+    /// The number with which the node would reject a proposal now, if it exists and runs.
+    fn proposal_rejection(&self, node: usize) -> Option<u8>
+        requires members { AreMembers self.now.places.items }
+        ensures { (d : Definition) → TellsWhy (λ w. refused_at w node (Propose d)) result self.now.places.items self.now.sent.items }
+    {
+        if !self.runs(node) {
+            return None;
+        }
+        match self.places[node].proposal_refusal() {
+            Some(fault) => refusal_number(fault),
+            None => None,
+        }
+    }
+
+    /// The number with which the node would reject a retry now, if it exists and runs.
+    fn retry_rejection(&self, node: usize) -> Option<u8>
+        requires members { AreMembers self.now.places.items }
+        ensures { TellsWhy (λ w. refused_at w node Retry) result self.now.places.items self.now.sent.items }
+    {
+        if !self.runs(node) {
+            return None;
+        }
+        match self.places[node].retry_refusal() {
+            Some(fault) => refusal_number(fault),
+            None => None,
+        }
+    }
+
+    /// Delivers the messages to node `to` by the carrier, in turn, with the fuse on the tape of node `node`. Returns the number of the
+    /// delivery within whose step the tape failed, and what the crash left. Err: an allocation failed; or the carrier failed or brought
+    /// another message.
+    pub(crate) fn deliver_fused<C: Carrier>(
+        &mut self,
+        alloc: Global,
+        carrier: &mut C,
+        to: usize,
+        messages: &[usize],
+        node: usize,
+        fuse: &mut Fuse,
+    ) -> Result<Option<(usize, Kept)>, CarrierFault>
+        requires members { AreMembers self.old.places.items }
+        requires size { length self.old.places.items ≤ 64 }
+        ensures done { IfOk result (λ torn. HaveFared node (map (world.Deliver to) messages.now) torn self.old.places.items self.old.sent.items self.new.places.items self.new.sent.items) }
+        ensures memory { C.faithful → IfErr result (λ fault. fault ≡ carriers.Memory) }
+        ensures members { OnOk result (KeepMembers self.old.places.items self.new.places.items) }
+        ensures grows { OnOk result (length self.old.sent.items ≤ length self.new.sent.items) }
+    {
+        let mut torn = None;
+        for done in 0..messages.len() {
+            let number = messages[done];
+            match self.deliver_on(alloc, carrier, to, number, node, fuse, torn, done) {
+                Ok(now) => torn = now,
+                Err(fault) => return Err(fault),
+            }
+        }
+        Ok(torn)
+    }
+
+    /// Delivers the messages from number `first` on to each target by the carrier, with the fuse on the tape of node `node`, until none is
+    /// left or the limit of deliveries is reached. Returns how far it came, the number of the delivery within whose step the tape failed,
+    /// and what the crash left.
+    pub(crate) fn pump_fused<C: Carrier>(
+        &mut self,
+        alloc: Global,
+        carrier: &mut C,
+        targets: &[usize],
+        first: usize,
+        node: usize,
+        fuse: &mut Fuse,
+    ) -> Result<(Progress, Option<(usize, Kept)>), CarrierFault>
+        requires members { AreMembers self.old.places.items }
+        requires size { length self.old.places.items ≤ 64 }
+        requires some { 0 < length targets.now }
+        requires within { first ≤ length self.old.sent.items }
+        ensures come { IfOk result (λ x. HasFaredTo node targets.now first x.0 x.1 self.old.places.items self.old.sent.items self.new.places.items self.new.sent.items) }
+        ensures end { IfOk result (λ x. first + x.0.whole < length self.new.sent.items → x.0.done ≡ most_deliveries) }
+        ensures memory { C.faithful → IfErr result (λ fault. fault ≡ carriers.Memory) }
+        ensures members { OnOk result (KeepMembers self.old.places.items self.new.places.items) }
+    {
+        let mut progress = Progress::start();
+        let mut torn = None;
+        while progress.done < MOST_DELIVERIES {
+            let number = first + progress.whole;
+            if number >= self.sent.len() {
+                return Ok((progress, torn));
+            }
+            let to = targets[progress.some];
+            match self.deliver_on(alloc, carrier, to, number, node, fuse, torn, progress.done) {
+                Ok(now) => torn = now,
+                Err(fault) => return Err(fault),
+            }
+            progress = progress.next(targets.len());
+        }
+        Ok((progress, torn))
+    }
+
+    /// Delivers a message to node `to` by the carrier, as the delivery of number `done` of some; with the fuse on the tape of node `node`, if
+    /// none of those before was torn. Returns which one was torn by now.
+    fn deliver_on<C: Carrier>(
+        &mut self,
+        alloc: Global,
+        carrier: &mut C,
+        to: usize,
+        number: usize,
+        node: usize,
+        fuse: &mut Fuse,
+        torn: Option<(usize, Kept)>,
+        done: usize,
+    ) -> Result<Option<(usize, Kept)>, CarrierFault>
+        requires members { AreMembers self.old.places.items }
+        requires size { length self.old.places.items ≤ 64 }
+        ensures on { IfOk result (λ now. GoesOn node done (world.Deliver to number) torn now self.old.places.items self.old.sent.items self.new.places.items self.new.sent.items) }
+        ensures memory { C.faithful → IfErr result (λ fault. fault ≡ carriers.Memory) }
+        ensures members { OnOk result (KeepMembers self.old.places.items self.new.places.items) }
+        ensures grows { OnOk result (length self.old.sent.items ≤ length self.new.sent.items) }
+    {
+        if torn.is_some() {
+            return match self.deliver_whole(alloc, carrier, to, number) {
+                Ok(_) => Ok(torn),
+                Err(fault) => Err(fault),
+            };
+        }
+        match self.deliver_once(alloc, carrier, to, number, node, fuse) {
+            Ok(Some(kept)) => Ok(Some((done, kept))),
+            Ok(None) => Ok(None),
+            Err(fault) => Err(fault),
+        }
+    }
+
+    /// Delivers a message to node `to` by the carrier, with the fuse on its tape if it is node `node`. Returns what the crash left if the tape
+    /// failed within the step.
+    fn deliver_once<C: Carrier>(
+        &mut self,
+        alloc: Global,
+        carrier: &mut C,
+        to: usize,
+        number: usize,
+        node: usize,
+        fuse: &mut Fuse,
+    ) -> Result<Option<Kept>, CarrierFault>
+        requires members { AreMembers self.old.places.items }
+        requires size { length self.old.places.items ≤ 64 }
+        ensures done { IfOk result (λ torn. HappensOrTears node (world.Deliver to number) torn self.old.places.items self.old.sent.items self.new.places.items self.new.sent.items) }
+        ensures memory { C.faithful → IfErr result (λ fault. fault ≡ carriers.Memory) }
+        ensures members { OnOk result (KeepMembers self.old.places.items self.new.places.items) }
+        ensures grows { OnOk result (length self.old.sent.items ≤ length self.new.sent.items) }
+    {
+        if to != node || number >= self.sent.len() || !self.runs(to) {
+            return self.deliver_whole(alloc, carrier, to, number);
+        }
+        match carried(alloc, carrier, &self.sent[number]) {
+            Ok(message) => self.hear_fused(alloc, to, message, fuse),
+            Err(loss) => Err(loss),
+        }
+    }
+
+    /// The node takes the message, with the fuse on its tape. The only error is allocation failure.
+    fn hear_fused(
+        &mut self,
+        alloc: Global,
+        node: usize,
+        message: Message,
+        fuse: &mut Fuse,
+    ) -> Result<Option<Kept>, CarrierFault>
+        requires node { node < length self.old.places.items }
+        requires members { AreMembers self.old.places.items }
+        requires size { length self.old.places.items ≤ 64 }
+        ensures done { (number : ℕ) → input_of (map view_message self.old.sent.items) (Deliver number) ≡ Some (Deliver (view_message message)) →
+            IfOk result (λ torn. HappensOrTears node (world.Deliver node number) torn self.old.places.items self.old.sent.items self.new.places.items self.new.sent.items) }
+        ensures memory { IfErr result (λ fault. fault ≡ carriers.Memory) }
+        ensures members { OnOk result (KeepMembers self.old.places.items self.new.places.items) }
+        ensures grows { OnOk result (length self.old.sent.items ≤ length self.new.sent.items) }
+    {
+        match self.act_fused(alloc, node, Input::Deliver(message), true, fuse) {
+            Ok(torn) => Ok(torn),
+            Err(_) => Err(CarrierFault::Memory),
+        }
+    }
+
+    /// Delivers a message to node `to` by the carrier, with no fuse on its tape. Nothing is torn.
+    fn deliver_whole<C: Carrier>(
+        &mut self,
+        alloc: Global,
+        carrier: &mut C,
+        to: usize,
+        number: usize,
+    ) -> Result<Option<Kept>, CarrierFault>
+        requires members { AreMembers self.old.places.items }
+        ensures none { IfOk result (λ torn. torn ≡ None) }
+        ensures done { OnOk result (Turns (λ w. happens definition_eq w (world.Deliver to number)) self.old.places.items self.old.sent.items self.new.places.items self.new.sent.items) }
+        ensures memory { C.faithful → IfErr result (λ fault. fault ≡ carriers.Memory) }
+        ensures members { KeepMembers self.old.places.items self.new.places.items }
+        ensures grows { length self.old.sent.items ≤ length self.new.sent.items }
+    {
+        match self.deliver_by(alloc, carrier, to, number) {
+            Ok(_) => Ok(None),
+            Err(fault) => Err(fault),
         }
     }
 

@@ -1,18 +1,23 @@
 //! A run of a farm in which one call of a node's tape fails.
 
-ghost use Rattle.std.specs.Prelude.{◌≡◌, ◌<◌, ◌≤◌, length, map, IfOk, IfErr, OnOk};
+ghost use Rattle.std.specs.Prelude.{◌≡◌, ◌<◌, ◌≤◌, [], ◌∷◌, None, length, map, IfOk, IfErr, OnOk};
 ghost use Rattle.wf_def.specs.Equality.{definition_eq};
-ghost use Rattle.wf_model.specs.World.{start, steps};
+ghost use Rattle.wf_model.specs.World.{Deliver, start, steps};
+ghost use Rattle.wf_farm.specs.Agreement.{HistoriesGrow};
 ghost use Rattle.wf_farm.specs.Event.{view};
-ghost use Rattle.wf_farm.specs.Farm.{Shows, Runs, size};
-ghost use Rattle.wf_farm.specs.Fused.{FailsWithin, IsStepOfNode, NoneFails, with_torn};
+ghost use Rattle.wf_farm.specs.Farm.{IsAtOnce, Shows, Runs, size};
+ghost use Rattle.wf_farm.specs.Fused.{FailsWithin, IsStepOfNode, NoneFails, PumpsOrTears, RunsOrTears, TellsUnlessTorn, with_torn};
+ghost use Rattle.wf_farm.specs.declared.carrier.CarrierFault.TheVariants as carriers;
 
+use crate::carrier::{Carrier, CarrierFault};
 use crate::event::{Event, Kept};
 use crate::farm::Farm;
 use crate::fault::FarmFault;
 use crate::fuse::Fuse;
+use crate::targets::targets_of;
 use std::alloc::Global;
 use wf_canon::Canon;
+use wf_journal::records_are_read_one_way;
 use wf_model::steps_in_turn;
 
 /// What a run leaves in which one call of a node's tape fails.
@@ -23,6 +28,163 @@ pub struct Fused {
     /// The number of the event within whose step the tape failed, counted from 0, and what the crash left of the node; None if the
     /// tape didn't fail within a step.
     pub torn: Option<(usize, Kept)>,
+}
+
+/// What a pump leaves in which one call of a node's tape fails.
+#[derive(Drop)]
+pub struct FusedPump {
+    /// The farm, and which delivery was torn, by its number among the pump's.
+    pub fused: Fused,
+    /// Whether the pump stopped after 100,000 deliveries with some left.
+    pub stopped: bool,
+}
+
+/// Applies one event to a farm, with the fuse on the tape of node `node` if it is about that node; what is left of the fuse is in `fuse`
+/// afterwards. If the tape fails within the event's step, the node crashes there, which keeps `fuse.crash` of the bytes that aren't
+/// synced, and is opened again: the farm is then the model's world after a crash within the step and a restart of the node, and `torn`
+/// has 0 and what was kept. Otherwise the farm is the world after the event. It tells why the event was rejected, if it was. Err: F1 with 0
+/// if an allocation fails; the farm is lost then.
+#[tactic(auto, using(crate::proofs::TriedEvents::none_fails))]
+pub fn happen_fused(
+    alloc: Global,
+    farm: Farm,
+    event: &Event,
+    node: usize,
+    fuse: &mut Fuse,
+) -> Result<Fused, FarmFault>
+    ensures done { IfOk result (λ fused. RunsOrTears node (view event.now ∷ []) fused.torn farm fused.farm) }
+    ensures refused { IfOk result (λ fused. TellsUnlessTorn (view event.now) fused.torn farm fused.farm) }
+    ensures fuse { IfOk result (λ fused. NoneFails fused.farm.places) }
+    ensures grows { IfOk result (λ fused. HistoriesGrow farm fused.farm) }
+    ensures size { IfOk result (λ fused. size fused.farm ≡ size farm) }
+    ensures pumped { IfOk result (λ fused. fused.farm.pumped ≡ farm.pumped) }
+    ensures memory { IfErr result IsAtOnce }
+{
+    // Theorems of the model and of the tape: applying two lists of events in turn is applying their concatenation, lists only grow,
+    // and a tape stands for exactly one stored part.
+    steps_in_turn::<Canon>();
+    crate::law::agreement();
+    records_are_read_one_way();
+    let Farm {
+        mut cluster,
+        pumped,
+        refused: _,
+    } = farm;
+    match cluster.tell_fused(alloc, event, node, fuse) {
+        Ok((torn, refused)) => {
+            let farm = Farm {
+                cluster,
+                pumped,
+                refused,
+            };
+            Ok(Fused { farm, torn })
+        }
+        Err(_) => {
+            drop(cluster);
+            Err(FarmFault::Memory(0))
+        }
+    }
+}
+
+/// Delivers the messages to node `to` of a farm by the carrier, one after the other, with the fuse on the tape of node `node`, as
+/// [`happen_fused`] does one event; `torn` has the number of the delivery that was torn, counted from 0, and what was kept. No delivery is
+/// rejected, and the last run's rejection stands. Err, and the farm is lost: an allocation failed; or the carrier failed or brought another
+/// message, which a faithful one never does.
+#[tactic(auto, using(crate::proofs::TriedEvents::none_fails))]
+pub fn deliver_fused<C: Carrier>(
+    alloc: Global,
+    carrier: &mut C,
+    farm: Farm,
+    to: usize,
+    messages: &[usize],
+    node: usize,
+    fuse: &mut Fuse,
+) -> Result<Fused, CarrierFault>
+    ensures done { IfOk result (λ fused. RunsOrTears node (map (Deliver to) messages.now) fused.torn farm fused.farm) }
+    ensures fuse { IfOk result (λ fused. NoneFails fused.farm.places) }
+    ensures grows { IfOk result (λ fused. HistoriesGrow farm fused.farm) }
+    ensures size { IfOk result (λ fused. size fused.farm ≡ size farm) }
+    ensures refused { IfOk result (λ fused. fused.farm.refused ≡ farm.refused) }
+    ensures pumped { IfOk result (λ fused. fused.farm.pumped ≡ farm.pumped) }
+    ensures memory { C.faithful → IfErr result (λ fault. fault ≡ carriers.Memory) }
+{
+    // The same theorems.
+    steps_in_turn::<Canon>();
+    crate::law::agreement();
+    records_are_read_one_way();
+    let Farm {
+        mut cluster,
+        pumped,
+        refused,
+    } = farm;
+    match cluster.deliver_fused(alloc, carrier, to, messages, node, fuse) {
+        Ok(torn) => {
+            let farm = Farm {
+                cluster,
+                pumped,
+                refused,
+            };
+            Ok(Fused { farm, torn })
+        }
+        Err(fault) => {
+            drop(cluster);
+            Err(fault)
+        }
+    }
+}
+
+/// A pump to the named nodes by the carrier, as [`Farm::pump_by`], with the fuse on the tape of node `node`, as [`happen_fused`] does one
+/// event. A delivery that was torn counts, and the pump goes on after it. Err, and the farm is lost: an allocation failed; or the carrier
+/// failed or brought another message, which a faithful one never does.
+#[tactic(auto, using(crate::proofs::TriedEvents::none_fails))]
+pub fn pump_fused<C: Carrier>(
+    alloc: Global,
+    carrier: &mut C,
+    farm: Farm,
+    nodes: &[usize],
+    node: usize,
+    fuse: &mut Fuse,
+) -> Result<FusedPump, CarrierFault>
+    ensures done { IfOk result (λ pump. PumpsOrTears node nodes.now pump.fused.torn pump.stopped farm pump.fused.farm) }
+    ensures fuse { IfOk result (λ pump. NoneFails pump.fused.farm.places) }
+    ensures grows { IfOk result (λ pump. HistoriesGrow farm pump.fused.farm) }
+    ensures size { IfOk result (λ pump. size pump.fused.farm ≡ size farm) }
+    ensures refused { IfOk result (λ pump. pump.fused.farm.refused ≡ farm.refused) }
+    ensures memory { C.faithful → IfErr result (λ fault. fault ≡ carriers.Memory) }
+{
+    // The same theorems.
+    steps_in_turn::<Canon>();
+    crate::law::agreement();
+    records_are_read_one_way();
+    let Farm {
+        mut cluster,
+        pumped,
+        refused,
+    } = farm;
+    let Ok(targets) = targets_of(alloc, nodes, cluster.places.len()) else {
+        drop(cluster);
+        return Err(CarrierFault::Memory);
+    };
+    let swept = cluster.pump_fused(alloc, carrier, &targets, pumped, node, fuse);
+    drop(targets);
+    match swept {
+        Ok((progress, torn)) => {
+            let stopped = pumped + progress.whole < cluster.sent.len();
+            let farm = Farm {
+                cluster,
+                pumped: progress.pumped(pumped),
+                refused,
+            };
+            Ok(FusedPump {
+                fused: Fused { farm, torn },
+                stopped,
+            })
+        }
+        Err(fault) => {
+            drop(cluster);
+            Err(fault)
+        }
+    }
 }
 
 /// Applies the events in order to a new farm of n nodes, where the `call`-th call of the tape of node `node` fails: that `read`,

@@ -15,6 +15,8 @@
 //!   not delivered.
 //! - A run in which one call of a node's tape fails ([`run_fused`]) is the model's run of the same events, but for the event within
 //!   whose step the tape failed a crash within that step and a restart of the node (`specs/Fused.antt`). No other tape of a farm fails.
+//!   [`happen_fused`], [`deliver_fused`] and [`pump_fused`] do likewise one event, deliveries to one node and a pump of a farm that a
+//!   caller holds.
 //! - What a node published stays a prefix of what it publishes after a run, a pump or a delivery.
 //! - No two nodes, running or stopped, publish different definitions under one sequence, since every farm is reached from the
 //!   start: [`Farm::agree`].
@@ -34,8 +36,13 @@
 //! opened again from what reached nodes left on their tapes ([`reopen`], [`reopened_nodes_are_reached`]; `specs/Reopening.antt`).
 //! So such nodes agree and answer as a farm's do: [`reached_nodes_agree`], [`reached_nodes_answer_alike`].
 //!
-//! **Doesn't.** There is no time, and no promise that anything is ever published, that an allocation had to fail, or that a carrier
-//! is used.
+//! A farm's pump and [`deliver_all`] deliver alike: where no delivery is lost and no tape fails, both are the same deliveries of the
+//! model, and from one world, until no message is left, both lead to one world ([`a_pump_delivers_alike`], `specs/Publishing.antt`).
+//! So what one of three new nodes proposes is published on all three, in a farm that pumps as on nodes that a caller holds
+//! ([`a_proposal_is_published`]); and new nodes that catch up are new still ([`new_nodes_stay_new`]).
+//!
+//! **Doesn't.** There is no time, and no promise that an allocation had to fail, that a carrier is used, or that anything is ever published
+//! where messages or deliveries are lost, or by other numbers of nodes than three.
 #![tactic(auto)]
 
 mod answering;
@@ -57,6 +64,7 @@ mod leading;
 mod lending;
 mod place;
 mod progress;
+mod publishing;
 mod pump;
 mod receiving;
 mod round;
@@ -72,10 +80,12 @@ pub use delivering::{Pumped, deliver_all};
 pub use event::{Action, Event, Kept};
 pub use farm::Farm;
 pub use fault::FarmFault;
-pub use fused::{Fused, run_fused};
+pub use fuse::Fuse;
+pub use fused::{Fused, FusedPump, deliver_fused, happen_fused, pump_fused, run_fused};
 pub use law::{agreement, kept_promises, limits_are_as_defined, own_ballots, promised_majority};
 pub use leading::{
     a_step_leads_on, deliveries_lead_on, fresh_nodes_are_reached, leading_goes_on,
     reached_nodes_agree, reached_nodes_answer_alike, reached_stays, reopened_nodes_are_reached,
 };
+pub use publishing::{a_proposal_is_published, a_pump_delivers_alike, new_nodes_stay_new};
 pub use starting::{open_fresh, reopen};

@@ -1,7 +1,6 @@
 -- Deliveries by a carrier, one after the other, and what they do to the farm.
 use Rattle.std.proofs.Common.{◌≡◌, ◌∙◌, ◌<◌, ◌≤◌, ◌+◌, ℕ, zero, suc, List, [], ◌∷◌, ◌++◌, map, take, get_or, length, inl, inr, refl, sym, ap, subst, slice_get, Option, Some, None, arith}
 use Rattle.std.proofs.lemmas.List.{append_assoc, map_more, take_all}
-use Rattle.std.proofs.lemmas.Option.{none-some, same_Some}
 use Rattle.wf_def.specs.Definition.{Definition}
 use Rattle.wf_def.specs.Equality.{definition_eq}
 use Rattle.wf_law.specs.Laws.{IsBeginning}
@@ -149,7 +148,7 @@ never_refused : (w : World Definition) (i k : ℕ) → refused w (Deliver i k) �
 unfolding refused refused_at world.input_of
 never_refused w i k = node_takes (slice_get w.nodes i) (slice_get w.sent k)
 
-none_refused : (w : World Definition) (i : ℕ) (messages : List ℕ) → last_refused w (map (λ k. Deliver i k) messages) ≡ None
+pub none_refused : (w : World Definition) (i : ℕ) (messages : List ℕ) → last_refused w (map (λ k. Deliver i k) messages) ≡ None
 unfolding last_refused
 none_refused w i [] = refl
 none_refused w i (k ∷ []) = never_refused w i k

@@ -2,6 +2,8 @@ mod Carried
 mod Comparing
 mod Ending
 mod Faults
+mod Last
+mod Tearing
 mod Performing
 mod Playing
 mod Running

@@ -14,9 +14,10 @@ use Rattle.wf_farm.specs.Pump.{IsPumped}
 use Rattle.wf_farm.specs.declared.fault.FarmFault.{FarmFault}
 use Rattle.wf_farm.specs.declared.fault.FarmFault.TheVariants.{NoNode}
 use Rattle.wf_farm.specs.declared.place.Place.{Place}
+use Rattle.wf_farm.specs.declared.event.Kept.{Kept as Remains}
 use Rattle.wf_play.specs.Comparison.{IsUncompared}
 use Rattle.wf_script.specs.Script.{Numbered, Script}
-use Rattle.wf_play.specs.Telling.{Adds, IsOfAnswer, IsToldAbsent, TellsAnswer, TellsEqual, TellsPump, Writes, WritesAt, no_node, published_word, pump_line}
+use Rattle.wf_play.specs.Telling.{Adds, IsOfAnswer, IsToldAbsent, TellsAnswer, TellsEqual, TellsPump, WritesAt, WritesWith, no_node, published_word, pump_line}
 
 -- a consequence of a property holds where the property is reported
 pub also_ok : {T E P Q : Type 0} → (result : Result T E) → (P → Q) → OnOk result P → OnOk result Q
@@ -98,12 +99,12 @@ pub pump_told : (nodes : List ℕ) (before after : Farm) (stopped : Bool) (old n
 pump_told nodes before after stopped old new done is = (pump_line stopped, (stopped, done, refl), is)
 
 -- what the order at an index writes, where that order is there
-pub written_at : (script : Script) (there : Option Numbered) (n : Numbered) (before after : Farm) (old new : List ℕ) → Some n ≡ there → Adds (Writes script n.order before after) old new
-    → Adds (WritesAt script there before after) old new
+pub written_at : (script : Script) (there : Option Numbered) (n : Numbered) (torn : Option (ℕ × Remains)) (before after : Farm) (old new : List ℕ) → Some n ≡ there → Adds (WritesWith script n.order torn before after) old new
+    → Adds (WritesAt script there torn before after) old new
 unfolding WritesAt
-written_at script there n before after old new is tells = subst (λ o. Adds (WritesAt script o before after) old new) is tells
+written_at script there n torn before after old new is tells = subst (λ o. Adds (WritesAt script o torn before after) old new) is tells
 
 -- where there is none
-pub nothing_written : (script : Script) (there : Option Numbered) (before after : Farm) (old : List ℕ) → None ≡ there → Adds (WritesAt script there before after) old old
+pub nothing_written : (script : Script) (there : Option Numbered) (torn : Option (ℕ × Remains)) (before after : Farm) (old : List ℕ) → None ≡ there → Adds (WritesAt script there torn before after) old old
 unfolding WritesAt
-nothing_written script there before after old is = ([], subst (λ o. WritesAt script o before after []) is refl, sym (append-nil old))
+nothing_written script there torn before after old is = ([], subst (λ o. WritesAt script o torn before after []) is refl, sym (append-nil old))

@@ -1,7 +1,7 @@
 -- Why a run of a script ends before its end.
 use Rattle.std.specs.Prelude.{◌≡◌, ℕ, ⊤, true, false, Option, Some, List, Result, Ok, Err}
 use Rattle.std.specs.Io.KnownBytes.{Keeps}
-use Rattle.wf_stream.specs.Reading.{Rises}
+use Rattle.wf_stream.specs.Reading.{EndsByFailing, Rises}
 use Rattle.wf_script.specs.Fault.{IsMemory, is_memory}
 use Rattle.wf_script.specs.Script.{Numbered}
 use Rattle.wf_script.specs.declared.fault.ScriptFault.TheVariants as script
@@ -46,6 +46,14 @@ CountsReads (Err play.Wire) old new = new ≡ old
 abbrev pub CountsWrites : {T : Type 0} → Result T PlayFault → ℕ → ℕ → Type 0
 CountsWrites (Err play.Write) old new = Rises old new
 CountsWrites _ old new = new ≡ old
+
+-- How the writing ended, of any writer: a failed write is the last call, and some bytes were written without a failure before it.
+module _ {K : Type 0} (written : K → Option (List ℕ)) (failures : K → ℕ) (fails : K → K → Type 0) where
+  abbrev pub EndsWriting : K → K → PlayFault → Type 0
+  EndsWriting old new (play.Script fault) = ⊤
+  EndsWriting old new play.Read = ⊤
+  EndsWriting old new play.Write = (bytes : List ℕ) × EndsByFailing written failures fails bytes old new
+  EndsWriting old new play.Wire = ⊤
 
 -- the error of an order, by why it isn't performed to its end: an allocation failed, at its line, or a message wasn't carried
 abbrev pub order_fault : CarrierFault → ℕ → PlayFault

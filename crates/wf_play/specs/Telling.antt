@@ -1,6 +1,5 @@
 -- What an order writes about the farm after it.
 use Rattle.std.specs.Prelude.{◌≡◌, ◌⊎◌, ◌++◌, ℕ, ⊤, Bool, true, false, List, [], codes, decimal, flat_map, length, slice_get, Option, Some, None, if◌then◌else◌}
-use Rattle.wf_def.specs.Definition.{Definition}
 use Rattle.wf_learner.specs.History.{map_at}
 use Rattle.wf_node.specs.Node.{Node, working_of}
 use Rattle.wf_proposer.specs.Standing.{standing_of}
@@ -21,7 +20,9 @@ use Rattle.wf_farm.specs.declared.place.Place.{Place}
 use Rattle.wf_play.specs.Comparison.{Compares}
 use Rattle.wf_script.specs.Order as order
 use Rattle.wf_script.specs.Order.{Order}
-use Rattle.wf_play.specs.Performing.{action_of}
+use Rattle.wf_farm.specs.declared.event.Kept.{Kept as Remains}
+use Rattle.wf_farm.specs.declared.event.Kept.TheVariants as kept
+use Rattle.wf_play.specs.Performing.{TearsPump, action_of}
 use Rattle.wf_script.specs.Script.{Numbered, Script, name_of}
 use Rattle.wf_script.specs.declared.order.Question.{Question}
 use Rattle.wf_script.specs.declared.order.Question.TheVariants as question
@@ -139,6 +140,7 @@ step_text (Some action) refused = refusal_line refused
 -- What an order writes. Of a step, a stop, a restart or a crash it is the rejection, if it was rejected. A delivery writes nothing,
 -- since none is rejected.
 abbrev pub Writes : Script → Order → Farm → Farm → List ℕ → Type 0
+Writes script (order.Fuse i call kept crash) before after text = text ≡ []
 Writes script (order.Step i s) before after text = text ≡ step_text (action_of script.maps s) after.refused
 Writes script (order.Deliver i messages) before after text = text ≡ []
 Writes script (order.Cut i k bytes) before after text = text ≡ []
@@ -151,7 +153,38 @@ Writes script (order.Ask question) before after text = text ≡ answer_text scri
 Writes script (order.Get i query) before after text = TellsAnswer after i query text
 Writes script (order.Equal i j query) before after text = TellsEqual after i j query text
 
+-- the line about a node that crashed within a step, by what the crash kept
+abbrev pub kept_word : Remains → List ℕ
+kept_word kept.Before = codes " before\n"
+kept_word kept.After = codes " after\n"
+
+abbrev pub torn_line : ℕ × Remains → List ℕ
+torn_line torn = codes "torn " ++ decimal torn.0 ++ kept_word torn.1
+
+-- for the crate's own contracts: the line, if there is one; and what is written of one event
+abbrev pub torn_text : Option (ℕ × Remains) → List ℕ
+torn_text None = []
+torn_text (Some torn) = torn_line torn
+
+abbrev pub event_text : Option (ℕ × Remains) → Option ℕ → List ℕ
+event_text None refused = refusal_line refused
+event_text (Some torn) refused = torn_line torn
+
+-- One delivery of a pump was torn, and it is written whether the pump stopped early, and then that.
+abbrev pub TellsTornPump : List ℕ → ℕ × Remains → Farm → Farm → List ℕ → Type 0
+TellsTornPump nodes torn before after text = (stopped : Bool) × TearsPump torn nodes stopped before after × (text ≡ pump_line stopped ++ torn_line torn)
+
+-- What an order writes within which the tape of a node failed. No event of it was rejected.
+abbrev pub WritesTorn : Order → ℕ × Remains → Farm → Farm → List ℕ → Type 0
+WritesTorn (order.Pump nodes) torn before after text = TellsTornPump nodes torn before after text
+WritesTorn other torn before after text = text ≡ torn_line torn
+
+-- what an order writes, by whether a tape failed within it
+abbrev pub WritesWith : Script → Order → Option (ℕ × Remains) → Farm → Farm → List ℕ → Type 0
+WritesWith script order None before after text = Writes script order before after text
+WritesWith script order (Some torn) before after text = WritesTorn order torn before after text
+
 -- what the order at an index writes: nothing where there is none
-unfoldable pub WritesAt : Script → Option Numbered → Farm → Farm → List ℕ → Type 0
-WritesAt script None before after text = text ≡ []
-WritesAt script (Some numbered) before after text = Writes script numbered.order before after text
+unfoldable pub WritesAt : Script → Option Numbered → Option (ℕ × Remains) → Farm → Farm → List ℕ → Type 0
+WritesAt script None torn before after text = text ≡ []
+WritesAt script (Some numbered) torn before after text = WritesWith script numbered.order torn before after text

@@ -5,7 +5,7 @@ ghost use Rattle.std.specs.String.{string_bytes};
 ghost use Rattle.wf_farm.specs.Carrying.{IsMemory};
 ghost use Rattle.wf_farm.specs.declared.carrier.CarrierFault.TheVariants as faults;
 ghost use Rattle.wf_play.specs.Performing.{Delivers};
-ghost use Rattle.wf_play.specs.Session.{Plays};
+ghost use Rattle.wf_play.specs.Session.{KeepsRest, Plays};
 ghost use Rattle.wf_play.specs.Telling.{pump_line};
 
 use crate::session::Session;
@@ -26,7 +26,7 @@ impl<'s> Session<'s> {
         node: usize,
         messages: &[usize],
     ) -> Result<(), CarrierFault>
-        ensures script { self.new.script ≡ self.old.script }
+        ensures rest { KeepsRest self.old self.new }
         ensures does { OnOk result (Delivers node messages.now self.old.farm self.new.farm) }
         ensures faithful { C.faithful → IfErr result (λ fault. fault ≡ faults.Memory) }
         ensures plays { Plays self.old.farm self.new.farm }
@@ -43,7 +43,7 @@ impl<'s> Session<'s> {
         nodes: &[usize],
         out: &mut String,
     ) -> Result<(), CarrierFault>
-        ensures script { self.new.script ≡ self.old.script }
+        ensures rest { KeepsRest self.old self.new }
         ensures does { OnOk result (ArePumped nodes.now self.old.farm self.new.farm) }
         ensures tells { OnOk result (Adds (TellsPump nodes.now self.old.farm self.new.farm) (string_bytes out.old) (string_bytes out.new)) }
         ensures faithful { C.faithful → IfErr result (λ fault. fault ≡ faults.Memory) }
@@ -113,7 +113,7 @@ fn why_not_carried(fault: FarmFault) -> CarrierFault
 }
 
 /// Appends that a pump stopped early, if it did.
-fn tell_pump(stopped: bool, out: &mut String) -> Result<(), CarrierFault>
+pub(crate) fn tell_pump(stopped: bool, out: &mut String) -> Result<(), CarrierFault>
     ensures told { OnOk result (string_bytes out.new ≡ string_bytes out.old ++ pump_line stopped) }
     ensures memory { IfErr result (λ fault. fault ≡ faults.Memory) }
 {

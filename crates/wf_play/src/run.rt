@@ -5,9 +5,10 @@ ghost use Rattle.std.specs.Io.KnownBytes.{IsAtEnd};
 ghost use Rattle.wf_stream.specs.Reading.{TakesUpTo};
 ghost use Rattle.wf_script.specs.Lines.{judged, most_script_bytes};
 ghost use Rattle.wf_play.specs.Ending.{IsEnded, MayBeBegun, WritesBeginning};
-ghost use Rattle.wf_play.specs.Fault.{CountsReads, CountsWrites, IsInputFault, IsPlayingFault, KeepsQuiet, LosesNone};
+ghost use Rattle.wf_play.specs.Fault.{CountsReads, CountsWrites, EndsWriting, IsInputFault, IsPlayingFault, KeepsQuiet, LosesNone};
 ghost use Rattle.wf_script.specs.Fault.{IsMemory};
 ghost use Rattle.wf_play.specs.Running.{HavePlayed, IsRefusalOf, IsScriptText, PlaysInput, ReadsWhole, WritesPlay};
+ghost use Rattle.wf_play.specs.Session.{stage};
 ghost use Rattle.wf_script.specs.Text.{script_of};
 
 use crate::fault::PlayFault;
@@ -23,7 +24,7 @@ use wf_stream::{Sink, Source, read_up_to, write_all};
 /// Where S1 comes at an order, it is at that order's line, and exactly the output of the orders before it is written. Where the
 /// carrier fails, or brings another message than it was given, the error is `Wire`, and exactly the output of the orders before is
 /// written too; of a faithful carrier that never comes. Where a write fails, exactly the output of the orders before and a
-/// beginning of the output of one order is.
+/// beginning of the output of one order is, and the failed write is the last call of the writer.
 #[tactic(auto, using(crate::proofs::Faults::no_writes_yet, crate::proofs::Faults::none_lost_yet, crate::proofs::WholeInput::ends_whole, crate::proofs::WholeInput::no_script_ends))]
 pub fn run_script<S: Source, K: Sink, C: Carrier>(
     alloc: Global,
@@ -39,6 +40,7 @@ pub fn run_script<S: Source, K: Sink, C: Carrier>(
     ensures most { TakesUpTo (most_script_bytes + 1) (S.left source.old) (S.left source.new) }
     ensures reads { CountsReads result (S.failures source.old) (S.failures source.new) }
     ensures writes { CountsWrites result (K.failures sink.old) (K.failures sink.new) }
+    ensures last { IfErr result (EndsWriting K.written K.failures K.fails sink.old sink.new) }
 {
     match script(alloc, source) {
         Ok(script) => {
@@ -99,6 +101,7 @@ fn play<K: Sink, C: Carrier>(
     ensures err { IfErr result IsPlayingFault }
     ensures faithful { C.faithful → IfErr result LosesNone }
     ensures writes { CountsWrites result (K.failures sink.old) (K.failures sink.new) }
+    ensures last { IfErr result (EndsWriting K.written K.failures K.fails sink.old sink.new) }
 {
     match Session::new(alloc, script) {
         Ok(mut session) => {
@@ -119,11 +122,12 @@ fn perform_all<K: Sink, C: Carrier>(
     count: usize,
     sink: &mut K,
 ) -> Result<(), PlayFault>
-    ensures plays { OnOk result (HavePlayed count session.old.script session.old.farm session.new.farm (K.written sink.old) (K.written sink.new)) }
-    ensures ended { IfErr result (IsEnded session.old.script session.old.farm (K.written sink.old) (K.written sink.new)) }
+    ensures plays { OnOk result (HavePlayed count session.old.script (stage session.old) (stage session.new) (K.written sink.old) (K.written sink.new)) }
+    ensures ended { IfErr result (IsEnded session.old.script (stage session.old) (K.written sink.old) (K.written sink.new)) }
     ensures err { IfErr result IsPlayingFault }
     ensures faithful { C.faithful → IfErr result LosesNone }
     ensures writes { CountsWrites result (K.failures sink.old) (K.failures sink.new) }
+    ensures last { IfErr result (EndsWriting K.written K.failures K.fails sink.old sink.new) }
 {
     let mut out = String::new(alloc);
     for number in 0..count {

@@ -10,7 +10,7 @@ use std::alloc::{AllocError, Global};
 use std::fmt::Write;
 use std::marker::Model;
 use wf_canon::Canon;
-use wf_farm::{Action, Carrier, CarrierFault, Event, Farm, Kept};
+use wf_farm::{Action, Carrier, CarrierFault, Event, Farm, Fuse, Kept};
 use wf_script::{Order, Script, ScriptFault, Side, Step};
 
 /// The farm on which a script is played. It is changed by the farm's own calls alone.
@@ -18,22 +18,32 @@ use wf_script::{Order, Script, ScriptFault, Side, Step};
 pub struct Session<'s> {
     pub(crate) script: &'s Script,
     pub(crate) farm: Farm,
+    // The node whose tape will fail, and at which call of it from now on.
+    pub(crate) fuse: Option<(usize, Fuse)>,
+    // The node within a step of which its tape failed in the last order, and what the crash kept.
+    pub(crate) torn: Option<(usize, Kept)>,
 }
 
 impl<'s> Model for Session<'s> {
     ghost use Rattle.std.specs.Coded.{codes};
     ghost use Rattle.std.specs.FinMap as map;
+    ghost use Rattle.std.specs.Prelude.{option_map};
     ghost use Rattle.wf_play.specs.Session.{Session};
 
     ghost Value = { Session };
 
     ghost coded = { Prim.hlevel (codes, map.code) };
 
-    ghost view = { λ s. record { script = s.script.now; farm = s.farm } };
+    ghost view = { λ s. record {
+      script = s.script.now;
+      farm = s.farm;
+      fuse = option_map (λ f. f.0) s.fuse;
+      torn = s.torn;
+    } };
 }
 
 impl<'s> Session<'s> {
-    ghost use Rattle.std.specs.Prelude.{[], ◌∷◌, false, length, map, slice_get, option_map, option_copied, true, IfOk, IfErr};
+    ghost use Rattle.std.specs.Prelude.{[], ◌∷◌, None, false, length, map, slice_get, option_map, option_copied, true, IfOk, IfErr};
     ghost use Rattle.wf_def.specs.Definition.{Definition};
     ghost use Rattle.wf_model.specs.Table as table;
     ghost use Rattle.wf_model.specs.World as world;
@@ -46,9 +56,9 @@ impl<'s> Session<'s> {
     ghost use Rattle.wf_script.specs.Order.{view};
     ghost use Rattle.wf_farm.specs.declared.carrier.CarrierFault.TheVariants as faults;
     ghost use Rattle.wf_play.specs.Fault.{IsOrderFault, LosesNone};
-    ghost use Rattle.wf_play.specs.Performing.{Happens, HappensIf, Performs, PerformsAt, action_of, carries, event_of, may_use, may_use_at};
-    ghost use Rattle.wf_play.specs.Session.{Plays};
-    ghost use Rattle.wf_play.specs.Telling.{Adds, Writes, WritesAt, refusal_line, step_text};
+    ghost use Rattle.wf_play.specs.Performing.{Does, Happens, HappensIf, IsPerformed, Performs, PerformsAt, action_of, carries, event_of, fuse_set, left_by, may_use, may_use_at};
+    ghost use Rattle.wf_play.specs.Session.{KeepsRest, Plays, stage};
+    ghost use Rattle.wf_play.specs.Telling.{Adds, Writes, WritesAt, WritesWith, refusal_line, step_text};
 
     /// The farm before the script's first order: the model's start. Returns S1 at line 1 where an allocation failed.
     pub fn new(alloc: Global, script: &'s Script) -> Result<Session<'s>, ScriptFault>
@@ -56,10 +66,16 @@ impl<'s> Session<'s> {
         ensures start { IfOk result (λ session. Shows session.farm (start script.now.nodes)) }
         ensures size { IfOk result (λ session. size session.farm ≡ script.now.nodes) }
         ensures fresh { IfOk result (λ session. session.farm.pumped ≡ 0) }
+        ensures whole { IfOk result (λ session. session.fuse ≡ None) }
         ensures memory { IfErr result (λ fault. fault ≡ ScriptFault.Memory 1) }
     {
         match Farm::new(alloc, script.nodes()) {
-            Ok(farm) => Ok(Session { script, farm }),
+            Ok(farm) => Ok(Session {
+                script,
+                farm,
+                fuse: None,
+                torn: None,
+            }),
             Err(_) => Err(ScriptFault::Memory(1)),
         }
     }
@@ -74,10 +90,12 @@ impl<'s> Session<'s> {
     /// Performs the order of that number, counted from 0, and appends its output; nothing where there is no such
     /// order. The carrier brings the messages of a delivery and of a pump to their nodes, and sends those that are cut off; a step
     /// within which a node crashes doesn't use it. Whatever the order and the carrier, the farm has made some events, and the
-    /// theorems hold of it after them.
+    /// theorems hold of it after them. Where the tape of a node fails within a step, the node crashed there and is opened again; the
+    /// session's `torn` tells it then, and it is written.
     ///
     /// Returns S1 at the order's line where an allocation failed, and `Wire` where the carrier failed, or brought another message:
-    /// then a part of the order may have happened, or be written. Of a faithful carrier S1 is the only error.
+    /// then a part of the order may have happened, or be written. Of a faithful carrier S1 is the only error. Where a tape could
+    /// fail, the farm is lost with an error: another one, of one node, is in its place.
     pub fn perform<C: Carrier>(
         &mut self,
         alloc: Global,
@@ -86,21 +104,30 @@ impl<'s> Session<'s> {
         out: &mut String,
     ) -> Result<(), PlayFault>
         ensures script { self.new.script ≡ self.old.script }
-        ensures does { OnOk result (PerformsAt self.old.script.maps (slice_get self.old.script.orders number) self.old.farm self.new.farm) }
-        ensures tells { OnOk result (Adds (WritesAt self.old.script (slice_get self.old.script.orders number) self.old.farm self.new.farm) (string_bytes out.old) (string_bytes out.new)) }
+        ensures does { OnOk result (PerformsAt self.old.script.maps (slice_get self.old.script.orders number) self.new.torn (stage self.old) (stage self.new)) }
+        ensures tells { OnOk result (Adds (WritesAt self.old.script (slice_get self.old.script.orders number) self.new.torn self.old.farm self.new.farm) (string_bytes out.old) (string_bytes out.new)) }
         ensures fault { IfErr result (IsOrderFault (slice_get self.old.script.orders number) self.old.farm) }
         ensures faithful { C.faithful → IfErr result LosesNone }
         ensures unused { may_use_at (slice_get self.old.script.orders number) self.old.farm ≡ false → carrier.new ≡ carrier.old }
-        ensures plays { Plays self.old.farm self.new.farm }
+        ensures plays { OnOk result (Plays self.old.farm self.new.farm) }
+        ensures whole { self.old.fuse ≡ None → Plays self.old.farm self.new.farm }
         ensures agree { HasOneHistory self.new.farm }
         ensures world { IsOneWorld self.new.farm }
         ensures ballots { HasOwnBallots self.new.farm }
         ensures promises { HasKeptPromises self.new.farm }
         ensures majorities { HasPromisedMajorities self.new.farm }
     {
+        self.forget_torn();
         let performed = self.perform_order(alloc, carrier, number, out);
         self.obeys_laws();
         performed
+    }
+
+    /// What the order before tore is told no longer.
+    fn forget_torn(&mut self)
+        ensures { self.new ≡ record self.old { torn = None } }
+    {
+        self.torn = None;
     }
 
     /// The theorems about the farm hold of it as it is.
@@ -123,17 +150,19 @@ impl<'s> Session<'s> {
         number: usize,
         out: &mut String,
     ) -> Result<(), PlayFault>
+        requires torn { self.old.torn ≡ None }
         ensures script { self.new.script ≡ self.old.script }
-        ensures does { OnOk result (PerformsAt self.old.script.maps (slice_get self.old.script.orders number) self.old.farm self.new.farm) }
-        ensures tells { OnOk result (Adds (WritesAt self.old.script (slice_get self.old.script.orders number) self.old.farm self.new.farm) (string_bytes out.old) (string_bytes out.new)) }
+        ensures does { OnOk result (PerformsAt self.old.script.maps (slice_get self.old.script.orders number) self.new.torn (stage self.old) (stage self.new)) }
+        ensures tells { OnOk result (Adds (WritesAt self.old.script (slice_get self.old.script.orders number) self.new.torn self.old.farm self.new.farm) (string_bytes out.old) (string_bytes out.new)) }
         ensures fault { IfErr result (IsOrderFault (slice_get self.old.script.orders number) self.old.farm) }
         ensures faithful { C.faithful → IfErr result LosesNone }
         ensures unused { may_use_at (slice_get self.old.script.orders number) self.old.farm ≡ false → carrier.new ≡ carrier.old }
-        ensures plays { Plays self.old.farm self.new.farm }
+        ensures plays { OnOk result (Plays self.old.farm self.new.farm) }
+        ensures whole { self.old.fuse ≡ None → Plays self.old.farm self.new.farm }
     {
         let script = self.script;
         match script.order(number) {
-            Some(numbered) => match self.obey(alloc, carrier, &numbered.order, out) {
+            Some(numbered) => match self.obey_order(alloc, carrier, &numbered.order, out) {
                 Ok(()) => Ok(()),
                 Err(fault) => Err(fault_at_line(fault, numbered.line)),
             },
@@ -141,15 +170,83 @@ impl<'s> Session<'s> {
         }
     }
 
-    #[tactic(auto, using(crate::proofs::Playing::nothing_played, crate::proofs::Telling::nothing_more))]
-    fn obey<C: Carrier>(
+    /// Performs the order, and takes the fuse that it names, if it names one.
+    #[tactic(auto, using(crate::proofs::Tearing::performed))]
+    fn obey_order<C: Carrier>(
         &mut self,
         alloc: Global,
         carrier: &mut C,
         order: &Order,
         out: &mut String,
     ) -> Result<(), CarrierFault>
+        requires torn { self.old.torn ≡ None }
         ensures script { self.new.script ≡ self.old.script }
+        ensures does { OnOk result (IsPerformed self.old.script.maps (view order.now) self.new.torn (stage self.old) (stage self.new)) }
+        ensures tells { OnOk result (Adds (WritesWith self.old.script (view order.now) self.new.torn self.old.farm self.new.farm) (string_bytes out.old) (string_bytes out.new)) }
+        ensures lost { IfErr result (λ fault. fault ≡ faults.Lost → may_use (view order.now) self.old.farm ≡ true) }
+        ensures faithful { C.faithful → IfErr result (λ fault. fault ≡ faults.Memory) }
+        ensures unused { may_use (view order.now) self.old.farm ≡ false → carrier.new ≡ carrier.old }
+        ensures plays { OnOk result (Plays self.old.farm self.new.farm) }
+        ensures whole { self.old.fuse ≡ None → Plays self.old.farm self.new.farm }
+    {
+        let obeyed = self.obey_with_fuse(alloc, carrier, order, out);
+        self.take_fuse(order);
+        obeyed
+    }
+
+    /// Performs the order, with the fuse on the tape of its node, if there is one.
+    #[tactic(auto, using(crate::proofs::Tearing::does_whole, crate::proofs::Tearing::tells_whole, crate::proofs::Tearing::left_whole))]
+    fn obey_with_fuse<C: Carrier>(
+        &mut self,
+        alloc: Global,
+        carrier: &mut C,
+        order: &Order,
+        out: &mut String,
+    ) -> Result<(), CarrierFault>
+        requires torn { self.old.torn ≡ None }
+        ensures script { self.new.script ≡ self.old.script }
+        ensures fuse { OnOk result (self.new.fuse ≡ left_by self.old.fuse self.new.torn) }
+        ensures does { OnOk result (Does self.old.script.maps (view order.now) self.old.fuse self.new.torn self.old.farm self.new.farm) }
+        ensures tells { OnOk result (Adds (WritesWith self.old.script (view order.now) self.new.torn self.old.farm self.new.farm) (string_bytes out.old) (string_bytes out.new)) }
+        ensures lost { IfErr result (λ fault. fault ≡ faults.Lost → may_use (view order.now) self.old.farm ≡ true) }
+        ensures faithful { C.faithful → IfErr result (λ fault. fault ≡ faults.Memory) }
+        ensures unused { may_use (view order.now) self.old.farm ≡ false → carrier.new ≡ carrier.old }
+        ensures plays { OnOk result (Plays self.old.farm self.new.farm) }
+        ensures whole { self.old.fuse ≡ None → Plays self.old.farm self.new.farm }
+    {
+        match self.fuse {
+            Some((node, fuse)) => self.obey_fused(alloc, carrier, order, node, fuse, out),
+            None => self.obey(alloc, carrier, order, out),
+        }
+    }
+
+    /// The fuse that the order names is the one from now on; any other order leaves it as it is.
+    fn take_fuse(&mut self, order: &Order)
+        ensures { self.new ≡ record self.old { fuse = fuse_set (view order.now) self.old.fuse } }
+    {
+        match order {
+            Order::Fuse(node, call, kept, crash) => {
+                let fuse = Fuse {
+                    call: *call,
+                    kept: *kept,
+                    crash: *crash,
+                };
+                self.fuse = Some((*node, fuse));
+            }
+            _ => (),
+        }
+    }
+
+    /// Performs the order, where no tape fails.
+    #[tactic(auto, using(crate::proofs::Playing::nothing_played, crate::proofs::Telling::nothing_more))]
+    pub(crate) fn obey<C: Carrier>(
+        &mut self,
+        alloc: Global,
+        carrier: &mut C,
+        order: &Order,
+        out: &mut String,
+    ) -> Result<(), CarrierFault>
+        ensures rest { KeepsRest self.old self.new }
         ensures does { OnOk result (Performs self.old.script.maps (view order.now) self.old.farm self.new.farm) }
         ensures tells { OnOk result (Adds (Writes self.old.script (view order.now) self.old.farm self.new.farm) (string_bytes out.old) (string_bytes out.new)) }
         ensures lost { IfErr result (λ fault. fault ≡ faults.Lost → may_use (view order.now) self.old.farm ≡ true) }
@@ -161,7 +258,8 @@ impl<'s> Session<'s> {
             Order::Deliver(node, messages) => self.deliver(alloc, carrier, *node, messages),
             Order::Cut(node, message, bytes) => self.cut(alloc, carrier, *node, *message, *bytes),
             Order::Pump(nodes) => self.pump(alloc, carrier, nodes, out),
-            Order::Step(..)
+            Order::Fuse(..)
+            | Order::Step(..)
             | Order::Stop(_)
             | Order::Restart(_)
             | Order::Torn(..)
@@ -180,7 +278,7 @@ impl<'s> Session<'s> {
         out: &mut String,
     ) -> Result<(), CarrierFault>
         requires { carries (view order.now) ≡ false }
-        ensures script { self.new.script ≡ self.old.script }
+        ensures rest { KeepsRest self.old self.new }
         ensures does { OnOk result (Performs self.old.script.maps (view order.now) self.old.farm self.new.farm) }
         ensures tells { OnOk result (Adds (Writes self.old.script (view order.now) self.old.farm self.new.farm) (string_bytes out.old) (string_bytes out.new)) }
         ensures memory { IfErr result (λ fault. fault ≡ faults.Memory) }
@@ -195,12 +293,14 @@ impl<'s> Session<'s> {
     #[tactic(auto, using(crate::proofs::Playing::nothing_played, crate::proofs::Playing::skipped_played, crate::proofs::Telling::just))]
     fn act(&mut self, alloc: Global, order: &Order, out: &mut String) -> Result<(), AllocError>
         requires { carries (view order.now) ≡ false }
-        ensures script { self.new.script ≡ self.old.script }
+        ensures rest { KeepsRest self.old self.new }
         ensures does { OnOk result (Performs self.old.script.maps (view order.now) self.old.farm self.new.farm) }
         ensures tells { OnOk result (Adds (Writes self.old.script (view order.now) self.old.farm self.new.farm) (string_bytes out.old) (string_bytes out.new)) }
         ensures plays { Plays self.old.farm self.new.farm }
     {
         match order {
+            // Not an event: the fuse is taken once the order is performed.
+            Order::Fuse(..) => Ok(()),
             Order::Step(node, step) => self.step(alloc, *node, *step, out),
             Order::Stop(node) => self.happen(alloc, Event::Stop(*node), out),
             Order::Restart(node) => self.happen(alloc, Event::Restart(*node), out),
@@ -219,7 +319,7 @@ impl<'s> Session<'s> {
     /// Makes the events in turn, and appends the rejection of the last one, if it was rejected.
     #[tactic(auto, using(crate::proofs::Playing::run_played, crate::proofs::Playing::part_played))]
     fn run(&mut self, alloc: Global, events: &[Event], out: &mut String) -> Result<(), AllocError>
-        ensures script { self.new.script ≡ self.old.script }
+        ensures rest { KeepsRest self.old self.new }
         ensures does { OnOk result (Happens (map event_view events.now) self.old.farm self.new.farm) }
         ensures tells { OnOk result (string_bytes out.new ≡ string_bytes out.old ++ refusal_line self.new.farm.refused) }
         ensures plays { Plays self.old.farm self.new.farm }
@@ -234,7 +334,7 @@ impl<'s> Session<'s> {
     }
 
     fn happen(&mut self, alloc: Global, event: Event, out: &mut String) -> Result<(), AllocError>
-        ensures script { self.new.script ≡ self.old.script }
+        ensures rest { KeepsRest self.old self.new }
         ensures does { OnOk result (Happens (event_view event ∷ []) self.old.farm self.new.farm) }
         ensures tells { OnOk result (string_bytes out.new ≡ string_bytes out.old ++ refusal_line self.new.farm.refused) }
         ensures plays { Plays self.old.farm self.new.farm }
@@ -251,7 +351,7 @@ impl<'s> Session<'s> {
         step: Step,
         out: &mut String,
     ) -> Result<(), AllocError>
-        ensures script { self.new.script ≡ self.old.script }
+        ensures rest { KeepsRest self.old self.new }
         ensures does { OnOk result (HappensIf (option_map (event_of node) (action_of self.old.script.maps step)) self.old.farm self.new.farm) }
         ensures tells { OnOk result (string_bytes out.new ≡ string_bytes out.old ++ step_text (action_of self.old.script.maps step) self.new.farm.refused) }
         ensures plays { Plays self.old.farm self.new.farm }
@@ -273,7 +373,7 @@ impl<'s> Session<'s> {
         map: usize,
         out: &mut String,
     ) -> Result<(), AllocError>
-        ensures script { self.new.script ≡ self.old.script }
+        ensures rest { KeepsRest self.old self.new }
         ensures does { OnOk result (HappensIf (option_map (λ d. world.Propose node d) (slice_get self.old.script.maps map)) self.old.farm self.new.farm) }
         ensures tells { OnOk result (string_bytes out.new ≡ string_bytes out.old ++ step_text (slice_get self.old.script.maps map) self.new.farm.refused) }
         ensures plays { Plays self.old.farm self.new.farm }
@@ -294,7 +394,7 @@ impl<'s> Session<'s> {
         kept: Kept,
         out: &mut String,
     ) -> Result<(), AllocError>
-        ensures script { self.new.script ≡ self.old.script }
+        ensures rest { KeepsRest self.old self.new }
         ensures does { OnOk result (HappensIf (option_map (λ a. world.Torn node a (view_kept kept)) (action_of self.old.script.maps step)) self.old.farm self.new.farm) }
         ensures tells { OnOk result (string_bytes out.new ≡ string_bytes out.old ++ step_text (action_of self.old.script.maps step) self.new.farm.refused) }
         ensures plays { Plays self.old.farm self.new.farm }
@@ -323,7 +423,7 @@ impl<'s> Session<'s> {
         kept: Kept,
         out: &mut String,
     ) -> Result<(), AllocError>
-        ensures script { self.new.script ≡ self.old.script }
+        ensures rest { KeepsRest self.old self.new }
         ensures does { OnOk result (HappensIf (option_map (λ d. world.Torn node (table.Propose d) (view_kept kept)) (slice_get self.old.script.maps map)) self.old.farm self.new.farm) }
         ensures tells { OnOk result (string_bytes out.new ≡ string_bytes out.old ++ step_text (slice_get self.old.script.maps map) self.new.farm.refused) }
         ensures plays { Plays self.old.farm self.new.farm }
@@ -338,7 +438,7 @@ impl<'s> Session<'s> {
     }
 
     /// The definition of the map of this number. An order names a map of its own script, so there is one.
-    fn copy_of(&self, map: usize) -> Result<Option<Canon>, AllocError>
+    pub(crate) fn copy_of(&self, map: usize) -> Result<Option<Canon>, AllocError>
         ensures { IfOk result (λ copy. copy ≡ slice_get self.now.script.maps map) }
     {
         let script = self.script;
@@ -350,7 +450,7 @@ impl<'s> Session<'s> {
 }
 
 /// Which stored part a crash on that side of the record leaves.
-fn kept_of(side: Side) -> Kept
+pub(crate) fn kept_of(side: Side) -> Kept
     ensures { result ≡ kept_by side }
 {
     match side {

@@ -146,10 +146,14 @@ fn read_lines(alloc: Global, bytes: &[u8]) -> Result<Script, ScriptFault>
 {
     let mut lines = Lines::new(bytes);
     let nodes = first_line(&mut lines)?;
-    let mut draft = Draft::new(alloc);
+    let mut draft = Draft::new(alloc, nodes);
     match draft.take_lines(alloc, &mut lines) {
         Ok(()) => {
-            let Draft { maps, orders } = draft;
+            let Draft {
+                nodes: _,
+                maps,
+                orders,
+            } = draft;
             Ok(Script {
                 nodes,
                 maps,

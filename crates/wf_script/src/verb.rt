@@ -7,6 +7,7 @@ ghost use Rattle.wf_script.specs.Verb.{verb_of};
 #[derive(Clone, Copy)]
 pub(crate) enum Verb {
     Map,
+    Fuse,
     Propose,
     Retry,
     CatchUp,
@@ -34,6 +35,7 @@ impl Verb {
     {
         match word {
             "map" => Some(Verb::Map),
+            "fuse" => Some(Verb::Fuse),
             "propose" => Some(Verb::Propose),
             "retry" => Some(Verb::Retry),
             "catchup" => Some(Verb::CatchUp),

@@ -5,14 +5,15 @@ use Rattle.wf_codec.specs.declared.message.Message.{Message}
 use Rattle.wf_def.specs.Definition.{Definition}
 use Rattle.wf_model.specs.Table as table
 use Rattle.wf_edge.specs.Serving.{HandsOut, MovesOnce, Stays, Proposes}
-use Rattle.wf_farm.specs.Delivering.{StandInTurn}
+use Rattle.wf_farm.specs.Delivering.{KeepHalted, KeepTurn, StandInTurn}
+use Rattle.wf_farm.specs.DeliveringLaws.{halted_twice, keeps_turn_twice}
 use Rattle.wf_farm.specs.Leading.{AreLedSaying, IsOwn, NothingIsSaid, StepLeadsOn, said_by}
 use Rattle.wf_farm.specs.PlaceLaws.{set_same}
 use Rattle.wf_node.specs.Node.{Node}
 use Rattle.wf_node.specs.declared.fault.NodeFault.{NodeFault}
-use Rattle.wf_serve.specs.Serving.{IsAsked}
+use Rattle.wf_serve.specs.Serving.{IsAsked, IsAskedAndHeard}
 
-hands_said : (answer : Result (Vec Message Global) NodeFault) (said : Vec Message Global) → HandsOut answer said → said_by answer ≡ said.items
+pub hands_said : (answer : Result (Vec Message Global) NodeFault) (said : Vec Message Global) → HandsOut answer said → said_by answer ≡ said.items
 hands_said (Ok messages) said is = ap (λ (v : Vec Message Global). v.items) (sym is)
 hands_said (Err why) said is = sym is
 
@@ -34,3 +35,18 @@ module _ {T : Type 0} (honest : Type 0) (content : T → List ℕ) (images : T �
   moved_leads quiet (Proposes d result proposed hands) =
       subst (λ ms. AreLedSaying honest images nodes ms (slice_set nodes i after)) (hands_said result said hands)
       (law nodes i before after (table.Propose d) result at turns tt proposed.refused proposed.steps)
+
+-- A node was asked for a step of its own, and its messages were delivered: each node keeps its index and what it published, and one
+-- whose tape had failed is unchanged.
+module _ {T : Type 0} (honest : Type 0) (content : T → List ℕ) (images : T → List ℕ → Type 0) (failures : T → ℕ) (law : StepLeadsOn honest content images failures) (place : ℕ) (input : table.Input Definition) (own : IsOwn input)
+    (nodes after : List (Node T)) (turns : StandInTurn nodes) (one : IsAskedAndHeard honest content images failures place input nodes after) where
+  pub asked_led : AreLedSaying honest images nodes one.said.items one.asked
+  asked_led =
+      subst (AreLedSaying honest images nodes one.said.items) (sym one.step.changed.is)
+      (asked_leads honest content images failures law nodes place one.step.before one.step.after one.step.changed.was turns one.said input own one.step.asked)
+
+  pub asked_turn : KeepTurn nodes after
+  asked_turn = keeps_turn_twice nodes one.asked after asked_led.turn one.heard.delivered.turn
+
+  pub asked_halted : KeepHalted nodes after
+  asked_halted = halted_twice nodes one.asked after asked_led.halted one.heard.delivered.halted

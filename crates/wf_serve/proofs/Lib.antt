@@ -1,7 +1,11 @@
+mod Agreed
 mod Asked
 mod Caches
 mod Come
 mod Ended
 mod Led
+mod First
 mod Opened
+mod New
+mod Published
 mod Shortened

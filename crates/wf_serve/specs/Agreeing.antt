@@ -1,10 +1,30 @@
--- A theorem about nodes that events of the model led on.
-use Rattle.std.specs.Prelude.{ℕ, List}
+-- What holds of nodes that events of the model led to: one history, and equal responses.
+use Rattle.std.specs.Prelude.{◌≡◌, ◌≢◌, ℕ, List, length, slice_get, Some, Vec}
+use Rattle.std.specs.declared.alloc.Global.{Global}
+use Rattle.wf_codec.specs.declared.message.Message.{Message}
+use Rattle.wf_edge.specs.Law.{AsksMapService}
+use Rattle.wf_edge.specs.Serving.{Responds}
 use Rattle.wf_farm.specs.Delivering.{AnyPart}
 use Rattle.wf_farm.specs.Leading.{AreLedOn, AreReached, HaveOneHistory}
+use Rattle.wf_http.specs.Response.{Response, response_bytes}
 use Rattle.wf_node.specs.Node.{Node}
 
--- If some events led from the start to what the nodes were before, some lead to what they are now, and they publish one history.
-abbrev pub AgreeStill : {T : Type 0} → Type 0 → (T → List ℕ → Type 0) → List (Node T) → Type 0
-AgreeStill {T} honest images nodes =
-    (before : List (Node T)) → AreReached AnyPart before → AreLedOn honest images before nodes → AreReached AnyPart nodes × HaveOneHistory nodes
+module _ {T : Type 0} (honest : Type 0) (content : T → List ℕ) (images : T → List ℕ → Type 0) (failures : T → ℕ) where
+  -- Two of the nodes with the same last published sequence respond to equal requests to the map service with equal bytes, if neither
+  -- responds with allocation failure.
+  pub record RespondAlike (nodes : List (Node T)) : Type 0 where
+    pub bytes : (i j : ℕ) (input query : List ℕ) (node node_after other other_after : Node T) (sent other_sent : Vec Message Global) (response another : Response) →
+        slice_get nodes i ≡ Some node → slice_get nodes j ≡ Some other → length other.parts.history ≡ length node.parts.history → AsksMapService input query →
+        Responds honest content images failures (Some input) node response sent node_after → response.status ≢ 503 →
+        Responds honest content images failures (Some input) other another other_sent other_after → another.status ≢ 503 →
+        response_bytes another ≡ response_bytes response
+
+  -- Some events lead from the start to what the nodes are; they publish one history, and so they respond alike.
+  pub record AreAgreed (nodes : List (Node T)) : Type 0 where
+    pub reached : AreReached AnyPart nodes
+    pub history : HaveOneHistory nodes
+    pub alike : RespondAlike nodes
+
+  -- That holds of nodes to which nodes that were reached were led.
+  abbrev pub AgreeStill : List (Node T) → Type 0
+  AgreeStill nodes = (before : List (Node T)) → AreReached AnyPart before → AreLedOn honest images before nodes → AreAgreed nodes

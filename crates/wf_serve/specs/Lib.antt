@@ -6,3 +6,5 @@ pub mod Connections
 pub mod Folder
 pub mod Agreeing
 pub mod Shortening
+pub mod Publishing
+pub mod First

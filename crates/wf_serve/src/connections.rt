@@ -1,7 +1,8 @@
 //! Connections accepted at a listener, each served by the node whose turn it is.
 ghost use Rattle.std.specs.Prelude.{◌≡◌, ◌<◌, ◌%◌, length};
-ghost use Rattle.wf_farm.specs.Delivering.{AnyPart, StandInTurn};
+ghost use Rattle.wf_farm.specs.Delivering.{AnyPart, EachGrows, StandInTurn};
 ghost use Rattle.wf_farm.specs.Leading.{AreLedOn, AreReached, HaveOneHistory};
+ghost use Rattle.wf_serve.specs.Agreeing.{RespondAlike};
 ghost use Rattle.wf_serve.specs.Caching.{AreKept};
 ghost use Rattle.wf_serve.specs.Connections.{HaveCome, IsAnswered, MayBeAnswered};
 
@@ -39,6 +40,8 @@ pub fn serve_connections<R: Clock + AllocGlobal, T: Tape>(
     ensures led { AreLedOn T.honest T.images nodes.old nodes.new }
     ensures reached { AreReached AnyPart nodes.old → AreReached AnyPart nodes.new }
     ensures agree { AreReached AnyPart nodes.old → HaveOneHistory nodes.new }
+    ensures alike { AreReached AnyPart nodes.old → RespondAlike T.honest T.content T.images T.failed nodes.new }
+    ensures grows { EachGrows nodes.old nodes.new }
     ensures kept { AreKept nodes.new caches.new }
 {
     leading_goes_on::<T>();

@@ -25,9 +25,14 @@
 //!   aren't served, and what is written of that line by then (`specs/Listening.antt`).
 //! - Of that line and of each response a failed write is the last call of its writer.
 //! - All of this is one run of the farm's model: whatever world of it the nodes were, some of its events lead to what they are
-//!   afterwards. If they are reached from its start, as new nodes in memory are, no two of them have published different maps
-//!   under one sequence, whatever the connections sent (`led`, `reached` and `agree` of [`serve_nodes`], [`serve_connections`]
-//!   and [`serve_connection`]).
+//!   afterwards, and no node's published sequence goes back. If they are reached from its start, as new nodes in memory are, no two
+//!   of them have published different maps under one sequence, whatever the connections sent, and two that stand at one sequence
+//!   respond to equal requests for maps with equal bytes (`led`, `grows`, `reached`, `agree` and `alike` of [`serve_nodes`],
+//!   [`serve_connections`] and [`serve_connection`]; `specs/Agreeing.antt`).
+//! - A map that one of three new nodes accepted over a connection is published on all three, if no delivery was lost, the deliveries
+//!   didn't stop early and no tape failed ([`an_accepted_map_is_published`], `specs/Publishing.antt`). New nodes that caught up before
+//!   are new still ([`caught_up_nodes_stay_new`]), and what the first connection published all of them have published after any later
+//!   ones ([`the_first_map_is_published`], `specs/First.antt`).
 //!
 //! **Doesn't.** It doesn't state that memory suffices for a delivery, what a socket receives or sends, that a connection is
 //! accepted, which port the system chooses, how long a client is waited for, nor that a proposal is published: sockets and clocks
@@ -43,6 +48,7 @@ mod listening;
 mod opening;
 mod parting;
 mod port;
+mod publishing;
 mod serving;
 mod shortening;
 
@@ -50,6 +56,9 @@ pub use connections::serve_connections;
 pub use fault::ServeFault;
 pub use listening::{serve, serve_at, serve_nodes};
 pub use port::listen;
+pub use publishing::{
+    an_accepted_map_is_published, caught_up_nodes_stay_new, the_first_map_is_published,
+};
 pub use serving::{catch_up, serve_connection};
 pub use shortening::open_shortened;
 pub use wf_service::Service;

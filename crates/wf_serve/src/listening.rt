@@ -1,7 +1,8 @@
 //! Opens the nodes, lets them catch up, prints their port, and serves the connections.
 ghost use Rattle.std.specs.Prelude.{◌≡◌, ◌<◌, length, Some, None};
-ghost use Rattle.wf_farm.specs.Delivering.{AnyPart, StandInTurn};
+ghost use Rattle.wf_farm.specs.Delivering.{AnyPart, EachGrows, StandInTurn};
 ghost use Rattle.wf_farm.specs.Leading.{AreLedOn, AreReached, HaveOneHistory};
+ghost use Rattle.wf_serve.specs.Agreeing.{RespondAlike};
 ghost use Rattle.wf_serve.specs.Caching.{AreKept};
 ghost use Rattle.wf_serve.specs.Connections.{IfTold, IsServing};
 ghost use Rattle.wf_serve.specs.Fault.{CountsWrites};
@@ -179,6 +180,8 @@ pub fn serve_nodes<R: Clock + AllocGlobal, K: Sink, T: Tape>(
     ensures led { AreLedOn T.honest T.images nodes.old nodes.new }
     ensures reached { AreReached AnyPart nodes.old → AreReached AnyPart nodes.new }
     ensures agree { AreReached AnyPart nodes.old → HaveOneHistory nodes.new }
+    ensures alike { AreReached AnyPart nodes.old → RespondAlike T.honest T.content T.images T.failed nodes.new }
+    ensures grows { EachGrows nodes.old nodes.new }
 {
     leading_goes_on::<T>();
     catch_up(rt.alloc(), nodes);

@@ -3,15 +3,16 @@ ghost use Rattle.std.specs.Prelude.{◌≡◌, ◌≢◌, ◌<◌, false, true, 
 ghost use Rattle.wf_edge.specs.Hearing.{CountsHearing};
 ghost use Rattle.wf_edge.specs.Page.{standing_at};
 ghost use Rattle.wf_edge.specs.Saying.{CountsSaying};
-ghost use Rattle.wf_farm.specs.Delivering.{AnyPart, KeepTurn, StandInTurn};
+ghost use Rattle.wf_farm.specs.Delivering.{AnyPart, EachGrows, KeepTurn, StandInTurn};
 ghost use Rattle.wf_farm.specs.Leading.{AreLedOn, AreLedSaying, AreReached, HaveOneHistory, IsOwn};
 ghost use Rattle.wf_node.specs.Input.{view};
-ghost use Rattle.wf_serve.specs.Agreeing.{AgreeStill};
+ghost use Rattle.wf_serve.specs.Agreeing.{AgreeStill, RespondAlike};
 ghost use Rattle.wf_serve.specs.Caching.{AreKept};
 ghost use Rattle.wf_serve.specs.Serving.{AreHeard, EndsWriting, HaveCaughtUp, IsAnswer, IsAsked, IsAskedAndHeard, IsAskedAt, IsConnection, IsRetried, IsServedAt};
 
 use std::alloc::Global;
 use wf_codec::Message;
+use wf_edge::law::equal_requests_have_equal_responses;
 use wf_edge::outcome::Outcome;
 use wf_edge::serve::{Served, serve_one_cached};
 use wf_farm::{
@@ -59,6 +60,8 @@ pub fn serve_connection<S: Source, K: Sink, T: Tape>(
     ensures led { AreLedOn T.honest T.images nodes.old nodes.new }
     ensures reached { AreReached AnyPart nodes.old → AreReached AnyPart nodes.new }
     ensures agree { AreReached AnyPart nodes.old → HaveOneHistory nodes.new }
+    ensures alike { AreReached AnyPart nodes.old → RespondAlike T.honest T.content T.images T.failed nodes.new }
+    ensures grows { EachGrows nodes.old nodes.new }
     ensures kept { AreKept nodes.new caches.new }
 {
     kept_pictures_outlast_growth();
@@ -71,12 +74,13 @@ pub fn serve_connection<S: Source, K: Sink, T: Tape>(
     outcome
 }
 
-/// Nodes led on from reached nodes are reached, and publish one history.
+/// Nodes led on from reached nodes are reached, publish one history, and respond alike.
 pub(crate) fn agree_still<T: Tape>(nodes: &[Node<T>])
-    ensures { AgreeStill T.honest T.images nodes.now }
+    ensures { AgreeStill T.honest T.content T.images T.failed nodes.now }
 {
     reached_stays::<T>();
     reached_nodes_agree(nodes);
+    equal_requests_have_equal_responses::<T>();
 }
 
 /// Serves one request by the node at an index.

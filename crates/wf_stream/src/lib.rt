@@ -14,7 +14,7 @@
 //!   own error is never reported as allocation failure.
 //!
 //! **Doesn't.** It doesn't promise that a reader ever returns its next byte, nor what a writer of std does with bytes that it has
-//! taken. That no failed call is repeated, unless it was interrupted, is tested (`wf_cases_map`).
+//! taken. That no failed call is repeated, unless it was interrupted, is tested (`wf_test_map`).
 #![tactic(auto)]
 
 mod memory;

@@ -1,5 +1,6 @@
 -- What is played is the script that the input is.
 use Rattle.wf_play.proofs.Ending.{both_faults, input_begun, nothing_begun}
+use Rattle.wf_play.proofs.Last.{input_is_not_last}
 use Rattle.wf_play.proofs.Telling.{also_ok}
 use Rattle.wf_play.proofs.run.run_script.Goals as goal
 
@@ -15,3 +16,6 @@ returns-in-Ok-clause-begun g c =
 -- there is no script
 pub returns-in-Err-clause-begun : goal.returns-in-Err-clause-begun
 returns-in-Err-clause-begun g c = nothing_begun (g.S.Source.left c.args.source.now) (g.K.Sink.written c.args.sink.now) c.in-Err.fault c.in-Err.ensures.err
+
+pub returns-in-Err-clause-last : goal.returns-in-Err-clause-last
+returns-in-Err-clause-last g c = input_is_not_last g.K.Sink.written g.K.Sink.failures g.K.Sink.fails (g.S.Source.left c.args.source.now) c.args.sink.now c.in-Err.fault c.in-Err.ensures.err

@@ -37,10 +37,16 @@ pub returns-clause-led : goal.returns-clause-led
 returns-clause-led g c = c.loop-connection.invariant.led
 
 pub returns-clause-reached : goal.returns-clause-reached
-returns-clause-reached g c = λ reached. (c.agree_still.ensures c.args.nodes.now reached c.loop-connection.invariant.led).0
+returns-clause-reached g c = λ reached. (c.agree_still.ensures c.args.nodes.now reached c.loop-connection.invariant.led).reached
 
 pub returns-clause-agree : goal.returns-clause-agree
-returns-clause-agree g c = λ reached. (c.agree_still.ensures c.args.nodes.now reached c.loop-connection.invariant.led).1
+returns-clause-agree g c = λ reached. (c.agree_still.ensures c.args.nodes.now reached c.loop-connection.invariant.led).history
+
+pub returns-clause-alike : goal.returns-clause-alike
+returns-clause-alike g c = λ reached. (c.agree_still.ensures c.args.nodes.now reached c.loop-connection.invariant.led).alike
+
+pub returns-clause-grows : goal.returns-clause-grows
+returns-clause-grows g c = c.loop-connection.invariant.led.turn.lists
 
 pub returns-clause-kept : goal.returns-clause-kept
 returns-clause-kept g c = c.loop-connection.invariant.kept

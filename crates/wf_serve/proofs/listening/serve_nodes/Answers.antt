@@ -15,10 +15,16 @@ pub returns-in_default-clause-led : goal.returns-in_default-clause-led
 returns-in_default-clause-led g c = c.catch_up.ensures.led
 
 pub returns-in_default-clause-reached : goal.returns-in_default-clause-reached
-returns-in_default-clause-reached g c = λ reached. (c.agree_still.ensures c.args.nodes.now reached c.catch_up.ensures.led).0
+returns-in_default-clause-reached g c = λ reached. (c.agree_still.ensures c.args.nodes.now reached c.catch_up.ensures.led).reached
 
 pub returns-in_default-clause-agree : goal.returns-in_default-clause-agree
-returns-in_default-clause-agree g c = λ reached. (c.agree_still.ensures c.args.nodes.now reached c.catch_up.ensures.led).1
+returns-in_default-clause-agree g c = λ reached. (c.agree_still.ensures c.args.nodes.now reached c.catch_up.ensures.led).history
+
+pub returns-in_default-clause-alike : goal.returns-in_default-clause-alike
+returns-in_default-clause-alike g c = λ reached. (c.agree_still.ensures c.args.nodes.now reached c.catch_up.ensures.led).alike
+
+pub returns-in_default-clause-grows : goal.returns-in_default-clause-grows
+returns-in_default-clause-grows g c = c.catch_up.ensures.led.turn.lists
 
 pub returns-clause-served : goal.returns-clause-served
 returns-clause-served g c = record { caught = c.catch_up.new.nodes; catch_up = c.catch_up.ensures.caught; come = c.serve_kept-outcome.ensures.come }
@@ -28,8 +34,15 @@ returns-clause-led g c = c.leading_goes_on.ensures.again c.args.nodes.now c.catc
 
 pub returns-clause-reached : goal.returns-clause-reached
 returns-clause-reached g c = λ reached.
-    (c.agree_still-2.ensures c.args.nodes.now reached (c.leading_goes_on.ensures.again c.args.nodes.now c.catch_up.new.nodes c.serve_kept-outcome.new.nodes c.catch_up.ensures.led c.serve_kept-outcome.ensures.led)).0
+    (c.agree_still-2.ensures c.args.nodes.now reached (c.leading_goes_on.ensures.again c.args.nodes.now c.catch_up.new.nodes c.serve_kept-outcome.new.nodes c.catch_up.ensures.led c.serve_kept-outcome.ensures.led)).reached
 
 pub returns-clause-agree : goal.returns-clause-agree
 returns-clause-agree g c = λ reached.
-    (c.agree_still-2.ensures c.args.nodes.now reached (c.leading_goes_on.ensures.again c.args.nodes.now c.catch_up.new.nodes c.serve_kept-outcome.new.nodes c.catch_up.ensures.led c.serve_kept-outcome.ensures.led)).1
+    (c.agree_still-2.ensures c.args.nodes.now reached (c.leading_goes_on.ensures.again c.args.nodes.now c.catch_up.new.nodes c.serve_kept-outcome.new.nodes c.catch_up.ensures.led c.serve_kept-outcome.ensures.led)).history
+
+pub returns-clause-alike : goal.returns-clause-alike
+returns-clause-alike g c = λ reached.
+    (c.agree_still-2.ensures c.args.nodes.now reached (c.leading_goes_on.ensures.again c.args.nodes.now c.catch_up.new.nodes c.serve_kept-outcome.new.nodes c.catch_up.ensures.led c.serve_kept-outcome.ensures.led)).alike
+
+pub returns-clause-grows : goal.returns-clause-grows
+returns-clause-grows g c = (c.leading_goes_on.ensures.again c.args.nodes.now c.catch_up.new.nodes c.serve_kept-outcome.new.nodes c.catch_up.ensures.led c.serve_kept-outcome.ensures.led).turn.lists

@@ -1,8 +1,13 @@
--- Nodes that are reached still publish one history.
+-- Nodes that are reached still publish one history, and respond alike.
+use Rattle.wf_serve.proofs.Agreed.{respond_alike}
 use Rattle.wf_serve.proofs.serving.agree_still.Goals as goal
 
 pub returns : goal.returns
-returns g c = λ before reached led. (
-  c.reached_stays.ensures.any before c.args.nodes.now reached led,
-  c.reached_nodes_agree.ensures (c.reached_stays.ensures.any before c.args.nodes.now reached led),
-)
+returns g c = λ before reached led.
+    let now_reached = c.reached_stays.ensures.any before c.args.nodes.now reached led in
+    let history = c.reached_nodes_agree.ensures now_reached in
+    record {
+      reached = now_reached;
+      history = history;
+      alike = respond_alike g.T.Tape.honest g.T.Tape.content g.T.Tape.images g.T.Tape.failed c.equal_requests_have_equal_responses.ensures c.args.nodes.now history;
+    }

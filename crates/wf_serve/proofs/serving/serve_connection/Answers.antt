@@ -31,12 +31,22 @@ returns-clause-led g c =
 pub returns-clause-reached : goal.returns-clause-reached
 returns-clause-reached g c = λ reached.
     let first = c.deliveries_lead_on.ensures c.args.nodes.now c.served_at-outcome.new.nodes c.hear.new.nodes c.served_at-outcome.result.messages.items c.hear.ensures.heard.deliveries c.served_at-outcome.ensures.says c.hear.ensures.heard.delivered in
-    (c.agree_still.ensures c.args.nodes.now reached (c.leading_goes_on.ensures.again c.args.nodes.now c.hear.new.nodes c.retry.new.nodes first c.retry.ensures.led)).0
+    (c.agree_still.ensures c.args.nodes.now reached (c.leading_goes_on.ensures.again c.args.nodes.now c.hear.new.nodes c.retry.new.nodes first c.retry.ensures.led)).reached
 
 pub returns-clause-agree : goal.returns-clause-agree
 returns-clause-agree g c = λ reached.
     let first = c.deliveries_lead_on.ensures c.args.nodes.now c.served_at-outcome.new.nodes c.hear.new.nodes c.served_at-outcome.result.messages.items c.hear.ensures.heard.deliveries c.served_at-outcome.ensures.says c.hear.ensures.heard.delivered in
-    (c.agree_still.ensures c.args.nodes.now reached (c.leading_goes_on.ensures.again c.args.nodes.now c.hear.new.nodes c.retry.new.nodes first c.retry.ensures.led)).1
+    (c.agree_still.ensures c.args.nodes.now reached (c.leading_goes_on.ensures.again c.args.nodes.now c.hear.new.nodes c.retry.new.nodes first c.retry.ensures.led)).history
+
+pub returns-clause-alike : goal.returns-clause-alike
+returns-clause-alike g c = λ reached.
+    let first = c.deliveries_lead_on.ensures c.args.nodes.now c.served_at-outcome.new.nodes c.hear.new.nodes c.served_at-outcome.result.messages.items c.hear.ensures.heard.deliveries c.served_at-outcome.ensures.says c.hear.ensures.heard.delivered in
+    (c.agree_still.ensures c.args.nodes.now reached (c.leading_goes_on.ensures.again c.args.nodes.now c.hear.new.nodes c.retry.new.nodes first c.retry.ensures.led)).alike
+
+pub returns-clause-grows : goal.returns-clause-grows
+returns-clause-grows g c =
+    let first = c.deliveries_lead_on.ensures c.args.nodes.now c.served_at-outcome.new.nodes c.hear.new.nodes c.served_at-outcome.result.messages.items c.hear.ensures.heard.deliveries c.served_at-outcome.ensures.says c.hear.ensures.heard.delivered in
+    (c.leading_goes_on.ensures.again c.args.nodes.now c.hear.new.nodes c.retry.new.nodes first c.retry.ensures.led).turn.lists
 
 pub returns-clause-kept : goal.returns-clause-kept
 returns-clause-kept g c =

@@ -1,0 +1,185 @@
+-- A proposal at one of three new nodes is published on all.
+use Rattle.std.proofs.Common.{◌≡◌, ◌<◌, ℕ, zero, suc, true, false, List, [], ◌∷◌, length, slice_get, slice_set, Some, Ok, Vec, refl, sym, ap, subst, ◌∙◌, arith, inl, inr}
+use Rattle.std.specs.declared.alloc.Global.{Global}
+use Rattle.std.specs.List.{AllByRecursion}
+use Rattle.std.proofs.lemmas.Option.{none-some, same_Some, slice_get_within, slice_get_cases}
+use Rattle.wf_codec.specs.declared.message.Message.{Message}
+use Rattle.wf_def.specs.Definition.{Definition}
+use Rattle.wf_def.specs.Equality.{definition_eq}
+use Rattle.wf_def.specs.EqualityLaws.{definition_eq_equiv}
+use Rattle.wf_model.specs.Stored.{definition_at}
+use Rattle.wf_model.specs.Table as table
+use Rattle.wf_model.specs.World as world
+use Rattle.wf_model.specs.World.{World, Propose, happens, input_of, start, steps}
+use Rattle.wf_node.specs.Growth.{row_grown}
+use Rattle.wf_node.specs.Node.{Node}
+use Rattle.wf_node.specs.Step.{IsStep, row_of}
+use Rattle.wf_farm.specs.declared.place.Place.{Place}
+use Rattle.wf_farm.specs.declared.place.Place.TheVariants.{Running, Stopped}
+use Rattle.wf_farm.specs.Agreement.{HasStored, Publishes}
+use Rattle.wf_farm.specs.Cluster.{Moves}
+use Rattle.wf_farm.specs.Delivering.{AnyPart, AreNodes, Shows, StandInTurn, KeepTurn, AreHandedOut}
+use Rattle.wf_farm.specs.DeliveringLaws.{keeps_turn}
+use Rattle.wf_farm.specs.Farm as farm
+use Rattle.wf_farm.specs.Farm.{Farm, Runs, size}
+use Rattle.wf_farm.specs.Leading.{AreFresh}
+use Rattle.wf_farm.specs.Place.{IsNode}
+use Rattle.wf_farm.specs.Publishing.{NoneHalted, AllPublish, ArePumped, PublishedOnAll, PublishedByPump}
+use Rattle.wf_farm.specs.Pump.{AreTargets, IsPumped, deliveries, rounds}
+use Rattle.wf_farm.proofs.Deliveries.{is_running, steps_shown}
+use Rattle.wf_farm.proofs.Events.{as_many, node_at}
+use Rattle.wf_farm.proofs.Exactly.{as_many_sent, delivered_exactly, ends_once, pump_ended, pump_shown, whole_rounds}
+use Rattle.wf_farm.proofs.Listed.{IsUpTo, none_up_to, one_up_to, targets_up_to, up_to_targets}
+use Rattle.wf_farm.proofs.OneRun.{fresh_shown}
+use Rattle.wf_farm.proofs.ThreeNodes.{IsEnded, three, world_at, is_run, all_sent, all_ended, all_counted, began_long}
+
+-- ---- the world
+
+same_itself : (d : Definition) → definition_eq d d ≡ true
+same_itself d = definition_eq_equiv.refl d
+
+-- what holds of all elements holds of that at an index
+one_of_all : {A : Type 0} (P : A → Type 0) (xs : List A) (i : ℕ) (x : A) → AllByRecursion P xs → slice_get xs i ≡ Some x → P x
+one_of_all P [] i x all at = absurd (none-some x at)
+one_of_all P (y ∷ xs) zero x all at = subst P (same_Some y x at) all.0
+one_of_all P (y ∷ xs) (suc i) x all at = one_of_all P xs i x all.1 at
+
+module _ (d : Definition) (i : ℕ) (node : i < 3) where
+  abbrev began : World Definition
+  began = happens definition_eq (start 3) (Propose i d)
+
+  abbrev after_rounds : ℕ → World Definition
+  after_rounds k = steps definition_eq began (rounds three 0 k)
+
+  nine_rounds : after_rounds 9 ≡ world_at d i 9
+  nine_rounds = is_run d definition_eq (same_itself d) i node 9 (omega arith)
+
+  -- Nine rounds are made until no message is left.
+  nine : (k : ℕ) → k ≡ length (after_rounds k).sent → k ≡ 9
+  nine k ends = sym (ends_once began three 9 k (sym (ap (λ (w : World Definition). length w.sent) nine_rounds ∙ all_sent d i node)) ends)
+
+  -- Then each node has published the definition, and runs no proposal.
+  published : (k : ℕ) → k ≡ length (after_rounds k).sent → (j : ℕ) (x : world.Node Definition) → slice_get (after_rounds k).nodes j ≡ Some x → IsEnded d x
+  published k ends j x at =
+      let is : after_rounds k ≡ world_at d i 9 = ap after_rounds (nine k ends) ∙ nine_rounds in
+      one_of_all (IsEnded d) (world_at d i 9).nodes j x (all_ended d i node) (subst (λ (w : World Definition). slice_get w.nodes j ≡ Some x) is at)
+
+-- the nodes of three
+three_up_to : IsUpTo 3 three
+three_up_to = one_up_to 2 (0 ∷ 1 ∷ []) (one_up_to 1 (0 ∷ []) (one_up_to 0 [] none_up_to))
+
+are_three : (targets : List ℕ) → IsUpTo 3 targets → targets ≡ three
+are_three [] is = absurd (omega (arith, is.long))
+are_three (a ∷ []) is = absurd (omega (arith, is.long))
+are_three (a ∷ b ∷ []) is = absurd (omega (arith, is.long))
+are_three (a ∷ b ∷ c ∷ []) is =
+    ap (λ x. x ∷ b ∷ c ∷ []) (is.own 0 0 (omega arith)) ∙ ap (λ x. 0 ∷ x ∷ c ∷ []) (is.own 1 0 (omega arith)) ∙ ap (λ x. 0 ∷ 1 ∷ x ∷ []) (is.own 2 0 (omega arith))
+are_three (a ∷ b ∷ c ∷ e ∷ more) is = absurd (omega (arith, is.long))
+
+-- ---- nodes that a caller holds
+
+-- In a world in which each node has published the definition, so have the nodes, if none is halted.
+published_by : {T : Type 0} (nodes : List (Node T)) (w : World Definition) (d : Definition) → ((i : ℕ) (x : world.Node Definition) → slice_get w.nodes i ≡ Some x → IsEnded d x) → AreNodes AnyPart nodes w.nodes →
+    NoneHalted nodes → AllPublish nodes d
+unfolding NoneHalted AllPublish
+published_by nodes w d each shown none = λ i node at.
+    let here = shown.node_is i node at in
+    subst (IsEnded d) (is_running (AnyPart i) node here.0 (none i node at) here.2) (each i here.0 here.1)
+
+module _ {T : Type 0} (honest : Type 0) (content : T → List ℕ) (images : T → List ℕ → Type 0) (failures : T → ℕ) (nodes : List (Node T)) (i : ℕ) (before proposed : Node T) (d : Definition) (said : Vec Message Global)
+    (long : length nodes ≡ 3) (turns : StandInTurn nodes) (fresh : AreFresh nodes) (at : slice_get nodes i ≡ Some before) (step : IsStep honest content images failures before (table.Propose d) (Ok said) proposed) where
+  node_within : i < 3
+  node_within = let within : i < length nodes = slice_get_within nodes i before at in omega (arith, within, long)
+
+  -- The proposal leads to exactly the world after it.
+  proposed_shown : Shows AnyPart (slice_set nodes i proposed) said.items (began d i node_within)
+  unfolding happens input_of AreFresh
+  proposed_shown =
+      steps_shown AnyPart nodes [] i before proposed (table.Propose d) (table.Propose d) at refl turns (start 3) said.items (fresh i before at).runs (sym step.refused) step.done
+      (subst (λ n. Shows AnyPart nodes [] (start n)) long (fresh_shown AnyPart nodes fresh))
+
+  proposed_turn : KeepTurn nodes (slice_set nodes i proposed)
+  proposed_turn = keeps_turn nodes i before proposed at (step.done.id, step.done.n, row_grown before proposed (row_of before (table.Propose d)) said.items step.done)
+
+  module _ (after : List (Node T)) (done : ℕ) (out : AreHandedOut honest content images (slice_set nodes i proposed) said.items done 0 false after) (none : NoneHalted after) where
+    many : length (slice_set nodes i proposed) ≡ 3
+    many = proposed_turn.as_many ∙ long
+
+    delivered : ArePumped three (began d i node_within) done false after
+    delivered =
+        delivered_exactly honest content images (slice_set nodes i proposed) after said.items done false (began d i node_within) three (omega (arith, many))
+        (subst (λ n. AreTargets n [] three) (sym many) (up_to_targets 3 three three_up_to)) (proposed_turn.in_turn turns) proposed_shown out none
+
+    in_rounds : deliveries three 0 delivered.come.whole delivered.come.some ≡ rounds three 0 delivered.come.whole
+    in_rounds = ap (deliveries three 0 delivered.come.whole) delivered.ended.0 ∙ whole_rounds (began d i node_within) three delivered.come.whole
+
+    delivered_shown : Shows AnyPart after delivered.sent (after_rounds d i node_within delivered.come.whole)
+    delivered_shown = subst (λ es. Shows AnyPart after delivered.sent (steps definition_eq (began d i node_within) es)) in_rounds delivered.shows
+
+    delivered_ends : delivered.come.whole ≡ length (after_rounds d i node_within delivered.come.whole).sent
+    delivered_ends = delivered.ended.1 ∙ sym (as_many_sent after delivered.sent (after_rounds d i node_within delivered.come.whole) delivered_shown)
+
+    all_done : done ≡ 27
+    all_done =
+        sym delivered.counted ∙ ap length (ap (deliveries three 0 delivered.come.whole) delivered.ended.0)
+        ∙ ap (λ k. length (deliveries three 0 k 0)) (nine d i node_within delivered.come.whole delivered_ends) ∙ all_counted
+
+    all_publish : AllPublish after d
+    all_publish =
+        published_by after (after_rounds d i node_within delivered.come.whole) d (published d i node_within delivered.come.whole delivered_ends) delivered_shown.nodes_are none
+
+pub published_on_all : {T : Type 0} (honest : Type 0) (content : T → List ℕ) (images : T → List ℕ → Type 0) (failures : T → ℕ) → PublishedOnAll honest content images failures
+published_on_all honest content images failures = λ nodes after i before proposed d said done long turns fresh at step out none. (
+  all_done honest content images failures nodes i before proposed d said long turns fresh at step after done out none,
+  all_publish honest content images failures nodes i before proposed d said long turns fresh at step after done out none,
+)
+
+-- ---- a farm
+
+-- an entry's node has stored what the world's node has
+stored_in : (place : Place) (x : world.Node Definition) → IsNode place x → HasStored (Some place) x.stored
+stored_in (Running node) x is = ap (λ (y : world.Node Definition). y.stored) is
+stored_in (Stopped tape) x is = is.1
+
+module _ (now : Farm) (w : World Definition) (d : Definition) (shows : farm.Shows now w) (each : (i : ℕ) (x : world.Node Definition) → slice_get w.nodes i ≡ Some x → IsEnded d x) where
+  published_at : (j : ℕ) (place : Place) → slice_get now.places j ≡ Some place → Publishes now j 1 d
+  unfolding definition_at
+  published_at j place at =
+      let here = node_at now.places w.nodes j place shows.nodes at in
+      record {
+        stored = here.0.stored;
+        has = subst (λ p. HasStored p here.0.stored) (sym at) (stored_in place here.0 here.2);
+        entry = ap (λ ds. slice_get ds 0) (each j here.0 here.1).0;
+      }
+
+  pub published_in : (j : ℕ) → j < size now → Publishes now j 1 d
+  published_in j within = elim (slice_get_cases now.places j).1 [
+    | inl there ↦ published_at j there.0 there.2
+    | inr past ↦ absurd (omega (arith, within, past.0))
+  ]
+
+module _ (before proposed now : Farm) (i : ℕ) (d : Definition) (new : farm.Shows before (start 3)) (first : before.pumped ≡ 0) (node : i < 3) (runs : Runs (Propose i d ∷ []) before proposed) (same : proposed.pumped ≡ before.pumped)
+    (pumped : IsPumped [] proposed now false) where
+  farm_began : farm.Shows proposed (began d i node)
+  unfolding Moves steps
+  farm_began = runs (start 3) new
+
+  of_three : pumped.0.targets ≡ three
+  of_three = are_three pumped.0.targets (subst (λ n. IsUpTo n pumped.0.targets) farm_long (targets_up_to (size proposed) pumped.0.targets pumped.0.are_targets))
+    where
+      farm_long : size proposed ≡ 3
+      farm_long = sym (as_many proposed.places (began d i node).nodes farm_began.nodes) ∙ began_long d definition_eq i node
+
+  farm_shown : farm.Shows now (after_rounds d i node pumped.0.whole)
+  farm_shown = subst (λ ts. farm.Shows now (steps definition_eq (began d i node) (rounds ts 0 pumped.0.whole))) of_three (pump_shown proposed now (began d i node) farm_began (same ∙ first) pumped)
+
+  farm_ends : pumped.0.whole ≡ length (after_rounds d i node pumped.0.whole).sent
+  farm_ends =
+      pump_ended proposed now (began d i node) farm_began (same ∙ first) pumped
+      ∙ ap (λ ts. length (steps definition_eq (began d i node) (rounds ts 0 pumped.0.whole)).sent) of_three
+
+  pub farm_publishes : (j : ℕ) → j < size now → Publishes now j 1 d
+  farm_publishes = published_in now (after_rounds d i node pumped.0.whole) d farm_shown (published d i node pumped.0.whole farm_ends)
+
+pub published_by_pump : PublishedByPump
+published_by_pump = λ before proposed now i d new first node runs same pumped. farm_publishes before proposed now i d new first node runs same pumped

@@ -1,0 +1,45 @@
+-- A map that is accepted over a connection to one of three new nodes is published on all of them; and new nodes that caught up are
+-- new still.
+use Rattle.std.specs.Prelude.{◌≡◌, ℕ, false, List, length, Option, IfSome}
+use Rattle.wf_def.specs.Definition.{Definition}
+use Rattle.wf_edge.specs.Publish.{IsMapOf}
+use Rattle.wf_edge.specs.declared.outcome.Outcome.{Outcome}
+use Rattle.wf_edge.specs.declared.outcome.Outcome.TheVariants as outcome
+use Rattle.wf_farm.specs.Delivering.{StandInTurn}
+use Rattle.wf_farm.specs.Leading.{AreFresh}
+use Rattle.wf_farm.specs.Publishing.{AllPublish, NoneHalted}
+use Rattle.wf_http.specs.Request.{Request, BeginsWith}
+use Rattle.wf_node.specs.Node.{Node}
+use Rattle.wf_serve.specs.Serving.{HaveCaughtUp, IsConnection}
+
+-- the status of the response to an accepted map (RFC 9110, 15.3.3)
+abbrev pub accepted_status : ℕ
+accepted_status = 202
+
+-- The response had that status, whether or not it was written completely.
+abbrev pub WasAccepted : Outcome → Type 0
+WasAccepted (outcome.Sent status count) = status ≡ accepted_status
+WasAccepted (outcome.WriteFailed status count) = status ≡ accepted_status
+WasAccepted outcome.ReadFailed = ⊥
+WasAccepted outcome.NoRequest = ⊥
+
+-- Each node has published the map that the body of the request means, under sequence 1, and no proposal is running.
+pub record HavePublished {T : Type 0} (input : Option (List ℕ)) (nodes : List (Node T)) : Type 0 where
+  pub request : Request
+  -- the request that was received, if what was received is known
+  pub received : IfSome input (λ bytes. BeginsWith bytes request)
+  pub map : Definition
+  pub is_map : IsMapOf request.body map
+  pub published : AllPublish nodes map
+
+-- A connection to one of three new nodes was answered so; none of the deliveries of the node's messages was lost, they went on until
+-- none was left, and no tape failed.
+abbrev pub AcceptedIsPublished : {T : Type 0} → Type 0 → (T → List ℕ) → (T → List ℕ → Type 0) → (T → ℕ) → Type 0
+AcceptedIsPublished {T} honest content images failures = (place : ℕ) (input old new : Option (List ℕ)) (nodes nodes_after : List (Node T)) (outcome : Outcome) →
+    length nodes ≡ 3 → StandInTurn nodes → AreFresh nodes → (connection : IsConnection honest content images failures place input old new nodes outcome nodes_after) → WasAccepted outcome →
+    connection.hearing.lost ≡ 0 → connection.hearing.stopped ≡ false → NoneHalted connection.heard → HavePublished input nodes_after
+
+-- New nodes that caught up, and no tape of which failed, are new still, whatever was lost.
+abbrev pub CaughtUpAreNew : {T : Type 0} → Type 0 → (T → List ℕ) → (T → List ℕ → Type 0) → (T → ℕ) → Type 0
+CaughtUpAreNew {T} honest content images failures = (nodes nodes_after : List (Node T)) → StandInTurn nodes → AreFresh nodes → HaveCaughtUp honest content images failures (length nodes) nodes nodes_after →
+    NoneHalted nodes_after → AreFresh nodes_after

@@ -1,0 +1,164 @@
+//! Command lines.
+use crate::recorder::Recorder;
+use clap::Error;
+use std::alloc::Global;
+use wf_commands::ending::Ending;
+use wf_commands::program::{rejection_status, run_words};
+use wf_farm::Carrier;
+use wf_line::arguments::line;
+use wf_line::line::{Line, Service};
+use wf_stream::Stream;
+use wf_test_table::escape::unescape;
+use wf_test_table::{Answer, Answered, Asked, Unanswered};
+
+fn tell_service(service: Service<'_>, answer: &mut Answer) {
+    answer.text("serve ");
+    answer.value(service.nodes);
+    answer.text(" ");
+    answer.value(service.port);
+    answer.text(" ");
+    answer.value(service.requests);
+    answer.text(", kept ");
+    answer.value(service.cache);
+    if let Some(folder) = service.state {
+        tell_bracketed(folder, answer);
+    }
+    answer.line("");
+}
+
+fn tell_bracketed(text: &str, answer: &mut Answer) {
+    answer.texts(&[" [", text, "]"]);
+}
+
+fn tell_line(asked_for: Line<'_>, answer: &mut Answer) {
+    match asked_for {
+        Line::Canon => answer.line("canon"),
+        Line::Run => answer.line("run"),
+        Line::Wire => answer.line("wire"),
+        Line::Tape { file } => {
+            answer.text("tape");
+            tell_bracketed(file, answer);
+            answer.line("");
+        }
+        Line::Serve(service) => tell_service(service, answer),
+        Line::Caps { seq, query } => {
+            answer.text("caps ");
+            answer.value(seq);
+            tell_bracketed(query, answer);
+            answer.line("");
+        }
+        Line::Draw { query } => {
+            answer.text("draw");
+            tell_bracketed(query, answer);
+            answer.line("");
+        }
+    }
+}
+
+// The exit status of a rejected command line, whose text is printed.
+fn status_of(error: Error) -> u8 {
+    let status = rejection_status(error.kind(), true);
+    drop(error);
+    status
+}
+
+fn tell_rejection(status: u8, answer: &mut Answer) {
+    answer.text("rejected with status ");
+    answer.value(status);
+    answer.line("");
+}
+
+// The words between the separators; none where there is nothing.
+fn words_of<'a>(alloc: Global, text: &'a str, separator: char) -> Result<Vec<&'a str>, Unanswered> {
+    let mut words = Vec::new(alloc);
+    if !text.is_empty() {
+        for word in text.split(separator) {
+            if words.push(word).is_err() {
+                return Err(Unanswered::Memory);
+            }
+        }
+    }
+    Ok(words)
+}
+
+// The words of a text with a word a line, with or without the last line feed.
+fn words_of_lines<'a>(alloc: Global, text: &'a str) -> Result<Vec<&'a str>, Unanswered> {
+    words_of(alloc, text.strip_suffix('\n').unwrap_or(text), '\n')
+}
+
+fn tell_words(alloc: Global, words: &[&str], answer: &mut Answer) {
+    match line(alloc, words) {
+        Ok(asked_for) => tell_line(asked_for, answer),
+        Err(error) => tell_rejection(status_of(error), answer),
+    }
+}
+
+/// `line`: what a command line asks for, or that it is rejected. Its words have spaces between; `line in lines` has a word a
+/// line.
+pub(crate) fn line_of(asked: Asked<'_>, answer: &mut Answer) -> Answered {
+    let text = asked.text()?;
+    let words = match asked.words.rest() {
+        "" => words_of(asked.alloc, text, ' ')?,
+        "in lines" => words_of_lines(asked.alloc, text)?,
+        _ => return Err(Unanswered::BadWords),
+    };
+    tell_words(asked.alloc, &words, answer);
+    drop(words);
+    Ok(())
+}
+
+fn tell_ending(ending: Ending, answer: &mut Answer) {
+    if let Some(fault) = ending.reported {
+        answer.value(fault);
+        answer.line("");
+    }
+    if ending.status != 0 {
+        answer.text("status ");
+        answer.value(ending.status);
+        answer.line("");
+    }
+}
+
+// Runs what a command line asks for. In place of serving nodes a line tells what is to be served.
+fn tell_run<C: Carrier>(asked: Asked<'_>, carrier: &mut C, words: &[&str], answer: &mut Answer) {
+    let mut source = Stream::new(asked.input);
+    let mut sink = Stream::new(answer.target());
+    let server = Recorder {
+        alloc: asked.alloc,
+        tape: asked.input,
+    };
+    let outcome = run_words(asked.alloc, words, &mut source, &mut sink, &server, carrier);
+    drop(sink);
+    match outcome {
+        Ok(ending) => tell_ending(ending, answer),
+        Err(error) => tell_rejection(status_of(error), answer),
+    }
+}
+
+/// `run WORDS`: what the program writes about the input, its error line, and the exit status if that isn't 0. WORDS are the
+/// command line's, spelled with escapes, with `\n` between. The input is also the file `node-0.tape`, the only one that there is. The
+/// messages of `wire` come by the carrier.
+pub(crate) fn run<C: Carrier>(asked: Asked<'_>, carrier: &mut C, answer: &mut Answer) -> Answered {
+    let mut text = Answer::new(asked.alloc);
+    let told = match unescape(asked.words.rest(), &mut text) {
+        Ok(()) => run_text(asked, carrier, &text, answer),
+        Err(unanswered) => Err(unanswered),
+    };
+    drop(text);
+    told
+}
+
+fn run_text<C: Carrier>(
+    asked: Asked<'_>,
+    carrier: &mut C,
+    text: &Answer,
+    answer: &mut Answer,
+) -> Answered {
+    let Ok(text) = str::from_utf8(text.written()?) else {
+        return Err(Unanswered::BadWords);
+    };
+    let words = words_of(asked.alloc, text, '\n')?;
+    tell_run(asked, carrier, &words, answer);
+    drop(words);
+    Ok(())
+}

@@ -1,0 +1,67 @@
+//! Scripts.
+use std::alloc::Global;
+use wf_codec::Message;
+use wf_farm::{Carrier, CarrierFault, Copies};
+use wf_play::run_script;
+use wf_stream::Stream;
+use wf_test_table::{Answer, Answered, Asked};
+
+/// What the script writes with its messages brought by the carrier, and its error line after that, where it has one.
+pub(crate) fn script<C: Carrier>(
+    asked: Asked<'_>,
+    carrier: &mut C,
+    answer: &mut Answer,
+) -> Answered {
+    let mut source = Stream::new(asked.input);
+    let mut sink = Stream::new(answer.target());
+    let played = run_script(asked.alloc, carrier, &mut source, &mut sink);
+    drop(sink);
+    if let Err(fault) = played {
+        answer.value(fault);
+        answer.line("");
+    }
+    Ok(())
+}
+
+/// Copies messages, and fails at one of its calls.
+#[derive(Drop)]
+struct Losing {
+    calls: u32,
+    failing: u32,
+}
+
+impl Losing {
+    /// Whether this call fails.
+    fn fails(&mut self) -> bool {
+        let fails = self.calls == self.failing;
+        self.calls = self.calls.saturating_add(1);
+        fails
+    }
+}
+
+impl Carrier for Losing {
+    fn carry(&mut self, alloc: Global, message: &Message) -> Result<Message, CarrierFault> {
+        if self.fails() {
+            return Err(CarrierFault::Lost);
+        }
+        Copies.carry(alloc, message)
+    }
+
+    fn cut(
+        &mut self,
+        _alloc: Global,
+        _message: &Message,
+        _bytes: usize,
+    ) -> Result<(), CarrierFault> {
+        if self.fails() {
+            return Err(CarrierFault::Lost);
+        }
+        Ok(())
+    }
+}
+
+/// `script_losing N`: what the script writes by a carrier whose call N, counted from 0, fails.
+pub(crate) fn script_losing(mut asked: Asked<'_>, answer: &mut Answer) -> Answered {
+    let failing = asked.words.number()?;
+    script(asked, &mut Losing { calls: 0, failing }, answer)
+}

@@ -1,0 +1,28 @@
+//! The questions by their names.
+use crate::{broken, commands, fused, lines, played};
+use std::net::{Net, TcpListener, TcpStream};
+use wf_farm::Copies;
+use wf_link::Connection;
+use wf_test_table::{Answer, Answered, Asked, Questions, Unanswered};
+
+/// All questions of this program. It opens connections of this machine to itself.
+#[derive(Drop)]
+pub(crate) struct CommandQuestions<'r, R>(pub(crate) &'r R);
+
+impl<'r, R: Net<Listener = TcpListener, Stream = TcpStream>> Questions for CommandQuestions<'r, R> {
+    fn answer(&self, mut asked: Asked<'_>, answer: &mut Answer) -> Answered {
+        match asked.words.word() {
+            "canon" => commands::canon(asked, answer),
+            "canon_broken" => broken::canon_broken(asked, answer),
+            "canon_twice" => commands::canon_twice(asked, answer),
+            "caps" => commands::caps(asked, answer),
+            "fused" => fused::fused(asked, answer),
+            "line" => lines::line_of(asked, answer),
+            "run" => lines::run(asked, &mut Connection::new(self.0), answer),
+            "script" => played::script(asked, &mut Copies, answer),
+            "script_losing" => played::script_losing(asked, answer),
+            "script_wired" => played::script(asked, &mut Connection::new(self.0), answer),
+            _ => Err(Unanswered::UnknownQuestion),
+        }
+    }
+}

@@ -1,0 +1,79 @@
+//! A server that tells what it is asked to serve, and the files that it has.
+ghost use Rattle.std.specs.Prelude.{None};
+ghost use Rattle.wf_commands.specs.Counting.{FailsLast};
+ghost use Rattle.wf_serve.specs.Fault.{CountsWrites};
+
+use std::alloc::Global;
+use wf_commands::server::{ServeFault, Server};
+use wf_commands::tapes::Tapes;
+use wf_line::line::Service;
+use wf_listing::TapeReadFault;
+use wf_stream::{Sink, write_all};
+
+/// The port that this server never gets.
+const TAKEN_PORT: u16 = 1;
+
+/// The path of the one file that can be read.
+const TAPE_PATH: &str = "node-0.tape";
+
+/// Writes a line with the service in place of serving nodes. Port 1 is taken. The only file is `node-0.tape`.
+#[derive(Drop)]
+pub(crate) struct Recorder<'a> {
+    pub(crate) alloc: Global,
+    pub(crate) tape: &'a [u8],
+}
+
+impl<'a> Tapes for Recorder<'a> {
+    ghost content = { λ _ _. None };
+
+    fn read(&self, alloc: Global, path: &str) -> Result<Vec<u8>, TapeReadFault> {
+        if path != TAPE_PATH {
+            return Err(TapeReadFault::Failed);
+        }
+        match self.tape.to_vec(alloc) {
+            Ok(bytes) => Ok(bytes),
+            Err(_) => Err(TapeReadFault::Memory),
+        }
+    }
+}
+
+impl<'a> Server for Recorder<'a> {
+    ghost serves = { λ _ _ _ _ _. Unit {0} };
+
+    #[tactic(auto, unfolding(wf_commands::specs::Counting::FailsLast))]
+    fn serve<K: Sink>(&self, service: Service<'_>, sink: &mut K) -> Result<(), ServeFault> {
+        if service.port == TAKEN_PORT {
+            return Err(ServeFault::Start);
+        }
+        write_service(self.alloc, service, sink)
+    }
+}
+
+// Writes `nodes N port P requests K cache C state DIR`, where DIR is in brackets if there is one.
+#[tactic(auto, unfolding(wf_commands::specs::Counting::FailsLast))]
+fn write_service<K: Sink>(
+    alloc: Global,
+    service: Service<'_>,
+    sink: &mut K,
+) -> Result<(), ServeFault>
+    ensures writes { CountsWrites result (K.failures sink.old) (K.failures sink.new) }
+    ensures last { FailsLast K.written K.failures K.fails sink.old sink.new }
+{
+    let (open, folder, close) = match service.state {
+        Some(folder) => ("[", folder, "]"),
+        None => ("", "none", ""),
+    };
+    let (nodes, port) = (service.nodes, service.port);
+    let (requests, cache) = (service.requests, service.cache);
+    let Ok(line) = format!(in alloc;
+        "nodes {nodes} port {port} requests {requests} cache {cache} state {open}{folder}{close}\n"
+    ) else {
+        return Err(ServeFault::Start);
+    };
+    let written = write_all(sink, line.as_bytes());
+    drop(line);
+    match written {
+        Ok(()) => Ok(()),
+        Err(_) => Err(ServeFault::Write),
+    }
+}

@@ -1,0 +1,32 @@
+//! Test cases about a farm's node numbers, sequences, slots and ballots, the bytes of its messages and tapes, and what an
+//! acceptor, a proposer, a history and a whole node answer to a script of calls; and what a node opens with on a tape.
+//!
+//! Standard input is a table of cases (`wf_test_table` defines its format). The program compares each answer with the expected one and
+//! writes each difference, with the counts on the last line. [`questions`] lists the questions.
+//!
+//! It has no contract of its own: its answers are those of `wf_ballot`, `wf_codec`, `wf_wire`, `wf_tape`, `wf_acceptor`, `wf_proposer`,
+//! `wf_learner` and `wf_node`, put into words.
+#![tactic(auto)]
+
+mod acceptor;
+mod history;
+mod inbox;
+mod message;
+mod node;
+mod number;
+mod opening;
+mod proposer;
+mod questions;
+mod reading;
+mod spelling;
+mod tape;
+mod taping;
+mod tries;
+
+use questions::Farm;
+use std::process::ExitCode;
+use wf_test_table::run_program;
+
+fn main(rt: HostRuntime) -> ExitCode {
+    run_program(&rt, &Farm)
+}

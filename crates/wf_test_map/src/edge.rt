@@ -1,0 +1,46 @@
+//! What clients of a node's HTTP edge ask. The input is what a client sends.
+//!
+//! ```text
+//! hear                       what was read of the request, or what became of it, and the bytes that are written
+//! hear by N                  the same, where a read gives at most N bytes
+//! hear by N failing at K     the same, where the K-th read fails, as one whose connection is reset; `interrupted`, `timed-out` or
+//!                            `out-of-memory` in place of `failing`: it fails so. The reads after it go on
+//! hear room N                the same, where the writer takes N bytes and then fails
+//! serve NODE of NODES [WAY]  what a new node NODE, of NODES, answers to the request, and the messages that it sends. Bytes of 0
+//!                            separate several requests; each is read and answered in the same way: `by N`, `by N failing at K` and
+//!                            so on, `room N`
+//! refuse NODE of NODES [WAY] the same, where the node's tape fails
+//! serve_published NODE of NODES [WAY]    the same of a node that has published a map: its mapfile and a byte of 0 come first
+//! serve_cached NODE of NODES [WAY]       the same of one request that comes twice, by a cache of one picture
+//! ```
+use crate::broken::Broken;
+use crate::exchange::{Exchange, tell_hearing};
+use crate::published::serve_published;
+use crate::serving::serve;
+use wf_tape::MemoryTape;
+use wf_test_table::{Answer, Answered, Asked};
+
+/// `hear`: what is read of a request, or what became of it.
+pub(crate) fn hear(asked: Asked<'_>, answer: &mut Answer) -> Answered {
+    tell_hearing(asked, Exchange::read(asked.words)?, answer)
+}
+
+/// `serve`: what a new node answers.
+pub(crate) fn serve_one(asked: Asked<'_>, answer: &mut Answer) -> Answered {
+    serve(asked, MemoryTape::new(Vec::new(asked.alloc)), answer)
+}
+
+/// `refuse`: what a new node answers whose tape fails.
+pub(crate) fn refuse(asked: Asked<'_>, answer: &mut Answer) -> Answered {
+    serve(asked, Broken::new(), answer)
+}
+
+/// `serve_published`: what a node answers that has published a map.
+pub(crate) fn serve_map(asked: Asked<'_>, answer: &mut Answer) -> Answered {
+    serve_published(asked, false, answer)
+}
+
+/// `serve_cached`: the same, by a cache of one picture.
+pub(crate) fn serve_cached(asked: Asked<'_>, answer: &mut Answer) -> Answered {
+    serve_published(asked, true, answer)
+}

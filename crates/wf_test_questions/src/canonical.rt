@@ -1,0 +1,171 @@
+//! Canonical numbers and texts.
+use crate::texts::text_of;
+use std::alloc::Global;
+use wf_canon::{Canon, CanonFault, write_number};
+use wf_def::choice::Projection;
+use wf_def::extent::Extent;
+use wf_def::map::MapDef;
+use wf_def::micro::Micro;
+use wf_def::text::Text;
+use wf_test_table::{Answer, Answered, Asked, Unanswered, Words};
+
+/// `canonical_number`: the canonical text of a number of millionths, after what is written already.
+pub(crate) fn number(asked: Asked<'_>, answer: &mut Answer) -> Answered {
+    let millionths = Words::of(asked.input)?.signed()?;
+    let Some(number) = Micro::from_millionths(millionths) else {
+        return Err(Unanswered::BadWords);
+    };
+    answer.text("x ");
+    if write_number(number, answer.target()).is_err() {
+        answer.cut();
+    }
+    answer.line("");
+    Ok(())
+}
+
+fn write_canon_fault(fault: CanonFault, answer: &mut Answer) {
+    match fault {
+        CanonFault::Memory => answer.cut(),
+        CanonFault::TooBig => answer.line("K1"),
+        CanonFault::NotCanonical => answer.line("K2"),
+    }
+}
+
+fn tell_canon(canon: Canon, answer: &mut Answer) {
+    answer.bytes(canon.text());
+    drop(canon);
+}
+
+fn tell_copy(canon: Canon, answer: &mut Answer) {
+    let copied = canon.copy();
+    drop(canon);
+    match copied {
+        Ok(copy) => tell_canon(copy, answer),
+        Err(_) => answer.cut(),
+    }
+}
+
+/// `canonical`: a copy of the canonical text that the bytes are, or why they are none.
+pub(crate) fn from_bytes(asked: Asked<'_>, answer: &mut Answer) -> Answered {
+    match Canon::from_bytes(asked.alloc, asked.input) {
+        Ok(canon) => tell_copy(canon, answer),
+        Err(fault) => write_canon_fault(fault, answer),
+    }
+    Ok(())
+}
+
+/// The texts of these bytes.
+pub(crate) fn two_texts(
+    alloc: Global,
+    first: &[u8],
+    second: &[u8],
+) -> Result<(Text, Text), Unanswered> {
+    match text_of(alloc, first) {
+        Ok(first) => with_second(alloc, first, second),
+        Err(unanswered) => Err(unanswered),
+    }
+}
+
+fn with_second(alloc: Global, first: Text, second: &[u8]) -> Result<(Text, Text), Unanswered> {
+    match text_of(alloc, second) {
+        Ok(second) => Ok((first, second)),
+        Err(unanswered) => {
+            drop(first);
+            Err(unanswered)
+        }
+    }
+}
+
+fn extent_of_4_degrees() -> Option<Extent> {
+    let zero = Micro::from_millionths(0)?;
+    let four = Micro::from_millionths(4_000_000)?;
+    Extent::new(zero, zero, four, four)
+}
+
+// The map `a`, from 0 0 to 4 4 degrees, with a title.
+fn titled(alloc: Global, title: &[u8]) -> Result<MapDef, Unanswered> {
+    match two_texts(alloc, b"a", title) {
+        Ok((name, title)) => named_and_titled(alloc, name, title),
+        Err(unanswered) => Err(unanswered),
+    }
+}
+
+fn named_and_titled(alloc: Global, name: Text, title: Text) -> Result<MapDef, Unanswered> {
+    match (
+        two_texts(alloc, b"", b"http://localhost/wms?"),
+        extent_of_4_degrees(),
+    ) {
+        (Ok((abstract_text, address)), Some(extent)) => Ok(MapDef::new(
+            alloc,
+            name,
+            title,
+            abstract_text,
+            address,
+            extent,
+            Projection::Epsg4326,
+        )),
+        (texts, _) => {
+            drop(texts);
+            drop(name);
+            drop(title);
+            Err(Unanswered::Memory)
+        }
+    }
+}
+
+const BEFORE_TITLE: &str =
+    "MAP\nNAME \"a\"\nEXTENT 0 0 4 4\nPROJECTION\n\"init=epsg:4326\"\nEND\nWEB\nMETADATA\n\"wms_title\" ";
+
+const BEHIND_TITLE: &str =
+    "\n\"wms_abstract\" \"\"\n\"wms_onlineresource\" \"http://localhost/wms?\"\nEND\nEND\nEND\n";
+
+// The spelling of the title in the canonical text; the whole text where it isn't of this form.
+fn spelled_title(text: &[u8]) -> &[u8] {
+    match text.strip_prefix(BEFORE_TITLE.as_bytes()) {
+        Some(rest) => rest.strip_suffix(BEHIND_TITLE.as_bytes()).unwrap_or(text),
+        None => text,
+    }
+}
+
+fn tell_title(canon: Canon, answer: &mut Answer) {
+    answer.text("again: ");
+    answer.line(canon.def().title().as_str());
+    drop(canon);
+}
+
+fn tell_title_of_copy(canon: Canon, answer: &mut Answer) {
+    let copied = canon.copy();
+    drop(canon);
+    match copied {
+        Ok(copy) => tell_title(copy, answer),
+        Err(_) => answer.cut(),
+    }
+}
+
+fn tell_title_again(alloc: Global, canon: Canon, answer: &mut Answer) {
+    answer.bytes(spelled_title(canon.text()));
+    answer.line("");
+    match Canon::from_bytes(alloc, canon.text()) {
+        Ok(again) => tell_title_of_copy(again, answer),
+        Err(fault) => write_canon_fault(fault, answer),
+    }
+    drop(canon);
+}
+
+fn tell_titled(alloc: Global, map: MapDef, answer: &mut Answer) {
+    let canonical = Canon::of(alloc, &map);
+    drop(map);
+    match canonical {
+        Ok(canon) => tell_title_again(alloc, canon, answer),
+        Err(fault) => write_canon_fault(fault, answer),
+    }
+}
+
+/// `title`: how the canonical text of map `a` with this title spells it, and the title that this text means.
+pub(crate) fn title(asked: Asked<'_>, answer: &mut Answer) -> Answered {
+    match titled(asked.alloc, asked.input) {
+        Ok(map) => tell_titled(asked.alloc, map, answer),
+        Err(unanswered) => return Err(unanswered),
+    }
+    Ok(())
+}

@@ -1,0 +1,199 @@
+//! How definitions and errors are shown, piece by piece.
+use crate::numbers::write_sides;
+use wf_def::choice::{LabelPosition, LabelSize, LayerKind, Projection};
+use wf_def::class::Class;
+use wf_def::color::Color;
+use wf_def::feature::Feature;
+use wf_def::label::Label;
+use wf_def::layer::Layer;
+use wf_def::map::MapDef;
+use wf_def::style::Style;
+use wf_def::text::Text;
+use wf_mapfile::fault::MapFault;
+use wf_test_table::Answer;
+
+// Appends a text and a bar.
+fn write_barred(text: &Text, answer: &mut Answer) {
+    answer.text(text.as_str());
+    answer.text("|");
+}
+
+// Appends a space and a number.
+fn write_number(number: u8, answer: &mut Answer) {
+    answer.text(" ");
+    answer.value(number);
+}
+
+fn projection_name(projection: Projection) -> &'static str {
+    match projection {
+        Projection::Epsg4326 => "Epsg4326",
+        Projection::Epsg3857 => "Epsg3857",
+    }
+}
+
+/// Appends a map's name, title, abstract, address, extent in millionths and coordinate system, on a line.
+pub(crate) fn write_map(map: &MapDef, answer: &mut Answer) {
+    write_barred(map.name(), answer);
+    write_barred(map.title(), answer);
+    write_barred(map.abstract_text(), answer);
+    write_barred(map.address(), answer);
+    write_sides(map.extent(), answer);
+    answer.text("|");
+    answer.line(projection_name(map.projection()));
+}
+
+/// Appends the same of a map that isn't used any more.
+pub(crate) fn tell_map(map: MapDef, answer: &mut Answer) {
+    write_map(&map, answer);
+    drop(map);
+}
+
+fn kind_name(kind: LayerKind) -> &'static str {
+    match kind {
+        LayerKind::Points => " Points|",
+        LayerKind::Lines => " Lines|",
+        LayerKind::Polygons => " Polygons|",
+    }
+}
+
+// Appends a feature's texts and points, in millionths.
+fn write_feature(feature: &Feature, answer: &mut Answer) {
+    answer.text(" ");
+    answer.text(feature.items().as_str());
+    answer.text("/");
+    answer.text(feature.text().as_str());
+    for part in feature.parts() {
+        answer.text(" :");
+        for point in part.as_slice() {
+            answer.text(" ");
+            answer.number(point.x.millionths());
+            answer.text(",");
+            answer.number(point.y.millionths());
+        }
+    }
+}
+
+// Appends a layer's kind, title, items and the number of its classes, then its features.
+fn write_layer(layer: &Layer, answer: &mut Answer) {
+    answer.text(kind_name(layer.kind()));
+    write_barred(layer.title(), answer);
+    write_barred(layer.class_item(), answer);
+    write_barred(layer.label_item(), answer);
+    write_barred(layer.items(), answer);
+    answer.count(layer.classes().len());
+    for feature in layer.features() {
+        write_feature(feature, answer);
+    }
+}
+
+/// Appends a map's layers, each in brackets, on a line.
+pub(crate) fn write_layers(map: &MapDef, answer: &mut Answer) {
+    for index in 0..map.layer_count() {
+        let (name, layer) = map.layer(index);
+        answer.text("[");
+        answer.text(name.as_str());
+        write_layer(layer, answer);
+        answer.text("]");
+    }
+    answer.line("");
+}
+
+fn write_color(color: Color, answer: &mut Answer) {
+    answer.text(" ");
+    answer.value(color.r);
+    answer.text(",");
+    answer.value(color.g);
+    answer.text(",");
+    answer.value(color.b);
+}
+
+fn write_choice_of_color(color: Option<Color>, answer: &mut Answer) {
+    match color {
+        None => answer.text(" -"),
+        Some(color) => write_color(color, answer),
+    }
+}
+
+fn write_style(style: &Style, answer: &mut Answer) {
+    answer.text(" style");
+    write_choice_of_color(style.color, answer);
+    write_choice_of_color(style.outline_color, answer);
+    write_number(style.width.get(), answer);
+    write_number(style.size.get(), answer);
+}
+
+fn size_name(size: LabelSize) -> &'static str {
+    match size {
+        LabelSize::Tiny => " Tiny",
+        LabelSize::Small => " Small",
+        LabelSize::Medium => " Medium",
+        LabelSize::Large => " Large",
+        LabelSize::Giant => " Giant",
+    }
+}
+
+fn position_name(position: LabelPosition) -> &'static str {
+    match position {
+        LabelPosition::UpperLeft => " UpperLeft",
+        LabelPosition::UpperCenter => " UpperCenter",
+        LabelPosition::UpperRight => " UpperRight",
+        LabelPosition::CenterLeft => " CenterLeft",
+        LabelPosition::CenterCenter => " CenterCenter",
+        LabelPosition::CenterRight => " CenterRight",
+        LabelPosition::LowerLeft => " LowerLeft",
+        LabelPosition::LowerCenter => " LowerCenter",
+        LabelPosition::LowerRight => " LowerRight",
+    }
+}
+
+fn write_label(label: &Label, answer: &mut Answer) {
+    answer.text(" label");
+    write_color(label.color, answer);
+    answer.text(size_name(label.size));
+    answer.text(position_name(label.position));
+    write_number(label.priority.get(), answer);
+    answer.text(if label.force { " true" } else { " false" });
+    write_number(label.buffer.get(), answer);
+}
+
+/// Appends a class's name, expression, styles and label, on a line.
+pub(crate) fn write_class(class: &Class, answer: &mut Answer) {
+    write_barred(class.name(), answer);
+    match class.expression() {
+        None => answer.text("-|"),
+        Some(expression) => write_barred(expression, answer),
+    }
+    for style in class.styles() {
+        write_style(style, answer);
+    }
+    if let Some(label) = class.label() {
+        write_label(&label, answer);
+    }
+    answer.line("");
+}
+
+// Appends an error's name, and its byte offset in a piece that follows `front` bytes.
+fn write_placed(name: &str, place: usize, front: usize, answer: &mut Answer) {
+    answer.text(name);
+    answer.text(" at ");
+    answer.count(place.saturating_sub(front));
+    answer.line("");
+}
+
+/// Appends an error, with its byte offset in a piece that follows `front` bytes.
+pub(crate) fn write_fault(fault: MapFault, front: usize, answer: &mut Answer) {
+    match fault {
+        MapFault::Memory => answer.cut(),
+        MapFault::TooLong => answer.line("M2"),
+        MapFault::NotUtf8(place) => write_placed("M3", place, front, answer),
+        MapFault::BadToken(place) => write_placed("M4", place, front, answer),
+        MapFault::UnexpectedWord(place) => write_placed("M5", place, front, answer),
+        MapFault::MissingEnd(place) => write_placed("M6", place, front, answer),
+        MapFault::BadNumber(place) => write_placed("M7", place, front, answer),
+        MapFault::OutOfRange(place) => write_placed("M8", place, front, answer),
+        MapFault::Missing => answer.line("M9"),
+        MapFault::Repeated(place) => write_placed("M10", place, front, answer),
+        MapFault::TooMany => answer.line("M11"),
+        MapFault::Trailing(place) => write_placed("M12", place, front, answer),
+    }
+}
