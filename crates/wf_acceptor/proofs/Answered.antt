@@ -1,29 +1,29 @@
 -- The transitions of the step table, in terms of an acceptor's part of the node.
-use Rattle.std.proofs.Common.{◌≡◌, ℕ, ◌<◌, true, false, nat_le, Option, Some, None, option_map, IsSome, Result, Ok, Err, IfOk, OnErr, refl, sym, ◌∙◌, ap, subst}
+use Rattle.std.proofs.Common.{◌≡◌, ℕ, List, ◌<◌, true, false, nat_le, Option, Some, None, option_map, IsSome, Result, Ok, Err, IfOk, OnErr, refl, sym, ◌∙◌, ap, subst}
 use Rattle.std.specs.Option.{option_to_list}
-use Rattle.std.specs.FinMap as map
 use Rattle.std.proofs.lemmas.Bool.{lt-leb}
 use Rattle.wf_ballot.specs.Ballot.{Ballot}
 use Rattle.wf_model.specs.Message as model
 use Rattle.wf_model.specs.Message.{Vote}
 use Rattle.wf_model.specs.Stored as stored_part
 use Rattle.wf_model.specs.Stored.{Stored, published}
-use Rattle.wf_model.specs.Working.{Working}
-use Rattle.wf_model.specs.Table.{Row, says, stores, quiet, is_above, is_refused, nack, on_prepare, prepare_open, promise_to, on_accept, accept_open, vote_for, votes_at}
+use Rattle.wf_model.specs.Working.{Working, window}
+use Rattle.wf_model.specs.Table.{Row, says, stores, quiet, is_above, is_refused, nack, on_prepare, prepare_open, promise_to, on_accept, accept_open, vote_for, votes_at, votes_from}
 use Rattle.wf_def.specs.Definition.{Definition}
 use Rattle.wf_codec.specs.Message.{view}
 use Rattle.wf_codec.specs.declared.message.Message.{Message}
 use Rattle.wf_codec.specs.declared.message.Message.TheVariants.{Promise, Accepted, Nack}
 use Rattle.wf_journal.specs.declared.record.Record.TheVariants as record_
 use Rattle.wf_journal.specs.declared.record.Record.TheVariants.{Promised}
-use Rattle.wf_acceptor.specs.Acceptor.{Part, ActsFor, promises_of, votes_of}
-use Rattle.wf_acceptor.specs.Prepared.{nack_of}
+use Rattle.wf_acceptor.specs.Acceptor.{Part, ActsFor, votes_of}
+use Rattle.wf_acceptor.specs.Prepared.{nack_of, report_of}
 use Rattle.wf_acceptor.specs.Answer.{Answers, Stores}
 use Rattle.wf_acceptor.specs.declared.answer.Answer.{Answer}
+use Rattle.wf_acceptor.proofs.Reported.{as_reported}
 
 -- the answers of an acceptor that promises, that votes, and that only replies
 abbrev pub promising : Part → ℕ → Ballot → Answer
-promising part s b = record { entry = Some (Promised s b); reply = Some (Promise part.id s b (map.get part.votes s)) }
+promising part s b = record { entry = Some (Promised s b); reply = Some (Promise part.id b (report_of part s)) }
 
 abbrev pub voting : Part → ℕ → Ballot → Definition → Answer
 voting part s b d = record { entry = Some (record_.Accepted s b d); reply = Some (Accepted part.id s b) }
@@ -31,9 +31,9 @@ voting part s b d = record { entry = Some (record_.Accepted s b d); reply = Some
 abbrev pub replying : Option Message → Answer
 replying reply = record { entry = None; reply = reply }
 
-nack-as : (part : Part) (s : ℕ) (b : Ballot) → option_to_list (option_map view (nack_of part s b)) ≡ nack part.id s b (promises_of part s)
+nack-as : (part : Part) (s : ℕ) (b : Ballot) → option_to_list (option_map view (nack_of part s b)) ≡ nack part.id s b part.promise
 nack-as part s b =
-    elim (promises_of part s) as (λ promise. option_to_list (option_map view (option_map (λ promise. Nack part.id s b promise) promise)) ≡ nack part.id s b promise) [
+    elim part.promise as (λ promise. option_to_list (option_map view (option_map (λ promise. Nack part.id s b promise) promise)) ≡ nack part.id s b promise) [
       | None ↦ refl
       | Some promise ↦ refl
     ]
@@ -47,31 +47,31 @@ accept_row part s b d stored working = on_accept part.id stored working s b d
 
 -- Above the published definitions the part's promise determines the transition.
 prepare_by_promise : (part : Part) (stored : Stored Definition) (working : Working Definition) (s : ℕ) (b : Ballot) → ActsFor part stored → part.published < s →
-    prepare_row part s b stored working ≡ prepare_open part.id stored working s b (promises_of part s)
+    prepare_row part s b stored working ≡ prepare_open part.id stored working s b part.promise
 unfolding on_prepare
 prepare_by_promise part stored working s b acts above =
     let open_ : nat_le s (published stored) ≡ false = rw acts.published (lt-leb s part.published above) in
-    rw open_ (ap (λ (f : ℕ → Option Ballot). prepare_open part.id stored working s b (f s)) acts.promises)
+    rw open_ (ap (λ promise. prepare_open part.id stored working s b promise) acts.promise)
 
 accept_by_promise : (part : Part) (stored : Stored Definition) (working : Working Definition) (s : ℕ) (b : Ballot) (d : Definition) → ActsFor part stored → part.published < s →
-    accept_row part s b d stored working ≡ accept_open part.id stored working s b d (promises_of part s)
+    accept_row part s b d stored working ≡ accept_open part.id stored working s b d part.promise
 unfolding on_accept
 accept_by_promise part stored working s b d acts above =
     let open_ : nat_le s (published stored) ≡ false = rw acts.published (lt-leb s part.published above) in
-    rw open_ (ap (λ (f : ℕ → Option Ballot). accept_open part.id stored working s b d (f s)) acts.promises)
+    rw open_ (ap (λ promise. accept_open part.id stored working s b d promise) acts.promise)
 
--- A ballot above the promise is promised, and the vote is reported.
+-- A ballot above the promise is promised, and the votes are reported.
 prepare_promises : (part : Part) (stored : Stored Definition) (working : Working Definition) (s : ℕ) (b : Ballot) → ActsFor part stored → part.published < s →
-    is_above (promises_of part s) b ≡ true →
-    prepare_row part s b stored working ≡ stores working (stored_part.Promised s b) (model.Promise part.id s b (votes_of part s))
+    is_above part.promise b ≡ true →
+    prepare_row part s b stored working ≡ stores working (stored_part.Promised s b) (model.Promise part.id s b (votes_from (votes_of part) s window))
 unfolding prepare_open promise_to
 prepare_promises part stored working s b acts open_ high =
     prepare_by_promise part stored working s b acts open_ ∙ rw high
-    (ap (λ (f : ℕ → Option (Vote Definition)). stores working (stored_part.Promised s b) (model.Promise part.id s b (f s))) acts.votes)
+    (ap (λ (f : ℕ → Option (Vote Definition)). stores working (stored_part.Promised s b) (model.Promise part.id s b (votes_from f s window))) acts.votes)
 
 -- A ballot that isn't below the promise gets a vote, unless it has one.
 accept_votes : (part : Part) (stored : Stored Definition) (working : Working Definition) (s : ℕ) (b : Ballot) (d : Definition) → ActsFor part stored → part.published < s →
-    is_refused (promises_of part s) b ≡ false → votes_at (votes_of part s) b ≡ false →
+    is_refused part.promise b ≡ false → votes_at (votes_of part s) b ≡ false →
     accept_row part s b d stored working ≡ stores working (stored_part.Accepted s b d) (model.Accepted part.id s b)
 unfolding accept_open vote_for
 accept_votes part stored working s b d acts open_ high voted =
@@ -80,36 +80,38 @@ accept_votes part stored working s b d acts open_ high voted =
 
 -- ---- the answers are the transitions
 
-pub promising_answers : (part : Part) (s : ℕ) (b : Ballot) → part.published < s → is_above (promises_of part s) b ≡ true →
+pub promising_answers : (part : Part) (s : ℕ) (b : Ballot) → part.published < s → is_above part.promise b ≡ true →
     Answers part (prepare_row part s b) (promising part s b)
 unfolding stores
-promising_answers part s b open_ high stored working acts = sym (prepare_promises part stored working s b acts open_ high)
+promising_answers part s b open_ high stored working acts =
+    ap (λ (votes : List (Option (Vote Definition))). stores working (stored_part.Promised s b) (model.Promise part.id s b votes)) (as_reported part.votes s window)
+    ∙ sym (prepare_promises part stored working s b acts open_ high)
 
-pub refusal_answers : (part : Part) (s : ℕ) (b : Ballot) → part.published < s → is_above (promises_of part s) b ≡ false → is_refused (promises_of part s) b ≡ true →
+pub refusal_answers : (part : Part) (s : ℕ) (b : Ballot) → part.published < s → is_above part.promise b ≡ false → is_refused part.promise b ≡ true →
     Answers part (prepare_row part s b) (replying (nack_of part s b))
 unfolding prepare_open says
 refusal_answers part s b open_ high low stored working acts =
     rw (nack-as part s b) (sym (prepare_by_promise part stored working s b acts open_ ∙ rw (high, low)))
 
-pub silence_answers : (part : Part) (s : ℕ) (b : Ballot) → part.published < s → is_above (promises_of part s) b ≡ false → is_refused (promises_of part s) b ≡ false →
+pub silence_answers : (part : Part) (s : ℕ) (b : Ballot) → part.published < s → is_above part.promise b ≡ false → is_refused part.promise b ≡ false →
     Answers part (prepare_row part s b) (replying None)
 unfolding prepare_open quiet
 silence_answers part s b open_ high low stored working acts = sym (prepare_by_promise part stored working s b acts open_ ∙ rw (high, low))
 
-pub nack_answers : (part : Part) (s : ℕ) (b : Ballot) (d : Definition) → part.published < s → is_refused (promises_of part s) b ≡ true →
+pub nack_answers : (part : Part) (s : ℕ) (b : Ballot) (d : Definition) → part.published < s → is_refused part.promise b ≡ true →
     Answers part (accept_row part s b d) (replying (nack_of part s b))
 unfolding accept_open says
 nack_answers part s b d open_ low stored working acts =
     rw (nack-as part s b) (sym (accept_by_promise part stored working s b d acts open_ ∙ rw low))
 
-pub again_answers : (part : Part) (s : ℕ) (b : Ballot) (d : Definition) → part.published < s → is_refused (promises_of part s) b ≡ false → votes_at (votes_of part s) b ≡ true →
+pub again_answers : (part : Part) (s : ℕ) (b : Ballot) (d : Definition) → part.published < s → is_refused part.promise b ≡ false → votes_at (votes_of part s) b ≡ true →
     Answers part (accept_row part s b d) (replying (Some (Accepted part.id s b)))
 unfolding accept_open vote_for says
 again_answers part s b d open_ high voted stored working acts =
     let here : votes_at (stored.votes s) b ≡ true = ap (λ (f : ℕ → Option (Vote Definition)). votes_at (f s) b) acts.votes ∙ voted in
     sym (accept_by_promise part stored working s b d acts open_ ∙ rw (high, here))
 
-pub voting_answers : (part : Part) (s : ℕ) (b : Ballot) (d : Definition) → part.published < s → is_refused (promises_of part s) b ≡ false → votes_at (votes_of part s) b ≡ false →
+pub voting_answers : (part : Part) (s : ℕ) (b : Ballot) (d : Definition) → part.published < s → is_refused part.promise b ≡ false → votes_at (votes_of part s) b ≡ false →
     Answers part (accept_row part s b d) (voting part s b d)
 unfolding stores
 voting_answers part s b d open_ high voted stored working acts = sym (accept_votes part stored working s b d acts open_ high voted)
@@ -120,12 +122,12 @@ stores_some : (row : Row Definition) (working : Working Definition) (r : stored_
 unfolding stores
 stores_some row working r m is = subst (λ (x : Row Definition). IsSome x.entry) (sym is) refl
 
-pub promising_stores : (part : Part) (s : ℕ) (b : Ballot) → part.published < s → is_above (promises_of part s) b ≡ true → Stores part (prepare_row part s b)
+pub promising_stores : (part : Part) (s : ℕ) (b : Ballot) → part.published < s → is_above part.promise b ≡ true → Stores part (prepare_row part s b)
 promising_stores part s b open_ high stored working acts =
-    stores_some (prepare_row part s b stored working) working (stored_part.Promised s b) (model.Promise part.id s b (votes_of part s))
+    stores_some (prepare_row part s b stored working) working (stored_part.Promised s b) (model.Promise part.id s b (votes_from (votes_of part) s window))
     (prepare_promises part stored working s b acts open_ high)
 
-pub voting_stores : (part : Part) (s : ℕ) (b : Ballot) (d : Definition) → part.published < s → is_refused (promises_of part s) b ≡ false → votes_at (votes_of part s) b ≡ false →
+pub voting_stores : (part : Part) (s : ℕ) (b : Ballot) (d : Definition) → part.published < s → is_refused part.promise b ≡ false → votes_at (votes_of part s) b ≡ false →
     Stores part (accept_row part s b d)
 voting_stores part s b d open_ high voted stored working acts =
     stores_some (accept_row part s b d stored working) working (stored_part.Accepted s b d) (model.Accepted part.id s b)

@@ -8,7 +8,7 @@ use Rattle.std.specs.FinMap.{FinMap}
 use Rattle.wf_ballot.specs.Ballot.{Ballot}
 use Rattle.wf_model.specs.Message.{Vote}
 use Rattle.wf_model.specs.Stored as model
-use Rattle.wf_model.specs.Stored.{Stored, published, put, with_record, nothing_stored}
+use Rattle.wf_model.specs.Stored.{Stored, published, put, raised, with_record, nothing_stored}
 use Rattle.wf_def.specs.Definition.{Definition}
 use Rattle.wf_codec.specs.Message.{view_vote}
 use Rattle.wf_journal.specs.Record.{view}
@@ -40,19 +40,7 @@ above m s = grind (arith, common_steps)
 
 applies_promised : (part : Part) (s : ℕ) (b : Ballot) → Applies part (with_entry part (Promised s b)) (model.Promised s b)
 unfolding with_record published
-applies_promised part s b stored acts =
-    let test : nat_lt (published stored) s ≡ (if nat_le s part.published then false else true) = rw acts.published (above part.published s) in
-    rw test
-    (elim (nat_le s part.published) as (λ v.
-    ActsFor (if v then part else with_open part (Promised s b))
-    (if (if v then false else true) then record stored { promises = put stored.promises s (Some b) } else stored)) [
-      | true ↦ acts
-      | false ↦ record {
-        promises = rw acts.promises (insert-put part.promises s b);
-        votes = acts.votes;
-        published = acts.published;
-      }
-    ])
+applies_promised part s b stored acts = record { promise = ap (λ promise. raised promise b) acts.promise; votes = acts.votes; published = acts.published }
 
 applies_accepted : (part : Part) (s : ℕ) (b : Ballot) (d : Definition) → Applies part (with_entry part (Accepted s b d)) (model.Accepted s b d)
 unfolding with_record published
@@ -62,10 +50,10 @@ applies_accepted part s b d stored acts =
     rw test
     (elim (nat_le s part.published) as (λ v.
     ActsFor (if v then part else with_open part (Accepted s b d))
-    (if (if v then false else true) then record stored { promises = put stored.promises s (Some b); votes = put stored.votes s (Some vote) } else stored)) [
+    (if (if v then false else true) then record stored { promise = raised stored.promise b; votes = put stored.votes s (Some vote) } else stored)) [
       | true ↦ acts
       | false ↦ record {
-        promises = rw acts.promises (insert-put part.promises s b);
+        promise = ap (λ promise. raised promise b) acts.promise;
         votes = rw acts.votes (votes_as-put (map.get part.votes) s (Some (b, d)) ∙ ap votes_as (insert-put part.votes s (b, d)));
         published = acts.published;
       }
@@ -74,7 +62,7 @@ applies_accepted part s b d stored acts =
 applies_published : (part : Part) (s : ℕ) (d : Definition) → s ≡ part.published + 1 → Applies part (with_entry part (Published s d)) (model.Published s d)
 unfolding with_record published
 applies_published part s d next stored acts = record {
-  promises = rw acts.promises (remove-put part.promises s);
+  promise = acts.promise;
   votes = rw acts.votes (votes_as-put (map.get part.votes) s None ∙ ap votes_as (remove-put part.votes s));
   published = omega (arith, length-append stored.history (d ∷ []), acts.published);
 }
@@ -82,7 +70,7 @@ applies_published part s d next stored acts = record {
 -- Each kind of record has the fold's effect on the part. A tried round doesn't concern an acceptor.
 applies : (part : Part) (r : Record) → IsNext part r → Applies part (with_entry part r) (view r)
 unfolding with_record published
-applies part (Tried round) next stored acts = record { promises = acts.promises; votes = acts.votes; published = acts.published }
+applies part (Tried round) next stored acts = record { promise = acts.promise; votes = acts.votes; published = acts.published }
 applies part (Promised s b) next stored acts = applies_promised part s b stored acts
 applies part (Accepted s b d) next stored acts = applies_accepted part s b d stored acts
 applies part (Published s d) next stored acts = applies_published part s d next stored acts
@@ -94,11 +82,11 @@ applied_if_ok (Ok x) old new r next ok =
     subst (λ (part : Part). Applies old.part part (view r)) (sym (ap (λ (a : Acceptor). a.part) ok)) (applies old.part r next)
 applied_if_ok (Err e) old new r next ok = tt
 
--- A part without promise and vote agrees with the state of a node that has stored nothing yet.
-pub acts_for-nothing_stored : (id : ℕ) → ActsFor (record { id = id; published = 0; promises = map.empty; votes = map.empty }) nothing_stored
+-- A part without promise and votes agrees with the state of a node that has stored nothing yet.
+pub acts_for-nothing_stored : (id : ℕ) → ActsFor (record { id = id; published = 0; promise = None; votes = map.empty }) nothing_stored
 unfolding nothing_stored published
 acts_for-nothing_stored id = record {
-  promises = λ i s. sym (map.get-empty nat_cmp s) i;
+  promise = refl;
   votes = λ i s. sym (ap view_vote (map.get-empty nat_cmp s)) i;
   published = refl;
 }

@@ -1,3 +1,4 @@
 pub mod BySlot
 pub mod Applied
 pub mod Answered
+pub mod Reported

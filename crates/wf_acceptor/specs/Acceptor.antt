@@ -12,12 +12,12 @@ use Rattle.wf_codec.specs.Message.{view_vote}
 use Rattle.wf_journal.specs.declared.record.Record.{Record}
 use Rattle.wf_journal.specs.declared.record.Record.TheVariants.{Tried, Promised, Accepted, Published}
 
--- An acceptor's part of its node's stored state: the node's number, the number of published definitions, and the promise and the
--- vote at each slot.
+-- An acceptor's part of its node's stored state: the node's number, the number of published definitions, the promise, which is one
+-- for all slots, and the vote at each slot.
 pub record Part : Type 0 where
   pub id : ℕ
   pub published : ℕ
-  pub promises : FinMap nat_cmp Ballot
+  pub promise : Option Ballot
   pub votes : FinMap nat_cmp (Ballot × Definition)
 
 -- The part, which transitions and the fold concern; and the prepared record, which only `HasRoomFor` concerns.
@@ -25,16 +25,13 @@ pub record Acceptor : Type 0 where
   pub part : Part
   pub prepared : Option Record
 
--- promises and votes as in wf_model
-abbrev pub promises_of : Part → ℕ → Option Ballot
-promises_of part s = map.get part.promises s
-
+-- votes as in wf_model
 abbrev pub votes_of : Part → ℕ → Option (Vote Definition)
 votes_of part s = view_vote (map.get part.votes s)
 
--- The part agrees with this stored state: it has the same promises and votes, and the same number of published definitions.
+-- The part agrees with this stored state: it has the same promise, the same votes, and the same number of published definitions.
 pub record ActsFor (part : Part) (stored : Stored Definition) : Type 0 where
-  pub promises : stored.promises ≡ promises_of part
+  pub promise : stored.promise ≡ part.promise
   pub votes : stored.votes ≡ votes_of part
   pub published : published stored ≡ part.published
 
@@ -47,10 +44,9 @@ abbrev pub IsNext : Part → Record → Type 0
 IsNext part (Published s d) = s ≡ part.published + 1
 IsNext part r = ⊤
 
--- There is room for the record: applying it doesn't allocate. That holds of a tried round, of a published definition, and of the
--- prepared record.
+-- There is room for the record: applying it doesn't allocate. That holds of each record but a vote, and of the prepared one.
 abbrev pub HasRoomFor : Acceptor → Record → Type 0
 HasRoomFor acceptor (Tried round) = ⊤
-HasRoomFor acceptor (Promised s b) = acceptor.prepared ≡ Some (Promised s b)
+HasRoomFor acceptor (Promised s b) = ⊤
 HasRoomFor acceptor (Accepted s b d) = acceptor.prepared ≡ Some (Accepted s b d)
 HasRoomFor acceptor (Published s d) = ⊤

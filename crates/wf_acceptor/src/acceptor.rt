@@ -1,9 +1,9 @@
-ghost use Rattle.std.specs.Prelude.{◌≡◌, None, Some, IfOk, OnOk};
-ghost use Rattle.std.specs.FinMap as map;
-ghost use Rattle.wf_acceptor.specs.Slots.{by_slot, HasRoom};
-ghost use Rattle.wf_acceptor.specs.Prepared.{Takes, definition_of};
+ghost use Rattle.std.specs.Prelude.{◌≡◌, None, Some};
+ghost use Rattle.wf_model.specs.Stored.{raised};
+ghost use Rattle.wf_acceptor.specs.Prepared.{definition_of};
 
 use crate::answer::Answer;
+use crate::report::report_from;
 use crate::same::is_same_record;
 use crate::slots::{forget, make_room, put, value_at};
 use std::alloc::{AllocError, Global};
@@ -14,15 +14,15 @@ use wf_canon::Canon;
 use wf_codec::Message;
 use wf_journal::Record;
 
-/// A node's promises and votes. A promise is the ballot below which the node rejects everything at a slot; a vote is the ballot
-/// at which it voted there, with the definition.
+/// A node's promise and votes. The promise is the ballot below which the node rejects everything, at whatever slot; a vote is the
+/// ballot at which it voted at a slot, with the definition.
 pub struct Acceptor {
     id: NodeId,
     // The last published slot.
     published: Option<Slot>,
-    promises: HashMap<Slot, Ballot>,
+    promise: Option<Ballot>,
     votes: HashMap<Slot, (Ballot, Canon)>,
-    // The prepared record: there is room for its promise and its vote.
+    // The prepared record: there is room for its vote.
     prepared: Option<Record>,
 }
 
@@ -32,23 +32,21 @@ impl Drop for Acceptor {
         let Acceptor {
             id: _,
             published: _,
-            promises,
+            promise: _,
             votes,
             prepared,
         } = self;
-        drop(promises);
         drop(votes);
         drop(prepared);
     }
 }
 
 impl Model for Acceptor {
-    ghost use Rattle.std.specs.Prelude.{unwrap_or};
+    ghost use Rattle.std.specs.Prelude.{unwrap_or, IfSome};
     ghost use Rattle.std.specs.Coded.{codes};
     ghost use Rattle.std.specs.FinMap as map;
     ghost use Rattle.wf_acceptor.specs.Slots.{by_slot, HasRoom};
     ghost use Rattle.wf_acceptor.specs.Acceptor.{Acceptor};
-    ghost use Rattle.wf_acceptor.specs.Prepared.{Takes};
 
     ghost Value = { Acceptor };
 
@@ -58,13 +56,13 @@ impl Model for Acceptor {
       part = record {
         id = a.id;
         published = unwrap_or a.published 0;
-        promises = by_slot a.promises;
+        promise = a.promise;
         votes = by_slot a.votes;
       };
       prepared = a.prepared;
     } };
 
-    ghost invariant = { λ a. Takes (HasRoom a.promises) (HasRoom a.votes) a.prepared };
+    ghost invariant = { λ a. IfSome a.prepared (λ r. HasRoom a.votes) };
 }
 
 impl Acceptor {
@@ -76,19 +74,19 @@ impl Acceptor {
     ghost use Rattle.std.specs.Option.{option_copied};
     ghost use Rattle.wf_codec.specs.Message.{view_vote};
     ghost use Rattle.wf_journal.specs.Record.{view as record_view};
-    ghost use Rattle.wf_acceptor.specs.Acceptor.{promises_of, votes_of, ActsFor, Applies, IsNext, HasRoomFor};
+    ghost use Rattle.wf_acceptor.specs.Acceptor.{votes_of, ActsFor, Applies, IsNext, HasRoomFor};
     ghost use Rattle.wf_acceptor.specs.Answer.{Answers, Stores};
-    ghost use Rattle.wf_acceptor.specs.Prepared.{nack_of, with_open, with_entry, with_entry_at, with_published};
+    ghost use Rattle.wf_acceptor.specs.Prepared.{nack_of, report_of, with_promise, with_open, with_entry, with_entry_at, with_published};
 
     /// The acceptor of a node that has stored nothing yet.
     pub fn new(alloc: Global, id: NodeId) -> Acceptor
-        ensures value { result ≡ record { part = record { id = id; published = 0; promises = map.empty; votes = map.empty }; prepared = None } }
+        ensures value { result ≡ record { part = record { id = id; published = 0; promise = None; votes = map.empty }; prepared = None } }
         ensures acts { ActsFor result.part nothing_stored }
     {
         Acceptor {
             id,
             published: None,
-            promises: HashMap::new(alloc),
+            promise: None,
             votes: HashMap::new(alloc),
             prepared: None,
         }
@@ -104,11 +102,11 @@ impl Acceptor {
         }
     }
 
-    /// The promise at the slot.
-    pub fn promise_at(&self, slot: Slot) -> Option<Ballot>
-        ensures { result ≡ promises_of self.now.part slot }
+    /// The promise, which is one for all slots.
+    pub fn promise(&self) -> Option<Ballot>
+        ensures { result ≡ self.now.part.promise }
     {
-        value_at(&self.promises, slot).copied()
+        self.promise
     }
 
     /// The vote at the slot: its ballot and its definition.
@@ -128,28 +126,28 @@ impl Acceptor {
         }
     }
 
-    /// Answers `Prepare(slot, ballot)`: with a Promise and its vote, if the ballot is the slot's first or above its promise; with
-    /// a Nack and its promise, if the ballot is below it; with nothing, if the ballot is its promise. Allocation can fail only
-    /// for a Promise.
+    /// Answers `Prepare(slot, ballot)`: with a Promise, which reports the votes of the slot and the three after it, if the ballot
+    /// is the first or above the promise; with a Nack and the promise, if the ballot is below it; with nothing, if the ballot is
+    /// the promise. Allocation can fail only for a Promise.
     pub fn on_prepare(&mut self, slot: Slot, ballot: Ballot) -> Result<Answer, AllocError>
         requires { self.old.part.published < slot }
         ensures row { IfOk result (Answers self.old.part (λ stored working. prepare_row self.old.part.id stored working slot ballot)) }
         ensures part { self.new.part ≡ self.old.part }
         ensures room { IfOk result (λ answer. IfSome answer.entry (HasRoomFor self.new)) }
-        ensures set_aside { IfOk result (λ answer. self.new.prepared ≡ answer.entry) }
+        ensures none_set_aside { OnOk result (self.new.prepared ≡ None) }
         ensures err { OnErr result (self.new ≡ self.old) }
         ensures memory { OnErr result (Stores self.old.part (λ stored working. prepare_row self.old.part.id stored working slot ballot)) }
     {
-        if self.is_above(slot, ballot) {
-            return self.promise(slot, ballot);
+        if self.is_above(ballot) {
+            return self.promise_to(slot, ballot);
         }
-        if self.is_refused(slot, ballot) {
+        if self.is_refused(ballot) {
             return Ok(self.refuse(slot, ballot));
         }
         Ok(self.only_reply(None))
     }
 
-    /// Answers `Accept(slot, ballot, canon)`: with a Nack and its promise, if the ballot is below it; with its earlier answer, if
+    /// Answers `Accept(slot, ballot, canon)`: with a Nack and the promise, if the ballot is below it; with its earlier answer, if
     /// it voted at this ballot; otherwise it votes, which promises the ballot too. Allocation can fail only for a vote.
     pub fn on_accept(
         &mut self,
@@ -165,7 +163,7 @@ impl Acceptor {
         ensures err { OnErr result (self.new ≡ self.old) }
         ensures memory { OnErr result (Stores self.old.part (λ stored working. accept_row self.old.part.id stored working slot ballot canon)) }
     {
-        if self.is_refused(slot, ballot) {
+        if self.is_refused(ballot) {
             return Ok(self.refuse(slot, ballot));
         }
         if self.voted_at(slot, ballot) {
@@ -175,8 +173,8 @@ impl Acceptor {
         self.vote(slot, ballot, canon)
     }
 
-    /// Applies a record, as the fold does; afterwards no record is prepared. Doesn't allocate for the record of the last answer,
-    /// nor for that of a tried round or a published definition. An error changes nothing.
+    /// Applies a record, as the fold does; afterwards no record is prepared. Allocates only for a vote, and not for that of the last
+    /// answer. An error changes nothing.
     pub fn apply(&mut self, entry: &Record) -> Result<(), AllocError>
         requires { IsNext self.old.part entry.now }
         ensures ok { OnOk result (Applies self.old.part self.new.part (record_view entry.now)) }
@@ -188,21 +186,21 @@ impl Acceptor {
         self.take_in(entry)
     }
 
-    // Whether the ballot is above the promise at the slot; true if there is no promise.
-    fn is_above(&self, slot: Slot, ballot: Ballot) -> bool
-        ensures { result ≡ table.is_above (promises_of self.now.part slot) ballot }
+    // Whether the ballot is above the promise; true if there is no promise.
+    fn is_above(&self, ballot: Ballot) -> bool
+        ensures { result ≡ table.is_above self.now.part.promise ballot }
     {
-        match self.promise_at(slot) {
+        match self.promise() {
             Some(promise) => promise.is_below(ballot),
             None => true,
         }
     }
 
-    // Whether the ballot is below the promise at the slot; false if there is no promise.
-    fn is_refused(&self, slot: Slot, ballot: Ballot) -> bool
-        ensures { result ≡ table.is_refused (promises_of self.now.part slot) ballot }
+    // Whether the ballot is below the promise; false if there is no promise.
+    fn is_refused(&self, ballot: Ballot) -> bool
+        ensures { result ≡ table.is_refused self.now.part.promise ballot }
     {
-        match self.promise_at(slot) {
+        match self.promise() {
             Some(promise) => ballot.is_below(promise),
             None => false,
         }
@@ -229,7 +227,7 @@ impl Acceptor {
     fn nack(&self, slot: Slot, ballot: Ballot) -> Option<Message>
         ensures { result ≡ nack_of self.now.part slot ballot }
     {
-        match self.promise_at(slot) {
+        match self.promise() {
             Some(promise) => Some(Message::Nack(self.id, slot, ballot, promise)),
             None => None,
         }
@@ -242,22 +240,22 @@ impl Acceptor {
         self.prepared = None;
     }
 
-    // Promises the ballot, and reports the vote.
-    fn promise(&mut self, slot: Slot, ballot: Ballot) -> Result<Answer, AllocError>
+    // Promises the ballot, and reports the votes from the slot on.
+    fn promise_to(&mut self, slot: Slot, ballot: Ballot) -> Result<Answer, AllocError>
         ensures answer { IfOk result (λ answer. answer ≡ record {
           entry = Some (Record.Promised slot ballot);
-          reply = Some (Message.Promise self.old.part.id slot ballot (map.get self.old.part.votes slot));
+          reply = Some (Message.Promise self.old.part.id ballot (report_of self.old.part slot));
         }) }
-        ensures ok { OnOk result (self.new ≡ record self.old { prepared = Some (Record.Promised slot ballot) }) }
+        ensures ok { OnOk result (self.new ≡ record self.old { prepared = None }) }
         ensures err { OnErr result (self.new ≡ self.old) }
     {
-        make_room(&mut self.promises)?;
-        let vote = copy_of_vote(&self.votes, slot)?;
-        keep(&mut self.prepared, Record::Promised(slot, ballot));
-        Ok(Answer {
+        let report = report_from(&self.votes, slot)?;
+        let answer = Answer {
             entry: Some(Record::Promised(slot, ballot)),
-            reply: Some(Message::Promise(self.id, slot, ballot, vote)),
-        })
+            reply: Some(Message::Promise(self.id, ballot, report)),
+        };
+        self.release();
+        Ok(answer)
     }
 
     // Votes for the definition at the ballot.
@@ -291,14 +289,22 @@ impl Acceptor {
     {
         match entry {
             Record::Tried(_) => self.release(),
-            Record::Promised(slot, _) => self.take_in_at(*slot, entry)?,
+            Record::Promised(_, ballot) => self.raise(*ballot),
             Record::Accepted(slot, _, _) => self.take_in_at(*slot, entry)?,
             Record::Published(slot, _) => self.publish(*slot),
         }
         Ok(())
     }
 
-    // Applies a record of a promise or a vote at the slot, unless the slot is published.
+    // Raises the promise to the ballot, if that is above it.
+    fn raise(&mut self, ballot: Ballot)
+        ensures { self.new ≡ record { part = with_promise self.old.part ballot; prepared = None } }
+    {
+        self.promise = raised(self.promise, ballot);
+        self.prepared = None;
+    }
+
+    // Applies a record of a vote at the slot, unless the slot is published.
     fn take_in_at(&mut self, slot: Slot, entry: &Record) -> Result<(), AllocError>
         ensures ok { OnOk result (self.new ≡ record { part = with_entry_at self.old.part slot entry.now; prepared = None }) }
         ensures err { OnErr result (self.new ≡ self.old) }
@@ -334,42 +340,37 @@ impl Acceptor {
         }
     }
 
-    // Makes room for the record's promise and vote, and stores a copy of it.
+    // Makes room for a vote, and stores a copy of its record.
     fn prepare(&mut self, entry: &Record) -> Result<(), AllocError>
         ensures ok { OnOk result (self.new ≡ record self.old { prepared = Some entry.now }) }
         ensures err { OnErr result (self.new ≡ self.old) }
     {
-        room_for(&mut self.promises, &mut self.votes, entry)?;
+        make_room(&mut self.votes)?;
         let copy = entry.copy()?;
         keep(&mut self.prepared, copy);
         Ok(())
     }
 
-    // Sets the slot's promise and vote to those of the prepared record.
+    // Sets the slot's vote to that of the prepared record, and raises the promise to its ballot.
     fn take_in_prepared(&mut self)
         ensures { IfSome self.old.prepared (λ r. self.new ≡ record { part = with_open self.old.part r; prepared = None }) }
     {
-        match &self.prepared {
-            Some(Record::Promised(slot, ballot)) => put(&mut self.promises, *slot, *ballot),
-            Some(Record::Accepted(slot, ballot, _)) => {
-                let slot = *slot;
-                let ballot = *ballot;
-                put(&mut self.promises, slot, ballot);
-                if let Some(canon) = take_definition(&mut self.prepared) {
-                    put(&mut self.votes, slot, (ballot, canon));
-                }
+        if let Some(Record::Accepted(slot, ballot, _)) = &self.prepared {
+            let slot = *slot;
+            let ballot = *ballot;
+            self.promise = raised(self.promise, ballot);
+            if let Some(canon) = take_definition(&mut self.prepared) {
+                put(&mut self.votes, slot, (ballot, canon));
             }
-            _ => {}
         }
         self.prepared = None;
     }
 
-    // Removes the slot's promise and vote, since its definition is published.
+    // Removes the slot's vote, since its definition is published. The promise remains.
     fn publish(&mut self, slot: Slot)
         ensures { self.new ≡ record { part = with_published self.old.part slot; prepared = None } }
     {
         self.published = Some(slot);
-        forget(&mut self.promises, slot);
         forget(&mut self.votes, slot);
         self.prepared = None;
     }
@@ -393,37 +394,19 @@ fn take_definition(prepared: &mut Option<Record>) -> Option<Canon>
     }
 }
 
-// A copy of the slot's vote, to be reported.
-fn copy_of_vote(
-    votes: &HashMap<Slot, (Ballot, Canon)>,
-    slot: Slot,
-) -> Result<Option<(Ballot, Canon)>, AllocError>
-    ensures { IfOk result (λ vote. vote ≡ map.get (by_slot votes.now) slot) }
+// The promise, raised to the ballot if that is above it.
+#[tactic(auto, unfolding(wf_model::specs::Stored::raised))]
+fn raised(promise: Option<Ballot>, ballot: Ballot) -> Option<Ballot>
+    ensures { result ≡ raised promise ballot }
 {
-    match value_at(votes, slot) {
-        Some((ballot, canon)) => Ok(Some((*ballot, canon.copy()?))),
-        None => Ok(None),
-    }
-}
-
-// Makes room for the record's promise and vote.
-fn room_for(
-    promises: &mut HashMap<Slot, Ballot>,
-    votes: &mut HashMap<Slot, (Ballot, Canon)>,
-    entry: &Record,
-) -> Result<(), AllocError>
-    ensures room { OnOk result (Takes (HasRoom promises.new) (HasRoom votes.new) (Some entry.now)) }
-    ensures promises { by_slot promises.new ≡ by_slot promises.old }
-    ensures votes { by_slot votes.new ≡ by_slot votes.old }
-    ensures more_promises { HasRoom promises.old → HasRoom promises.new }
-    ensures more_votes { HasRoom votes.old → HasRoom votes.new }
-{
-    match entry {
-        Record::Tried(_) | Record::Published(_, _) => Ok(()),
-        Record::Promised(_, _) => make_room(promises),
-        Record::Accepted(_, _, _) => {
-            make_room(promises)?;
-            make_room(votes)
+    match promise {
+        Some(promise) => {
+            if promise.is_below(ballot) {
+                Some(ballot)
+            } else {
+                Some(promise)
+            }
         }
+        None => Some(ballot),
     }
 }

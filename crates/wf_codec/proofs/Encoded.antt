@@ -12,7 +12,7 @@ use Rattle.wf_codec.specs.Spelling.{header_length, kind_of, body, format, text_s
 -- replacing definitions by texts doesn't change the kind
 kind_of-texts : (m : Message Definition) → kind_of (texts m) ≡ kind_of m
 kind_of-texts (Prepare s b) = refl
-kind_of-texts (Promise i s b v) = refl
+kind_of-texts (Promise i s b votes) = refl
 kind_of-texts (Accept s b d) = refl
 kind_of-texts (Accepted i s b) = refl
 kind_of-texts (Nack i s b q) = refl

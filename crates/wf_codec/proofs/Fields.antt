@@ -6,16 +6,17 @@ use Rattle.wf_spelling.specs.Canon.{most_canon_bytes}
 use Rattle.wf_ballot.specs.Ballot.{ballot_bytes}
 use Rattle.wf_ballot.specs.Front.{AreBytes}
 use Rattle.wf_ballot.specs.FieldLaws.{length-ballot_bytes}
-use Rattle.wf_frame.specs.Ending.{IsText, vote_bytes}
-use Rattle.wf_frame.specs.Layout.{Body, IsBody, body_bytes, body_text, fits, read_body}
+use Rattle.wf_frame.specs.Report.{IsText, text_bytes, vote_bytes, votes_bytes}
+use Rattle.wf_frame.specs.ReportLaws.{length-report}
+use Rattle.wf_frame.specs.Layout.{Body, IsBody, body_bytes, body_texts, fits, read_body}
 use Rattle.wf_frame.specs.Law.{Said}
 use Rattle.wf_frame.specs.LayoutLaws as layouts
 use Rattle.wf_model.specs.Message.{Message, Prepare, Promise, Accept, Accepted, Nack, Chosen, Ask, Vote}
 use Rattle.wf_codec.specs.declared.kind.Kind.{Kind}
 use Rattle.wf_codec.specs.declared.kind.Kind.TheVariants as kinds
 use Rattle.wf_codec.specs.Kind.{layout}
-use Rattle.wf_codec.specs.Message.{IsMessageOf, definition_of}
-use Rattle.wf_codec.specs.Fault.{has_fields, text_of}
+use Rattle.wf_codec.specs.Message.{IsMessageOf, definitions_of}
+use Rattle.wf_codec.specs.Fault.{has_fields, texts_of}
 use Rattle.wf_codec.specs.Spelling.{kind_of, values_of, message_of, body, format}
 use Rattle.wf_codec.specs.Judging.{fields_of}
 
@@ -24,7 +25,7 @@ use Rattle.wf_codec.specs.Judging.{fields_of}
 -- its fields are in their ranges
 pub values_fit : (m : Message (List ℕ)) → IsMessageOf (IsText most_canon_bytes) m → IsBody (layout (kind_of m)) (values_of m)
 values_fit (Prepare s b) p = (p.0, (p.1, tt))
-values_fit (Promise i s b v) p = (p.0, (p.1, (p.2, p.3)))
+values_fit (Promise i s b votes) p = (p.0, record { slot = p.1; ballot = p.2; count = p.3; votes = p.4; four_bytes = omega arith })
 values_fit (Accept s b text) p = (p.0, (p.1, p.2))
 values_fit (Accepted i s b) p = (p.0, (p.1, (p.2, tt)))
 values_fit (Nack i s b q) p = (p.0, (p.1, (p.2, (p.3, tt))))
@@ -33,7 +34,7 @@ values_fit (Ask s) p = (p, tt)
 
 pub message_again : (m : Message (List ℕ)) → message_of (kind_of m) (values_of m) ≡ m
 message_again (Prepare s b) = refl
-message_again (Promise i s b v) = refl
+message_again (Promise i s b votes) = refl
 message_again (Accept s b text) = refl
 message_again (Accepted i s b) = refl
 message_again (Nack i s b q) = refl
@@ -44,7 +45,7 @@ message_again (Ask s) = refl
 pub laid_out : (m : Message (List ℕ)) → body m ≡ body_bytes (layout (kind_of m)) (values_of m)
 unfolding body
 laid_out (Prepare s b) = simp append-nil
-laid_out (Promise i s b v) = simp append_assoc
+laid_out (Promise i s b votes) = refl
 laid_out (Accept s b text) = simp append_assoc
 laid_out (Accepted i s b) = simp (append_assoc, append-nil)
 laid_out (Nack i s b q) = simp (append_assoc, append-nil)
@@ -64,7 +65,7 @@ said_again kinds.Nack x = refl
 said_again kinds.Chosen x = refl
 said_again kinds.Ask x = refl
 
-text_said : (kind : Kind) (x : Body (layout kind)) → definition_of (message_of kind x) ≡ body_text (layout kind) x
+text_said : (kind : Kind) (x : Body (layout kind)) → definitions_of (message_of kind x) ≡ body_texts (layout kind) x
 text_said kinds.Prepare x = refl
 text_said kinds.Promise x = refl
 text_said kinds.Accept x = refl
@@ -78,12 +79,12 @@ text_said kinds.Ask x = refl
 -- the length of a vote with its mark
 abbrev pub vote_length : Option (Vote (List ℕ)) → ℕ
 vote_length None = 1
-vote_length (Some v) = 6 + length v.definition
+vote_length (Some v) = 10 + length v.definition
 
 -- the length of a body
 abbrev pub body_length : Message (List ℕ) → ℕ
 body_length (Prepare s b) = 7
-body_length (Promise i s b v) = 8 + length (vote_bytes v)
+body_length (Promise i s b votes) = 8 + length (votes_bytes votes)
 body_length (Accept s b text) = 7 + length text
 body_length (Accepted i s b) = 8
 body_length (Nack i s b q) = 13
@@ -92,7 +93,8 @@ body_length (Ask s) = 2
 
 has_length : (m : Message (List ℕ)) → length (body_bytes (layout (kind_of m)) (values_of m)) ≡ body_length m
 has_length (Prepare s b) = layouts.body_length (layout kinds.Prepare) (values_of (Prepare s b))
-has_length (Promise i s b v) = layouts.body_length (layout kinds.Promise) (values_of (Promise i s b v))
+has_length (Promise i s b votes) =
+    omega (arith, layouts.body_length (layout kinds.Promise) (values_of (Promise i s b votes)), length-report (record { slot = s; ballot = b; votes = votes }))
 has_length (Accept s b text) = layouts.body_length (layout kinds.Accept) (values_of (Accept s b text))
 has_length (Accepted i s b) = layouts.body_length (layout kinds.Accepted) (values_of (Accepted i s b))
 has_length (Nack i s b q) = layouts.body_length (layout kinds.Nack) (values_of (Nack i s b q))
@@ -100,9 +102,11 @@ has_length (Chosen s text) = layouts.body_length (layout kinds.Chosen) (values_o
 has_length (Ask s) = layouts.body_length (layout kinds.Ask) (values_of (Ask s))
 
 pub vote_has_length : (v : Option (Vote (List ℕ))) → length (vote_bytes v) ≡ vote_length v
-unfolding vote_bytes
+unfolding vote_bytes text_bytes
 vote_has_length None = refl
-vote_has_length (Some v) = omega (arith, length-append (ballot_bytes v.ballot) v.definition, length-ballot_bytes v.ballot)
+vote_has_length (Some v) =
+    let text : List ℕ = text_bytes v.definition in
+    omega (arith, length-append (ballot_bytes v.ballot) text, length-ballot_bytes v.ballot)
 
 pub body_has_length : (m : Message (List ℕ)) → length (body m) ≡ body_length m
 body_has_length m = ap length (laid_out m) ∙ has_length m
@@ -132,7 +136,7 @@ fields_stand kind bytes m fit has e =
     let same : ◌≡◌ {A = Said format} (said m) (kind, stands.parts) = ap said (sym stands.makes) ∙ said_again kind stands.parts in
     (ap (λ (x : Said format). x.0) same, stands.spelled ∙ sym (ap (λ (x : Said format). body_bytes (layout x.0) x.1) same) ∙ sym (laid_out m))
 
--- The message of a body exists iff each field is in its range, and its text is what follows the fields.
-pub fields_checked : (kind : Kind) (bytes : List ℕ) → option_map (λ m. definition_of m) (fields_of kind bytes) ≡ cond (has_fields kind bytes) (Some (text_of kind bytes)) None
+-- The message of a body exists iff each field is in its range, and its texts are those that follow the fields.
+pub fields_checked : (kind : Kind) (bytes : List ℕ) → option_map (λ m. definitions_of m) (fields_of kind bytes) ≡ cond (has_fields kind bytes) (Some (texts_of kind bytes)) None
 unfolding fields_of
-fields_checked kind bytes = layouts.body_checked (layout kind) bytes (message_of kind) (λ m. definition_of m) (text_said kind)
+fields_checked kind bytes = layouts.body_checked (layout kind) bytes (message_of kind) (λ m. definitions_of m) (text_said kind)

@@ -1,5 +1,5 @@
--- Which error bytes have: that of the first check that fails, or else that of the message's text.
-use Rattle.std.specs.Prelude.{◌≡◌, ℕ, nat_lt, ◌==◌, List, [], ◌∷◌, length, take, drop, Bool, Option, Some, None, is_some, IsSome, IsSomeAnd, if◌then◌else◌}
+-- Which error bytes have: that of the first check that fails, or else that of the message's texts.
+use Rattle.std.specs.Prelude.{◌≡◌, ℕ, nat_lt, ◌==◌, List, [], ◌∷◌, length, take, drop, Bool, Option, Some, None, is_some, if◌then◌else◌}
 use Rattle.std.specs.Int.{w32, from_be_bytes}
 use Rattle.wf_frame.specs.Layout as layouts
 use Rattle.wf_def.specs.Definition.{Definition}
@@ -9,7 +9,7 @@ use Rattle.wf_codec.specs.declared.fault.DecodeFault.{DecodeFault}
 use Rattle.wf_codec.specs.declared.fault.DecodeFault.TheVariants.{Short, BadVersion, BadKind, BadField, NotCanonical, TooLong, Memory}
 use Rattle.wf_codec.specs.Kind.{most_body_bytes, kind_of_byte, layout, can_have}
 use Rattle.wf_codec.specs.Spelling.{message_version, header_length}
-use Rattle.wf_codec.specs.Message.{HasText}
+use Rattle.wf_codec.specs.Message.{HasText, HasOne, HasOneOf}
 
 -- ---- what the bytes contain, as far as they are there
 
@@ -40,9 +40,9 @@ body_in bytes = front_of (length_in bytes) (behind_header bytes)
 abbrev pub has_fields : Kind → List ℕ → Bool
 has_fields kind body = layouts.has_fields (layout kind) body
 
--- the text after the fields: it fills the rest of the body
-abbrev pub text_of : Kind → List ℕ → Option (List ℕ)
-text_of kind body = layouts.text_in (layout kind) body
+-- the texts in a body of this kind
+abbrev pub texts_of : Kind → List ℕ → List (List ℕ)
+texts_of kind body = layouts.texts_in (layout kind) body
 
 -- ---- the checks, each with its error
 
@@ -93,30 +93,30 @@ first_fault bytes = first_failing (
     ∷ check_fields (kind_in bytes) (body_in bytes)
     ∷ [])
 
--- ---- the text, which is checked last
+-- ---- the texts, which are checked last
 
--- the text in a body of this kind
-abbrev pub text_of_kind : Option Kind → List ℕ → Option (List ℕ)
-text_of_kind None body = None
-text_of_kind (Some kind) body = text_of kind body
+-- the texts in a body of this kind
+abbrev pub texts_of_kind : Option Kind → List ℕ → List (List ℕ)
+texts_of_kind None body = []
+texts_of_kind (Some kind) body = texts_of kind body
 
--- the text of the message at the front
-abbrev pub text_in : List ℕ → Option (List ℕ)
-text_in bytes = text_of_kind (kind_in bytes) (body_in bytes)
+-- the texts of the message at the front
+abbrev pub texts_in : List ℕ → List (List ℕ)
+texts_in bytes = texts_of_kind (kind_in bytes) (body_in bytes)
 
--- the bytes begin with a message except that its text isn't checked: no other check fails, and it has a text
+-- the bytes begin with a message except that its texts aren't checked: no other check fails, and it has a text
 pub record CarriesText (bytes : List ℕ) : Type 0 where
   pub no_fault : first_fault bytes ≡ None
-  pub text : IsSome (text_in bytes)
+  pub text : HasOne (texts_in bytes)
 
 -- it isn't any message's text
 abbrev pub IsNoText : List ℕ → Type 0
 IsNoText text = (d : Definition) → HasText d → canon d ≡ text → ⊥
 
--- no check fails, and the text isn't any definition's
+-- no check fails, and one of the texts isn't any definition's
 pub record CarriesNoText (bytes : List ℕ) : Type 0 where
   pub no_fault : first_fault bytes ≡ None
-  pub no_text : IsSomeAnd (text_in bytes) IsNoText
+  pub no_text : HasOneOf IsNoText (texts_in bytes)
 
 -- The bytes have this error. Allocation can fail only for a text.
 abbrev pub HasFault : List ℕ → DecodeFault → Type 0

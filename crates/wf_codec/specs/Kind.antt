@@ -1,8 +1,9 @@
 -- The seven kinds of message: the byte of each, and the layout of its body.
-use Rattle.std.specs.Prelude.{ℕ, ◌==◌, Bool, List, [], ◌∷◌, Option, find}
+use Rattle.std.specs.Prelude.{ℕ, ◌+◌, ◌==◌, Bool, List, [], ◌∷◌, Option, find}
 use Rattle.wf_frame.specs.Field.{NodeField, SlotField, BallotField}
-use Rattle.wf_frame.specs.Ending.{Nothing, Text, VoteOrNone}
+use Rattle.wf_frame.specs.Ending.{Nothing, Text, Votes}
 use Rattle.wf_frame.specs.Layout.{Layout, fits}
+use Rattle.wf_frame.specs.Report.{most_report}
 use Rattle.wf_spelling.specs.Canon.{most_canon_bytes}
 use Rattle.wf_codec.specs.declared.kind.Kind.{Kind}
 use Rattle.wf_codec.specs.declared.kind.Kind.TheVariants.{Prepare, Promise, Accept, Accepted, Nack, Chosen, Ask}
@@ -26,16 +27,16 @@ kind_of_byte byte = find (λ kind. byte == kind_byte kind) all_kinds
 -- the fields of a body, and what it ends with
 abbrev pub layout : Kind → Layout
 layout Prepare = record { fields = SlotField ∷ BallotField ∷ []; ending = Nothing }
-layout Promise = record { fields = NodeField ∷ SlotField ∷ BallotField ∷ []; ending = VoteOrNone most_canon_bytes }
+layout Promise = record { fields = NodeField ∷ []; ending = Votes most_canon_bytes }
 layout Accept = record { fields = SlotField ∷ BallotField ∷ []; ending = Text most_canon_bytes }
 layout Accepted = record { fields = NodeField ∷ SlotField ∷ BallotField ∷ []; ending = Nothing }
 layout Nack = record { fields = NodeField ∷ SlotField ∷ BallotField ∷ BallotField ∷ []; ending = Nothing }
 layout Chosen = record { fields = SlotField ∷ []; ending = Text most_canon_bytes }
 layout Ask = record { fields = SlotField ∷ []; ending = Nothing }
 
--- the longest body, in bytes: that of a Promise with the longest text
+-- the longest body, in bytes: that of a Promise with four votes for the longest texts
 abbrev pub most_body_bytes : ℕ
-most_body_bytes = 32782
+most_body_bytes = 1 + most_report most_canon_bytes
 
 -- a body of this kind can have that many bytes
 unfoldable pub can_have : Kind → ℕ → Bool

@@ -1,4 +1,5 @@
 pub mod Kind
+pub mod Report
 pub mod Message
 pub mod Spelling
 pub mod FormatLaws

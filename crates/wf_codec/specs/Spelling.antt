@@ -4,7 +4,7 @@ use Rattle.wf_ballot.specs.Node.{node_bytes}
 use Rattle.wf_ballot.specs.Sequence.{seq_bytes}
 use Rattle.wf_ballot.specs.Ballot.{ballot_bytes}
 use Rattle.wf_ballot.specs.Frame.{frame}
-use Rattle.wf_frame.specs.Ending.{vote_bytes}
+use Rattle.wf_frame.specs.Report.{report_bytes}
 use Rattle.wf_frame.specs.Layout.{Body}
 use Rattle.wf_frame.specs.Frame.{Format}
 use Rattle.wf_frame.specs.Frame as frames
@@ -17,7 +17,7 @@ use Rattle.wf_codec.specs.Message.{texts, IsMessage}
 
 abbrev pub kind_of : {V : Type 0} → Message V → Kind
 kind_of (Prepare s b) = kinds.Prepare
-kind_of (Promise i s b v) = kinds.Promise
+kind_of (Promise i s b votes) = kinds.Promise
 kind_of (Accept s b d) = kinds.Accept
 kind_of (Accepted i s b) = kinds.Accepted
 kind_of (Nack i s b q) = kinds.Nack
@@ -27,7 +27,7 @@ kind_of (Ask s) = kinds.Ask
 -- the body of a message with texts for definitions
 unfoldable pub body : Message (List ℕ) → List ℕ
 body (Prepare s b) = seq_bytes s ++ ballot_bytes b
-body (Promise i s b v) = node_bytes i ++ seq_bytes s ++ ballot_bytes b ++ vote_bytes v
+body (Promise i s b votes) = node_bytes i ++ report_bytes (record { slot = s; ballot = b; votes = votes })
 body (Accept s b text) = seq_bytes s ++ ballot_bytes b ++ text
 body (Accepted i s b) = node_bytes i ++ seq_bytes s ++ ballot_bytes b
 body (Nack i s b q) = node_bytes i ++ seq_bytes s ++ ballot_bytes b ++ ballot_bytes q
@@ -36,7 +36,7 @@ body (Ask s) = seq_bytes s
 
 -- the version of messages
 abbrev pub message_version : ℕ
-message_version = 1
+message_version = 2
 
 -- the number of bytes before the body
 abbrev pub header_length : ℕ
@@ -45,7 +45,7 @@ header_length = frames.header_length
 -- what the body of a message says, field by field, and what it ends with
 abbrev pub values_of : (m : Message (List ℕ)) → Body (layout (kind_of m))
 values_of (Prepare s b) = (s, (b, tt))
-values_of (Promise i s b v) = (i, (s, (b, v)))
+values_of (Promise i s b votes) = (i, record { slot = s; ballot = b; votes = votes })
 values_of (Accept s b text) = (s, (b, text))
 values_of (Accepted i s b) = (i, (s, (b, tt)))
 values_of (Nack i s b q) = (i, (s, (b, (q, tt))))
@@ -55,7 +55,7 @@ values_of (Ask s) = (s, tt)
 -- the message whose body says so
 abbrev pub message_of : (kind : Kind) → Body (layout kind) → Message (List ℕ)
 message_of kinds.Prepare x = Prepare x.0 x.1.0
-message_of kinds.Promise x = Promise x.0 x.1.0 x.1.1.0 x.1.1.1
+message_of kinds.Promise x = Promise x.0 x.1.slot x.1.ballot x.1.votes
 message_of kinds.Accept x = Accept x.0 x.1.0 x.1.1
 message_of kinds.Accepted x = Accepted x.0 x.1.0 x.1.1.0
 message_of kinds.Nack x = Nack x.0 x.1.0 x.1.1.0 x.1.1.1.0

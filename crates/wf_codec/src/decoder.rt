@@ -1,20 +1,25 @@
-ghost use Rattle.std.specs.Prelude.{◌≡◌, ◌≤◌, ◌++◌, ◌↔◌, length, IfOk, IfErr, IsErrOf, MatchResult};
+ghost use Rattle.std.specs.Prelude.{◌≡◌, ◌+◌, ◌≤◌, ◌++◌, ◌↔◌, length, true, Some, is_some, option_map, IfOk, IfErr, IfSome, IsErrOf, MatchResult, OnOk};
 ghost use Rattle.wf_codec.specs.declared.kind.Kind.TheVariants as kinds;
 ghost use Rattle.wf_codec.specs.Message.{view};
 ghost use Rattle.wf_codec.specs.Fault.{first_fault, HasFault, CarriesText};
-ghost use Rattle.wf_frame.specs.Ending.{vote_of};
+ghost use Rattle.arrayvec.specs.ArrayVec.{array_vec_len};
+ghost use Rattle.wf_ballot.specs.Ballot.{IsBallot};
+ghost use Rattle.wf_spelling.specs.Canon.{most_canon_bytes};
+ghost use Rattle.wf_frame.specs.Report.{front_text, front_vote, votes_of, votes_in_report, IsVoteOf};
 ghost use Rattle.wf_frame.specs.Frame.{frame_front};
 ghost use Rattle.wf_codec.specs.Spelling.{Spells, format};
-ghost use Rattle.wf_codec.specs.Judging.{decode_fault, fields_of, ReadsAs, ReadsVote, ReadsText};
+ghost use Rattle.wf_codec.specs.Judging.{decode_fault, fields_of, ReadsAs, ReadsVote, ReadsVotes, ReadsReport, ReadsText};
 ghost use Rattle.wf_codec.specs.Law.{BeginsWith, BeginsWithNone, NeverBegins, IsRefusal, IsUnfinished, IsReadAs, IsJudged};
 
 use crate::fault::DecodeFault;
 use crate::frame::HEADER_BYTES;
 use crate::kind::Kind;
 use crate::message::Message;
+use crate::report::{Report, Votes};
+use arrayvec::ArrayVec;
 use std::alloc::Global;
-use wf_ballot::{Ballot, split_ballot, split_node, split_slot};
-use wf_canon::{Canon, CanonFault, one_text_one_map};
+use wf_ballot::{Ballot, Slot, split_ballot, split_node, split_slot};
+use wf_canon::{Canon, CanonFault, MOST_CANON_BYTES, one_text_one_map};
 use wf_frame::{FrameFault, split_frame};
 
 /// The message at the front of the bytes, and its length in bytes. The checks go from left to right, each as soon as its bytes
@@ -100,7 +105,7 @@ fn prepare_of(body: &[u8]) -> Result<Message, DecodeFault>
     Ok(Message::Prepare(slot, ballot))
 }
 
-#[tactic(auto, unfolding(crate::specs::Judging::fields_of))]
+#[tactic(auto, unfolding(crate::specs::Judging::fields_of, wf_frame::specs::Report::report_of))]
 fn promise_of(alloc: Global, body: &[u8]) -> Result<Message, DecodeFault>
     ensures { ReadsAs view result (fields_of kinds.Promise body.now) }
 {
@@ -113,24 +118,140 @@ fn promise_of(alloc: Global, body: &[u8]) -> Result<Message, DecodeFault>
     let Some((ballot, rest)) = split_ballot(rest) else {
         return Err(DecodeFault::BadField);
     };
-    let vote = vote_of(alloc, rest)?;
-    Ok(Message::Promise(node, slot, ballot, vote))
+    let report = report_of(alloc, slot, rest)?;
+    Ok(Message::Promise(node, ballot, report))
 }
 
-#[tactic(auto, unfolding(wf_frame::specs::Ending::vote_of))]
-fn vote_of(alloc: Global, bytes: &[u8]) -> Result<Option<(Ballot, Canon)>, DecodeFault>
-    ensures { ReadsVote result (vote_of bytes.now) }
+/// The report from the slot on whose votes the bytes are.
+fn report_of(alloc: Global, slot: Slot, bytes: &[u8]) -> Result<Report, DecodeFault>
+    ensures { ReadsReport slot result (votes_of most_canon_bytes (votes_in_report slot) bytes.now) }
+{
+    let count = count_of(slot);
+    // All fields are checked before the first text is read.
+    if are_votes(count, bytes) {
+        let mut votes = ArrayVec::new();
+        match read_votes(alloc, count, bytes, &mut votes) {
+            Err(fault) => Err(fault),
+            Ok(()) => Ok(Report::of(slot, votes)),
+        }
+    } else {
+        Err(DecodeFault::BadField)
+    }
+}
+
+/// The number of votes that a report from the slot on has.
+#[tactic(auto, unfolding(wf_model::specs::Table::sequences_from))]
+fn count_of(slot: Slot) -> usize
+    ensures value { result ≡ votes_in_report slot }
+    ensures few { result ≤ 4 }
+{
+    match slot.number() {
+        4096 => 1,
+        4095 => 2,
+        4094 => 3,
+        _ => 4,
+    }
+}
+
+/// A text behind its length, and the bytes after it; None if there is none. Whether it is canonical isn't checked.
+#[tactic(auto, unfolding(wf_frame::specs::Report::front_text))]
+fn cut_text(bytes: &[u8]) -> Option<(&[u8], &[u8])>
+    ensures { option_map (λ x. (x.0.now, x.1.now)) result ≡ front_text most_canon_bytes bytes.now }
 {
     match bytes {
-        [0] => Ok(None),
+        [a, b, c, d, rest @ ..] => {
+            let length = u32::from_be_bytes([*a, *b, *c, *d]) as usize;
+            if 1 <= length && length <= MOST_CANON_BYTES && length <= rest.len() {
+                Some(rest.split_at(length))
+            } else {
+                None
+            }
+        }
+        _ => None,
+    }
+}
+
+/// The bytes after the vote at the front; None if there is none. Its text isn't checked.
+#[tactic(auto, unfolding(wf_frame::specs::Report::front_vote))]
+fn skip_vote(bytes: &[u8]) -> Option<&[u8]>
+    ensures { option_map (λ rest. rest.now) result ≡ option_map (λ x. x.1) (front_vote most_canon_bytes bytes.now) }
+{
+    match bytes {
+        [0, rest @ ..] => Some(rest),
         [1, rest @ ..] => {
-            let Some((ballot, text)) = split_ballot(rest) else {
+            let Some((_, rest)) = split_ballot(rest) else {
+                return None;
+            };
+            let Some((_, rest)) = cut_text(rest) else {
+                return None;
+            };
+            Some(rest)
+        }
+        _ => None,
+    }
+}
+
+/// Whether the bytes are so many votes; their texts aren't checked.
+#[tactic(auto, using(crate::proofs::Reports::no_vote, crate::proofs::Reports::vote_then), unfolding(wf_frame::specs::Report::votes_of))]
+fn are_votes(count: usize, bytes: &[u8]) -> bool
+    ensures { result ≡ is_some (votes_of most_canon_bytes count bytes.now) }
+{
+    if count == 0 {
+        return match bytes {
+            [] => true,
+            _ => false,
+        };
+    }
+    match skip_vote(bytes) {
+        None => false,
+        Some(rest) => are_votes(count - 1, rest),
+    }
+}
+
+/// Appends so many votes, which the bytes are but for their texts, and for which there is room.
+#[tactic(auto)]
+fn read_votes(
+    alloc: Global,
+    count: usize,
+    bytes: &[u8],
+    votes: &mut Votes,
+) -> Result<(), DecodeFault>
+    requires are_votes { is_some (votes_of most_canon_bytes count bytes.now) ≡ true }
+    requires room { array_vec_len votes.old + count ≤ 4 }
+    ensures { (cut : _) → votes_of most_canon_bytes count bytes.now ≡ Some cut → ReadsVotes votes.old.items votes.new.items result cut }
+{
+    if count == 0 {
+        return Ok(());
+    }
+    let Some(rest) = skip_vote(bytes) else {
+        return Err(DecodeFault::BadField);
+    };
+    match vote_of(alloc, bytes) {
+        Err(fault) => Err(fault),
+        Ok(vote) => {
+            votes.push(vote);
+            read_votes(alloc, count - 1, rest, votes)
+        }
+    }
+}
+
+/// The vote at the front of the bytes, with the definition of its text.
+#[tactic(auto, unfolding(wf_frame::specs::Report::front_vote))]
+fn vote_of(alloc: Global, bytes: &[u8]) -> Result<Option<(Ballot, Canon)>, DecodeFault>
+    ensures { (vote rest : _) → front_vote most_canon_bytes bytes.now ≡ Some (vote, rest) → ReadsVote result vote }
+{
+    match bytes {
+        [1, rest @ ..] => {
+            let Some((ballot, rest)) = split_ballot(rest) else {
+                return Err(DecodeFault::BadField);
+            };
+            let Some((text, _)) = cut_text(rest) else {
                 return Err(DecodeFault::BadField);
             };
             let canon = canon_of(alloc, text)?;
             Ok(Some((ballot, canon)))
         }
-        _ => Err(DecodeFault::BadField),
+        _ => Ok(None),
     }
 }
 

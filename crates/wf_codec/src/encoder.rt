@@ -1,8 +1,8 @@
-ghost use Rattle.std.specs.Prelude.{◌≡◌, ◌+◌, ◌<◌, ◌≤◌, ◌++◌, length, vec_len, vec_capacity, OnOk, OnErr};
-ghost use Rattle.wf_codec.specs.Message.{view, view_vote, vote_with, texts, HasText, IsVoteOf, IsMessage};
+ghost use Rattle.std.specs.Prelude.{◌≡◌, ◌+◌, ◌*◌, ◌<◌, ◌≤◌, ◌++◌, length, vec_len, vec_capacity, OnOk, OnErr};
+ghost use Rattle.wf_codec.specs.Message.{view, view_vote, view_votes, vote_with, votes_with, texts, HasText, IsMessage};
 ghost use Rattle.wf_codec.specs.Spelling.{kind_of, body, spelling};
-ghost use Rattle.wf_frame.specs.Ending.{vote_bytes};
-ghost use Rattle.wf_spelling.specs.Canon.{canon};
+ghost use Rattle.wf_frame.specs.Report.{vote_bytes, votes_bytes, text_bytes, IsVoteOf, AreVotesOf};
+ghost use Rattle.wf_spelling.specs.Canon.{canon, most_canon_bytes};
 
 use crate::frame::{BODY_BYTES, HEADER_BYTES};
 use crate::kind::Kind;
@@ -54,9 +54,9 @@ fn body_length(message: &Message) -> usize
             let _ = (slot.seq(), ballot.round());
             7
         }
-        Message::Promise(node, slot, ballot, vote) => {
-            let _ = (node.number(), slot.seq(), ballot.round());
-            8 + vote_length(vote)
+        Message::Promise(node, ballot, report) => {
+            let _ = (node.number(), report.slot(), ballot.round());
+            8 + votes_length(report.votes())
         }
         Message::Accept(slot, ballot, canon) => {
             let _ = (slot.seq(), ballot.round());
@@ -81,18 +81,32 @@ fn body_length(message: &Message) -> usize
     }
 }
 
+/// The number of bytes of the votes.
+#[tactic(auto, unfolding(wf_frame::specs::Report::votes_bytes))]
+fn votes_length(votes: &[Option<(Ballot, Canon)>]) -> usize
+    requires { length votes.now ≤ 4 }
+    ensures value { result ≡ length (votes_bytes (votes_with canon (view_votes votes.now))) }
+    ensures most { result ≤ length votes.now * (10 + most_canon_bytes) }
+    ensures are_votes { AreVotesOf HasText (view_votes votes.now) }
+{
+    match votes {
+        [] => 0,
+        [vote, rest @ ..] => vote_length(vote) + votes_length(rest),
+    }
+}
+
 /// The number of bytes of a vote, with its mark.
 #[tactic(auto, using(crate::proofs::Fields::vote_has_length))]
 fn vote_length(vote: &Option<(Ballot, Canon)>) -> usize
     ensures value { result ≡ length (vote_bytes (vote_with canon (view_vote vote.now))) }
-    ensures most { 8 + result ≤ BODY_BYTES }
+    ensures most { result ≤ 10 + most_canon_bytes }
     ensures is_vote { IsVoteOf HasText (view_vote vote.now) }
 {
     match vote {
         None => 1,
         Some((ballot, canon)) => {
             let _ = ballot.round();
-            6 + text_length(canon)
+            10 + text_length(canon)
         }
     }
 }
@@ -107,7 +121,7 @@ fn text_length(text: &Canon) -> usize
 }
 
 /// Appends the body, for which there is room.
-#[tactic(auto, using(crate::proofs::Fields::body_has_length), unfolding(crate::specs::Spelling::body))]
+#[tactic(auto, using(crate::proofs::Fields::body_has_length), unfolding(crate::specs::Spelling::body, wf_frame::specs::Report::report_bytes))]
 fn put_body(out: &mut Vec<u8>, message: &Message)
     requires { vec_len out.old + length (body (texts (view message.now))) ≤ vec_capacity out.old }
     ensures { out.new.items ≡ out.old.items ++ body (texts (view message.now)) }
@@ -117,11 +131,11 @@ fn put_body(out: &mut Vec<u8>, message: &Message)
             put(out, &slot.bytes());
             put(out, &ballot.bytes());
         }
-        Message::Promise(node, slot, ballot, vote) => {
+        Message::Promise(node, ballot, report) => {
             put(out, &node.bytes());
-            put(out, &slot.bytes());
+            put(out, &report.slot().bytes());
             put(out, &ballot.bytes());
-            put_vote(out, vote);
+            put_votes(out, report.votes());
         }
         Message::Accept(slot, ballot, canon) => {
             put(out, &slot.bytes());
@@ -147,17 +161,32 @@ fn put_body(out: &mut Vec<u8>, message: &Message)
     }
 }
 
+/// Appends the votes, for which there is room.
+#[tactic(auto, unfolding(wf_frame::specs::Report::votes_bytes))]
+fn put_votes(out: &mut Vec<u8>, votes: &[Option<(Ballot, Canon)>])
+    requires { vec_len out.old + length (votes_bytes (votes_with canon (view_votes votes.now))) ≤ vec_capacity out.old }
+    ensures { out.new.items ≡ out.old.items ++ votes_bytes (votes_with canon (view_votes votes.now)) }
+{
+    if let [vote, rest @ ..] = votes {
+        put_vote(out, vote);
+        put_votes(out, rest);
+    }
+}
+
 /// Appends a vote with its mark, for which there is room.
-#[tactic(auto, using(crate::proofs::Fields::vote_has_length), unfolding(wf_frame::specs::Ending::vote_bytes))]
+#[tactic(auto, using(crate::proofs::Fields::vote_has_length), unfolding(wf_frame::specs::Report::vote_bytes, wf_frame::specs::Report::text_bytes))]
 fn put_vote(out: &mut Vec<u8>, vote: &Option<(Ballot, Canon)>)
     requires { vec_len out.old + length (vote_bytes (vote_with canon (view_vote vote.now))) ≤ vec_capacity out.old }
-    ensures { out.new.items ≡ out.old.items ++ vote_bytes (vote_with canon (view_vote vote.now)) }
+    ensures items { out.new.items ≡ out.old.items ++ vote_bytes (vote_with canon (view_vote vote.now)) }
+    ensures len { vec_len out.new ≡ vec_len out.old + length (vote_bytes (vote_with canon (view_vote vote.now))) }
+    ensures capacity { vec_capacity out.old ≤ vec_capacity out.new }
 {
     match vote {
         None => put(out, &[0]),
         Some((ballot, canon)) => {
             put(out, &[1]);
             put(out, &ballot.bytes());
+            put(out, &(canon.text().len() as u32).to_be_bytes());
             put(out, canon.text());
         }
     }

@@ -1,3 +1,4 @@
+use crate::frame::BODY_BYTES;
 use wf_canon::MOST_CANON_BYTES;
 use wf_frame::has_text_behind;
 
@@ -56,7 +57,7 @@ impl Kind {
     {
         match self {
             Kind::Prepare => length == 7,
-            Kind::Promise => length == 9 || has_text_behind(MOST_CANON_BYTES, 14, length),
+            Kind::Promise => 9 <= length && length <= BODY_BYTES,
             Kind::Accept => has_text_behind(MOST_CANON_BYTES, 7, length),
             Kind::Accepted => length == 8,
             Kind::Nack => length == 13,

@@ -24,7 +24,7 @@ pub fn no_spelling_is_empty()
     ensures { NoneIsEmpty }
 {}
 
-/// The longest body is that of a Promise with the longest text. A theorem about the definitions: the call does nothing.
+/// The longest body is that of a Promise with four votes for the longest texts. A theorem about the definitions: the call does nothing.
 pub fn longest_body()
     ensures { IsLongestBody most_body_bytes }
 {}

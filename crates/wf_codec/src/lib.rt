@@ -1,8 +1,8 @@
 //! Messages as bytes: the encoder and the decoder.
 //!
-//! A message's encoding is a version, a kind, the length of its body and its body; numbers are big-endian, and the canonical text
-//! of a definition fills the rest of the body (`specs/Spelling.antt`). Model: a [`Message`] is that of wf_model, with definitions
-//! (`specs/Message.antt`).
+//! A message's encoding is a version, a kind, the length of its body and its body; numbers are big-endian. The canonical text of
+//! a definition fills the rest of the body; a Promise may have several, each behind its length (`specs/Spelling.antt`). Model: a
+//! [`Message`] is that of wf_model, with definitions (`specs/Message.antt`).
 //!
 //! Promises: each message has exactly one encoding, and no encoding is a prefix of another. [`encode`] appends that encoding or
 //! nothing. [`decode`] returns a message iff the bytes begin with its encoding, whatever follows, unless allocation fails. Bytes
@@ -13,6 +13,7 @@
 //! altered in transit and still decodes is a message.
 #![tactic(auto)]
 
+mod best;
 mod decoder;
 mod encoder;
 mod fault;
@@ -21,7 +22,9 @@ mod frame;
 mod kind;
 mod law;
 mod message;
+mod report;
 
+pub use best::BestVotes;
 pub use decoder::decode;
 pub use encoder::encode;
 pub use fault::DecodeFault;
@@ -30,3 +33,4 @@ pub use law::{
     longest_body, no_spelling_is_empty, none_begins_another, numbers_of_messages, one_spelling,
 };
 pub use message::Message;
+pub use report::{MOST_VOTES, Report, Votes};

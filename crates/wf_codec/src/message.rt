@@ -1,5 +1,6 @@
-ghost use Rattle.std.specs.Prelude.{◌≡◌, IfOk, IsSome, OnErr};
+ghost use Rattle.std.specs.Prelude.{◌≡◌, IfOk, OnErr};
 
+use crate::report::Report;
 use std::alloc::AllocError;
 use wf_ballot::{Ballot, NodeId, Slot};
 use wf_canon::Canon;
@@ -9,8 +10,8 @@ use wf_canon::Canon;
 pub enum Message {
     /// A request to promise the ballot at the slot.
     Prepare(Slot, Ballot),
-    /// The node promises the ballot at the slot, and reports its vote there, if it has one.
-    Promise(NodeId, Slot, Ballot, Option<(Ballot, Canon)>),
+    /// The node promises the ballot at the report's slot and all later ones, and reports its votes.
+    Promise(NodeId, Ballot, Report),
     /// A request to vote for the definition at the slot and the ballot.
     Accept(Slot, Ballot, Canon),
     /// The node voted at the slot and the ballot.
@@ -33,8 +34,8 @@ impl Message {
     {
         Ok(match self {
             Message::Prepare(slot, ballot) => Message::Prepare(*slot, *ballot),
-            Message::Promise(node, slot, ballot, vote) => {
-                Message::Promise(*node, *slot, *ballot, copy_vote(vote)?)
+            Message::Promise(node, ballot, report) => {
+                Message::Promise(*node, *ballot, report.copy()?)
             }
             Message::Accept(slot, ballot, canon) => Message::Accept(*slot, *ballot, canon.copy()?),
             Message::Accepted(node, slot, ballot) => Message::Accepted(*node, *slot, *ballot),
@@ -44,15 +45,5 @@ impl Message {
             Message::Chosen(slot, canon) => Message::Chosen(*slot, canon.copy()?),
             Message::Ask(slot) => Message::Ask(*slot),
         })
-    }
-}
-
-fn copy_vote(vote: &Option<(Ballot, Canon)>) -> Result<Option<(Ballot, Canon)>, AllocError>
-    ensures copy { IfOk result (λ v. v ≡ vote.now) }
-    ensures memory { OnErr result (IsSome vote.now) }
-{
-    match vote {
-        None => Ok(None),
-        Some((ballot, canon)) => Ok(Some((*ballot, canon.copy()?))),
     }
 }

@@ -48,7 +48,7 @@ standing_words (standing.Overtaken s) = codes "overtaken " ++ decimal s
 
 -- the state of a node's proposal: a halted node has none
 abbrev pub standing_at : {T : Type 0} → Node T → Standing
-standing_at node = if node.halted then standing.None else standing_of (working_of node)
+standing_at node = if node.halted then standing.None else standing_of (working_of node).proposing
 
 -- the node's number, its last published sequence and the state of its proposal
 unfoldable pub status_words : ℕ → ℕ → Standing → List ℕ

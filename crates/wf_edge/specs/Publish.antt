@@ -10,7 +10,6 @@ use Rattle.wf_mapfile.specs.Meaning.{Means, longest_mapfile}
 use Rattle.wf_mapfile.specs.Rejection.{HasError}
 use Rattle.wf_block.specs.Reading.{is_memory}
 use Rattle.wf_block.specs.declared.fault.MapFault.{MapFault}
-use Rattle.wf_block.specs.declared.fault.MapFault.TheVariants as map
 use Rattle.wf_model.specs.Table.{Propose}
 use Rattle.wf_node.specs.Node.{Node}
 use Rattle.wf_node.specs.Step.{IsStep}
@@ -53,7 +52,8 @@ unwritten canonical.NotCanonical = fault.Memory
 unwritten canonical.Memory = fault.Memory
 
 module _ {T A : Type 0} (honest : Type 0) (content : T → List ℕ) (images : T → List ℕ → Type 0) (failures : T → ℕ) where
-  -- the step Propose of the definition; a halted node rejects it, and is unchanged
+  -- The step Propose of the definition: where the node's leadership covers the next sequence, it stores nothing and asks for votes;
+  -- otherwise it stores a new round and asks for promises. A halted node rejects it, and is unchanged.
   pub record IsProposed (before : Node T) (d : Definition) (result : Result (Vec Message A) NodeFault) (after : Node T) : Type 0 where
     pub refused : before.halted ≡ true → (result ≡ Err Halted) × (after ≡ before)
     pub steps : before.halted ≡ false → IsStep honest content images failures before (Propose d) result after

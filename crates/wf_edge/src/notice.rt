@@ -7,13 +7,13 @@ use wf_http::refusal::Refusal;
 pub enum Notice {
     /// The request is rejected: the line is the status.
     Refused(Refusal),
-    /// 400 `K1`: the canonical text of the map is over 32,768 bytes.
+    /// 400 `K1`: the canonical text of the map is over the limit.
     TooBig,
     /// 409 `N2`: a proposal is running.
     Busy,
     /// 409 `N3`: the last sequence is published.
     SequenceFull,
-    /// 409 `N4`: there is no higher round.
+    /// 409 `N4`: the proposal would need a new round, and there is no higher one. A leader needs none.
     RoundsFull,
     /// 503: an allocation failed, or the node's tape fails or has failed before.
     Unavailable,

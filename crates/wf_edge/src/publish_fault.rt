@@ -8,7 +8,7 @@ use wf_node::NodeFault;
 pub enum PublishFault {
     /// The body isn't a map: an error other than allocation failure.
     Map(MapFault),
-    /// The map's canonical text is over 32,768 bytes.
+    /// The map's canonical text is over the limit.
     TooBig,
     /// An allocation failed before the node's step.
     Memory,

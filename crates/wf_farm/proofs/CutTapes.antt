@@ -12,6 +12,7 @@ use Rattle.wf_journal.specs.Journal.{Follows, IsSettled, ReadsSame}
 use Rattle.wf_tape.specs.MemoryTape.{Kept, IsImageOf}
 use Rattle.wf_journal.specs.Records.{AreReadOneWay, AreRecords, BeginsWithNone, ReadsAs, Splits, length_of}
 use Rattle.wf_journal.specs.Spelling.{spelling, text_spelling}
+use Rattle.wf_journal.specs.SpellingLaws.{length_of_encoding}
 use Rattle.wf_tape.specs.Tape.{IsBeginning}
 use Rattle.wf_farm.specs.declared.event.Kept.TheVariants as declared
 use Rattle.wf_farm.specs.Event.{view_kept}
@@ -25,7 +26,7 @@ unfolding text_spelling frame
 some_bytes r = omega arith
 
 none_begins_nothing : BeginsWithNone []
-none_begins_nothing r spelled after spells e = absurd (omega (arith, some_bytes r, ap length spells.spelled, ap length e, length-append spelled after))
+none_begins_nothing r spelled after spells e = absurd (omega (arith, some_bytes r, length_of_encoding r spelled spells, ap length e, length-append spelled after))
 
 -- whole records read as themselves
 whole_reads : (bytes : List ℕ) (records : List (Record Definition)) → AreRecords bytes records → ReadsAs bytes records
@@ -35,7 +36,7 @@ long_splits : (bytes : List ℕ) (records : List (Record Definition)) (rest : Li
 unfolding length_of
 long_splits bytes [] rest splits = omega (arith, ap length splits)
 long_splits bytes (r ∷ records) rest splits =
-    omega (arith, ap length splits.3, length-append splits.0 splits.1, ap length splits.2.spelled, long_splits splits.1 records rest splits.4)
+    omega (arith, ap length splits.3, length-append splits.0 splits.1, length_of_encoding r splits.0 splits.2, long_splits splits.1 records rest splits.4)
 
 long_records : (bytes : List ℕ) (records : List (Record Definition)) → AreRecords bytes records → length bytes ≡ length_of records
 long_records bytes records are = omega (arith, long_splits bytes records [] are)

@@ -156,11 +156,6 @@ pub begins_itself : {A : Type 0} (xs : List A) → IsBeginning xs xs
 begins_itself xs = ([], append-nil xs)
 
 module _ (stored : Stored Definition) where
-  promised_begins : (s : ℕ) (b : Ballot) (is_open : Bool) → nat_lt (published stored) s ≡ is_open → IsBeginning stored.history (with_record stored (part.Promised s b)).history
-  unfolding with_record
-  promised_begins s b true e = rw e (begins_itself stored.history)
-  promised_begins s b false e = rw e (begins_itself stored.history)
-
   accepted_begins : (s : ℕ) (b : Ballot) (d : Definition) (is_open : Bool) → nat_lt (published stored) s ≡ is_open → IsBeginning stored.history (with_record stored (part.Accepted s b d)).history
   unfolding with_record
   accepted_begins s b d true e = rw e (begins_itself stored.history)
@@ -169,7 +164,7 @@ module _ (stored : Stored Definition) where
   record_begins : (r : Record Definition) → IsBeginning stored.history (with_record stored r).history
   unfolding with_record
   record_begins (part.Tried r) = begins_itself stored.history
-  record_begins (part.Promised s b) = promised_begins s b (nat_lt (published stored) s) refl
+  record_begins (part.Promised s b) = begins_itself stored.history
   record_begins (part.Accepted s b d) = accepted_begins s b d (nat_lt (published stored) s) refl
   record_begins (part.Published s d) = (d ∷ [], refl)
 

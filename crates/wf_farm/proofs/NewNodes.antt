@@ -34,7 +34,7 @@ use Rattle.wf_farm.proofs.Exactly.{keeps_failed}
 -- the message asks what is published
 abbrev IsAsk : model.Message Definition → Type 0
 IsAsk (model.Prepare s b) = ⊥
-IsAsk (model.Promise i s b vote) = ⊥
+IsAsk (model.Promise i s b votes) = ⊥
 IsAsk (model.Accept s b d) = ⊥
 IsAsk (model.Accepted i s b) = ⊥
 IsAsk (model.Nack i s b promise) = ⊥
@@ -98,7 +98,7 @@ module _ {T : Type 0} (node after : Node T) (fresh : IsFresh node) where
     answers_fresh : (m : model.Message Definition) → IsAsk m → Answers honest content images (table.Deliver m) node after said → IsFresh after × (said ≡ [])
     unfolding refusal row on_message on_ask says
     answers_fresh (model.Prepare s b) asks takes = absurd asks
-    answers_fresh (model.Promise i s b vote) asks takes = absurd asks
+    answers_fresh (model.Promise i s b votes) asks takes = absurd asks
     answers_fresh (model.Accept s b d) asks takes = absurd asks
     answers_fresh (model.Accepted i s b) asks takes = absurd asks
     answers_fresh (model.Nack i s b promise) asks takes = absurd asks

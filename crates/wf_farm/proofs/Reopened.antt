@@ -7,7 +7,7 @@ use Rattle.wf_def.specs.Definition.{Definition}
 use Rattle.wf_def.specs.Equality.{definition_eq}
 use Rattle.wf_model.specs.StepsLaws.{steps_in_turn}
 use Rattle.wf_model.specs.Stored.{Stored}
-use Rattle.wf_model.specs.Working.{Idle}
+use Rattle.wf_model.specs.Working.{at_start}
 use Rattle.wf_model.specs.World as world
 use Rattle.wf_model.specs.World.{World, Event, Stop, Restart, after_restart, happens, steps, start, after}
 use Rattle.wf_node.specs.Images.{StandsFor}
@@ -25,9 +25,9 @@ use Rattle.wf_farm.proofs.Turns.{restart_sets, stop_sets, world_of}
 
 -- ---- the model's nodes stop and restart
 
--- a node with the stored part of another, and no proposal
+-- a node with the stored part of another, and no proposal or leadership
 abbrev idle_again : world.Node Definition → world.Node Definition
-idle_again node = node_of node.stored (Some Idle)
+idle_again node = node_of node.stored (Some at_start)
 
 restarted_idle : (node : world.Node Definition) → node_restarted (node_stopped node) ≡ idle_again node
 unfolding node_restarted node_stopped working_restarted
@@ -46,7 +46,7 @@ stops_and_restarts w k node at =
     ∙ restart_sets stopped k (node_stopped node) (set_there w.nodes k (node_stopped node) node at)
     ∙ ap (λ x. world_of (slice_set (slice_set w.nodes k (node_stopped node)) k x) w.sent) (restarted_idle node)
 
--- The first k nodes have no proposal any more; nothing else has changed.
+-- The first k nodes have no proposal and no leadership any more; nothing else has changed.
 record AreRestarted (k : ℕ) (w now : World Definition) : Type 0 where
   sent : now.sent ≡ w.sent
   many : length now.nodes ≡ length w.nodes

@@ -10,7 +10,7 @@ use Rattle.wf_def.specs.Equality.{definition_eq}
 use Rattle.wf_model.specs.Fits.{RowsAreShort}
 use Rattle.wf_model.specs.Message as model
 use Rattle.wf_model.specs.Stored.{Stored, fold, fold_from, nothing_stored}
-use Rattle.wf_model.specs.Working.{Working, Idle}
+use Rattle.wf_model.specs.Working.{Working, at_start}
 use Rattle.wf_model.specs.Table as table
 use Rattle.wf_model.specs.Table.{Input, Refusal, most_told, refusal, refuse_proposal, refuse_retry, row, store}
 use Rattle.wf_model.specs.World as world
@@ -248,8 +248,8 @@ pub one_stored : AreReadOneWay → (kept : tape.Kept) (stored others : Stored De
 one_stored one kept stored others first second =
     one_stand one kept.bytes stored others (first kept.bytes (content_is_image kept)) (second kept.bytes (content_is_image kept))
 
--- A node opened from a tape stored what the tape stands for, and has no proposal.
-pub opened : AreReadOneWay → (kept : tape.Kept) (node : Node tape.Kept) → IsFoldOf (stored_of node) kept.bytes → working_of node ≡ Idle → Restarts (Stopped kept) (Running node)
+-- A node opened from a tape stored what the tape stands for, and has no proposal and no leadership.
+pub opened : AreReadOneWay → (kept : tape.Kept) (node : Node tape.Kept) → IsFoldOf (stored_of node) kept.bytes → working_of node ≡ at_start → Restarts (Stopped kept) (Running node)
 unfolding Restarts node_restarted working_restarted
 opened one kept node fold_of idle = λ x is.
     let stands : StandsFor x.stored kept.bytes = is.1 kept.bytes (content_is_image kept) in
@@ -292,8 +292,8 @@ module _ (one : AreReadOneWay) (node again : Node tape.Kept) (kept : tape.Kept) 
   stored_by false is found = one_stand one kept.bytes (stored_of again) (stored_of node) found (stands is kept.bytes (content_is_image kept))
   stored_by true is found = subst (λ (k : tape.Kept). StandsFor (stored_of again) k.bytes) same found
 
-  -- It runs, without a proposal, and has stored what it had.
-  pub opened_again : again.halted ≡ false → working_of again ≡ Idle → IsFoldOf (stored_of again) kept.bytes → IsReopened node.tape.bytes node again
+  -- It runs, without a proposal or leadership, and has stored what it had.
+  pub opened_again : again.halted ≡ false → working_of again ≡ at_start → IsFoldOf (stored_of again) kept.bytes → IsReopened node.tape.bytes node again
   opened_again runs idle fold_of = record { runs = runs; idle = idle; stored = stored_by node.halted refl (found_again again kept fold_of) }
 
 fold_none : fold {V = Definition} [] ≡ Some nothing_stored
@@ -301,7 +301,7 @@ unfolding fold fold_from
 fold_none = refl
 
 -- From an empty tape nothing is stored.
-pub opened_fresh : IsReadAsNone → (node : Node tape.Kept) → node.halted ≡ false → IsFoldOf (stored_of node) [] → working_of node ≡ Idle → IsFresh node
+pub opened_fresh : IsReadAsNone → (node : Node tape.Kept) → node.halted ≡ false → IsFoldOf (stored_of node) [] → working_of node ≡ at_start → IsFresh node
 opened_fresh none node runs fold_of idle = record {
   runs = runs;
   stored = sym (same_Some nothing_stored (stored_of node) (sym fold_none ∙ ap fold (sym (none fold_of.records (fold_of.rest, fold_of.tape.reads))) ∙ fold_of.folds));
@@ -424,8 +424,8 @@ why_running node x input result is why =
 
 -- the table's rejection of an action by its kind: a delivery and a catch-up have none
 abbrev WhyNotAt : Stored Definition → Working Definition → table.Action Definition ℕ → Option NodeFault → Type 0
-WhyNotAt stored working (table.Propose d) result = fault.IsWhyNot (refuse_proposal stored working) result
-WhyNotAt stored working table.Retry result = fault.IsWhyNot (refuse_retry stored working) result
+WhyNotAt stored working (table.Propose d) result = fault.IsWhyNot (refuse_proposal stored working.leadership working.proposing) result
+WhyNotAt stored working table.Retry result = fault.IsWhyNot (refuse_retry stored working.proposing) result
 WhyNotAt stored working table.CatchUp result = result ≡ None
 WhyNotAt stored working (table.Deliver k) result = result ≡ None
 

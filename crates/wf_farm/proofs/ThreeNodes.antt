@@ -6,9 +6,10 @@ use Rattle.std.proofs.lemmas.Bool.{cases_eq}
 use Rattle.wf_ballot.specs.Ballot.{below}
 use Rattle.wf_ballot.specs.Majority.{count_nodes, is_majority_of}
 use Rattle.wf_def.specs.Definition.{Definition}
-use Rattle.wf_model.specs.Stored.{nothing_stored, published, next_sequence, definition_at, put, with_record}
-use Rattle.wf_model.specs.Working.{Working, nobody, and_node, better, carried, same_ballot, same_phase, is_at}
-use Rattle.wf_model.specs.Table.{store, quiet, says, stores, rounds_full, refuse_proposal, refusal, begin_at, on_propose, told_of, told, promise_to, prepare_open, on_prepare, votes_at, vote_for, accept_open, on_accept, hears, with_promise, asking_votes, promised, on_promise, with_vote, ended, ends, voted, on_accepted, on_chosen, on_message, row}
+use Rattle.wf_model.specs.Message.{first_vote}
+use Rattle.wf_model.specs.Stored.{nothing_stored, published, next_sequence, definition_at, put, raised, with_record}
+use Rattle.wf_model.specs.Working.{Working, at_start, nobody, and_node, better, better_each, carried, proposed, same_ballot, same_phase, is_at, leading_at}
+use Rattle.wf_model.specs.Table.{store, quiet, says, stores, with_proposal, rounds_full, refuse_round, refuse_proposal, refusal, begin_at, ask_votes, propose_by, on_propose, told_of, told, votes_from, promise_to, prepare_open, on_prepare, votes_at, vote_for, accept_open, on_accept, hears, with_promise, asking_votes, leadership_of, promised, on_promise, with_vote, ended, ends, after_publishing, voted, on_accepted, on_chosen, on_message, row}
 use Rattle.wf_model.specs.World.{World, Node, Propose, delivered, input_of, stored_after, with_node, after_turn, turn_running, turn_of, turn, happens, steps, start}
 use Rattle.wf_model.specs.StepsLaws.{steps_in_turn}
 use Rattle.wf_farm.specs.Publishing.{Rests}
@@ -49,7 +50,7 @@ three = 0 ∷ 1 ∷ 2 ∷ []
 -- no proposal is running, if the node runs
 abbrev pub RestsIn : Option (Working Definition) → Type 0
 RestsIn None = ⊤
-RestsIn (Some working) = Rests working
+RestsIn (Some working) = Rests working.proposing
 
 -- a test that takes all definitions for equal
 unfoldable pub always : Definition → Definition → Bool
@@ -62,7 +63,7 @@ world_at d i (suc k) = steps always (world_at d i k) (to_each three k)
 
 -- unfolds all definitions that the run computes with
 abbrev computed : ℕ
-unfolding below count_nodes is_majority_of nothing_stored published next_sequence definition_at put with_record nobody and_node better carried same_ballot same_phase is_at store quiet says stores rounds_full refuse_proposal refusal begin_at on_propose told_of told promise_to prepare_open on_prepare votes_at vote_for accept_open on_accept hears with_promise asking_votes promised on_promise with_vote ended ends voted on_accepted on_chosen on_message row delivered input_of stored_after with_node after_turn turn_running turn_of turn happens steps start rounds to_each deliveries always world_at
+unfolding below count_nodes is_majority_of first_vote nothing_stored published next_sequence definition_at put raised with_record at_start nobody and_node better better_each carried proposed same_ballot same_phase is_at leading_at store quiet says stores with_proposal rounds_full refuse_round refuse_proposal refusal begin_at ask_votes propose_by on_propose told_of told votes_from promise_to prepare_open on_prepare votes_at vote_for accept_open on_accept hears with_promise asking_votes leadership_of promised on_promise with_vote ended ends after_publishing voted on_accepted on_chosen on_message row delivered input_of stored_after with_node after_turn turn_running turn_of turn happens steps start rounds to_each deliveries always world_at
 computed = 0
 
 module _ (d : Definition) where

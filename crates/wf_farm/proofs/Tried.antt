@@ -9,7 +9,7 @@ use Rattle.wf_def.specs.Definition.{Definition}
 use Rattle.wf_model.specs.Message as model
 use Rattle.wf_model.specs.Stored.{Stored, Record}
 use Rattle.wf_model.specs.Table.{Input, store}
-use Rattle.wf_model.specs.Working.{Idle}
+use Rattle.wf_model.specs.Working.{at_start}
 use Rattle.wf_model.specs.World as world
 use Rattle.wf_model.specs.World.{Turn, refusal_of, stored_after, kept_part}
 use Rattle.wf_node.specs.Fault as fault
@@ -101,7 +101,7 @@ module _ {A : Type 0} (input : Input Definition) where
 
 -- A node that is opened with a fuse on its tape is the one that restarts, and the fuse is taken away.
 pub opened_tried : AreReadOneWay → (call kept : ℕ) (tape there : Kept) (node : Node Kept) (place : Place) → there ≡ with_fuse call kept tape → place ≡ Running (armed 0 0 node) →
-    IsFoldOf (stored_of node) there.bytes → working_of node ≡ Idle → Restarts (Stopped tape) place
+    IsFoldOf (stored_of node) there.bytes → working_of node ≡ at_start → Restarts (Stopped tape) place
 opened_tried one call kept tape there node place is_there is fold_of idle =
     subst (Restarts (Stopped tape)) (sym is) (opened one tape (armed 0 0 node) (subst (λ (t : Kept). IsFoldOf (stored_of node) t.bytes) is_there fold_of) idle)
 
@@ -214,7 +214,7 @@ module _ (one : AreReadOneWay) (n i : ℕ) (input : Input Definition) (node : No
   torn_part world.After = ap (λ t. node_torn world.After t (shown node)) goes_here
 
   -- The node that was opened again is what the crash left of it, restarted.
-  module _ (kept : declared.Kept) (again : Node Kept) (holds : stored_of again ≡ stored_by (view_kept kept) (stored_of node) (store (stored_of node) (row_of node input).entry)) (idle : working_of again ≡ Idle)
+  module _ (kept : declared.Kept) (again : Node Kept) (holds : stored_of again ≡ stored_by (view_kept kept) (stored_of node) (store (stored_of node) (row_of node input).entry)) (idle : working_of again ≡ at_start)
       (stands : AllStandFor (stored_of again) (IsImageOf again.tape)) where
     torn_shown : IsNode (Stopped again.tape) (node_torn (view_kept kept) (turn_at n i input (shown node)) (shown node))
     torn_shown = subst (IsNode (Stopped again.tape)) (sym (torn_part (view_kept kept))) (refl, subst (λ s. AllStandFor s (IsImageOf again.tape)) holds stands)

@@ -9,7 +9,7 @@ use Rattle.wf_model.specs.Message as model
 use Rattle.wf_model.specs.Stored.{Stored, Record}
 use Rattle.wf_model.specs.Table as table
 use Rattle.wf_model.specs.Table.{Action, Input, store}
-use Rattle.wf_model.specs.Working.{Idle}
+use Rattle.wf_model.specs.Working.{at_start}
 use Rattle.wf_model.specs.World as world
 use Rattle.wf_model.specs.World.{World, Event, turn, after_turn, after_torn, happens, input_of, refused}
 use Rattle.wf_node.specs.Fault.{refused_by}
@@ -229,7 +229,7 @@ kept_beyond long now = if nat_lt long now then kept.After else kept.Before
 
 -- The node crashed and was opened again, with what was kept of these two stored parts, and its tape stands for that.
 abbrev pub IsTornTo : Stored Definition → Stored Definition → Fate → Place → Type 0
-IsTornTo before after (fate.Torn kept) (Running node) = (stored_of node ≡ stored_by (view_kept kept) before after) × (working_of node ≡ Idle) × AllStandFor (stored_of node) (IsImageOf node.tape)
+IsTornTo before after (fate.Torn kept) (Running node) = (stored_of node ≡ stored_by (view_kept kept) before after) × (working_of node ≡ at_start) × AllStandFor (stored_of node) (IsImageOf node.tape)
 IsTornTo before after (fate.Torn kept) (Stopped left) = ⊥
 IsTornTo before after (fate.Done said) place = ⊥
 IsTornTo before after fate.Rejected place = ⊥

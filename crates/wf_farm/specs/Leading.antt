@@ -8,7 +8,7 @@ use Rattle.wf_def.specs.Equality.{definition_eq}
 use Rattle.wf_model.specs.Stored.{Stored, nothing_stored, definition_at}
 use Rattle.wf_model.specs.Table as table
 use Rattle.wf_model.specs.Table.{Input}
-use Rattle.wf_model.specs.Working.{Idle}
+use Rattle.wf_model.specs.Working.{at_start}
 use Rattle.wf_model.specs.World.{World, Event, steps, after}
 use Rattle.wf_node.specs.Node.{Node, stored_of, working_of}
 use Rattle.wf_node.specs.Step.{IsStep}
@@ -69,7 +69,7 @@ pub record AreReached {T : Type 0} (stands : ℕ → Stored Definition → Type 
 pub record IsFresh {T : Type 0} (node : Node T) : Type 0 where
   pub runs : node.halted ≡ false
   pub stored : stored_of node ≡ nothing_stored
-  pub working : working_of node ≡ Idle
+  pub working : working_of node ≡ at_start
 
 unfoldable pub AreFresh : {T : Type 0} → List (Node T) → Type 0
 AreFresh {T} nodes = (i : ℕ) (node : Node T) → slice_get nodes i ≡ Some node → IsFresh node

@@ -6,7 +6,7 @@ use Rattle.wf_codec.specs.declared.message.Message.{Message}
 use Rattle.wf_def.specs.Definition.{Definition}
 use Rattle.wf_def.specs.Equality.{definition_eq}
 use Rattle.wf_model.specs.Table as table
-use Rattle.wf_model.specs.Working.{Working, Idle, Running, Won, Overtaken}
+use Rattle.wf_model.specs.Working.{Proposing, Idle, Running, Won, Overtaken}
 use Rattle.wf_model.specs.World.{World, Propose, start, steps}
 use Rattle.wf_node.specs.Node.{Node, working_of}
 use Rattle.wf_node.specs.Step.{IsStep}
@@ -24,7 +24,7 @@ unfoldable pub NoneHalted : {T : Type 0} → List (Node T) → Type 0
 NoneHalted {T} nodes = (i : ℕ) (node : Node T) → slice_get nodes i ≡ Some node → node.halted ≡ false
 
 -- no proposal is running
-abbrev pub Rests : Working Definition → Type 0
+abbrev pub Rests : Proposing Definition → Type 0
 Rests Idle = ⊤
 Rests (Running proposal) = ⊥
 Rests (Won s) = ⊤
@@ -32,7 +32,7 @@ Rests (Overtaken s) = ⊤
 
 -- Each node has published exactly this definition, under sequence 1, and no proposal is running.
 unfoldable pub AllPublish : {T : Type 0} → List (Node T) → Definition → Type 0
-AllPublish {T} nodes d = (i : ℕ) (node : Node T) → slice_get nodes i ≡ Some node → (node.parts.history ≡ d ∷ []) × Rests (working_of node)
+AllPublish {T} nodes d = (i : ℕ) (node : Node T) → slice_get nodes i ≡ Some node → (node.parts.history ≡ d ∷ []) × Rests (working_of node).proposing
 
 -- ---- deliveries as a pump makes them
 

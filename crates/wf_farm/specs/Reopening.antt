@@ -1,6 +1,6 @@
 -- Nodes that are closed and opened again from what is on their tapes: as the model's nodes they stop and restart.
 use Rattle.std.specs.Prelude.{◌≡◌, ℕ, Bool, true, false, List, length, slice_get, Some}
-use Rattle.wf_model.specs.Working.{Idle}
+use Rattle.wf_model.specs.Working.{at_start}
 use Rattle.wf_node.specs.Images.{StandsFor}
 use Rattle.wf_node.specs.Node.{Node, stored_of, working_of}
 use Rattle.wf_farm.specs.Delivering.{AnyPart, StandFor}
@@ -11,10 +11,10 @@ abbrev pub HasStoredAgain : {T U : Type 0} → Bool → List ℕ → Node T → 
 HasStoredAgain false left before after = stored_of after ≡ stored_of before
 HasStoredAgain true left before after = StandsFor (stored_of after) left
 
--- The node was opened from what the other left: it runs, and has no proposal.
+-- The node was opened from what the other left: it runs, and has no proposal and no leadership.
 pub record IsReopened {T U : Type 0} (left : List ℕ) (before : Node T) (after : Node U) : Type 0 where
   pub runs : after.halted ≡ false
-  pub idle : working_of after ≡ Idle
+  pub idle : working_of after ≡ at_start
   pub stored : HasStoredAgain before.halted left before after
 
 -- Each node was opened from what the one at its index left, on any kind of tape.

@@ -1,7 +1,7 @@
 -- The effect of an event on its node alone, and the messages that it sends.
 use Rattle.std.specs.Prelude.{List, [], Option, Some, None}
 use Rattle.wf_model.specs.Message.{Message}
-use Rattle.wf_model.specs.Working.{Working, Idle}
+use Rattle.wf_model.specs.Working.{Working, at_start}
 use Rattle.wf_model.specs.World.{Node, Turn, Kept, stored_after, kept_part}
 
 -- the node after a step; a rejected step leaves it unchanged
@@ -25,7 +25,7 @@ node_stopped node = record { stored = node.stored; working = None }
 
 -- the working part of a node after a restart: a stopped node gets an empty one
 unfoldable pub working_restarted : {V : Type 0} → Option (Working V) → Option (Working V)
-working_restarted None = Some Idle
+working_restarted None = Some at_start
 working_restarted (Some working) = Some working
 
 unfoldable pub node_restarted : {V : Type 0} → Node V → Node V

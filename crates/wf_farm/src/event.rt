@@ -12,12 +12,12 @@ pub enum Event {
     CatchUp(usize),
     /// The message of the second number is delivered to the node. Messages are numbered in the order sent, from 0.
     Deliver(usize, usize),
-    /// The node stops, and loses its proposal.
+    /// The node stops, and loses its proposal and its leadership.
     Stop(usize),
     /// The stopped node restarts with what it had stored.
     Restart(usize),
-    /// The node crashes within a step: it loses its proposal and the messages of the step, and keeps what was stored before the
-    /// step or after it.
+    /// The node crashes within a step: it loses its proposal, its leadership and the messages of the step, and keeps what was
+    /// stored before the step or after it.
     Torn(usize, Action, Kept),
 }
 

@@ -5,7 +5,7 @@ ghost use Rattle.wf_codec.specs.declared.message.Message.TheVariants.{Accept, Ac
 
 use wf_ballot::{Ballot, NodeId, Slot};
 use wf_canon::Canon;
-use wf_codec::Message;
+use wf_codec::{Message, Report};
 
 /// Whether the two messages are equal.
 pub(crate) fn is_same_message(a: &Message, b: &Message) -> bool
@@ -13,7 +13,7 @@ pub(crate) fn is_same_message(a: &Message, b: &Message) -> bool
 {
     match a {
         Message::Prepare(slot, ballot) => is_prepare(b, *slot, *ballot),
-        Message::Promise(node, slot, ballot, vote) => is_promise(b, *node, *slot, *ballot, vote),
+        Message::Promise(node, ballot, report) => is_promise(b, *node, *ballot, report),
         Message::Accept(slot, ballot, canon) => is_accept(b, *slot, *ballot, canon),
         Message::Accepted(node, slot, ballot) => is_accepted(b, *node, *slot, *ballot),
         Message::Nack(node, slot, ballot, promised) => {
@@ -34,19 +34,13 @@ fn is_prepare(message: &Message, slot: Slot, ballot: Ballot) -> bool
     }
 }
 
-/// Whether it is the node's promise of the ballot at the slot, with this vote.
-fn is_promise(
-    message: &Message,
-    node: NodeId,
-    slot: Slot,
-    ballot: Ballot,
-    vote: &Option<(Ballot, Canon)>,
-) -> bool
-    ensures { IsTrue result ↔ (Promise node slot ballot vote.now ≡ message.now) }
+/// Whether it is the node's promise of the ballot, with this report.
+fn is_promise(message: &Message, node: NodeId, ballot: Ballot, report: &Report) -> bool
+    ensures { IsTrue result ↔ (Promise node ballot report.now ≡ message.now) }
 {
     match message {
-        Message::Promise(other, another, third, fourth) => {
-            node == *other && slot == *another && ballot == *third && is_same_vote(vote, fourth)
+        Message::Promise(other, another, third) => {
+            node == *other && ballot == *another && is_same_report(report, third)
         }
         _ => false,
     }
@@ -105,6 +99,26 @@ fn is_ask(message: &Message, slot: Slot) -> bool
     match message {
         Message::Ask(other) => slot == *other,
         _ => false,
+    }
+}
+
+/// Whether the two reports are equal.
+fn is_same_report(a: &Report, b: &Report) -> bool
+    ensures { IsTrue result ↔ (a.now ≡ b.now) }
+{
+    a.slot() == b.slot() && are_same_votes(a.votes(), b.votes())
+}
+
+/// Whether the two lists have equal votes.
+fn are_same_votes(a: &[Option<(Ballot, Canon)>], b: &[Option<(Ballot, Canon)>]) -> bool
+    ensures { IsTrue result ↔ (a.now ≡ b.now) }
+{
+    match (a, b) {
+        ([], []) => true,
+        ([vote, rest @ ..], [other, others @ ..]) => {
+            is_same_vote(vote, other) && are_same_votes(rest, others)
+        }
+        ([], [_, ..]) | ([_, ..], []) => false,
     }
 }
 

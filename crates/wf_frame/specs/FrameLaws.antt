@@ -12,10 +12,11 @@ use Rattle.wf_ballot.specs.Frame.{frame}
 use Rattle.wf_ballot.specs.FrontLaws.{four_bytes, AreBytes-take}
 use Rattle.wf_frame.specs.declared.fault.FrameFault.{FrameFault}
 use Rattle.wf_frame.specs.declared.fault.FrameFault.TheVariants.{Short, BadVersion, TooLong, BadLength}
-use Rattle.wf_frame.specs.Layout.{fits, body_bytes, body_text, read_body}
+use Rattle.wf_frame.specs.Layout.{fits, body_bytes, body_texts, read_body}
 use Rattle.wf_frame.specs.Frame.{Format, IsFormat, frame_of, body_front, length_front, kind_front, frame_front, LacksBody, IsUnfinished}
 use Rattle.wf_frame.specs.Law.{IsFramed, FramesAreRead, BodiesAreRead, Said, NoneBeginsAnother}
-use Rattle.wf_frame.specs.LayoutLaws.{AreBytes-rest, body_fits, body_again, body_stands, body_checked}
+use Rattle.wf_frame.specs.ReportLaws.{AreBytes-rest}
+use Rattle.wf_frame.specs.LayoutLaws.{body_fits, body_again, body_stands, body_checked}
 
 -- ---- kinds and their bytes
 
@@ -232,7 +233,7 @@ bodies_are_read = record {
   stand = λ layout bytes body fit has e.
       let stands = body_stands layout bytes (λ b. b) body fit has e in
       stands.spelled ∙ ap (body_bytes layout) stands.makes;
-  checked = λ layout bytes. body_checked layout bytes (λ b. b) (body_text layout) (λ b. refl);
+  checked = λ layout bytes. body_checked layout bytes (λ b. b) (body_texts layout) (λ b. refl);
 }
 
 -- what a kind and a body say

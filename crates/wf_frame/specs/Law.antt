@@ -4,7 +4,7 @@ use Rattle.std.specs.Prelude.{◌≡◌, ◌↔◌, ℕ, List, ◌++◌, length,
 use Rattle.wf_ballot.specs.Front.{AreBytes}
 use Rattle.wf_frame.specs.declared.fault.FrameFault.{FrameFault}
 use Rattle.wf_frame.specs.declared.fault.FrameFault.TheVariants.{Short}
-use Rattle.wf_frame.specs.Layout.{Layout, Body, IsBody, body_bytes, body_text, fits, read_body, has_fields, text_in}
+use Rattle.wf_frame.specs.Layout.{Layout, Body, IsBody, body_bytes, body_texts, fits, read_body, has_fields, texts_in}
 use Rattle.wf_frame.specs.Frame.{Format, frame_of, frame_front, IsUnfinished}
 
 -- the bytes begin with the frame of this kind with this body
@@ -23,12 +23,12 @@ pub record FramesAreRead {K : Type 0} (format : Format K) : Type 0 where
   pub short : (bytes : List ℕ) → (frame_front format bytes ≡ Err Short) ↔ IsUnfinished format bytes
 
 -- A body has a length that its layout allows, it is read as its parts, and what is read has those bytes. It is read iff each field
--- is in its range, by byte offset, and its text is what follows the fields.
+-- is in its range, by byte offset, and its texts are those that follow the fields.
 pub record BodiesAreRead : Type 0 where
   pub fit : (layout : Layout) (body : Body layout) → IsBody layout body → fits layout (length (body_bytes layout body)) ≡ true
   pub again : (layout : Layout) (body : Body layout) → IsBody layout body → read_body layout (body_bytes layout body) (λ b. b) ≡ Some body
   pub stand : (layout : Layout) (bytes : List ℕ) (body : Body layout) → AreBytes bytes → fits layout (length bytes) ≡ true → read_body layout bytes (λ b. b) ≡ Some body → bytes ≡ body_bytes layout body
-  pub checked : (layout : Layout) (bytes : List ℕ) → option_map (body_text layout) (read_body layout bytes (λ b. b)) ≡ (if has_fields layout bytes then Some (text_in layout bytes) else None)
+  pub checked : (layout : Layout) (bytes : List ℕ) → option_map (body_texts layout) (read_body layout bytes (λ b. b)) ≡ (if has_fields layout bytes then Some (texts_in layout bytes) else None)
 
 -- a kind with what its body says
 abbrev pub Said : {K : Type 0} → Format K → Type 0

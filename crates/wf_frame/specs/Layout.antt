@@ -1,7 +1,7 @@
 -- The layout of a body: fields of fixed length, one after the other, and an ending. A kind of message or record has one layout.
 use Rattle.std.specs.Prelude.{ℕ, ◌+◌, ◌&&◌, Bool, List, [], ◌∷◌, ◌++◌, drop, Option, is_some, option_map, option_and_then}
 use Rattle.wf_frame.specs.Field.{Field, Value, IsValue, value_bytes, width, front_value}
-use Rattle.wf_frame.specs.Ending.{Ending, End, IsEnd, end_bytes, ends_at, end_text, front_end, has_end, text_in_end}
+use Rattle.wf_frame.specs.Ending.{Ending, End, IsEnd, end_bytes, ends_at, end_texts, front_end, has_end, texts_in_end}
 
 pub record Layout : Type 0 where
   pub fields : List Field
@@ -37,9 +37,9 @@ abbrev pub end_of : (fields : List Field) (ending : Ending) → Parts fields end
 end_of [] ending end = end
 end_of (field ∷ fields) ending parts = end_of fields ending parts.1
 
--- the text that a body contains, if any
-abbrev pub body_text : (layout : Layout) → Body layout → Option (List ℕ)
-body_text layout body = end_text layout.ending (end_of layout.fields layout.ending body)
+-- the texts that a body contains
+abbrev pub body_texts : (layout : Layout) → Body layout → List (List ℕ)
+body_texts layout body = end_texts layout.ending (end_of layout.fields layout.ending body)
 
 -- ---- lengths
 
@@ -65,7 +65,7 @@ read_body layout bytes said = read_parts layout.fields layout.ending bytes said
 
 -- ---- by byte offset
 
--- from this offset on, each field is in its range, and the ending is one but for its text
+-- from this offset on, each field is in its range, and the ending is one but for its texts
 abbrev pub has_parts : List Field → Ending → ℕ → List ℕ → Bool
 has_parts [] ending offset body = has_end ending (drop offset body)
 has_parts (field ∷ fields) ending offset body = is_some (front_value field (drop offset body)) && has_parts fields ending (offset + width field) body
@@ -73,6 +73,6 @@ has_parts (field ∷ fields) ending offset body = is_some (front_value field (dr
 abbrev pub has_fields : Layout → List ℕ → Bool
 has_fields layout body = has_parts layout.fields layout.ending 0 body
 
--- the text after the fields
-abbrev pub text_in : Layout → List ℕ → Option (List ℕ)
-text_in layout body = text_in_end layout.ending (drop (widths layout.fields) body)
+-- the texts after the fields
+abbrev pub texts_in : Layout → List ℕ → List (List ℕ)
+texts_in layout body = texts_in_end layout.ending (drop (widths layout.fields) body)

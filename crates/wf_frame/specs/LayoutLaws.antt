@@ -1,18 +1,19 @@
 -- Bodies and their layouts: a body is read as its parts, what is read has those bytes, and the checks by byte offset agree with it.
-use Rattle.std.proofs.Common.{◌≡◌, ℕ, zero, suc, ◌+◌, ◌≤◌, ◌<◌, Bool, true, false, cond, eqb, ltb, leb, ◌&&◌, ◌||◌, List, [], ◌∷◌, ◌++◌, length, drop, Option, Some, None, refl, ap, subst, ◌∙◌, length-append, arith, inl, inr}
-use Rattle.std.proofs.lemmas.Bool.{leb-true, eqb-true, lt-ltb, le-leb, eq-eqb, and_parts, and_from, or_cases}
+use Rattle.std.proofs.Common.{◌≡◌, ℕ, ◌+◌, ◌≤◌, Bool, true, false, cond, ltb, leb, ◌&&◌, List, [], ◌∷◌, ◌++◌, length, drop, Option, Some, None, refl, ap, subst, ◌∙◌, length-append, arith}
+use Rattle.std.proofs.lemmas.Bool.{leb-true, eqb-true, lt-ltb, le-leb, eq-eqb, and_parts, and_from}
 use Rattle.std.proofs.lemmas.Option.{option_and_then_some}
-use Rattle.std.proofs.lemmas.List.{nil_from_length, get_or-append-add, drop-drop}
+use Rattle.std.proofs.lemmas.List.{nil_from_length, drop-drop}
 use Rattle.std.specs.Prelude.{is_some, option_map, option_and_then}
 use Rattle.wf_ballot.specs.Node.{most_nodes}
-use Rattle.wf_ballot.specs.Ballot.{Ballot, ballot_bytes}
+use Rattle.wf_ballot.specs.Ballot.{Ballot}
 use Rattle.wf_ballot.specs.Front.{AreBytes, ReadsFront, front_node, front_slot, front_round, front_ballot}
 use Rattle.wf_ballot.specs.FrontLaws.{reads_nodes, reads_slots, reads_rounds, reads_ballots}
 use Rattle.wf_ballot.specs.FieldLaws.{length-node_bytes, length-seq_bytes, length-round_bytes, length-ballot_bytes}
-use Rattle.wf_model.specs.Message.{Vote}
 use Rattle.wf_frame.specs.Field.{Field, NodeField, SlotField, RoundField, BallotField, Value, IsValue, value_bytes, width, front_value}
-use Rattle.wf_frame.specs.Ending.{Ending, Nothing, Text, VoteOrNone, End, IsText, IsEnd, vote_bytes, end_bytes, has_text_behind, ends_at, most_end, end_text, vote_of, front_end, is_vote, text_of_vote, has_end, text_in_end}
-use Rattle.wf_frame.specs.Layout.{Layout, Parts, Body, AreParts, IsBody, parts_bytes, body_bytes, end_of, body_text, widths, fits, read_parts, read_body, has_parts, has_fields, text_in}
+use Rattle.wf_frame.specs.Report.{Report, IsText, IsReport, report_bytes, most_report, report_of, votes_definitions, texts_of_read}
+use Rattle.wf_frame.specs.ReportLaws.{AreBytes-rest, report_stands, report_again, report_length}
+use Rattle.wf_frame.specs.Ending.{Ending, Nothing, Text, Votes, End, IsEnd, end_bytes, has_text_behind, ends_at, most_end, end_texts, front_end, has_end, texts_in_end}
+use Rattle.wf_frame.specs.Layout.{Layout, Parts, Body, AreParts, IsBody, parts_bytes, body_bytes, end_of, body_texts, widths, fits, read_parts, read_body, has_parts, has_fields, texts_in}
 
 -- ---- fields
 
@@ -27,10 +28,6 @@ value_length NodeField value = length-node_bytes value
 value_length SlotField value = length-seq_bytes value
 value_length RoundField value = length-round_bytes value
 value_length BallotField value = length-ballot_bytes value
-
--- bytes after the front are bytes
-pub AreBytes-rest : (front rest : List ℕ) → AreBytes (front ++ rest) → AreBytes rest
-AreBytes-rest front rest fits i = subst (λ (n : ℕ). n < 256) (get_or-append-add front rest i 0) (fits (length front + i))
 
 -- the bytes after a field
 kept : {A : Type 0} (b : Bool) (a : A) (rest : List ℕ) (x : A × List ℕ) → cond b (Some (a, rest)) None ≡ Some x → x.1 ≡ rest
@@ -73,25 +70,19 @@ behind BallotField bytes x e = behind_ballot bytes x e
 
 -- ---- endings
 
-or_right : (x : Bool) → (x || true) ≡ true
-or_right true = refl
-or_right false = refl
-
 text_test : (most fields n : ℕ) (text : List ℕ) → n ≡ fields + length text → IsText most text → has_text_behind most fields n ≡ true
 text_test most fields n text e is_text =
     and_from (ltb fields n) (leb n (fields + most)) (lt-ltb fields n (omega (arith, is_text.least))) (le-leb n (fields + most) (omega (arith, is_text.within)))
 
-vote_length : (most fields n : ℕ) (vote : Option (Vote (List ℕ))) → n ≡ fields + length (vote_bytes vote) → IsEnd (VoteOrNone most) vote → ends_at (VoteOrNone most) fields n ≡ true
-unfolding vote_bytes
-vote_length most fields n None e is = rw (eq-eqb n (fields + 1) e) refl
-vote_length most fields n (Some v) e is =
-    let long : n ≡ (fields + 6) + length v.definition = omega (arith, e, length-append (ballot_bytes v.ballot) v.definition, length-ballot_bytes v.ballot) in
-    rw (text_test most (fields + 6) n v.definition long is.1) (or_right (eqb n (fields + 1)))
+report_test : (most fields n : ℕ) (report : Report) → n ≡ fields + length (report_bytes report) → IsReport most report → ends_at (Votes most) fields n ≡ true
+report_test most fields n report e is =
+    let (least, within) = report_length most report is in
+    and_from (leb (fields + 8) n) (leb n (fields + most_report most)) (le-leb (fields + 8) n (omega arith)) (le-leb n (fields + most_report most) (omega arith))
 
 end_fits : (ending : Ending) (fields n : ℕ) (end : End ending) → n ≡ fields + length (end_bytes ending end) → IsEnd ending end → ends_at ending fields n ≡ true
 end_fits Nothing fields n end e is = eq-eqb n fields (omega (arith, e))
 end_fits (Text most) fields n text e is = text_test most fields n text e is
-end_fits (VoteOrNone most) fields n vote e is = vote_length most fields n vote e is
+end_fits (Votes most) fields n report e is = report_test most fields n report e is
 
 text_within : (most fields n : ℕ) → has_text_behind most fields n ≡ true → n ≤ fields + most
 text_within most fields n has = let tests = and_parts (ltb fields n) (leb n (fields + most)) has in leb-true n (fields + most) tests.1
@@ -99,47 +90,27 @@ text_within most fields n has = let tests = and_parts (ltb fields n) (leb n (fie
 end_within : (ending : Ending) (fields n : ℕ) → ends_at ending fields n ≡ true → n ≤ fields + most_end ending
 end_within Nothing fields n has = omega (arith, eqb-true n fields has)
 end_within (Text most) fields n has = text_within most fields n has
-end_within (VoteOrNone most) fields n has =
-    elim (or_cases (eqb n (fields + 1)) (has_text_behind most (fields + 6) n) has) [
-      | inl is_one ↦ omega (arith, eqb-true n (fields + 1) is_one)
-      | inr has_text ↦ omega (arith, text_within most (fields + 6) n has_text)
-    ]
+end_within (Votes most) fields n has =
+    let tests = and_parts (leb (fields + 8) n) (leb n (fields + most_report most)) has in leb-true n (fields + most_report most) tests.1
 
 -- the most bytes of a body
 pub fits_most : (layout : Layout) (n : ℕ) → fits layout n ≡ true → n ≤ widths layout.fields + most_end layout.ending
 fits_most layout n has = end_within layout.ending (widths layout.fields) n has
 
-vote_again : (most : ℕ) (vote : Option (Vote (List ℕ))) → IsEnd (VoteOrNone most) vote → vote_of (vote_bytes vote) ≡ Some vote
-unfolding vote_of vote_bytes
-vote_again most None is = refl
-vote_again most (Some v) is = rw (reads_ballots.read v.ballot v.definition is.0) refl
-
 end_again : (ending : Ending) (end : End ending) → IsEnd ending end → front_end ending (end_bytes ending end) ≡ Some end
 end_again Nothing end is = refl
 end_again (Text most) text is = refl
-end_again (VoteOrNone most) vote is = vote_again most vote is
+end_again (Votes most) report is = report_again most report is
 
 some_is : {A : Type 0} (P : A → Type 0) (x y : A) → Some x ≡ Some y → P x → P y
 some_is P x y e p = let same : x ≡ y = cc in subst P same p
-
-vote_stands : (bytes : List ℕ) (vote : Option (Vote (List ℕ))) → AreBytes bytes → vote_of bytes ≡ Some vote → bytes ≡ vote_bytes vote
-unfolding vote_of vote_bytes
-vote_stands [] vote fit e = absurd cc
-vote_stands (zero ∷ []) vote fit e = some_is (λ x. 0 ∷ [] ≡ vote_bytes x) None vote e refl
-vote_stands (zero ∷ byte ∷ bytes) vote fit e = absurd cc
-vote_stands (suc zero ∷ bytes) vote fit e =
-    let read : Ballot × List ℕ → Vote (List ℕ) = λ ballot. record { ballot = ballot.0; definition = ballot.1 } in
-    option_and_then_some (λ ballot. Some (Some (read ballot))) (front_ballot bytes) vote e (λ x is same.
-    let stands = reads_ballots.stands bytes x.1 x.0 (AreBytes-rest (1 ∷ []) bytes fit) is in
-    some_is (λ v. 1 ∷ bytes ≡ vote_bytes v) (Some (read x)) vote same (ap (λ (t : List ℕ). 1 ∷ t) stands.0))
-vote_stands (suc (suc mark) ∷ bytes) vote fit e = absurd cc
 
 -- an ending that is read has these bytes: by the length that the body can have, nothing follows the last field
 end_stands : (ending : Ending) (fields : ℕ) (bytes : List ℕ) (end : End ending) → AreBytes bytes → ends_at ending fields (fields + length bytes) ≡ true → front_end ending bytes ≡ Some end →
     bytes ≡ end_bytes ending end
 end_stands Nothing fields bytes end fit has e = nil_from_length bytes (omega (arith, eqb-true (fields + length bytes) fields has))
 end_stands (Text most) fields bytes text fit has e = some_is (λ x. bytes ≡ x) bytes text e refl
-end_stands (VoteOrNone most) fields bytes vote fit has e = vote_stands bytes vote fit e
+end_stands (Votes most) fields bytes report fit has e = report_stands most bytes report fit e
 
 -- One more field: if it and the others are there, the value is there.
 field_then : {A B C : Type 0} (g : B → C) (field : Option (A × List ℕ)) (f : A × List ℕ → Option B) (rest : List ℕ) (others : Bool) (value : C) →
@@ -148,28 +119,14 @@ field_then : {A B C : Type 0} (g : B → C) (field : Option (A × List ℕ)) (f 
 field_then g None f rest others value behind then = refl
 field_then g (Some x) f rest others value behind then = ap (λ (r : List ℕ). option_map g (f (x.0, r))) (behind x refl) ∙ then x.0
 
--- the text of a vote
-abbrev text_of_read : Option (Vote (List ℕ)) → Option (List ℕ)
-text_of_read vote = option_map (λ v. v.definition) vote
+report_checked : (most : ℕ) (read : Option Report) → option_map (λ (r : Report). votes_definitions r.votes) read ≡ cond (is_some read) (Some (texts_of_read read)) None
+report_checked most None = refl
+report_checked most (Some report) = refl
 
-and_true : (b : Bool) (value : Option (List ℕ)) → cond (b && true) (Some value) None ≡ cond b (Some value) None
-and_true true value = refl
-and_true false value = refl
-
-vote_checked : (bytes : List ℕ) → option_map text_of_read (vote_of bytes) ≡ cond (is_vote bytes) (Some (text_of_vote bytes)) None
-unfolding vote_of is_vote text_of_vote
-vote_checked [] = refl
-vote_checked (zero ∷ []) = refl
-vote_checked (zero ∷ byte ∷ bytes) = refl
-vote_checked (suc zero ∷ bytes) =
-    field_then text_of_read (front_ballot bytes) (λ ballot. Some (Some (record { ballot = ballot.0; definition = ballot.1 }))) (drop 5 bytes) true (Some (drop 5 bytes)) (behind_ballot bytes) (λ b. refl)
-    ∙ and_true (is_some (front_ballot bytes)) (Some (drop 5 bytes))
-vote_checked (suc (suc mark) ∷ bytes) = refl
-
-end_checked : (ending : Ending) (bytes : List ℕ) → option_map (end_text ending) (front_end ending bytes) ≡ cond (has_end ending bytes) (Some (text_in_end ending bytes)) None
+end_checked : (ending : Ending) (bytes : List ℕ) → option_map (end_texts ending) (front_end ending bytes) ≡ cond (has_end ending bytes) (Some (texts_in_end ending bytes)) None
 end_checked Nothing bytes = refl
 end_checked (Text most) bytes = refl
-end_checked (VoteOrNone most) bytes = vote_checked bytes
+end_checked (Votes most) bytes = report_checked most (report_of most bytes)
 
 -- ---- bodies
 
@@ -251,26 +208,26 @@ map_map : {A B C : Type 0} (f : A → B) (g : B → C) (h : A → C) (o : Option
 map_map f g h None same = refl
 map_map f g h (Some x) same = ap Some (same x)
 
-parts_checked : {B : Type 0} (fields : List Field) (ending : Ending) (offset : ℕ) (body : List ℕ) (said : Parts fields ending → B) (text : B → Option (List ℕ)) →
-    ((parts : Parts fields ending) → text (said parts) ≡ end_text ending (end_of fields ending parts)) →
-    option_map text (read_parts fields ending (drop offset body) said) ≡ cond (has_parts fields ending offset body) (Some (text_in_end ending (drop (offset + widths fields) body))) None
+parts_checked : {B : Type 0} (fields : List Field) (ending : Ending) (offset : ℕ) (body : List ℕ) (said : Parts fields ending → B) (text : B → List (List ℕ)) →
+    ((parts : Parts fields ending) → text (said parts) ≡ end_texts ending (end_of fields ending parts)) →
+    option_map text (read_parts fields ending (drop offset body) said) ≡ cond (has_parts fields ending offset body) (Some (texts_in_end ending (drop (offset + widths fields) body))) None
 parts_checked [] ending offset body said text agrees =
     let none_after : offset ≡ offset + 0 = omega arith in
-    map_map said text (end_text ending) (front_end ending (drop offset body)) agrees ∙ end_checked ending (drop offset body)
-    ∙ ap (λ (n : ℕ). cond (has_end ending (drop offset body)) (Some (text_in_end ending (drop n body))) None) none_after
+    map_map said text (end_texts ending) (front_end ending (drop offset body)) agrees ∙ end_checked ending (drop offset body)
+    ∙ ap (λ (n : ℕ). cond (has_end ending (drop offset body)) (Some (texts_in_end ending (drop n body))) None) none_after
 parts_checked (field ∷ fields) ending offset body said text agrees =
     let after : List ℕ = drop (offset + width field) body in
     let sum : (offset + width field) + widths fields ≡ offset + (width field + widths fields) = omega arith in
     field_then text (front_value field (drop offset body)) (λ value. read_parts fields ending value.1 (λ others. said (value.0, others))) after
-    (has_parts fields ending (offset + width field) body) (text_in_end ending (drop (offset + (width field + widths fields)) body))
+    (has_parts fields ending (offset + width field) body) (texts_in_end ending (drop (offset + (width field + widths fields)) body))
     (λ x is. behind field (drop offset body) x is ∙ drop-drop (width field) offset body)
     (λ value. parts_checked fields ending (offset + width field) body (λ others. said (value, others)) text (λ others. agrees (value, others))
-    ∙ ap (λ (n : ℕ). cond (has_parts fields ending (offset + width field) body) (Some (text_in_end ending (drop n body))) None) sum)
+    ∙ ap (λ (n : ℕ). cond (has_parts fields ending (offset + width field) body) (Some (texts_in_end ending (drop n body))) None) sum)
 
--- A body is read iff each field is in its range, by byte offset, and its text is what follows the fields.
-pub body_checked : {B : Type 0} (layout : Layout) (bytes : List ℕ) (said : Body layout → B) (text : B → Option (List ℕ)) → ((body : Body layout) → text (said body) ≡ body_text layout body) →
-    option_map text (read_body layout bytes said) ≡ cond (has_fields layout bytes) (Some (text_in layout bytes)) None
+-- A body is read iff each field is in its range, by byte offset, and its texts are those that follow the fields.
+pub body_checked : {B : Type 0} (layout : Layout) (bytes : List ℕ) (said : Body layout → B) (text : B → List (List ℕ)) → ((body : Body layout) → text (said body) ≡ body_texts layout body) →
+    option_map text (read_body layout bytes said) ≡ cond (has_fields layout bytes) (Some (texts_in layout bytes)) None
 body_checked layout bytes said text agrees =
     let sum : 0 + widths layout.fields ≡ widths layout.fields = omega arith in
     parts_checked layout.fields layout.ending 0 bytes said text agrees
-    ∙ ap (λ (n : ℕ). cond (has_fields layout bytes) (Some (text_in_end layout.ending (drop n bytes))) None) sum
+    ∙ ap (λ (n : ℕ). cond (has_fields layout bytes) (Some (texts_in_end layout.ending (drop n bytes))) None) sum

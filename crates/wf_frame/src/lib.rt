@@ -1,7 +1,7 @@
 //! Frames of bytes: what messages and records have in common.
 //!
 //! A frame is a version, a kind, the length of its body and its body; numbers are big-endian (`specs/Frame.antt`). A body is fields of
-//! fixed length (a node, a slot, a round, a ballot), and then nothing, a text, or a vote or none (`specs/Layout.antt`). Model: a
+//! fixed length (a node, a slot, a round, a ballot), and then nothing, a text, or what a promise reports (`specs/Layout.antt`). Model: a
 //! format is its kinds, each with a version, a byte and the layout of its body, and the versions that are read ([`FrameKind`]).
 //!
 //! Promises, of every format: a frame has one reading, and no frame is a prefix of another. [`split_frame`] checks from left to

@@ -23,30 +23,30 @@ module _ {V : Type 0} (n : ℕ) (sent : List (Message V)) (facts : MessageFacts 
 
   -- The best reported vote isn't below b: some node both voted at b and promised at c, and reported that vote or a later one. So
   -- it is the vote at b, or a later Accept carried it.
-  of_best : (c : Ballot) (e : V) (best : Vote V) → ((a : Ballot) → below a c ≡ true → Carries a) → below best.ballot b ≡ false → (nodes : ℕ → Bool) →
-      IsTold sent s c nodes best → e ≡ best.definition → e ≡ d
-  of_best c e best earlier not_below nodes told carried =
-      let asked_best : IsIn (Accept s best.ballot best.definition) sent = facts.told_asked told.teller s c best told.said in
+  of_best : (base : ℕ) (c : Ballot) (e : V) (best : Vote V) → ((a : Ballot) → below a c ≡ true → Carries a) → below best.ballot b ≡ false → (nodes : ℕ → Bool) →
+      IsTold sent base s c nodes best → e ≡ best.definition → e ≡ d
+  of_best base c e best earlier not_below nodes told carried =
+      let asked_best : IsIn (Accept s best.ballot best.definition) sent = facts.told_asked told.teller base s c best told.said in
       elim (below-total b best.ballot) [
-        | inl above ↦ carried ∙ earlier best.ballot (facts.told_below told.teller s c best told.said) best.definition above asked_best
-        | inr (inl same) ↦ carried ∙ (facts.one_accept s s b best.definition d (subst (λ x. IsIn (Accept s x best.definition) sent) (sym same) asked_best) asked).1
+        | inl above ↦ carried ∙ earlier best.ballot (facts.told_below told.teller base s c best told.said) best.definition above asked_best
+        | inr (inl same) ↦ carried ∙ facts.one_accept s b best.definition d (subst (λ x. IsIn (Accept s x best.definition) sent) (sym same) asked_best) asked
         | inr (inr lower) ↦ absurd (both_ways (below best.ballot b) not_below lower)
       ]
 
   -- a vote not below b was reported, and the best one isn't below that
-  by_best : (c : Ballot) (e : V) (best vote : Option (Vote V)) (nodes : ℕ → Bool) → ((a : Ballot) → below a c ≡ true → Carries a) → VoteNotBelow vote b → IsWithin vote best →
-      BestIsTold sent s c nodes best → IsCarried best e → e ≡ d
-  by_best c e best None nodes earlier not_below within told carried = absurd not_below
-  by_best c e None (Some vote) nodes earlier not_below within told carried = absurd within
-  by_best c e (Some best) (Some vote) nodes earlier not_below within told carried =
-      of_best c e best earlier (not_below-transitive b vote.ballot best.ballot not_below within) nodes told carried
+  by_best : (base : ℕ) (c : Ballot) (e : V) (best vote : Option (Vote V)) (nodes : ℕ → Bool) → ((a : Ballot) → below a c ≡ true → Carries a) → VoteNotBelow vote b →
+      IsWithin vote best → BestIsTold sent base s c nodes best → IsCarried best e → e ≡ d
+  by_best base c e best None nodes earlier not_below within told carried = absurd not_below
+  by_best base c e None (Some vote) nodes earlier not_below within told carried = absurd within
+  by_best base c e (Some best) (Some vote) nodes earlier not_below within told carried =
+      of_best base c e best earlier (not_below-transitive b vote.ballot best.ballot not_below within) nodes told carried
 
   carries_step : (c : Ballot) → ((a : Ballot) → below a c ≡ true → Carries a) → Carries c
   carries_step c earlier e above is_sent =
       let backed : IsBacked n sent s c e = facts.backed s c e is_sent in
-      let (i, (is_node, voted, promised)) = majorities_meet n (Voted sent s b d) (HasPromised sent s c backed.best) chosen backed.majority in
-      by_best c e backed.best promised.vote backed.majority.nodes earlier
-      (facts.told i s c b promised.vote promised.said voted.said above) promised.within backed.told backed.carried
+      let (i, (is_node, voted, promised)) = majorities_meet n (Voted sent s b d) (HasPromised sent backed.base s c backed.best) chosen backed.majority in
+      by_best backed.base c e backed.best promised.vote backed.majority.nodes earlier
+      (facts.told i backed.base s c b promised.vote promised.said voted.said above) promised.within backed.told backed.carried
 
   pub carries : (c : Ballot) → Carries c
   carries c = below-induction Carries carries_step c
@@ -57,7 +57,7 @@ module _ {V : Type 0} (n : ℕ) (sent : List (Message V)) (facts : MessageFacts 
       let (i, (is_node, first, second)) = majorities_meet n (Voted sent s c e) (Voted sent s c e) later later in
       elim order [
         | inl above ↦ carries c e above first.asked
-        | inr same ↦ (facts.one_accept s s b e d (subst (λ x. IsIn (Accept s x e) sent) (sym same) first.asked) asked).1
+        | inr same ↦ facts.one_accept s b e d (subst (λ x. IsIn (Accept s x e) sent) (sym same) first.asked) asked
       ]
 
 -- at most one definition is chosen for a sequence

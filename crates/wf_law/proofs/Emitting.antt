@@ -1,14 +1,14 @@
--- The messages of a transition are sent: none, one, or a list. And what a running proposal keeps meanwhile.
-use Rattle.std.proofs.Common.{◌≡◌, ℕ, ◌+◌, ◌<◌, ◌≤◌, List, [], ◌∷◌, ◌++◌, zero, suc, Option, Some, None, refl, sym, subst, inl, inr, append_assoc, append-nil}
+-- The messages of a transition are sent: none, one, or a list. And what a running proposal and a leadership keep meanwhile.
+use Rattle.std.proofs.Common.{◌≡◌, ℕ, ◌+◌, ◌<◌, ◌≤◌, List, [], ◌∷◌, ◌++◌, zero, suc, Option, Some, None, refl, sym, subst, inl, inr, arith, append_assoc, append-nil}
 use Rattle.std.specs.Prelude.{⊤}
 use Rattle.wf_ballot.specs.Ballot.{Ballot}
-use Rattle.wf_model.specs.Message.{Message, Prepare, Promise, Accept, Accepted, Nack, Chosen, Ask}
+use Rattle.wf_model.specs.Message.{Message, Prepare, Promise, Accept, Accepted, Nack, Chosen, Ask, vote_of}
 use Rattle.wf_model.specs.Stored.{Stored, published, next_sequence, definition_at}
-use Rattle.wf_model.specs.Working.{Phase, Preparing, Accepting, Proposal, Working, Idle, Running, Won, Overtaken, carried}
+use Rattle.wf_model.specs.Working.{Phase, Preparing, Accepting, Proposal, Proposing, Idle, Running, Won, Overtaken, Leadership, Working, proposed}
 use Rattle.wf_model.specs.Table.{told_of, told, told_from}
 use Rattle.wf_model.specs.Chosen.{IsIn, IsChosen}
 use Rattle.wf_law.proofs.Members.{member-before, member-parts}
-use Rattle.wf_law.proofs.Facts.{MessageFacts, StoredFacts, PreparingFacts, AcceptingFacts, PhaseFacts, WorkingFacts, MayAsk, IsMeet, MaySend, Sends, IsOwnAsk}
+use Rattle.wf_law.proofs.Facts.{MessageFacts, StoredFacts, PreparingFacts, AcceptingFacts, PhaseFacts, ProposingFacts, LeadershipFacts, LeadingFacts, last_asked, WorkingFacts, MayAsk, IsMeet, MaySend, Sends, IsOwnAsk}
 use Rattle.wf_law.proofs.Keeping.{HasPromised-longer, BestIsTold-longer, IsChosen-longer}
 use Rattle.wf_law.proofs.Sending.{send_messages, send_own, send_other}
 
@@ -49,13 +49,13 @@ module _ {V : Type 0} (sent new : List (Message V)) where
   pub PreparingFacts-longer : (p : Proposal V) → IsUnasked new p.ballot → PreparingFacts sent p → PreparingFacts (sent ++ new) p
   PreparingFacts-longer p unasked facts = record {
     fresh = λ t d h. elim (member-parts (Accept t p.ballot d) sent new h) [ inl old ↦ facts.fresh t d old | inr k ↦ unasked t d k ];
-    heard = λ j is_in. HasPromised-longer sent new (facts.heard j is_in);
-    told = BestIsTold-longer sent new p.sequence p.ballot p.heard p.best facts.told;
+    heard = λ j s is_in in_window. HasPromised-longer sent new (facts.heard j s is_in in_window);
+    told = λ s. BestIsTold-longer sent new p.sequence s p.ballot p.heard (vote_of p.sequence p.best s) (facts.told s);
   }
 
   pub AcceptingFacts-longer : (p : Proposal V) → AcceptingFacts sent p → AcceptingFacts (sent ++ new) p
   AcceptingFacts-longer p facts = record {
-    asked = member-before (Accept p.sequence p.ballot (carried p.best p.own)) sent new facts.asked;
+    asked = member-before (Accept p.sequence p.ballot (proposed p)) sent new facts.asked;
     heard = λ j is_in. member-before (Accepted j p.sequence p.ballot) sent new (facts.heard j is_in);
   }
 
@@ -63,39 +63,97 @@ module _ {V : Type 0} (sent new : List (Message V)) where
   PhaseFacts-longer p Preparing unasked facts = PreparingFacts-longer p unasked facts
   PhaseFacts-longer p Accepting unasked facts = AcceptingFacts-longer p facts
 
-  -- a node's working part keeps its facts while no Accept at a ballot of its own is sent
-  pub WorkingFacts-longer : (j : ℕ) (stored : Stored V) (working : Working V) → ((b : Ballot) → b.node ≡ j → IsUnasked new b) →
-      WorkingFacts j stored sent working → WorkingFacts j stored (sent ++ new) working
-  WorkingFacts-longer j stored Idle unasked facts = tt
-  WorkingFacts-longer j stored (Running p) unasked facts = record {
+  ProposingFacts-longer : (j : ℕ) (stored : Stored V) (proposing : Proposing V) → ((b : Ballot) → b.node ≡ j → IsUnasked new b) →
+      ProposingFacts j stored sent proposing → ProposingFacts j stored (sent ++ new) proposing
+  ProposingFacts-longer j stored Idle unasked facts = tt
+  ProposingFacts-longer j stored (Running p) unasked facts = record {
     own = facts.own;
     tried = facts.tried;
     next = facts.next;
+    is_sequence = facts.is_sequence;
     phase = PhaseFacts-longer p p.phase (unasked p.ballot facts.own) facts.phase;
   }
-  WorkingFacts-longer j stored (Won s) unasked facts = tt
-  WorkingFacts-longer j stored (Overtaken s) unasked facts = tt
+  ProposingFacts-longer j stored (Won s) unasked facts = tt
+  ProposingFacts-longer j stored (Overtaken s) unasked facts = tt
+
+  -- the leadership's promises were sent, and the Accepts at its ballot are given
+  pub led_longer : (n j : ℕ) (stored : Stored V) (last last' : ℕ) (l : Leadership V) → ((s : ℕ) (d : V) → IsIn (Accept s l.ballot d) (sent ++ new) → s ≤ last') →
+      LeadershipFacts n j stored sent last l → LeadershipFacts n j stored (sent ++ new) last' l
+  led_longer n j stored last last' l asked facts = record {
+    own = facts.own;
+    tried = facts.tried;
+    asked = asked;
+    nodes = facts.nodes;
+    is_majority = facts.is_majority;
+    heard = λ k s is_in in_window. HasPromised-longer sent new (facts.heard k s is_in in_window);
+    told = λ s. BestIsTold-longer sent new l.base s l.ballot facts.nodes (vote_of l.base l.best s) (facts.told s);
+  }
+
+  LeadingFacts-longer : (n j : ℕ) (stored : Stored V) (last : ℕ) (leadership : Option (Leadership V)) → ((b : Ballot) → b.node ≡ j → IsUnasked new b) →
+      LeadingFacts n j stored sent last leadership → LeadingFacts n j stored (sent ++ new) last leadership
+  LeadingFacts-longer n j stored last None unasked facts = tt
+  LeadingFacts-longer n j stored last (Some l) unasked facts =
+      led_longer n j stored last last l
+      (λ s d h. elim (member-parts (Accept s l.ballot d) sent new h) [ inl old ↦ facts.asked s d old | inr k ↦ absurd (unasked l.ballot facts.own s d k) ]) facts
+
+  -- a node's working part keeps its facts while no Accept at a ballot of its own is sent
+  pub WorkingFacts-longer : (n j : ℕ) (stored : Stored V) (working : Working V) → ((b : Ballot) → b.node ≡ j → IsUnasked new b) →
+      WorkingFacts n j stored sent working → WorkingFacts n j stored (sent ++ new) working
+  WorkingFacts-longer n j stored working unasked facts = record {
+    proposing = ProposingFacts-longer j stored working.proposing unasked facts.proposing;
+    leading = LeadingFacts-longer n j stored (last_asked stored working.proposing) working.leadership unasked facts.leading;
+  }
 
 -- every other node's working part keeps its facts
 pub working_other : {V : Type 0} (n i : ℕ) (stored : Stored V) (sent new : List (Message V)) (j : ℕ) (other : Stored V) (working : Working V) →
-    (j ≡ i → ⊥) → Sends n i stored sent new → WorkingFacts j other sent working → WorkingFacts j other (sent ++ new) working
+    (j ≡ i → ⊥) → Sends n i stored sent new → WorkingFacts n j other sent working → WorkingFacts n j other (sent ++ new) working
 working_other n i stored sent new j other working differs sends facts =
-    WorkingFacts-longer sent new j other working
+    WorkingFacts-longer sent new n j other working
     (λ b of_j t d h. let of_i : b.node ≡ i = asks_own n i stored sent new t b d sends h in let same : j ≡ i = cc in differs same) facts
 
--- the stored part of a running proposal's node changes, but not what is published
-pub WorkingFacts-stored : {V : Type 0} (i : ℕ) (stored stored' : Stored V) (sent : List (Message V)) (working : Working V) → stored.tried ≡ stored'.tried →
-    published stored ≡ published stored' → WorkingFacts i stored sent working → WorkingFacts i stored' sent working
-unfolding next_sequence
-WorkingFacts-stored i stored stored' sent Idle same_tried same_published facts = tt
-WorkingFacts-stored i stored stored' sent (Running p) same_tried same_published facts = record {
-  own = facts.own;
-  tried = subst (λ r. p.ballot.round ≤ r) same_tried facts.tried;
-  next = subst (λ k. p.sequence ≡ k + 1) same_published facts.next;
-  phase = facts.phase;
-}
-WorkingFacts-stored i stored stored' sent (Won s) same_tried same_published facts = tt
-WorkingFacts-stored i stored stored' sent (Overtaken s) same_tried same_published facts = tt
+-- ---- the stored part of a node changes
+
+module _ {V : Type 0} (n i : ℕ) (stored stored' : Stored V) (sent : List (Message V)) (same_tried : stored.tried ≡ stored'.tried) where
+  -- the leadership keeps its facts, with a last sequence that isn't lower
+  pub LeadingFacts-stored : (last last' : ℕ) (leadership : Option (Leadership V)) → last ≤ last' → LeadingFacts n i stored sent last leadership → LeadingFacts n i stored' sent last' leadership
+  LeadingFacts-stored last last' None higher facts = tt
+  LeadingFacts-stored last last' (Some l) higher facts = record {
+    own = facts.own;
+    tried = subst (λ r. l.ballot.round ≤ r) same_tried facts.tried;
+    asked = λ s d h. let within : s ≤ last = facts.asked s d h in omega arith;
+    nodes = facts.nodes;
+    is_majority = facts.is_majority;
+    heard = facts.heard;
+    told = facts.told;
+  }
+
+  module _ (same_published : published stored ≡ published stored') where
+    ProposingFacts-stored : (proposing : Proposing V) → ProposingFacts i stored sent proposing → ProposingFacts i stored' sent proposing
+    unfolding next_sequence
+    ProposingFacts-stored Idle facts = tt
+    ProposingFacts-stored (Running p) facts = record {
+      own = facts.own;
+      tried = subst (λ r. p.ballot.round ≤ r) same_tried facts.tried;
+      next = subst (λ k. p.sequence ≡ k + 1) same_published facts.next;
+      is_sequence = facts.is_sequence;
+      phase = facts.phase;
+    }
+    ProposingFacts-stored (Won s) facts = tt
+    ProposingFacts-stored (Overtaken s) facts = tt
+
+    same_last : (proposing : Proposing V) → last_asked stored proposing ≤ last_asked stored' proposing
+    unfolding next_sequence
+    same_last Idle = omega arith
+    same_last (Running p) = omega arith
+    same_last (Won s) = omega arith
+    same_last (Overtaken s) = omega arith
+
+    -- and so does a running proposal, if nothing is published
+    pub WorkingFacts-stored : (working : Working V) → WorkingFacts n i stored sent working → WorkingFacts n i stored' sent working
+    WorkingFacts-stored working facts = record {
+      proposing = ProposingFacts-stored working.proposing facts.proposing;
+      leading = LeadingFacts-stored (last_asked stored working.proposing) (last_asked stored' working.proposing) working.leadership (same_last working.proposing) facts.leading;
+    }
 
 -- ---- answers, which are no requests
 

@@ -3,7 +3,7 @@ use Rattle.std.proofs.Common.{◌≡◌, ℕ, nat_lt, Bool, true, false, List, [
 use Rattle.std.proofs.lemmas.Bool.{cases_eq}
 use Rattle.wf_ballot.specs.Ballot.{Ballot}
 use Rattle.wf_model.specs.Stored.{Stored, Record, Tried, Promised, Accepted, Published, published, with_record}
-use Rattle.wf_model.specs.Working.{Working, Idle}
+use Rattle.wf_model.specs.Working.{Working, at_start}
 use Rattle.wf_model.specs.Table as table
 use Rattle.wf_model.specs.Table.{Row, store}
 use Rattle.wf_model.specs.World.{Node, World, Event, Propose, Retry, CatchUp, Deliver, Stop, Restart, Torn, Kept, Before, After, Turn, stored_after, kept_part, with_node, after_turn, after_torn, stop_running, after_stop, restart_stopped, after_restart, turn, happens, steps, start, after}
@@ -24,11 +24,6 @@ begins_through xs ys zs (rest, e) (more, h) =
 -- ---- a record
 
 module _ {V : Type 0} (stored : Stored V) where
-  promised_grows : (s : ℕ) (b : Ballot) (is_open : Bool) → nat_lt (published stored) s ≡ is_open → IsBeginning stored.history (with_record stored (Promised s b)).history
-  unfolding with_record
-  promised_grows s b true e = rw e (begins_itself stored.history)
-  promised_grows s b false e = rw e (begins_itself stored.history)
-
   accepted_grows : (s : ℕ) (b : Ballot) (d : V) (is_open : Bool) → nat_lt (published stored) s ≡ is_open → IsBeginning stored.history (with_record stored (Accepted s b d)).history
   unfolding with_record
   accepted_grows s b d true e = rw e (begins_itself stored.history)
@@ -37,7 +32,7 @@ module _ {V : Type 0} (stored : Stored V) where
   record_grows : (r : Record V) → IsBeginning stored.history (with_record stored r).history
   unfolding with_record
   record_grows (Tried r) = begins_itself stored.history
-  record_grows (Promised s b) = promised_grows s b (nat_lt (published stored) s) refl
+  record_grows (Promised s b) = begins_itself stored.history
   record_grows (Accepted s b d) = accepted_grows s b d (nat_lt (published stored) s) refl
   record_grows (Published s d) = (d ∷ [], refl)
 
@@ -92,7 +87,7 @@ module _ {V : Type 0} (w : World V) (i : ℕ) where
       IsBeginning (history w j) (history (restart_stopped w i stored working) j)
   unfolding restart_stopped with_node history
   restart_grows stored None is_there j =
-      set_grows (record { stored = stored; working = None }) (record { stored = stored; working = Some Idle }) is_there (begins_itself stored.history) j
+      set_grows (record { stored = stored; working = None }) (record { stored = stored; working = Some at_start }) is_there (begins_itself stored.history) j
   restart_grows stored (Some working) is_there j = begins_itself (history_of (slice_get w.nodes j))
 
   after_restart_grows : (node : Option (Node V)) → slice_get w.nodes i ≡ node → (j : ℕ) → IsBeginning (history w j) (history (after_restart w i node) j)

@@ -2,7 +2,7 @@
 use Rattle.std.proofs.Common.{ℕ, Bool, List, ◌++◌, Option, Some, None}
 use Rattle.wf_ballot.specs.Ballot.{Ballot}
 use Rattle.wf_model.specs.Message.{Vote, Message, Promise, Accept, Accepted}
-use Rattle.wf_model.specs.Chosen.{Voted, IsChosen}
+use Rattle.wf_model.specs.Chosen.{Told, Voted, IsChosen}
 use Rattle.wf_law.specs.Laws.{HasPromised, BestIsTold, IsBacked}
 use Rattle.wf_law.proofs.Members.{member-before}
 use Rattle.wf_law.proofs.Facts.{Stands}
@@ -25,24 +25,28 @@ module _ {V : Type 0} (sent new : List (Message V)) where
     };
   }
 
-  pub HasPromised-longer : {s : ℕ} {b : Ballot} {best : Option (Vote V)} {i : ℕ} → HasPromised sent s b best i → HasPromised (sent ++ new) s b best i
-  HasPromised-longer {s} {b} {best} {i} h =
-      record { vote = h.vote; said = member-before (Promise i s b h.vote) sent new h.said; within = h.within }
+  pub Told-longer : {base s : ℕ} {b : Ballot} {vote : Option (Vote V)} {i : ℕ} → Told sent base s b vote i → Told (sent ++ new) base s b vote i
+  Told-longer {base} {s} {b} {vote} {i} h = record { votes = h.votes; said = member-before (Promise i base b h.votes) sent new h.said; reported = h.reported }
 
-  pub BestIsTold-longer : (s : ℕ) (b : Ballot) (nodes : ℕ → Bool) (best : Option (Vote V)) → BestIsTold sent s b nodes best → BestIsTold (sent ++ new) s b nodes best
-  BestIsTold-longer s b nodes None h = tt
-  BestIsTold-longer s b nodes (Some vote) h =
-      record { teller = h.teller; is_member = h.is_member; said = member-before (Promise h.teller s b (Some vote)) sent new h.said }
+  pub HasPromised-longer : {base s : ℕ} {b : Ballot} {best : Option (Vote V)} {i : ℕ} → HasPromised sent base s b best i → HasPromised (sent ++ new) base s b best i
+  HasPromised-longer h = record { vote = h.vote; said = Told-longer h.said; within = h.within }
+
+  pub BestIsTold-longer : (base s : ℕ) (b : Ballot) (nodes : ℕ → Bool) (best : Option (Vote V)) → BestIsTold sent base s b nodes best →
+      BestIsTold (sent ++ new) base s b nodes best
+  BestIsTold-longer base s b nodes None h = tt
+  BestIsTold-longer base s b nodes (Some vote) h = record { teller = h.teller; is_member = h.is_member; said = Told-longer h.said }
 
   -- the same majority promised, and reported the same votes
   pub IsBacked-longer : {n s : ℕ} {b : Ballot} {d : V} → IsBacked n sent s b d → IsBacked n (sent ++ new) s b d
   IsBacked-longer {n} {s} {b} {d} h = record {
+    base = h.base;
+    in_window = h.in_window;
     best = h.best;
     majority = record {
       nodes = h.majority.nodes;
       is_majority = h.majority.is_majority;
       each = λ i is_node is_in. HasPromised-longer (h.majority.each i is_node is_in);
     };
-    told = BestIsTold-longer s b h.majority.nodes h.best h.told;
+    told = BestIsTold-longer h.base s b h.majority.nodes h.best h.told;
     carried = h.carried;
   }

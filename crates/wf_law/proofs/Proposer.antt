@@ -1,20 +1,23 @@
--- The transitions of a node that proposes, and those for a chosen definition; and the whole table.
-use Rattle.std.proofs.Common.{◌≡◌, ℕ, ◌+◌, ◌<◌, ◌≤◌, ◌==◌, nat_lt, max, cond, Bool, true, false, List, [], ◌∷◌, ◌++◌, Option, Some, None, refl, sym, subst, inl, inr, arith, le_refl, eqb-true}
+-- The transitions of a node that proposes or leads, and those for a chosen definition; and the whole table.
+use Rattle.std.proofs.Common.{◌≡◌, ℕ, ◌+◌, ◌<◌, ◌≤◌, ◌==◌, nat_lt, nat_le, max, cond, Bool, true, false, is_some, List, [], ◌∷◌, ◌++◌, Option, Some, None, refl, sym, ap, subst, ◌∙◌, inl, inr, arith, le_refl, append-nil, eqb-true, leb-true, leb-false, ltb-true}
 use Rattle.std.specs.Prelude.{⊤}
-use Rattle.std.proofs.lemmas.Bool.{false≢true}
+use Rattle.std.proofs.lemmas.Bool.{false≢true, true≢false, and_parts}
+use Rattle.std.proofs.lemmas.Option.{none-some, same_Some}
 use Rattle.wf_ballot.specs.Ballot.{Ballot, below}
 use Rattle.wf_ballot.specs.Majority.{count_nodes, is_majority_of}
 use Rattle.wf_ballot.specs.OrderLaws.{below-irreflexive, below-asymmetric, not_below-below}
 use Rattle.wf_ballot.specs.Sequence.{last_sequence}
-use Rattle.wf_model.specs.Message.{Vote, Message, Prepare, Promise, Accept, Accepted, Nack, Chosen, Ask}
+use Rattle.wf_model.specs.Message.{Vote, Message, Prepare, Promise, Accept, Accepted, Nack, Chosen, Ask, first_vote, from_sequence, vote_of}
 use Rattle.wf_model.specs.Stored.{Stored, Tried, Published, published, next_sequence, with_record}
-use Rattle.wf_model.specs.Working.{Phase, Preparing, Accepting, Proposal, Working, Idle, Running, Won, Overtaken, nobody, and_node, better, carried, is_at}
-use Rattle.wf_model.specs.Table.{Row, Input, Propose, Retry, CatchUp, Deliver, store, says, stores, when_running, round_known, begin_at, on_propose, on_retry, on_catch_up, hears, with_promise, asking_votes, promised, on_promise, with_vote, on_nack, ended, ends, voted, on_accepted, on_chosen, on_message, row}
+use Rattle.wf_model.specs.Working.{Phase, Preparing, Accepting, Proposal, Proposing, Idle, Running, Won, Overtaken, Leadership, Working, nobody, and_node, better, carried, proposed, is_at, window, is_in_window, leading_at}
+use Rattle.wf_model.specs.Table.{Row, Refusal, SequenceFull, Input, Propose, Retry, CatchUp, Deliver, store, quiet, says, stores, running_row, when_running, with_proposal, round_known, refuse_proposal, refusal, begin_at, ask_votes, lead, propose_by, on_propose, on_retry, on_catch_up, hears, with_promise, asking_votes, leadership_of, promised, on_promise, with_vote, on_nack, ended, ends, after_publishing, voted, on_accepted, on_chosen, on_message, row}
 use Rattle.wf_model.specs.Chosen.{IsIn, Told, IsChosen}
-use Rattle.wf_law.specs.Laws.{IsWithin, HasPromised, IsTold, BestIsTold, IsCarried}
+use Rattle.wf_model.specs.VotesLaws.{reports_vote, IsItsVote, reported_vote, first_vote-of, vote_of-better}
+use Rattle.wf_law.specs.Laws.{IsWithin, IsInWindow, HasPromised, IsTold, BestIsTold, IsCarried, IsBacked}
 use Rattle.wf_law.proofs.Members.{member-split, member-last}
-use Rattle.wf_law.proofs.Facts.{StoredFacts, PreparingFacts, AcceptingFacts, PhaseFacts, ProposalFacts, WorkingFacts, IsKnown, MaySend, NodeFacts, IsOwnAsk, RowFacts}
-use Rattle.wf_law.proofs.Storing.{store_tried, store_published}
+use Rattle.wf_law.proofs.Facts.{StoredFacts, PreparingFacts, AcceptingFacts, PhaseFacts, ProposalFacts, ProposingFacts, LeadershipFacts, LeadingFacts, last_asked, IsWhole, WorkingFacts, IsKnown, MaySend, NodeFacts, IsOwnAsk, RowFacts}
+use Rattle.wf_law.proofs.Storing.{store_tried, published-more, store_published}
+use Rattle.wf_law.proofs.Emitting.{led_longer, LeadingFacts-stored}
 use Rattle.wf_law.proofs.Acceptor.{quiet_facts, says_facts, stores_facts, prepare_facts, accept_facts, ask_facts}
 use Rattle.wf_law.proofs.Ballots.{and_node-true, and_node-self, and_node-old, Heard, hears-true}
 
@@ -46,27 +49,27 @@ within_better None vote (Some old) h = absurd h
 within_better (Some best) None (Some old) h = h
 within_better (Some best) (Some vote) (Some old) h = kept_within best vote old (below best.ballot vote.ballot) refl h
 
-module _ {V : Type 0} (sent : List (Message V)) (s : ℕ) (b : Ballot) (nodes : ℕ → Bool) (sender : ℕ) where
-  told_by : (vote : Vote V) → Told sent s b (Some vote) sender → IsTold sent s b (and_node nodes sender) vote
+module _ {V : Type 0} (sent : List (Message V)) (base s : ℕ) (b : Ballot) (nodes : ℕ → Bool) (sender : ℕ) where
+  told_by : (vote : Vote V) → Told sent base s b (Some vote) sender → IsTold sent base s b (and_node nodes sender) vote
   told_by vote said = record { teller = sender; is_member = and_node-self nodes sender; said = said }
 
-  still_told : (vote : Vote V) → IsTold sent s b nodes vote → IsTold sent s b (and_node nodes sender) vote
+  still_told : (vote : Vote V) → IsTold sent base s b nodes vote → IsTold sent base s b (and_node nodes sender) vote
   still_told vote h = record { teller = h.teller; is_member = and_node-old nodes sender h.teller h.is_member; said = h.said }
 
-  told_higher : (best vote : Vote V) (higher : Bool) → below best.ballot vote.ballot ≡ higher → IsTold sent s b nodes best → Told sent s b (Some vote) sender →
-      BestIsTold sent s b (and_node nodes sender) (better (Some best) (Some vote))
+  told_higher : (best vote : Vote V) (higher : Bool) → below best.ballot vote.ballot ≡ higher → IsTold sent base s b nodes best → Told sent base s b (Some vote) sender →
+      BestIsTold sent base s b (and_node nodes sender) (better (Some best) (Some vote))
   unfolding better
   told_higher best vote true e h said = rw e (told_by vote said)
   told_higher best vote false e h said = rw e (still_told best h)
 
   -- the best vote was reported by a node that is counted
-  told_better : (best vote : Option (Vote V)) → BestIsTold sent s b nodes best → Told sent s b vote sender →
-      BestIsTold sent s b (and_node nodes sender) (better best vote)
+  told_better : (best vote : Option (Vote V)) → BestIsTold sent base s b nodes best → ((v : Vote V) → vote ≡ Some v → Told sent base s b (Some v) sender) →
+      BestIsTold sent base s b (and_node nodes sender) (better best vote)
   unfolding better
   told_better None None h said = tt
-  told_better None (Some vote) h said = told_by vote said
+  told_better None (Some vote) h said = told_by vote (said vote refl)
   told_better (Some best) None h said = still_told best h
-  told_better (Some best) (Some vote) h said = told_higher best vote (below best.ballot vote.ballot) refl h said
+  told_better (Some best) (Some vote) h said = told_higher best vote (below best.ballot vote.ballot) refl h (said vote refl)
 
 carried_is : {V : Type 0} (best : Option (Vote V)) (own : V) → IsCarried best (carried best own)
 unfolding carried
@@ -76,28 +79,54 @@ carried_is (Some best) own = refl
 module _ {V : Type 0} (n i : ℕ) (stored : Stored V) (sent : List (Message V)) where
   -- ---- the transition of a proposal, which only a running one has
 
+  running_row_facts : (working : Working V) (proposing : Proposing V) (row_of : Proposal V → Row V) → NodeFacts n i stored working sent → working.proposing ≡ proposing →
+      ((p : Proposal V) → working.proposing ≡ Running p → RowFacts n i stored sent (row_of p)) → RowFacts n i stored sent (running_row working proposing row_of)
+  running_row_facts working Idle row_of facts is_it of_running = quiet_facts n i stored sent working facts.stored facts.working
+  running_row_facts working (Running p) row_of facts is_it of_running = of_running p is_it
+  running_row_facts working (Won t) row_of facts is_it of_running = quiet_facts n i stored sent working facts.stored facts.working
+  running_row_facts working (Overtaken t) row_of facts is_it of_running = quiet_facts n i stored sent working facts.stored facts.working
+
   when_running_facts : (working : Working V) (row_of : Proposal V → Row V) → NodeFacts n i stored working sent →
-      ((p : Proposal V) → NodeFacts n i stored (Running p) sent → RowFacts n i stored sent (row_of p)) → RowFacts n i stored sent (when_running working row_of)
-  when_running_facts Idle row_of facts of_running = quiet_facts n i stored sent Idle facts.stored facts.working
-  when_running_facts (Running p) row_of facts of_running = of_running p facts
-  when_running_facts (Won t) row_of facts of_running = quiet_facts n i stored sent (Won t) facts.stored facts.working
-  when_running_facts (Overtaken t) row_of facts of_running = quiet_facts n i stored sent (Overtaken t) facts.stored facts.working
+      ((p : Proposal V) → working.proposing ≡ Running p → RowFacts n i stored sent (row_of p)) → RowFacts n i stored sent (when_running working row_of)
+  when_running_facts working row_of facts of_running = running_row_facts working working.proposing row_of facts refl of_running
+
+  -- what is known of the running proposal, and of the leadership beside it
+  running_facts : (working : Working V) (p : Proposal V) → working.proposing ≡ Running p → WorkingFacts n i stored sent working → ProposalFacts i stored sent p
+  running_facts working p is_it facts = subst (ProposingFacts i stored sent) is_it facts.proposing
+
+  leading_facts : (working : Working V) (p : Proposal V) → working.proposing ≡ Running p → WorkingFacts n i stored sent working →
+      LeadingFacts n i stored sent (next_sequence stored) working.leadership
+  leading_facts working p is_it facts = subst (λ x. LeadingFacts n i stored sent (last_asked stored x) working.leadership) is_it facts.leading
+
+  -- another state of the proposal, under the same leadership
+  with_proposal_facts : (working : Working V) (p q : Proposal V) → working.proposing ≡ Running p → WorkingFacts n i stored sent working → ProposalFacts i stored sent q →
+      WorkingFacts n i stored sent (with_proposal working q)
+  unfolding with_proposal
+  with_proposal_facts working p q is_it facts known = record { proposing = known; leading = leading_facts working p is_it facts }
 
   -- ---- a proposal starts
 
-  -- the proposal that starts at a round
-  abbrev begun : V → ℕ → Proposal V
+  -- the working part in which a proposal starts at a round
+  abbrev begun : V → ℕ → Working V
   begun own round = record {
-    sequence = next_sequence stored;
-    ballot = record { round = round; node = i };
-    own = own;
-    phase = Preparing;
-    heard = nobody;
-    best = None;
-    seen = 0;
+    proposing = Running (record {
+      sequence = next_sequence stored;
+      ballot = record { round = round; node = i };
+      own = own;
+      phase = Preparing;
+      heard = nobody;
+      best = [];
+      seen = 0;
+    });
+    leadership = None;
   }
 
-  -- no Accept was sent at a ballot of a round that its node hasn't tried
+  -- no Prepare and no Accept was sent at a ballot of a round that its node hasn't tried
+  unprepared : StoredFacts n i stored sent → (round t : ℕ) → stored.tried < round → IsIn (Prepare t (record { round = round; node = i })) sent → ⊥
+  unprepared facts round t higher h =
+      let b : Ballot = record { round = round; node = i } in
+      let tried : round ≤ stored.tried = facts.tried (Prepare t b) b h (inl refl) refl in absurd (omega arith)
+
   untried : StoredFacts n i stored sent → (round t : ℕ) (d : V) → stored.tried < round →
       IsIn (Accept t (record { round = round; node = i }) d) (sent ++ Prepare (next_sequence stored) (record { round = round; node = i }) ∷ []) → ⊥
   untried facts round t d higher h =
@@ -107,11 +136,16 @@ module _ {V : Type 0} (n i : ℕ) (stored : Stored V) (sent : List (Message V)) 
         | inr e ↦ cc
       ]
 
-  -- The round is stored before the Prepare is sent, so this node has tried the ballot's round; no Accept of it was sent, since it
-  -- tried no such round before; and no answer is counted yet.
-  begin_facts : (own : V) (round : ℕ) → i < n → stored.tried < round → StoredFacts n i stored sent → RowFacts n i stored sent (begin_at i stored own round)
+  -- no answer is counted, and no vote is reported
+  nothing_told : (b : Ballot) (all : List (Message V)) (s t : ℕ) → BestIsTold all s t b nobody (vote_of s [] t)
+  unfolding first_vote from_sequence
+  nothing_told b all s t = tt
+
+  -- The round is stored before the Prepare is sent, so this node has tried the ballot's round; no Prepare and no Accept of it was
+  -- sent, since it tried no such round before; and no answer is counted yet.
+  begin_facts : (own : V) (round : ℕ) → i < n → stored.tried < round → next_sequence stored ≤ last_sequence → StoredFacts n i stored sent → RowFacts n i stored sent (begin_at i stored own round)
   unfolding begin_at stores store with_record published next_sequence nobody
-  begin_facts own round is_node higher facts =
+  begin_facts own round is_node higher is_sequence facts =
       let b : Ballot = record { round = round; node = i } in
       record {
         stored = store_tried n i stored sent round (omega arith) facts;
@@ -122,145 +156,268 @@ module _ {V : Type 0} (n i : ℕ) (stored : Stored V) (sent : List (Message V)) 
               | inl e ↦ subst (IsKnown i (with_record stored (Tried round)) sent) (sym e) (inl (refl, le_refl round))
               | inr k ↦ absurd k
             ];
-            meet = tt;
+            meet = λ t h. unprepared facts round t higher h;
           },
           tt,
         );
         working = record {
-          own = refl;
-          tried = le_refl round;
-          next = refl;
-          phase = record { fresh = λ t d h. untried facts round t d higher h; heard = λ j h. absurd (false≢true h); told = tt };
+          proposing = record {
+            own = refl;
+            tried = le_refl round;
+            next = refl;
+            is_sequence = is_sequence;
+            phase = record {
+              fresh = λ t d h. untried facts round t d higher h;
+              heard = λ j t h in_window. absurd (false≢true h);
+              told = λ t. nothing_told b (sent ++ Prepare (next_sequence stored) b ∷ []) (next_sequence stored) t;
+            };
+          };
+          leading = tt;
         };
         asks = λ m is_in. elim is_in [
-          | inl e ↦ subst (IsOwnAsk i (Running (begun own round))) (sym e) (refl, (refl, refl))
+          | inl e ↦ subst (IsOwnAsk i (begun own round)) (sym e) (refl, (refl, refl))
+          | inr k ↦ absurd k
+        ];
+      }
+
+  -- ---- votes are asked for
+
+  -- The Accept is sent for the best vote that the leadership's majority reported at its sequence. So that majority backs it; and no
+  -- other Accept at this ballot and sequence was sent.
+  ask_votes_facts : (l : Leadership V) (p : Proposal V) (last : ℕ) → i < n → StoredFacts n i stored sent → LeadershipFacts n i stored sent last l →
+      p.ballot ≡ l.ballot → p.sequence ≡ next_sequence stored → p.phase ≡ Accepting → p.heard ≡ nobody → first_vote p.best ≡ vote_of l.base l.best p.sequence →
+      IsInWindow l.base p.sequence → last ≤ next_sequence stored → ((d : V) → IsIn (Accept p.sequence l.ballot d) sent → ⊥) → RowFacts n i stored sent (ask_votes l p)
+  unfolding ask_votes says store proposed nobody
+  ask_votes_facts l p last is_node facts led at_ballot next in_phase unheard best in_window before_next fresh =
+      let d : V = proposed p in
+      let own : p.ballot.node ≡ i = subst (λ (b : Ballot). b.node ≡ i) (sym at_ballot) led.own in
+      let tried : p.ballot.round ≤ stored.tried = subst (λ (b : Ballot). b.round ≤ stored.tried) (sym at_ballot) led.tried in
+      let backed : IsBacked n sent p.sequence l.ballot d = record {
+        base = l.base;
+        in_window = in_window;
+        best = vote_of l.base l.best p.sequence;
+        majority = record { nodes = led.nodes; is_majority = led.is_majority; each = λ j is_node is_in. led.heard j p.sequence is_in in_window };
+        told = led.told p.sequence;
+        carried = subst (λ o. IsCarried o d) best (carried_is (first_vote p.best) p.own);
+      } in
+      record {
+        stored = facts;
+        sends = (
+          record {
+            is_node = is_node;
+            known = λ c is_in. elim is_in [
+              | inl e ↦ subst (IsKnown i stored sent) (sym e) (inl (own, tried))
+              | inr k ↦ absurd k
+            ];
+            meet = record {
+              own = own;
+              fresh = λ e h. fresh e (subst (λ (b : Ballot). IsIn (Accept p.sequence b e) sent) at_ballot h);
+              backed = subst (λ (b : Ballot). IsBacked n sent p.sequence b d) (sym at_ballot) backed;
+            };
+          },
+          tt,
+        );
+        working = record {
+          proposing = record {
+            own = own;
+            tried = tried;
+            next = next;
+            is_sequence = in_window.is_sequence;
+            phase = subst (PhaseFacts (sent ++ Accept p.sequence p.ballot d ∷ []) p) (sym in_phase) (record {
+              asked = member-last (Accept p.sequence p.ballot d) sent;
+              heard = λ j h. absurd (false≢true (sym (ap (λ (nodes : ℕ → Bool). nodes j) unheard) ∙ h));
+            });
+          };
+          leading = led_longer sent (Accept p.sequence p.ballot d ∷ []) n i stored last (next_sequence stored) l
+              (λ t e h. elim (member-split (Accept t l.ballot e) sent (Accept p.sequence p.ballot d) h) [
+                | inl old ↦ (let within : t ≤ last = led.asked t e old in omega arith)
+                | inr is_new ↦ (let same : t ≡ p.sequence = cc in omega arith)
+              ]) led;
+        };
+        asks = λ m is_in. elim is_in [
+          | inl e ↦ subst (IsOwnAsk i (record { proposing = Running p; leadership = Some l })) (sym e) (own, (refl, refl))
           | inr k ↦ absurd k
         ];
       }
 
   -- ---- a promise is received
 
-  -- The nodes counted before reported votes within the best one before, so within the better one; the node counted now reported
-  -- its vote, and the better one isn't below it.
-  with_promise_facts : (p : Proposal V) (sender : ℕ) (vote : Option (Vote V)) → PreparingFacts sent p → Told sent p.sequence p.ballot vote sender →
-      PreparingFacts sent (with_promise p sender vote)
+  -- The nodes counted before reported, at each sequence, votes within the best one before, so within the better one; the node
+  -- counted now reported its votes, and the better ones aren't below them.
+  with_promise_facts : (p : Proposal V) (sender : ℕ) (votes : List (Option (Vote V))) → PreparingFacts sent p → IsWhole p.sequence votes →
+      IsIn (Promise sender p.sequence p.ballot votes) sent → PreparingFacts sent (with_promise p sender votes)
   unfolding with_promise
-  with_promise_facts p sender vote facts said = record {
+  with_promise_facts p sender votes facts whole said = record {
     fresh = facts.fresh;
-    heard = λ j h. elim (and_node-true p.heard sender j h) [
-      | inl e ↦ subst (HasPromised sent p.sequence p.ballot (better p.best vote)) (sym e) (record { vote = vote; said = said; within = within_self p.best vote })
-      | inr old ↦ (let o : HasPromised sent p.sequence p.ballot p.best j = facts.heard j old in
-          record { vote = o.vote; said = o.said; within = within_better p.best vote o.vote o.within })
-    ];
-    told = told_better sent p.sequence p.ballot p.heard sender p.best vote facts.told said;
+    heard = λ j t h in_window.
+        let (vote, reported) = whole t in_window in
+        let its : IsItsVote p.sequence votes t vote = reported_vote p.sequence votes t vote reported in
+        subst (λ o. HasPromised sent p.sequence t p.ballot o j) (sym (vote_of-better p.sequence p.best votes t))
+        (elim (and_node-true p.heard sender j h) [
+          | inl e ↦ subst (HasPromised sent p.sequence t p.ballot (better (vote_of p.sequence p.best t) (vote_of p.sequence votes t))) (sym e) (record {
+            vote = vote;
+            said = record { votes = votes; said = said; reported = reported };
+            within = subst (λ o. IsWithin o (better (vote_of p.sequence p.best t) (vote_of p.sequence votes t))) its.is_it
+                (within_self (vote_of p.sequence p.best t) (vote_of p.sequence votes t));
+          })
+          | inr old ↦ (let o : HasPromised sent p.sequence t p.ballot (vote_of p.sequence p.best t) j = facts.heard j t old in_window in
+              record { vote = o.vote; said = o.said; within = within_better (vote_of p.sequence p.best t) (vote_of p.sequence votes t) o.vote o.within })
+        ]);
+    told = λ t.
+        subst (BestIsTold sent p.sequence t p.ballot (and_node p.heard sender)) (sym (vote_of-better p.sequence p.best votes t))
+        (told_better sent p.sequence t p.ballot p.heard sender (vote_of p.sequence p.best t) (vote_of p.sequence votes t) (facts.told t)
+        (λ vote e. record { votes = votes; said = said; reported = reports_vote p.sequence votes t vote e }));
   }
 
-  -- A majority promised: the Accept is sent, and the nodes counted back it.
+  -- A majority promised: its node leads, and asks for votes.
   asking_facts : (p : Proposal V) → i < n → StoredFacts n i stored sent → ProposalFacts i stored sent p → PreparingFacts sent p →
-      is_majority_of (count_nodes n p.heard) n ≡ true →
-      RowFacts n i stored sent (says (Running (asking_votes p)) (Accept p.sequence p.ballot (carried p.best p.own) ∷ []))
-  unfolding says store asking_votes nobody
-  asking_facts p is_node facts proposal preparing is_majority = record {
-    stored = facts;
-    sends = (
-      record {
-        is_node = is_node;
-        known = λ c is_in. elim is_in [
-          | inl e ↦ subst (IsKnown i stored sent) (sym e) (inl (proposal.own, proposal.tried))
-          | inr k ↦ absurd k
-        ];
-        meet = record {
-          own = proposal.own;
-          fresh = preparing.fresh;
-          backed = record {
-            best = p.best;
-            majority = record { nodes = p.heard; is_majority = is_majority; each = λ j is_node is_in. preparing.heard j is_in };
-            told = preparing.told;
-            carried = carried_is p.best p.own;
-          };
-        };
-      },
-      tt,
-    );
-    working = record {
-      own = proposal.own;
-      tried = proposal.tried;
-      next = proposal.next;
-      phase = record { asked = member-last (Accept p.sequence p.ballot (carried p.best p.own)) sent; heard = λ j h. absurd (false≢true h) };
-    };
-    asks = λ m is_in. elim is_in [
-      | inl e ↦ subst (IsOwnAsk i (Running (asking_votes p))) (sym e) (proposal.own, (refl, refl))
-      | inr k ↦ absurd k
-    ];
-  }
+      is_majority_of (count_nodes n p.heard) n ≡ true → RowFacts n i stored sent (ask_votes (leadership_of p) (asking_votes p))
+  unfolding leadership_of asking_votes
+  asking_facts p is_node facts proposal preparing is_majority =
+      let led : LeadershipFacts n i stored sent 0 (leadership_of p) = record {
+        own = proposal.own;
+        tried = proposal.tried;
+        asked = λ t d h. absurd (preparing.fresh t d h);
+        nodes = p.heard;
+        is_majority = is_majority;
+        heard = preparing.heard;
+        told = preparing.told;
+      } in
+      ask_votes_facts (leadership_of p) (asking_votes p) 0 is_node facts led refl proposal.next refl refl (sym (first_vote-of p.sequence p.best))
+      (record { from_base = le_refl p.sequence; before_end = omega arith; is_sequence = proposal.is_sequence }) (omega arith) (λ d h. preparing.fresh p.sequence d h)
 
-  promised_by : (p : Proposal V) (is_majority : Bool) → i < n → StoredFacts n i stored sent → ProposalFacts i stored sent p → PreparingFacts sent p →
-      is_majority_of (count_nodes n p.heard) n ≡ is_majority → RowFacts n i stored sent (promised n p)
+  promised_by : (working : Working V) (p q : Proposal V) (is_majority : Bool) → i < n → StoredFacts n i stored sent → working.proposing ≡ Running p → WorkingFacts n i stored sent working →
+      ProposalFacts i stored sent q → PreparingFacts sent q → is_majority_of (count_nodes n q.heard) n ≡ is_majority → RowFacts n i stored sent (promised n working q)
   unfolding promised
-  promised_by p true is_node facts proposal preparing e = rw e (asking_facts p is_node facts proposal preparing e)
-  promised_by p false is_node facts proposal preparing e = rw e (quiet_facts n i stored sent (Running p) facts proposal)
+  promised_by working p q true is_node facts is_it at_work proposal preparing e = rw e (asking_facts q is_node facts proposal preparing e)
+  promised_by working p q false is_node facts is_it at_work proposal preparing e =
+      rw e (quiet_facts n i stored sent (with_proposal working q) facts (with_proposal_facts working p q is_it at_work proposal))
 
-  heard_promise : (p : Proposal V) (sender : ℕ) (vote : Option (Vote V)) → i < n → StoredFacts n i stored sent → ProposalFacts i stored sent p →
-      p.phase ≡ Preparing → Told sent p.sequence p.ballot vote sender → RowFacts n i stored sent (promised n (with_promise p sender vote))
+  heard_promise : (working : Working V) (p : Proposal V) (sender : ℕ) (votes : List (Option (Vote V))) → NodeFacts n i stored working sent → working.proposing ≡ Running p →
+      p.phase ≡ Preparing → IsIn (Promise sender p.sequence p.ballot votes) sent → RowFacts n i stored sent (promised n working (with_promise p sender votes))
   unfolding with_promise
-  heard_promise p sender vote is_node facts proposal in_phase said =
+  heard_promise working p sender votes facts is_it in_phase said =
+      let proposal : ProposalFacts i stored sent p = running_facts working p is_it facts.working in
       let preparing : PreparingFacts sent p = subst (PhaseFacts sent p) in_phase proposal.phase in
-      let q : Proposal V = with_promise p sender vote in
-      let preparing' : PreparingFacts sent q = with_promise_facts p sender vote preparing said in
-      let proposal' : ProposalFacts i stored sent q =
-      record { own = proposal.own; tried = proposal.tried; next = proposal.next; phase = subst (PhaseFacts sent q) (sym in_phase) preparing' } in
-      promised_by q (is_majority_of (count_nodes n q.heard) n) is_node facts proposal' preparing' refl
+      let q : Proposal V = with_promise p sender votes in
+      let preparing' : PreparingFacts sent q = with_promise_facts p sender votes preparing (facts.messages.whole sender p.sequence p.ballot votes said) said in
+      let proposal' : ProposalFacts i stored sent q = record {
+        own = proposal.own;
+        tried = proposal.tried;
+        next = proposal.next;
+        is_sequence = proposal.is_sequence;
+        phase = subst (PhaseFacts sent q) (sym in_phase) preparing';
+      } in
+      promised_by working p q (is_majority_of (count_nodes n q.heard) n) facts.is_node facts.stored is_it facts.working proposal' preparing' refl
 
-  promise_by : (p : Proposal V) (sender s : ℕ) (b : Ballot) (vote : Option (Vote V)) (is_heard : Bool) → NodeFacts n i stored (Running p) sent →
-      hears n p Preparing sender s b ≡ is_heard → Told sent s b vote sender → RowFacts n i stored sent (on_promise n (Running p) sender s b vote)
-  unfolding on_promise
-  promise_by p sender s b vote true facts e said =
+  promise_by : (working : Working V) (p : Proposal V) (sender s : ℕ) (b : Ballot) (votes : List (Option (Vote V))) (is_heard : Bool) → NodeFacts n i stored working sent →
+      working.proposing ≡ Running p → hears n p Preparing sender s b ≡ is_heard → IsIn (Promise sender s b votes) sent →
+      RowFacts n i stored sent (cond is_heard (promised n working (with_promise p sender votes)) (quiet working))
+  promise_by working p sender s b votes true facts is_it e said =
       let h : Heard n p Preparing sender s b = hears-true n p Preparing sender s b e in
-      let said' : Told sent p.sequence p.ballot vote sender =
-      subst (λ x. Told sent x p.ballot vote sender) (sym h.at_sequence) (subst (λ x. Told sent s x vote sender) (sym h.at_ballot) said) in
-      rw e (heard_promise p sender vote facts.is_node facts.stored facts.working h.in_phase said')
-  promise_by p sender s b vote false facts e said = rw e (quiet_facts n i stored sent (Running p) facts.stored facts.working)
+      let said' : IsIn (Promise sender p.sequence p.ballot votes) sent =
+      subst (λ x. IsIn (Promise sender x p.ballot votes) sent) (sym h.at_sequence) (subst (λ (x : Ballot). IsIn (Promise sender s x votes) sent) (sym h.at_ballot) said) in
+      heard_promise working p sender votes facts is_it h.in_phase said'
+  promise_by working p sender s b votes false facts is_it e said = quiet_facts n i stored sent working facts.stored facts.working
 
-  promise_facts : (working : Working V) (sender s : ℕ) (b : Ballot) (vote : Option (Vote V)) → NodeFacts n i stored working sent →
-      Told sent s b vote sender → RowFacts n i stored sent (on_promise n working sender s b vote)
+  promise_facts : (working : Working V) (sender s : ℕ) (b : Ballot) (votes : List (Option (Vote V))) → NodeFacts n i stored working sent →
+      IsIn (Promise sender s b votes) sent → RowFacts n i stored sent (on_promise n working sender s b votes)
   unfolding on_promise
-  promise_facts working sender s b vote facts said =
-      when_running_facts working _ facts (λ p facts. promise_by p sender s b vote (hears n p Preparing sender s b) facts refl said)
+  promise_facts working sender s b votes facts said =
+      when_running_facts working _ facts (λ p is_it. promise_by working p sender s b votes (hears n p Preparing sender s b) facts is_it refl said)
 
   -- ---- a Nack is received
 
   seen_facts : (p : Proposal V) (seen : ℕ) (phase : Phase) → PhaseFacts sent p phase → PhaseFacts sent (record p { seen = seen }) phase
+  unfolding proposed
   seen_facts p seen Preparing facts = record { fresh = facts.fresh; heard = facts.heard; told = facts.told }
   seen_facts p seen Accepting facts = record { asked = facts.asked; heard = facts.heard }
 
   -- A higher round seen changes nothing that the facts speak of.
-  nack_by : (p : Proposal V) (s : ℕ) (b q : Ballot) (is_its : Bool) → NodeFacts n i stored (Running p) sent → is_at p s b ≡ is_its →
-      RowFacts n i stored sent (on_nack (Running p) s b q)
-  unfolding on_nack
-  nack_by p s b q true facts e =
+  nack_by : (working : Working V) (p : Proposal V) (q : Ballot) (is_its : Bool) → NodeFacts n i stored working sent → working.proposing ≡ Running p →
+      RowFacts n i stored sent (cond is_its (quiet (with_proposal working (record p { seen = max p.seen q.round }))) (quiet working))
+  nack_by working p q true facts is_it =
       let r : Proposal V = record p { seen = max p.seen q.round } in
+      let known : ProposalFacts i stored sent p = running_facts working p is_it facts.working in
       let proposal : ProposalFacts i stored sent r = record {
-        own = facts.working.own;
-        tried = facts.working.tried;
-        next = facts.working.next;
-        phase = seen_facts p (max p.seen q.round) p.phase facts.working.phase;
+        own = known.own;
+        tried = known.tried;
+        next = known.next;
+        is_sequence = known.is_sequence;
+        phase = seen_facts p (max p.seen q.round) p.phase known.phase;
       } in
-      rw e (quiet_facts n i stored sent (Running r) facts.stored proposal)
-  nack_by p s b q false facts e = rw e (quiet_facts n i stored sent (Running p) facts.stored facts.working)
+      quiet_facts n i stored sent (with_proposal working r) facts.stored (with_proposal_facts working p r is_it facts.working proposal)
+  nack_by working p q false facts is_it = quiet_facts n i stored sent working facts.stored facts.working
 
   nack_facts : (working : Working V) (s : ℕ) (b q : Ballot) → NodeFacts n i stored working sent → RowFacts n i stored sent (on_nack working s b q)
   unfolding on_nack
-  nack_facts working s b q facts = when_running_facts working _ facts (λ p facts. nack_by p s b q (is_at p s b) facts refl)
+  nack_facts working s b q facts = when_running_facts working _ facts (λ p is_it. nack_by working p q (is_at p s b) facts is_it)
 
   -- ---- start, restart, request the next definition
 
-  propose_facts : (own : V) → i < n → StoredFacts n i stored sent → RowFacts n i stored sent (on_propose i stored own)
+  -- a proposal that isn't rejected finds that none runs, and that the next sequence is one
+  abbrev MayPropose : Proposing V → Type 0
+  MayPropose proposing = (last_asked stored proposing ≡ published stored) × (next_sequence stored ≤ last_sequence)
+
+  not_full : (rest : Option Refusal) (full : Bool) → nat_le last_sequence (published stored) ≡ full → is_some (cond full (Some SequenceFull) rest) ≡ false → next_sequence stored ≤ last_sequence
+  unfolding next_sequence
+  not_full rest true e h = absurd (true≢false h)
+  not_full rest false e h = let more : published stored < last_sequence = leb-false last_sequence (published stored) e in omega arith
+
+  may_propose : (leadership : Option (Leadership V)) (proposing : Proposing V) → is_some (refuse_proposal stored leadership proposing) ≡ false → MayPropose proposing
+  unfolding refuse_proposal
+  may_propose leadership Idle h = (refl, not_full _ (nat_le last_sequence (published stored)) refl h)
+  may_propose leadership (Running p) h = absurd (true≢false h)
+  may_propose leadership (Won s) h = (refl, not_full _ (nat_le last_sequence (published stored)) refl h)
+  may_propose leadership (Overtaken s) h = (refl, not_full _ (nat_le last_sequence (published stored)) refl h)
+
+  last_below : published stored ≤ next_sequence stored
+  unfolding next_sequence
+  last_below = omega arith
+
+  next_above : next_sequence stored ≤ published stored → ⊥
+  unfolding next_sequence
+  next_above h = absurd (omega arith)
+
+  -- a leader's Accept is for a sequence above all that it asked for before
+  lead_facts : (working : Working V) (l : Leadership V) (own : V) → NodeFacts n i stored working sent → MayPropose working.proposing → working.leadership ≡ Some l →
+      is_in_window l.base (next_sequence stored) ≡ true → RowFacts n i stored sent (lead stored l own)
+  unfolding lead is_in_window
+  lead_facts working l own facts may is_leader covers =
+      let led : LeadershipFacts n i stored sent (published stored) l =
+      subst (LeadingFacts n i stored sent (published stored)) is_leader
+      (subst (λ last. LeadingFacts n i stored sent last working.leadership) may.0 facts.working.leading) in
+      let (from, before) = and_parts (nat_le l.base (next_sequence stored)) (nat_lt (next_sequence stored) (l.base + window)) covers in
+      ask_votes_facts l _ (published stored) facts.is_node facts.stored led refl refl refl refl refl
+      (record { from_base = leb-true l.base (next_sequence stored) from; before_end = ltb-true (next_sequence stored) (l.base + window) before; is_sequence = may.1 })
+      last_below (λ d h. next_above (led.asked (next_sequence stored) d h))
+
+  leading_by : (m l : Leadership V) (s : ℕ) (covers : Bool) → is_in_window m.base s ≡ covers → cond covers (Some m) None ≡ Some l → (m ≡ l) × (is_in_window l.base s ≡ true)
+  leading_by m l s true e h = let same : m ≡ l = same_Some m l h in (same, subst (λ (x : Leadership V). is_in_window x.base s ≡ true) same e)
+  leading_by m l s false e h = absurd (none-some l h)
+
+  leading_is : (leadership : Option (Leadership V)) (l : Leadership V) (s : ℕ) → leading_at leadership s ≡ Some l → (leadership ≡ Some l) × (is_in_window l.base s ≡ true)
+  unfolding leading_at
+  leading_is None l s h = absurd (none-some l h)
+  leading_is (Some m) l s h = let (same, covers) = leading_by m l s (is_in_window m.base s) refl h in (ap Some same, covers)
+
+  propose_by_facts : (working : Working V) (own : V) (found : Option (Leadership V)) → NodeFacts n i stored working sent → MayPropose working.proposing →
+      leading_at working.leadership (next_sequence stored) ≡ found → RowFacts n i stored sent (propose_by i stored found own)
+  unfolding propose_by
+  propose_by_facts working own None facts may e = begin_facts own (stored.tried + 1) facts.is_node (omega arith) may.1 facts.stored
+  propose_by_facts working own (Some l) facts may e =
+      let (is_leader, covers) = leading_is working.leadership l (next_sequence stored) e in
+      lead_facts working l own facts may is_leader covers
+
+  propose_facts : (working : Working V) (own : V) → NodeFacts n i stored working sent → MayPropose working.proposing → RowFacts n i stored sent (on_propose i stored working own)
   unfolding on_propose
-  propose_facts own is_node facts = begin_facts own (stored.tried + 1) is_node (omega arith) facts
+  propose_facts working own facts may = propose_by_facts working own (leading_at working.leadership (next_sequence stored)) facts may refl
 
   retry_facts : (working : Working V) → NodeFacts n i stored working sent → RowFacts n i stored sent (on_retry i stored working)
   unfolding on_retry round_known
-  retry_facts working facts = when_running_facts working _ facts (λ p facts. begin_facts p.own (max stored.tried p.seen + 1) facts.is_node (omega arith) facts.stored)
+  retry_facts working facts = when_running_facts working _ facts (λ p is_it.
+      let known : ProposalFacts i stored sent p = running_facts working p is_it facts.working in
+      begin_facts p.own (max stored.tried p.seen + 1) facts.is_node (omega arith) (subst (λ k. k ≤ last_sequence) known.next known.is_sequence) facts.stored)
 
   asks_next : (working : Working V) → NodeFacts n i stored working sent → RowFacts n i stored sent (says working (Ask (next_sequence stored) ∷ []))
   asks_next working facts =
@@ -276,55 +433,109 @@ module _ {V : Type 0} (n i : ℕ) (stored : Stored V) (sent : List (Message V)) 
   -- ---- votes are received, and a chosen definition
 
   module _ (same : V → V → Bool) where
-    ends_by : (before : Stored V) (all : List (Message V)) (s : ℕ) (is_own : Bool) → WorkingFacts i before all (cond is_own (Won s) (Overtaken s))
-    ends_by before all s true = tt
-    ends_by before all s false = tt
-
-    ended_facts : (before : Stored V) (all : List (Message V)) (p : Proposal V) (d : V) → WorkingFacts i before all (ended same p d)
+    -- A running proposal ends when a definition is published; a leadership stays, and the last sequence that it may have asked for
+    -- is published then.
+    ended_facts : (before : Stored V) (all : List (Message V)) (p : Proposal V) (d : V) → ProposingFacts i before all (ended same p d)
     unfolding ended
-    ended_facts before all p d = ends_by before all p.sequence (same p.own d)
+    ended_facts before all p d = ends_by (same p.own d)
+      where
+        ends_by : (is_own : Bool) → ProposingFacts i before all (cond is_own (Won p.sequence) (Overtaken p.sequence))
+        ends_by true = tt
+        ends_by false = tt
 
-    ends_facts : (before : Stored V) (all : List (Message V)) (working : Working V) (d : V) → WorkingFacts i before all (ends same working d)
+    ends_facts : (before : Stored V) (all : List (Message V)) (proposing : Proposing V) (d : V) → ProposingFacts i before all (ends same proposing d)
     unfolding ends
     ends_facts before all Idle d = tt
     ends_facts before all (Running p) d = ended_facts before all p d
     ends_facts before all (Won s) d = tt
     ends_facts before all (Overtaken s) d = tt
 
+    last_at_most : (proposing : Proposing V) → last_asked stored proposing ≤ published stored + 1
+    unfolding next_sequence
+    last_at_most Idle = omega arith
+    last_at_most (Running p) = omega arith
+    last_at_most (Won s) = omega arith
+    last_at_most (Overtaken s) = omega arith
+
+    ended_last : (p : Proposal V) (d : V) (after : Stored V) → last_asked after (ended same p d) ≡ published after
+    unfolding ended
+    ended_last p d after = ends_by (same p.own d)
+      where
+        ends_by : (is_own : Bool) → last_asked after (cond is_own (Won p.sequence) (Overtaken p.sequence)) ≡ published after
+        ends_by true = refl
+        ends_by false = refl
+
+    ends_last : (proposing : Proposing V) (d : V) (after : Stored V) → last_asked after (ends same proposing d) ≡ published after
+    unfolding ends
+    ends_last Idle d after = refl
+    ends_last (Running p) d after = ended_last p d after
+    ends_last (Won s) d after = refl
+    ends_last (Overtaken s) d after = refl
+
+    published-tried : (s : ℕ) (d : V) → stored.tried ≡ (with_record stored (Published s d)).tried
+    unfolding with_record
+    published-tried s d = refl
+
+    -- the working part when a definition is published
+    after_publishing_facts : (working : Working V) (s : ℕ) (d e : V) → WorkingFacts n i stored sent working →
+        WorkingFacts n i (with_record stored (Published s d)) sent (after_publishing same working e)
+    unfolding after_publishing
+    after_publishing_facts working s d e facts =
+        let after : Stored V = with_record stored (Published s d) in
+        let more : published after ≡ published stored + 1 = published-more stored s d in
+        let most : last_asked stored working.proposing ≤ published stored + 1 = last_at_most working.proposing in
+        let last : last_asked after (ends same working.proposing e) ≡ published after = ends_last working.proposing e after in
+        record {
+          proposing = ends_facts after sent working.proposing e;
+          leading = LeadingFacts-stored n i stored after sent (published-tried s d) (last_asked stored working.proposing) (last_asked after (ends same working.proposing e))
+              working.leadership (omega arith) facts.leading;
+        }
+
+    -- of the running proposal, the same
+    ended_working : (working : Working V) (p : Proposal V) (d : V) → working.proposing ≡ Running p → after_publishing same working d ≡ record working { proposing = ended same p d }
+    unfolding after_publishing ends
+    ended_working working p d is_it = ap (λ (x : Proposing V). record working { proposing = ends same x d }) is_it
+
     chosen_may : (s : ℕ) (d : V) (kept : Stored V) → i < n → IsChosen n sent s d → MaySend n i kept sent (Chosen s d)
     chosen_may s d kept is_node chosen = record { is_node = is_node; known = λ c is_in. absurd is_in; meet = chosen }
 
     -- A majority voted: the definition is chosen, stored and sent.
-    voted_facts : (p : Proposal V) → i < n → StoredFacts n i stored sent → ProposalFacts i stored sent p → AcceptingFacts sent p →
-        is_majority_of (count_nodes n p.heard) n ≡ true →
-        RowFacts n i stored sent (stores (ended same p (carried p.best p.own)) (Published p.sequence (carried p.best p.own)) (Chosen p.sequence (carried p.best p.own)))
+    voted_facts : (working : Working V) (p q : Proposal V) → i < n → StoredFacts n i stored sent → working.proposing ≡ Running p → WorkingFacts n i stored sent working →
+        ProposalFacts i stored sent q → AcceptingFacts sent q → is_majority_of (count_nodes n q.heard) n ≡ true → ended same p (proposed q) ≡ ended same q (proposed q) →
+        RowFacts n i stored sent (stores (record working { proposing = ended same q (proposed q) }) (Published q.sequence (proposed q)) (Chosen q.sequence (proposed q)))
     unfolding next_sequence
-    voted_facts p is_node facts proposal accepting is_majority =
-        let d : V = carried p.best p.own in
-        let chosen : IsChosen n sent p.sequence d = record {
-          ballot = p.ballot;
+    voted_facts working p q is_node facts is_it at_work proposal accepting is_majority same_end =
+        let d : V = proposed q in
+        let chosen : IsChosen n sent q.sequence d = record {
+          ballot = q.ballot;
           majority = record {
-            nodes = p.heard;
+            nodes = q.heard;
             is_majority = is_majority;
             each = λ j is_node is_in. record { said = accepting.heard j is_in; asked = accepting.asked };
           };
         } in
-        stores_facts n i stored sent (ended same p d) (Published p.sequence d) (Chosen p.sequence d)
-        (store_published n i stored sent p.sequence d proposal.next chosen facts)
-        (ended_facts (with_record stored (Published p.sequence d)) sent p d) tt
-        (chosen_may p.sequence d (with_record stored (Published p.sequence d)) is_node chosen)
+        let ends : after_publishing same working d ≡ record working { proposing = ended same q d } =
+        ended_working working p d is_it ∙ ap (λ (x : Proposing V). record working { proposing = x }) same_end in
+        stores_facts n i stored sent (record working { proposing = ended same q d }) (Published q.sequence d) (Chosen q.sequence d)
+        (store_published n i stored sent q.sequence d proposal.next chosen facts)
+        (subst (WorkingFacts n i (with_record stored (Published q.sequence d)) sent) ends (after_publishing_facts working q.sequence d d at_work)) tt
+        (chosen_may q.sequence d (with_record stored (Published q.sequence d)) is_node chosen)
 
-    voted_by : (p : Proposal V) (is_majority : Bool) → i < n → StoredFacts n i stored sent → ProposalFacts i stored sent p → AcceptingFacts sent p →
-        is_majority_of (count_nodes n p.heard) n ≡ is_majority → RowFacts n i stored sent (voted same n p)
+    voted_by : (working : Working V) (p q : Proposal V) (is_majority : Bool) → i < n → StoredFacts n i stored sent → working.proposing ≡ Running p → WorkingFacts n i stored sent working →
+        ProposalFacts i stored sent q → AcceptingFacts sent q → is_majority_of (count_nodes n q.heard) n ≡ is_majority → ended same p (proposed q) ≡ ended same q (proposed q) →
+        RowFacts n i stored sent (voted same n working q)
     unfolding voted
-    voted_by p true is_node facts proposal accepting e = rw e (voted_facts p is_node facts proposal accepting e)
-    voted_by p false is_node facts proposal accepting e = rw e (quiet_facts n i stored sent (Running p) facts proposal)
+    voted_by working p q true is_node facts is_it at_work proposal accepting e same_end =
+        rw e (voted_facts working p q is_node facts is_it at_work proposal accepting e same_end)
+    voted_by working p q false is_node facts is_it at_work proposal accepting e same_end =
+        rw e (quiet_facts n i stored sent (with_proposal working q) facts (with_proposal_facts working p q is_it at_work proposal))
 
     -- The node counted now sent its vote at this sequence and ballot; the others were counted before.
-    heard_vote : (p : Proposal V) (sender : ℕ) → i < n → StoredFacts n i stored sent → ProposalFacts i stored sent p →
-        p.phase ≡ Accepting → IsIn (Accepted sender p.sequence p.ballot) sent → RowFacts n i stored sent (voted same n (with_vote p sender))
-    unfolding with_vote
-    heard_vote p sender is_node facts proposal in_phase said =
+    heard_vote : (working : Working V) (p : Proposal V) (sender : ℕ) → NodeFacts n i stored working sent → working.proposing ≡ Running p →
+        p.phase ≡ Accepting → IsIn (Accepted sender p.sequence p.ballot) sent → RowFacts n i stored sent (voted same n working (with_vote p sender))
+    unfolding with_vote proposed ended
+    heard_vote working p sender facts is_it in_phase said =
+        let proposal : ProposalFacts i stored sent p = running_facts working p is_it facts.working in
         let accepting : AcceptingFacts sent p = subst (PhaseFacts sent p) in_phase proposal.phase in
         let q : Proposal V = with_vote p sender in
         let accepting' : AcceptingFacts sent q = record {
@@ -334,33 +545,39 @@ module _ {V : Type 0} (n i : ℕ) (stored : Stored V) (sent : List (Message V)) 
             | inr old ↦ accepting.heard j old
           ];
         } in
-        let proposal' : ProposalFacts i stored sent q =
-        record { own = proposal.own; tried = proposal.tried; next = proposal.next; phase = subst (PhaseFacts sent q) (sym in_phase) accepting' } in
-        voted_by q (is_majority_of (count_nodes n q.heard) n) is_node facts proposal' accepting' refl
+        let proposal' : ProposalFacts i stored sent q = record {
+          own = proposal.own;
+          tried = proposal.tried;
+          next = proposal.next;
+          is_sequence = proposal.is_sequence;
+          phase = subst (PhaseFacts sent q) (sym in_phase) accepting';
+        } in
+        voted_by working p q (is_majority_of (count_nodes n q.heard) n) facts.is_node facts.stored is_it facts.working proposal' accepting' refl refl
 
-    accepted_by : (p : Proposal V) (sender s : ℕ) (b : Ballot) (is_heard : Bool) → NodeFacts n i stored (Running p) sent →
-        hears n p Accepting sender s b ≡ is_heard → IsIn (Accepted sender s b) sent → RowFacts n i stored sent (on_accepted same n (Running p) sender s b)
-    unfolding on_accepted
-    accepted_by p sender s b true facts e said =
+    accepted_by : (working : Working V) (p : Proposal V) (sender s : ℕ) (b : Ballot) (is_heard : Bool) → NodeFacts n i stored working sent → working.proposing ≡ Running p →
+        hears n p Accepting sender s b ≡ is_heard → IsIn (Accepted sender s b) sent →
+        RowFacts n i stored sent (cond is_heard (voted same n working (with_vote p sender)) (quiet working))
+    accepted_by working p sender s b true facts is_it e said =
         let h : Heard n p Accepting sender s b = hears-true n p Accepting sender s b e in
         let said' : IsIn (Accepted sender p.sequence p.ballot) sent =
         subst (λ x. IsIn (Accepted sender x p.ballot) sent) (sym h.at_sequence) (subst (λ x. IsIn (Accepted sender s x) sent) (sym h.at_ballot) said) in
-        rw e (heard_vote p sender facts.is_node facts.stored facts.working h.in_phase said')
-    accepted_by p sender s b false facts e said = rw e (quiet_facts n i stored sent (Running p) facts.stored facts.working)
+        heard_vote working p sender facts is_it h.in_phase said'
+    accepted_by working p sender s b false facts is_it e said = quiet_facts n i stored sent working facts.stored facts.working
 
     accepted_facts : (working : Working V) (sender s : ℕ) (b : Ballot) → NodeFacts n i stored working sent →
         IsIn (Accepted sender s b) sent → RowFacts n i stored sent (on_accepted same n working sender s b)
     unfolding on_accepted
     accepted_facts working sender s b facts said =
-        when_running_facts working _ facts (λ p facts. accepted_by p sender s b (hears n p Accepting sender s b) facts refl said)
+        when_running_facts working _ facts (λ p is_it. accepted_by working p sender s b (hears n p Accepting sender s b) facts is_it refl said)
 
     publishes : (working : Working V) (s : ℕ) (d : V) → NodeFacts n i stored working sent → s ≡ next_sequence stored → IsIn (Chosen s d) sent →
-        RowFacts n i stored sent (record { entry = Some (Published s d); messages = []; working = ends same working d })
+        RowFacts n i stored sent (record { entry = Some (Published s d); messages = []; working = after_publishing same working d })
     unfolding store next_sequence
     publishes working s d facts is_next said = record {
       stored = store_published n i stored sent s d is_next (facts.messages.chosen s d said) facts.stored;
       sends = tt;
-      working = ends_facts (with_record stored (Published s d)) (sent ++ []) working d;
+      working = subst (λ (x : List (Message V)). WorkingFacts n i (with_record stored (Published s d)) x (after_publishing same working d)) (sym (append-nil sent))
+          (after_publishing_facts working s d d facts.working);
       asks = λ m is_in. absurd is_in;
     }
 
@@ -376,7 +593,7 @@ module _ {V : Type 0} (n i : ℕ) (stored : Stored V) (sent : List (Message V)) 
     message_facts : (working : Working V) (m : Message V) → NodeFacts n i stored working sent → IsIn m sent → RowFacts n i stored sent (on_message same n i stored working m)
     unfolding on_message
     message_facts working (Prepare s b) facts said = prepare_facts n i stored working sent facts s b said
-    message_facts working (Promise sender s b vote) facts said = promise_facts working sender s b vote facts said
+    message_facts working (Promise sender s b votes) facts said = promise_facts working sender s b votes facts said
     message_facts working (Accept s b d) facts said = accept_facts n i stored working sent facts s b d said
     message_facts working (Accepted sender s b) facts said = accepted_facts working sender s b facts said
     message_facts working (Nack sender s b q) facts said = nack_facts working s b q facts
@@ -391,9 +608,10 @@ module _ {V : Type 0} (n i : ℕ) (stored : Stored V) (sent : List (Message V)) 
     WasSent CatchUp = ⊤
     WasSent (Deliver m) = IsIn m sent
 
-    pub row_facts : (working : Working V) (input : Input V) → NodeFacts n i stored working sent → WasSent input → RowFacts n i stored sent (row same n i stored working input)
-    unfolding row
-    row_facts working (Propose d) facts was_sent = propose_facts d facts.is_node facts.stored
-    row_facts working Retry facts was_sent = retry_facts working facts
-    row_facts working CatchUp facts was_sent = catch_up_by working (nat_lt (published stored) last_sequence) facts refl
-    row_facts working (Deliver m) facts was_sent = message_facts working m facts was_sent
+    pub row_facts : (working : Working V) (input : Input V) → NodeFacts n i stored working sent → WasSent input → is_some (refusal stored working input) ≡ false →
+        RowFacts n i stored sent (row same n i stored working input)
+    unfolding row refusal
+    row_facts working (Propose d) facts was_sent taken = propose_facts working d facts (may_propose working.leadership working.proposing taken)
+    row_facts working Retry facts was_sent taken = retry_facts working facts
+    row_facts working CatchUp facts was_sent taken = catch_up_by working (nat_lt (published stored) last_sequence) facts refl
+    row_facts working (Deliver m) facts was_sent taken = message_facts working m facts was_sent

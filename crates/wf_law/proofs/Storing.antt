@@ -1,28 +1,24 @@
 -- A record is stored, no message is sent, and what its node stored keeps its facts. This is a crash within a step too.
-use Rattle.std.proofs.Common.{◌≡◌, ◌⊎◌, ℕ, zero, suc, ◌+◌, ◌<◌, ◌≤◌, true, false, List, [], ◌∷◌, ◌++◌, length, slice_get, Option, Some, None, refl, sym, ap, subst, inl, inr, arith, length-append, lt-ltb}
-use Rattle.std.proofs.lemmas.Bool.{cases_eq}
+use Rattle.std.proofs.Common.{◌≡◌, ◌⊎◌, ℕ, zero, suc, ◌+◌, ◌<◌, ◌≤◌, false, List, [], ◌∷◌, ◌++◌, length, slice_get, Option, Some, None, refl, sym, ap, subst, inl, inr, arith, length-append, lt-ltb}
 use Rattle.std.proofs.lemmas.Option.{none-some, same_Some}
 use Rattle.wf_ballot.specs.Ballot.{Ballot, below}
-use Rattle.wf_ballot.specs.OrderLaws.{below-irreflexive, below-asymmetric, not_below-transitive}
+use Rattle.wf_ballot.specs.OrderLaws.{not_below-transitive}
 use Rattle.wf_model.specs.Message.{Vote, Message, Accept}
-use Rattle.wf_model.specs.Stored.{Stored, Tried, Promised, Accepted, Published, published, definition_at, put, promise_at, with_record}
-use Rattle.wf_model.specs.Table.{is_above, is_refused}
+use Rattle.wf_model.specs.Stored.{Stored, Tried, Promised, Accepted, Published, published, definition_at, put, raised, with_record}
+use Rattle.wf_model.specs.Fits.{NotBelow}
+use Rattle.wf_model.specs.Table.{is_refused}
 use Rattle.wf_model.specs.Chosen.{IsIn, IsChosen}
-use Rattle.wf_model.specs.PutLaws.{put-same, put-other, at_put}
-use Rattle.wf_law.specs.Laws.{NotBelow, VoteNotBelow}
+use Rattle.wf_model.specs.PutLaws.{at_put}
+use Rattle.wf_model.specs.RaisedLaws.{raised-reached, raised-kept, raised-either}
+use Rattle.wf_law.specs.Laws.{VoteNotBelow}
 use Rattle.wf_law.proofs.Facts.{Stands, IsAsked, StoredFacts}
 
 -- ---- promises rise
 
--- a ballot above the promise isn't below it
-pub is_above-not_refused : (promise : Option Ballot) (b : Ballot) → is_above promise b ≡ true → is_refused promise b ≡ false
-is_above-not_refused None b h = refl
-is_above-not_refused (Some q) b h = below-asymmetric q b h
-
--- a promise that wasn't below c is replaced by one that isn't either
-pub raised : (promise : Option Ballot) (b c : Ballot) → is_refused promise b ≡ false → NotBelow promise c → below b c ≡ false
-raised None b c h k = absurd k
-raised (Some q) b c h k = not_below-transitive c q b k h
+-- a ballot that the promise isn't above is above no ballot that it reached
+pub accepted_order : (promise : Option Ballot) (b c : Ballot) → is_refused promise b ≡ false → NotBelow promise c → below b c ≡ false
+accepted_order None b c h k = absurd k
+accepted_order (Some q) b c h k = not_below-transitive c q b k h
 
 -- ---- the published list grows
 
@@ -47,16 +43,16 @@ definition_at-last history d (suc k) e h = moved (get-last history d k e h)
     moved (inr new) = inr (omega arith, new.1)
 
 -- the stored part with a promise, and that this is what the record makes of it
-abbrev pub with_promise : {V : Type 0} → Stored V → ℕ → Ballot → Stored V
-with_promise stored s b = record stored { promises = put stored.promises s (Some b) }
+abbrev pub with_promise : {V : Type 0} → Stored V → Ballot → Stored V
+with_promise stored b = record stored { promise = raised stored.promise b }
 
-pub is_promised : {V : Type 0} (stored : Stored V) (s : ℕ) (b : Ballot) → published stored < s → with_record stored (Promised s b) ≡ with_promise stored s b
+pub is_promised : {V : Type 0} (stored : Stored V) (s : ℕ) (b : Ballot) → with_record stored (Promised s b) ≡ with_promise stored b
 unfolding with_record
-is_promised stored s b is_open = rw (lt-ltb (published stored) s is_open) refl
+is_promised stored s b = refl
 
 -- the stored part with a vote, and that this is what the record makes of it
 abbrev pub with_vote : {V : Type 0} → Stored V → ℕ → Ballot → V → Stored V
-with_vote stored s b d = record stored { promises = put stored.promises s (Some b); votes = put stored.votes s (Some (record { ballot = b; definition = d })) }
+with_vote stored s b d = record stored { promise = raised stored.promise b; votes = put stored.votes s (Some (record { ballot = b; definition = d })) }
 
 pub is_accepted : {V : Type 0} (stored : Stored V) (s : ℕ) (b : Ballot) (d : V) → published stored < s → with_record stored (Accepted s b d) ≡ with_vote stored s b d
 unfolding with_record
@@ -75,7 +71,6 @@ module _ {V : Type 0} (n i : ℕ) (stored : Stored V) (sent : List (Message V)) 
   unfolding with_record published
   store_tried r higher facts = record {
     tried = λ message b is_in in_message of_i. let old : b.round ≤ stored.tried = facts.tried message b is_in in_message of_i in omega arith;
-    open_promises = facts.open_promises;
     open_votes = facts.open_votes;
     promised = facts.promised;
     accepted = facts.accepted;
@@ -86,71 +81,55 @@ module _ {V : Type 0} (n i : ℕ) (stored : Stored V) (sent : List (Message V)) 
     chosen = facts.chosen;
   }
 
-  -- At s the promise is b now, which was above the one there: what that one wasn't below, b isn't below either.
-  -- Elsewhere nothing changed.
-  promised_facts : (s : ℕ) (b : Ballot) → published stored < s → is_above (promise_at stored s) b ≡ true → Stands sent b → StoredFacts n i stored sent →
-      StoredFacts n i (with_promise stored s b) sent
+  -- The promise is raised: what it wasn't below, it isn't below now either.
+  promised_facts : (b : Ballot) → Stands sent b → StoredFacts n i stored sent → StoredFacts n i (with_promise stored b) sent
   unfolding published
-  promised_facts s b is_open lower stands facts =
-      let up : (c : Ballot) (t : ℕ) → t ≡ s → NotBelow (promise_at stored t) c → below b c ≡ false =
-      λ c t e h. raised (promise_at stored s) b c (is_above-not_refused (promise_at stored s) b lower) (subst (λ x. NotBelow (promise_at stored x) c) e h) in
-      record {
-        tried = facts.tried;
-        open_promises = λ t closed. at_put (λ o. o ≡ None) stored.promises s (Some b) t (λ e. absurd (omega arith)) (λ _. facts.open_promises t closed);
-        open_votes = facts.open_votes;
-        promised = λ t c vote is_in opened.
-            at_put (λ o. NotBelow o c) stored.promises s (Some b) t (λ e. up c t e (facts.promised t c vote is_in opened)) (λ _. facts.promised t c vote is_in opened);
-        accepted = λ t c is_in opened.
-            at_put (λ o. NotBelow o c) stored.promises s (Some b) t (λ e. up c t e (facts.accepted t c is_in opened)) (λ _. facts.accepted t c is_in opened);
-        voted = facts.voted;
-        vote_asked = facts.vote_asked;
-        vote_within = λ t vote h.
-            at_put (λ o. NotBelow o vote.ballot) stored.promises s (Some b) t (λ e. up vote.ballot t e (facts.vote_within t vote h)) (λ _. facts.vote_within t vote h);
-        promise_stands = λ t c.
-            at_put (λ o. o ≡ Some c → Stands sent c) stored.promises s (Some b) t (λ e h. subst (Stands sent) (same_Some b c h) stands) (λ _. facts.promise_stands t c);
-        chosen = facts.chosen;
-      }
+  promised_facts b stands facts = record {
+    tried = facts.tried;
+    open_votes = facts.open_votes;
+    promised = λ t c votes is_in. raised-kept stored.promise b c (facts.promised t c votes is_in);
+    accepted = λ t c is_in. raised-kept stored.promise b c (facts.accepted t c is_in);
+    voted = facts.voted;
+    vote_asked = facts.vote_asked;
+    vote_within = λ t vote h. raised-kept stored.promise b vote.ballot (facts.vote_within t vote h);
+    promise_stands = λ c h. elim (raised-either stored.promise b c h) [
+      | inl same ↦ subst (Stands sent) (sym same) stands
+      | inr old ↦ facts.promise_stands c old
+    ];
+    chosen = facts.chosen;
+  }
 
-  pub store_promised : (s : ℕ) (b : Ballot) → published stored < s → is_above (promise_at stored s) b ≡ true → Stands sent b → StoredFacts n i stored sent →
-      StoredFacts n i (with_record stored (Promised s b)) sent
-  store_promised s b is_open lower stands facts =
-      subst (λ x. StoredFacts n i x sent) (sym (is_promised stored s b is_open)) (promised_facts s b is_open lower stands facts)
+  pub store_promised : (s : ℕ) (b : Ballot) → Stands sent b → StoredFacts n i stored sent → StoredFacts n i (with_record stored (Promised s b)) sent
+  store_promised s b stands facts = subst (λ x. StoredFacts n i x sent) (sym (is_promised stored s b)) (promised_facts b stands facts)
 
-  -- At s promise and vote are at b now, and the promise there wasn't above b: what it wasn't below, b isn't below
-  -- either. Elsewhere nothing changed.
-  accepted_facts : (s : ℕ) (b : Ballot) (d : V) → published stored < s → is_refused (promise_at stored s) b ≡ false → IsIn (Accept s b d) sent → StoredFacts n i stored sent →
+  -- The promise is raised, and at s the vote is at b now, which isn't below the old promise. Elsewhere no vote changed.
+  accepted_facts : (s : ℕ) (b : Ballot) (d : V) → published stored < s → is_refused stored.promise b ≡ false → IsIn (Accept s b d) sent → StoredFacts n i stored sent →
       StoredFacts n i (with_vote stored s b d) sent
   unfolding published
   accepted_facts s b d is_open lower asked facts =
       let vote : Vote V = record { ballot = b; definition = d } in
-      let up : (c : Ballot) (t : ℕ) → t ≡ s → NotBelow (promise_at stored t) c → below b c ≡ false =
-      λ c t e h. raised (promise_at stored s) b c lower (subst (λ x. NotBelow (promise_at stored x) c) e h) in
       record {
         tried = facts.tried;
-        open_promises = λ t closed. at_put (λ o. o ≡ None) stored.promises s (Some b) t (λ e. absurd (omega arith)) (λ _. facts.open_promises t closed);
         open_votes = λ t closed. at_put (λ o. o ≡ None) stored.votes s (Some vote) t (λ e. absurd (omega arith)) (λ _. facts.open_votes t closed);
-        promised = λ t c v is_in opened.
-            at_put (λ o. NotBelow o c) stored.promises s (Some b) t (λ e. up c t e (facts.promised t c v is_in opened)) (λ _. facts.promised t c v is_in opened);
-        accepted = λ t c is_in opened.
-            at_put (λ o. NotBelow o c) stored.promises s (Some b) t (λ e. up c t e (facts.accepted t c is_in opened)) (λ _. facts.accepted t c is_in opened);
+        promised = λ t c votes is_in. raised-kept stored.promise b c (facts.promised t c votes is_in);
+        accepted = λ t c is_in. raised-kept stored.promise b c (facts.accepted t c is_in);
         voted = λ t c is_in opened.
-            at_put (λ o. VoteNotBelow o c) stored.votes s (Some vote) t (λ e. up c t e (facts.accepted t c is_in opened)) (λ _. facts.voted t c is_in opened);
+            at_put (λ o. VoteNotBelow o c) stored.votes s (Some vote) t (λ _. accepted_order stored.promise b c lower (facts.accepted t c is_in)) (λ _. facts.voted t c is_in opened);
         vote_asked = λ t v.
             at_put (λ o. o ≡ Some v → IsAsked sent t v) stored.votes s (Some vote) t
             (λ e h. subst (IsAsked sent t) (same_Some vote v h) (subst (λ x. IsIn (Accept x b d) sent) (sym e) asked)) (λ _. facts.vote_asked t v);
-        vote_within = λ t v. elim (cases_eq t s) [
-          | inl e ↦ λ h. subst (λ o. NotBelow o v.ballot) (sym (put-same stored.promises s (Some b) t e))
-              (subst (λ (x : Vote V). below b x.ballot ≡ false) (same_Some vote v (rw (put-same stored.votes s (Some vote) t e) at h)) (below-irreflexive b))
-          | inr differs ↦ λ h. subst (λ o. NotBelow o v.ballot) (sym (put-other stored.promises s (Some b) t differs))
-              (facts.vote_within t v (rw (put-other stored.votes s (Some vote) t differs) at h))
+        vote_within = λ t v.
+            at_put (λ o. o ≡ Some v → NotBelow (raised stored.promise b) v.ballot) stored.votes s (Some vote) t
+            (λ e h. subst (λ (x : Vote V). NotBelow (raised stored.promise b) x.ballot) (same_Some vote v h) (raised-reached stored.promise b))
+            (λ _ h. raised-kept stored.promise b v.ballot (facts.vote_within t v h));
+        promise_stands = λ c h. elim (raised-either stored.promise b c h) [
+          | inl same ↦ record { message = Accept s b d; was_sent = asked; is_in = inl same }
+          | inr old ↦ facts.promise_stands c old
         ];
-        promise_stands = λ t c.
-            at_put (λ o. o ≡ Some c → Stands sent c) stored.promises s (Some b) t
-            (λ e h. subst (Stands sent) (same_Some b c h) (record { message = Accept s b d; was_sent = asked; is_in = inl refl })) (λ _. facts.promise_stands t c);
         chosen = facts.chosen;
       }
 
-  pub store_accepted : (s : ℕ) (b : Ballot) (d : V) → published stored < s → is_refused (promise_at stored s) b ≡ false → IsIn (Accept s b d) sent → StoredFacts n i stored sent →
+  pub store_accepted : (s : ℕ) (b : Ballot) (d : V) → published stored < s → is_refused stored.promise b ≡ false → IsIn (Accept s b d) sent → StoredFacts n i stored sent →
       StoredFacts n i (with_record stored (Accepted s b d)) sent
   store_accepted s b d is_open lower asked facts =
       subst (λ x. StoredFacts n i x sent) (sym (is_accepted stored s b d is_open)) (accepted_facts s b d is_open lower asked facts)
@@ -159,29 +138,22 @@ module _ {V : Type 0} (n i : ℕ) (stored : Stored V) (sent : List (Message V)) 
   unfolding published
   same_sequence s t first second = omega arith
 
-  -- The sequence is published, so nothing more is required of its promise and vote, and they are removed. Elsewhere nothing
-  -- changed, and the new definition is chosen.
+  -- The sequence is published, so nothing more is required of its vote, which is removed. The promise stays, and elsewhere no vote
+  -- changed; the new definition is chosen.
   pub store_published : (s : ℕ) (d : V) → s ≡ published stored + 1 → IsChosen n sent s d → StoredFacts n i stored sent → StoredFacts n i (with_record stored (Published s d)) sent
   unfolding with_record
   store_published s d is_next is_chosen facts =
       let more : published (with_record stored (Published s d)) ≡ published stored + 1 = published-more stored s d in
       record {
         tried = facts.tried;
-        open_promises = λ t closed. at_put (λ o. o ≡ None) stored.promises s None t (λ e. refl) (λ differs. facts.open_promises t (omega arith));
         open_votes = λ t closed. at_put (λ o. o ≡ None) stored.votes s None t (λ e. refl) (λ differs. facts.open_votes t (omega arith));
-        promised = λ t c vote is_in opened.
-            at_put (λ o. NotBelow o c) stored.promises s None t (λ e. absurd (omega arith)) (λ _. facts.promised t c vote is_in (omega arith));
-        accepted = λ t c is_in opened.
-            at_put (λ o. NotBelow o c) stored.promises s None t (λ e. absurd (omega arith)) (λ _. facts.accepted t c is_in (omega arith));
+        promised = facts.promised;
+        accepted = facts.accepted;
         voted = λ t c is_in opened.
             at_put (λ o. VoteNotBelow o c) stored.votes s None t (λ e. absurd (omega arith)) (λ _. facts.voted t c is_in (omega arith));
         vote_asked = λ t v. at_put (λ o. o ≡ Some v → IsAsked sent t v) stored.votes s None t (λ e h. absurd (none-some v h)) (λ _. facts.vote_asked t v);
-        vote_within = λ t v. elim (cases_eq t s) [
-          | inl e ↦ λ h. absurd (none-some v (rw (put-same stored.votes s None t e) at h))
-          | inr differs ↦ λ h. subst (λ o. NotBelow o v.ballot) (sym (put-other stored.promises s None t differs))
-              (facts.vote_within t v (rw (put-other stored.votes s None t differs) at h))
-        ];
-        promise_stands = λ t c. at_put (λ o. o ≡ Some c → Stands sent c) stored.promises s None t (λ e h. absurd (none-some c h)) (λ _. facts.promise_stands t c);
+        vote_within = λ t v. at_put (λ o. o ≡ Some v → NotBelow stored.promise v.ballot) stored.votes s None t (λ e h. absurd (none-some v h)) (λ _. facts.vote_within t v);
+        promise_stands = facts.promise_stands;
         chosen = λ t e h. elim (definition_at-last stored.history d t e h) [
           | inl old ↦ facts.chosen t e old
           | inr new ↦ subst (IsChosen n sent t) new.1 (subst (λ x. IsChosen n sent x d) (same_sequence s t is_next new.0) is_chosen)

@@ -1,16 +1,16 @@
 -- The four theorems, from the facts of every world that is reached.
-use Rattle.std.proofs.Common.{◌≡◌, ℕ, zero, suc, ◌<◌, Bool, List, [], ◌∷◌, ◌++◌, length, drop, slice_get, slice_set, Option, Some, None, refl, sym, subst, ◌∙◌, inl, inr, arith}
-use Rattle.std.proofs.lemmas.Bool.{cases_lt}
+use Rattle.std.proofs.Common.{◌≡◌, ℕ, zero, suc, ◌<◌, Bool, List, [], ◌∷◌, ◌++◌, length, drop, slice_get, slice_set, Option, Some, None, refl, sym, subst, ◌∙◌, arith}
 use Rattle.std.proofs.lemmas.Option.{none-some, same_Some}
 use Rattle.wf_ballot.specs.Ballot.{Ballot}
 use Rattle.wf_model.specs.Message.{Message, Prepare, Promise, Accept, Accepted, Nack, Chosen, Ask}
-use Rattle.wf_model.specs.Stored.{Stored, published, definition_at, promise_at}
-use Rattle.wf_model.specs.Working.{Working, Idle, Running, Won, Overtaken}
+use Rattle.wf_model.specs.Stored.{Stored, definition_at}
+use Rattle.wf_model.specs.Fits.{NotBelow}
+use Rattle.wf_model.specs.Working.{Proposing, Idle, Running, Won, Overtaken, Working}
 use Rattle.wf_model.specs.Table as table
 use Rattle.wf_model.specs.Table.{Action, store}
 use Rattle.wf_model.specs.World.{Node, World, Event, Propose, Retry, CatchUp, Deliver, Stop, Restart, Torn, Kept, Turn, stored_after, with_node, after_turn, after_torn, stop_running, after_stop, restart_stopped, after_restart, turn, happens, after}
 use Rattle.wf_model.specs.Chosen.{IsIn, IsChosen, history_of, history, definition}
-use Rattle.wf_law.specs.Laws.{ballots_of, IsTried, Proposes, node_of, AsksForItself, OwnBallotsIn, OwnBallots, NotBelow, IsBound, KeptPromisesIn, KeptPromises, PromisedMajorityIn, PromisedMajority, AgreementIn, Agreement}
+use Rattle.wf_law.specs.Laws.{ballots_of, IsTried, Proposes, node_of, AsksForItself, OwnBallotsIn, OwnBallots, IsBound, KeptPromisesIn, KeptPromises, PromisedMajorityIn, PromisedMajority, AgreementIn, Agreement}
 use Rattle.wf_law.proofs.Facts.{MessageFacts, StoredFacts, IsRunningAt, IsOwnAsk}
 use Rattle.wf_law.proofs.Worlds.{get-set_same, MemberFacts, WorldFacts, SomeTurnFacts, turn_facts, after_facts}
 use Rattle.wf_law.proofs.Core.{carries, one_chosen}
@@ -47,21 +47,30 @@ module _ {V : Type 0} (n : ℕ) (w : World V) (facts : WorldFacts n w) where
       }
 
   own_ballots_in : OwnBallotsIn w
-  own_ballots_in = record { tried = λ message b. tried_facts b message; one_accept = facts.messages.one_accept }
+  own_ballots_in = record {
+    tried = λ message b. tried_facts b message;
+    one_base = facts.messages.one_base;
+    requested = facts.messages.requested;
+    one_accept = facts.messages.one_accept;
+  }
 
 -- a request of a node whose proposal runs is that proposal's
+proposes_by : {V : Type 0} (w : World V) (i s : ℕ) (b : Ballot) (stored : Stored V) (working : Working V) (proposing : Proposing V) →
+    slice_get w.nodes i ≡ Some (record { stored = stored; working = Some working }) → working.proposing ≡ proposing → IsRunningAt proposing s b → Proposes w i s b
+proposes_by w i s b stored working Idle is_there is_it running = absurd running
+proposes_by w i s b stored working (Running p) is_there is_it running =
+    record { stored = stored; working = working; proposal = p; is_there = is_there; is_running = is_it; at_sequence = running.0; at_ballot = running.1 }
+proposes_by w i s b stored working (Won t) is_there is_it running = absurd running
+proposes_by w i s b stored working (Overtaken t) is_there is_it running = absurd running
+
 proposes : {V : Type 0} (w : World V) (i s : ℕ) (b : Ballot) (stored : Stored V) (working : Working V) → slice_get w.nodes i ≡ Some (record { stored = stored; working = Some working }) →
-    IsRunningAt working s b → Proposes w i s b
-proposes w i s b stored Idle is_there running = absurd running
-proposes w i s b stored (Running p) is_there running =
-    record { stored = stored; proposal = p; is_there = is_there; at_sequence = running.0; at_ballot = running.1 }
-proposes w i s b stored (Won t) is_there running = absurd running
-proposes w i s b stored (Overtaken t) is_there running = absurd running
+    IsRunningAt working.proposing s b → Proposes w i s b
+proposes w i s b stored working is_there running = proposes_by w i s b stored working working.proposing is_there refl running
 
 asks_itself : {V : Type 0} (w : World V) (i : ℕ) (stored : Stored V) (working : Working V) (m : Message V) →
     slice_get w.nodes i ≡ Some (record { stored = stored; working = Some working }) → IsOwnAsk i working m → AsksForItself w i m
 asks_itself w i stored working (Prepare s b) is_there own = (own.0, proposes w i s b stored working is_there own.1)
-asks_itself w i stored working (Promise sender s b vote) is_there own = tt
+asks_itself w i stored working (Promise sender s b votes) is_there own = tt
 asks_itself w i stored working (Accept s b d) is_there own = (own.0, proposes w i s b stored working is_there own.1)
 asks_itself w i stored working (Accepted sender s b) is_there own = tt
 asks_itself w i stored working (Nack sender s b q) is_there own = tt
@@ -128,23 +137,23 @@ own_ballots V = record {
 -- ---- promises are kept
 
 module _ {V : Type 0} (n : ℕ) (w : World V) (facts : WorldFacts n w) where
-  -- a node of the farm is bound, published or not
-  bound : (i s : ℕ) (b : Ballot) → i < n → ((stored : Stored V) → StoredFacts n i stored w.sent → published stored < s → NotBelow (promise_at stored s) b) → IsBound w i s b
-  bound i s b is_node open_case =
+  -- a node of the farm is bound
+  bound : (i : ℕ) (b : Ballot) → i < n → ((stored : Stored V) → StoredFacts n i stored w.sent → NotBelow stored.promise b) → IsBound w i b
+  bound i b is_node kept =
       let within : i < length w.nodes = subst (λ k. i < k) (sym facts.size) is_node in
       let (node, is_there) = found w.nodes i within in
       let member : MemberFacts n i w.sent node = facts.nodes i node is_there in
       record {
         stored = node.stored;
         node = record { working = node.working; is_there = is_there };
-        bound = elim (cases_lt (published node.stored) s) [ inl is_open ↦ inr (open_case node.stored member.stored is_open) | inr closed ↦ inl closed ];
+        bound = kept node.stored member.stored;
       }
 
   -- Each field is a fact of the world: of its messages, or of the node that sent or stored.
   kept_promises_in : KeptPromisesIn w
   kept_promises_in = record {
-    promised = λ i s b vote is_sent. bound i s b (facts.messages.senders i s b vote is_sent) (λ stored known is_open. known.promised s b vote is_sent is_open);
-    accepted = λ i s b is_sent. bound i s b (facts.messages.voters i s b is_sent) (λ stored known is_open. known.accepted s b is_sent is_open);
+    promised = λ i s b votes is_sent. bound i b (facts.messages.senders i s b votes is_sent) (λ stored known. known.promised s b votes is_sent);
+    accepted = λ i s b is_sent. bound i b (facts.messages.voters i s b is_sent) (λ stored known. known.accepted s b is_sent);
     in_order = facts.messages.in_order;
     stored_vote = λ i s stored vote node e.
         let member : MemberFacts n i w.sent (record { stored = stored; working = node.working }) =

@@ -6,7 +6,7 @@ use Rattle.std.proofs.lemmas.Bool.{cases_eq}
 use Rattle.std.proofs.lemmas.Option.{none-some, same_Some, slice_get_within}
 use Rattle.wf_model.specs.Message.{Message}
 use Rattle.wf_model.specs.Stored.{Stored, nothing_stored, definition_at}
-use Rattle.wf_model.specs.Working.{Working, Idle}
+use Rattle.wf_model.specs.Working.{Working, at_start}
 use Rattle.wf_model.specs.Table as table
 use Rattle.wf_model.specs.Table.{Action, Input, refusal, row, store}
 use Rattle.wf_model.specs.World.{Node, World, Event, Propose, Retry, CatchUp, Deliver, Stop, Restart, Torn, Kept, Before, After, Turn, delivered, input_of, stored_after, kept_part, with_node, after_turn, after_torn, stop_running, after_stop, restart_stopped, after_restart, turn_running, turn_of, turn, happens, steps, start, after}
@@ -37,13 +37,18 @@ get-replicate (suc n) x (suc i) y e = get-replicate n x i y e
 -- ---- the facts of a world
 
 -- a running node's working part
-abbrev pub RunningFacts : {V : Type 0} → ℕ → Stored V → List (Message V) → Option (Working V) → Type 0
-RunningFacts i stored sent None = ⊤
-RunningFacts i stored sent (Some working) = WorkingFacts i stored sent working
+abbrev pub RunningFacts : {V : Type 0} → ℕ → ℕ → Stored V → List (Message V) → Option (Working V) → Type 0
+RunningFacts n i stored sent None = ⊤
+RunningFacts n i stored sent (Some working) = WorkingFacts n i stored sent working
+
+-- no proposal, no leadership
+at_start_facts : {V : Type 0} (n i : ℕ) (stored : Stored V) (sent : List (Message V)) → WorkingFacts n i stored sent at_start
+unfolding at_start
+at_start_facts n i stored sent = record { proposing = tt; leading = tt }
 
 pub record MemberFacts {V : Type 0} (n i : ℕ) (sent : List (Message V)) (node : Node V) : Type 0 where
   pub stored : StoredFacts n i node.stored sent
-  pub running : RunningFacts i node.stored sent node.working
+  pub running : RunningFacts n i node.stored sent node.working
 
 pub record WorldFacts {V : Type 0} (n : ℕ) (w : World V) : Type 0 where
   pub size : length w.nodes ≡ n
@@ -66,14 +71,13 @@ nothing_facts : {V : Type 0} (n i : ℕ) → StoredFacts {V = V} n i nothing_sto
 unfolding nothing_stored
 nothing_facts n i = record {
   tried = λ message b is_in in_message of_i. absurd is_in;
-  open_promises = λ s closed. refl;
   open_votes = λ s closed. refl;
-  promised = λ s b vote is_in is_open. absurd is_in;
-  accepted = λ s b is_in is_open. absurd is_in;
+  promised = λ s b votes is_in. absurd is_in;
+  accepted = λ s b is_in. absurd is_in;
   voted = λ s b is_in is_open. absurd is_in;
   vote_asked = λ s vote e. absurd (none-some vote e);
   vote_within = λ s vote e. absurd (none-some vote e);
-  promise_stands = λ s b e. absurd (none-some b e);
+  promise_stands = λ b e. absurd (none-some b e);
   chosen = λ s d e. absurd (nothing_at s d e);
 }
 
@@ -81,29 +85,32 @@ nothing_facts n i = record {
 pub start_facts : {V : Type 0} (n : ℕ) → WorldFacts {V = V} n (start n)
 unfolding start
 start_facts {V} n = record {
-  size = length-replicate n (record { stored = nothing_stored; working = Some Idle });
+  size = length-replicate n (record { stored = nothing_stored; working = Some at_start });
   messages = record {
-    one_accept = λ s t b c d h k. absurd h;
+    one_base = λ s t b h k. absurd h;
+    requested = λ i s b votes h. absurd h;
+    one_accept = λ s b c d h k. absurd h;
     backed = λ s b d h. absurd h;
-    told = λ i s b c vote h k lower. absurd h;
-    told_asked = λ i s b vote h. absurd h;
-    told_below = λ i s b vote h. absurd h;
+    told = λ i base s b c vote h k lower. absurd h.said;
+    told_asked = λ i base s b vote h. absurd h.said;
+    told_below = λ i base s b vote h. absurd h.said;
+    whole = λ i s b votes h. absurd h;
     chosen = λ s d h. absurd h;
     nodes = λ message b h k. absurd h;
-    senders = λ i s b vote h. absurd h;
+    senders = λ i s b votes h. absurd h;
     voters = λ i s b h. absurd h;
     in_order = tt;
   };
   nodes = λ i node e.
-      let new : Node V = record { stored = nothing_stored; working = Some Idle } in
-      subst (MemberFacts n i []) (get-replicate n new i node e) (record { stored = nothing_facts n i; running = tt });
+      let new : Node V = record { stored = nothing_stored; working = Some at_start } in
+      subst (MemberFacts n i []) (get-replicate n new i node e) (record { stored = nothing_facts n i; running = at_start_facts n i nothing_stored [] });
 }
 
 -- ---- a node changes, and no message is sent
 
 -- Node i is the new one, and every other node is unchanged.
 running_other : {V : Type 0} (n : ℕ) (w : World V) (i : ℕ) (stored : Stored V) (working : Option (Working V)) (old : Node V) → WorldFacts n w → slice_get w.nodes i ≡ Some old →
-    StoredFacts n i stored w.sent → RunningFacts i stored w.sent working → (j : ℕ) (node : Node V) → slice_get (slice_set w.nodes i (record { stored = stored; working = working })) j ≡ Some node →
+    StoredFacts n i stored w.sent → RunningFacts n i stored w.sent working → (j : ℕ) (node : Node V) → slice_get (slice_set w.nodes i (record { stored = stored; working = working })) j ≡ Some node →
     MemberFacts n j w.sent node
 running_other {V} n w i stored working old facts is_there of_stored of_working j node e =
     let new : Node V = record { stored = stored; working = working } in
@@ -115,7 +122,7 @@ running_other {V} n w i stored working old facts is_there of_stored of_working j
     ]
 
 with_node_facts : {V : Type 0} (n : ℕ) (w : World V) (i : ℕ) (stored : Stored V) (working : Option (Working V)) (old : Node V) → WorldFacts n w → slice_get w.nodes i ≡ Some old →
-    StoredFacts n i stored w.sent → RunningFacts i stored w.sent working → WorldFacts n (with_node w i stored working)
+    StoredFacts n i stored w.sent → RunningFacts n i stored w.sent working → WorldFacts n (with_node w i stored working)
 unfolding with_node
 with_node_facts n w i stored working old facts is_there of_stored of_working = record {
   size = length-set w.nodes i (record { stored = stored; working = working }) ∙ facts.size;
@@ -154,7 +161,7 @@ module _ {V : Type 0} (same : V → V → Bool) (n : ℕ) (w : World V) (facts :
         stored = member.stored;
         working = member.running;
       } in
-      rw e (record { working = working; is_there = is_there; before = member.stored; step = row_facts n i stored w.sent same working input known was_sent })
+      rw e (record { working = working; is_there = is_there; before = member.stored; step = row_facts n i stored w.sent same working input known was_sent e })
 
   turn_running_facts : (stored : Stored V) (working : Option (Working V)) (input : Input V) → slice_get w.nodes i ≡ Some (record { stored = stored; working = working }) →
       WasSent n i nothing_stored w.sent same input → SomeTurnFacts n w i (turn_running same n i stored working input)
@@ -192,7 +199,7 @@ module _ {V : Type 0} (same : V → V → Bool) (n : ℕ) (w : World V) (facts :
 module _ {V : Type 0} (n : ℕ) (w : World V) (facts : WorldFacts n w) (i : ℕ) where
   -- every other node, while the transition's messages are sent
   other_running : (t : Turn V) (known : TurnFacts n w i t) (j : ℕ) (stored : Stored V) (working : Option (Working V)) → (j ≡ i → ⊥) →
-      RunningFacts j stored w.sent working → RunningFacts j stored (w.sent ++ t.row.messages) working
+      RunningFacts n j stored w.sent working → RunningFacts n j stored (w.sent ++ t.row.messages) working
   other_running t known j stored None differs h = tt
   other_running t known j stored (Some working) differs h =
       working_other n i (store t.stored t.row.entry) w.sent t.row.messages j stored working differs known.step.sends h
@@ -259,7 +266,7 @@ module _ {V : Type 0} (n : ℕ) (w : World V) (facts : WorldFacts n w) (i : ℕ)
   restart_facts stored None is_there =
       let old : Node V = record { stored = stored; working = None } in
       let member : MemberFacts n i w.sent old = facts.nodes i old is_there in
-      with_node_facts n w i stored (Some Idle) old facts is_there member.stored tt
+      with_node_facts n w i stored (Some at_start) old facts is_there member.stored (at_start_facts n i stored w.sent)
   restart_facts stored (Some working) is_there = facts
 
   after_restart_facts : (node : Option (Node V)) → slice_get w.nodes i ≡ node → WorldFacts n (after_restart w i node)

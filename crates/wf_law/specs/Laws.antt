@@ -1,10 +1,12 @@
 -- The agreement theorem and the theorems that it is built on, as statements about the world after any events.
-use Rattle.std.specs.Prelude.{◌≡◌, ◌⊎◌, ℕ, ◌≤◌, Bool, true, false, ⊤, List, [], ◌∷◌, ◌++◌, length, drop, slice_get, Option, Some, None}
+use Rattle.std.specs.Prelude.{◌≡◌, ℕ, ◌+◌, ◌<◌, ◌≤◌, Bool, true, false, ⊤, List, [], ◌∷◌, ◌++◌, length, drop, slice_get, Option, Some, None}
 use Rattle.wf_ballot.specs.Ballot.{Ballot, below}
 use Rattle.wf_ballot.specs.Majority.{Majority}
+use Rattle.wf_ballot.specs.Sequence.{last_sequence}
 use Rattle.wf_model.specs.Message.{Vote, Message, Prepare, Promise, Accept, Accepted, Nack, Chosen, Ask}
-use Rattle.wf_model.specs.Stored.{Stored, published, definition_at, promise_at}
-use Rattle.wf_model.specs.Working.{Proposal, Working, Running}
+use Rattle.wf_model.specs.Stored.{Stored, definition_at}
+use Rattle.wf_model.specs.Fits.{NotBelow}
+use Rattle.wf_model.specs.Working.{Proposal, Working, Running, window}
 use Rattle.wf_model.specs.World as world
 use Rattle.wf_model.specs.World.{Node, World, Event, after, happens}
 use Rattle.wf_model.specs.Chosen.{IsIn, Voted, Told, IsChosen, history, definition}
@@ -15,10 +17,14 @@ abbrev pub vote_ballots : {V : Type 0} → Option (Vote V) → List Ballot
 vote_ballots None = []
 vote_ballots (Some vote) = vote.ballot ∷ []
 
+abbrev pub votes_ballots : {V : Type 0} → List (Option (Vote V)) → List Ballot
+votes_ballots [] = []
+votes_ballots (vote ∷ rest) = vote_ballots vote ++ votes_ballots rest
+
 -- the ballots that a message contains
 abbrev pub ballots_of : {V : Type 0} → Message V → List Ballot
 ballots_of (Prepare s b) = b ∷ []
-ballots_of (Promise i s b vote) = b ∷ vote_ballots vote
+ballots_of (Promise i s b votes) = b ∷ votes_ballots votes
 ballots_of (Accept s b d) = b ∷ []
 ballots_of (Accepted i s b) = b ∷ []
 ballots_of (Nack i s b promise) = b ∷ promise ∷ []
@@ -39,8 +45,10 @@ pub record IsTried {V : Type 0} (w : World V) (b : Ballot) : Type 0 where
 -- node i runs a proposal with this sequence and ballot
 pub record Proposes {V : Type 0} (w : World V) (i s : ℕ) (b : Ballot) : Type 0 where
   pub stored : Stored V
+  pub working : Working V
   pub proposal : Proposal V
-  pub is_there : slice_get w.nodes i ≡ Some (record { stored = stored; working = Some (Running proposal) })
+  pub is_there : slice_get w.nodes i ≡ Some (record { stored = stored; working = Some working })
+  pub is_running : working.proposing ≡ Running proposal
   pub at_sequence : proposal.sequence ≡ s
   pub at_ballot : proposal.ballot ≡ b
 
@@ -62,10 +70,12 @@ AsksForItself w i message = ⊤
 
 pub record OwnBallotsIn {V : Type 0} (w : World V) : Type 0 where
   pub tried : (message : Message V) (b : Ballot) → IsIn message w.sent → IsIn b (ballots_of message) → IsTried w b
-  pub one_accept : (s t : ℕ) (b : Ballot) (c d : V) → IsIn (Accept s b c) w.sent → IsIn (Accept t b d) w.sent → (s ≡ t) × (c ≡ d)
+  pub one_base : (s t : ℕ) (b : Ballot) → IsIn (Prepare s b) w.sent → IsIn (Prepare t b) w.sent → s ≡ t
+  pub requested : (i s : ℕ) (b : Ballot) (votes : List (Option (Vote V))) → IsIn (Promise i s b votes) w.sent → IsIn (Prepare s b) w.sent
+  pub one_accept : (s : ℕ) (b : Ballot) (c d : V) → IsIn (Accept s b c) w.sent → IsIn (Accept s b d) w.sent → c ≡ d
 
--- A ballot is used only by proposals of its own node, for one sequence and one definition, even after a restart that lost the
--- working part.
+-- A ballot is used only by proposals of its own node; promises are requested at it from one sequence on, and votes for one
+-- definition at each sequence, even after a restart that lost the working part.
 pub record OwnBallots (V : Type 0) : Type 0 where
   pub facts : (same : V → V → Bool) (n : ℕ) (events : List (Event V)) → OwnBallotsIn (after same n events)
   pub asked : (same : V → V → Bool) (n : ℕ) (events : List (Event V)) (event : Event V) (message : Message V) →
@@ -74,19 +84,15 @@ pub record OwnBallots (V : Type 0) : Type 0 where
 
 -- ---- promises are kept
 
-abbrev pub NotBelow : Option Ballot → Ballot → Type 0
-NotBelow None b = ⊥
-NotBelow (Some promise) b = below promise b ≡ false
-
--- node i has published s, or still has a promise at s that isn't below b
-pub record IsBound {V : Type 0} (w : World V) (i s : ℕ) (b : Ballot) : Type 0 where
+-- node i still has a promise that isn't below b
+pub record IsBound {V : Type 0} (w : World V) (i : ℕ) (b : Ballot) : Type 0 where
   pub stored : Stored V
   pub node : NodeHas w i stored
-  pub bound : (s ≤ published stored) ⊎ NotBelow (promise_at stored s) b
+  pub bound : NotBelow stored.promise b
 
--- no message after a promise of that node is a vote below it
+-- no message after a promise of that node is a vote below it, at any sequence
 abbrev pub NoVoteBelow : {V : Type 0} → Message V → List (Message V) → Type 0
-NoVoteBelow (Promise i s b vote) later = (c : Ballot) → IsIn (Accepted i s c) later → below c b ≡ false
+NoVoteBelow (Promise i s b votes) later = (t : ℕ) (c : Ballot) → IsIn (Accepted i t c) later → below c b ≡ false
 NoVoteBelow message later = ⊤
 
 abbrev pub VotesInOrder : {V : Type 0} → List (Message V) → Type 0
@@ -94,14 +100,14 @@ VotesInOrder [] = ⊤
 VotesInOrder (message ∷ later) = NoVoteBelow message later × VotesInOrder later
 
 pub record KeptPromisesIn {V : Type 0} (w : World V) : Type 0 where
-  pub promised : (i s : ℕ) (b : Ballot) (vote : Option (Vote V)) → Told w.sent s b vote i → IsBound w i s b
-  pub accepted : (i s : ℕ) (b : Ballot) → IsIn (Accepted i s b) w.sent → IsBound w i s b
+  pub promised : (i s : ℕ) (b : Ballot) (votes : List (Option (Vote V))) → IsIn (Promise i s b votes) w.sent → IsBound w i b
+  pub accepted : (i s : ℕ) (b : Ballot) → IsIn (Accepted i s b) w.sent → IsBound w i b
   pub in_order : VotesInOrder w.sent
   pub stored_vote : (i s : ℕ) (stored : Stored V) (vote : Vote V) → NodeHas w i stored → stored.votes s ≡ Some vote → IsIn (Accept s vote.ballot vote.definition) w.sent
-  pub told_vote : (i s : ℕ) (b : Ballot) (vote : Vote V) → Told w.sent s b (Some vote) i → IsIn (Accept s vote.ballot vote.definition) w.sent
+  pub told_vote : (i base s : ℕ) (b : Ballot) (vote : Vote V) → Told w.sent base s b (Some vote) i → IsIn (Accept s vote.ballot vote.definition) w.sent
 
--- A node keeps its promises: it stays bound until the sequence is published, it sends no vote below its promise, and for each
--- vote that it stores or reports an Accept was sent.
+-- A node keeps its promises: it stays bound, also after it published; it sends no vote below its promise; and for each vote that
+-- it stores or reports an Accept was sent.
 abbrev pub KeptPromises : Type 0 → Type 0
 KeptPromises V = (same : V → V → Bool) (n : ℕ) (events : List (Event V)) → KeptPromisesIn (after same n events)
 
@@ -117,34 +123,42 @@ abbrev pub IsWithin : {V : Type 0} → Option (Vote V) → Option (Vote V) → T
 IsWithin None best = ⊤
 IsWithin (Some vote) best = VoteNotBelow best vote.ballot
 
--- node i promised at the sequence and ballot, and reported a vote not above the best one
-pub record HasPromised {V : Type 0} (sent : List (Message V)) (s : ℕ) (b : Ballot) (best : Option (Vote V)) (i : ℕ) : Type 0 where
+-- node i promised at the ballot from `base` on, and reported for the sequence a vote not above the best one, or none
+pub record HasPromised {V : Type 0} (sent : List (Message V)) (base s : ℕ) (b : Ballot) (best : Option (Vote V)) (i : ℕ) : Type 0 where
   pub vote : Option (Vote V)
-  pub said : Told sent s b vote i
+  pub said : Told sent base s b vote i
   pub within : IsWithin vote best
 
--- one of these nodes reported the vote
-pub record IsTold {V : Type 0} (sent : List (Message V)) (s : ℕ) (b : Ballot) (nodes : ℕ → Bool) (vote : Vote V) : Type 0 where
+-- one of these nodes reported the vote for the sequence
+pub record IsTold {V : Type 0} (sent : List (Message V)) (base s : ℕ) (b : Ballot) (nodes : ℕ → Bool) (vote : Vote V) : Type 0 where
   pub teller : ℕ
   pub is_member : nodes teller ≡ true
-  pub said : Told sent s b (Some vote) teller
+  pub said : Told sent base s b (Some vote) teller
 
 -- the best vote, if there is one, was reported by one of these nodes
-abbrev pub BestIsTold : {V : Type 0} → List (Message V) → ℕ → Ballot → (ℕ → Bool) → Option (Vote V) → Type 0
-BestIsTold sent s b nodes None = ⊤
-BestIsTold sent s b nodes (Some vote) = IsTold sent s b nodes vote
+abbrev pub BestIsTold : {V : Type 0} → List (Message V) → ℕ → ℕ → Ballot → (ℕ → Bool) → Option (Vote V) → Type 0
+BestIsTold sent base s b nodes None = ⊤
+BestIsTold sent base s b nodes (Some vote) = IsTold sent base s b nodes vote
 
 -- d is the definition of the best vote, if there is one
 abbrev pub IsCarried : {V : Type 0} → Option (Vote V) → V → Type 0
 IsCarried None d = ⊤
 IsCarried (Some vote) d = d ≡ vote.definition
 
--- A majority promised at the sequence and ballot, and d is the definition of the highest vote that they reported, or they
--- reported none.
+-- The sequence is one of those at which a Promise from `base` on reports votes.
+pub record IsInWindow (base s : ℕ) : Type 0 where
+  pub from_base : base ≤ s
+  pub before_end : s < base + window
+  pub is_sequence : s ≤ last_sequence
+
+-- A majority promised at the ballot, all from one sequence on, at most three before s. And d is the definition of the highest vote
+-- that they reported for s, or they reported none there.
 pub record IsBacked {V : Type 0} (n : ℕ) (sent : List (Message V)) (s : ℕ) (b : Ballot) (d : V) : Type 0 where
+  pub base : ℕ
+  pub in_window : IsInWindow base s
   pub best : Option (Vote V)
-  pub majority : Majority n (HasPromised sent s b best)
-  pub told : BestIsTold sent s b majority.nodes best
+  pub majority : Majority n (HasPromised sent base s b best)
+  pub told : BestIsTold sent base s b majority.nodes best
   pub carried : IsCarried best d
 
 pub record PromisedMajorityIn {V : Type 0} (n : ℕ) (sent : List (Message V)) : Type 0 where

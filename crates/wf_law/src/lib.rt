@@ -16,20 +16,21 @@
 ghost use Rattle.wf_law.specs.Earlier.{EarlierMessages};
 ghost use Rattle.wf_law.specs.Laws.{Agreement, KeptPromises, OwnBallots, PromisedMajority};
 
-/// A ballot is used only by proposals of its own node, at a round that the node stored before, for one sequence and one
-/// definition, even after a restart that lost the proposal.
+/// A ballot is used only by proposals of its own node, at a round that the node stored before. Promises are requested at it from
+/// one sequence on, and votes for one definition at each sequence, even after a restart that lost the proposal.
 pub fn own_ballots<V>()
     ensures { OwnBallots V }
 {}
 
-/// A node keeps its promises: until the sequence is published its promise never decreases, it sends no vote below it, and for
-/// each vote that it stored or reported an Accept was sent.
+/// A node keeps its promises: its promise never decreases, it sends no vote below it at any sequence, and for each vote that it
+/// stored or reported an Accept was sent.
 pub fn kept_promises<V>()
     ensures { KeptPromises V }
 {}
 
-/// Each Accept is backed by a majority of promises and carries the highest vote that they reported. So each Accept at a ballot
-/// above one at which a definition was chosen carries that definition.
+/// Each Accept is backed by a majority of promises, made from its sequence or one of the three before it on, and carries the
+/// highest vote that they reported for its sequence. So each Accept at a ballot above one at which a definition was chosen carries
+/// that definition.
 pub fn promised_majority<V>()
     ensures { PromisedMajority V }
 {}

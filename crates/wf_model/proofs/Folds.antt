@@ -1,12 +1,12 @@
--- The fold of records: it has no promise and no vote of a published sequence, and each vote has a promise.
-use Rattle.std.proofs.Common.{◌≡◌, ℕ, ◌+◌, ◌<◌, nat_lt, Bool, true, false, List, [], ◌∷◌, Some, None, IsSome, refl, sym, subst, inl, inr, arith, length-append, eqb-true, ltb-true}
-use Rattle.std.proofs.lemmas.Bool.{cases_eq}
+-- The fold of records: it has no vote of a published sequence, and no vote above its promise.
+use Rattle.std.proofs.Common.{◌≡◌, ℕ, ◌+◌, ◌<◌, nat_lt, Bool, true, false, List, [], ◌∷◌, Some, None, refl, subst, arith, length-append, eqb-true, ltb-true}
 use Rattle.std.proofs.lemmas.Option.{none-some, same_Some}
 use Rattle.wf_ballot.specs.Ballot.{Ballot}
 use Rattle.wf_model.specs.Message.{Vote}
-use Rattle.wf_model.specs.Stored.{Stored, Record, Tried, Promised, Accepted, Published, nothing_stored, published, next_sequence, promise_at, with_record, fits, fold_from, fold}
-use Rattle.wf_model.specs.Fits.{IsOpenAlone, FoldsAreOpen, VotesArePromised}
-use Rattle.wf_model.specs.PutLaws.{put-same, put-other, at_put}
+use Rattle.wf_model.specs.Stored.{Stored, Record, Tried, Promised, Accepted, Published, nothing_stored, published, next_sequence, raised, with_record, fits, fold_from, fold}
+use Rattle.wf_model.specs.Fits.{IsOpenAlone, FoldsAreOpen, NotBelow, VotesArePromised}
+use Rattle.wf_model.specs.PutLaws.{at_put}
+use Rattle.wf_model.specs.RaisedLaws.{raised-kept, raised-reached}
 
 -- ---- what each record preserves, the fold preserves
 
@@ -25,27 +25,15 @@ fold_keeps P step (r ∷ rest) stored folded known e =
     let (fit, e') = fold_next r rest stored folded (fits stored r) refl e in
     fold_keeps P step rest (with_record stored r) folded (step stored known r fit) e'
 
--- ---- promises and votes are of open sequences only
+-- ---- votes are of open sequences only
 
 module _ {V : Type 0} (stored : Stored V) (known : IsOpenAlone stored) where
-  promised_open : (s : ℕ) (b : Ballot) (is_open : Bool) → nat_lt (published stored) s ≡ is_open → IsOpenAlone (with_record stored (Promised s b))
-  unfolding with_record published
-  promised_open s b true e = rw e (record {
-    promises = λ t closed. let is_above : published stored < s = ltb-true (published stored) s e in
-        at_put (λ o. o ≡ None) stored.promises s (Some b) t (λ same. absurd (omega arith)) (λ _. known.promises t closed);
-    votes = known.votes;
-  })
-  promised_open s b false e = rw e known
-
   accepted_open : (s : ℕ) (b : Ballot) (d : V) (is_open : Bool) → nat_lt (published stored) s ≡ is_open → IsOpenAlone (with_record stored (Accepted s b d))
   unfolding with_record published
   accepted_open s b d true e =
       let is_above : published stored < s = ltb-true (published stored) s e in
-      rw e (record {
-        promises = λ t closed. at_put (λ o. o ≡ None) stored.promises s (Some b) t (λ same. absurd (omega arith)) (λ _. known.promises t closed);
-        votes = λ t closed.
-            at_put (λ o. o ≡ None) stored.votes s (Some (record { ballot = b; definition = d })) t (λ same. absurd (omega arith)) (λ _. known.votes t closed);
-      })
+      rw e (λ t closed.
+      at_put (λ o. o ≡ None) stored.votes s (Some (record { ballot = b; definition = d })) t (λ same. absurd (omega arith)) (λ _. known t closed))
   accepted_open s b d false e = rw e known
 
   published-more : (s : ℕ) (d : V) → published (with_record stored (Published s d)) ≡ published stored + 1
@@ -56,57 +44,43 @@ module _ {V : Type 0} (stored : Stored V) (known : IsOpenAlone stored) where
   unfolding with_record
   published_open s d is_next =
       let more : published (with_record stored (Published s d)) ≡ published stored + 1 = published-more s d in
-      record {
-        promises = λ t closed. at_put (λ o. o ≡ None) stored.promises s None t (λ same. refl) (λ differs. known.promises t (omega arith));
-        votes = λ t closed. at_put (λ o. o ≡ None) stored.votes s None t (λ same. refl) (λ differs. known.votes t (omega arith));
-      }
+      λ t closed. at_put (λ o. o ≡ None) stored.votes s None t (λ same. refl) (λ differs. known t (omega arith))
 
   record_open : (r : Record V) → fits stored r ≡ true → IsOpenAlone (with_record stored r)
   unfolding with_record fits next_sequence published
-  record_open (Tried r) fit = record { promises = known.promises; votes = known.votes }
-  record_open (Promised s b) fit = promised_open s b (nat_lt (published stored) s) refl
+  record_open (Tried r) fit = known
+  record_open (Promised s b) fit = known
   record_open (Accepted s b d) fit = accepted_open s b d (nat_lt (published stored) s) refl
   record_open (Published s d) fit = published_open s d (eqb-true s (published stored + 1) fit)
 
 pub folds_are_open : (V : Type 0) → FoldsAreOpen V
 unfolding fold nothing_stored
-folds_are_open V = λ records stored e.
-    fold_keeps IsOpenAlone record_open records nothing_stored stored (record { promises = λ s closed. refl; votes = λ s closed. refl }) e
+folds_are_open V = λ records stored e. fold_keeps IsOpenAlone record_open records nothing_stored stored (λ s closed. refl) e
 
--- ---- each vote has a promise at its sequence
+-- ---- no vote is above the promise
 
 abbrev ArePromised : {V : Type 0} → Stored V → Type 0
-ArePromised {V} stored = (t : ℕ) (vote : Vote V) → stored.votes t ≡ Some vote → IsSome (promise_at stored t)
+ArePromised {V} stored = (t : ℕ) (vote : Vote V) → stored.votes t ≡ Some vote → NotBelow stored.promise vote.ballot
 
 module _ {V : Type 0} (stored : Stored V) (known : ArePromised stored) where
-  -- Another promise removes none.
-  promised_kept : (s : ℕ) (b : Ballot) (is_open : Bool) → nat_lt (published stored) s ≡ is_open → ArePromised (with_record stored (Promised s b))
-  unfolding with_record
-  promised_kept s b true e = rw e (λ t vote has. at_put IsSome stored.promises s (Some b) t (λ same. refl) (λ differs. known t vote has))
-  promised_kept s b false e = rw e known
-
-  -- A vote comes with its promise.
+  -- The vote comes with a promise that reaches its ballot; what the promise wasn't below, a raised one isn't below either.
   accepted_kept : (s : ℕ) (b : Ballot) (d : V) (is_open : Bool) → nat_lt (published stored) s ≡ is_open → ArePromised (with_record stored (Accepted s b d))
   unfolding with_record
-  accepted_kept s b d true e = rw e (λ t vote has.
-      at_put IsSome stored.promises s (Some b) t (λ same. refl)
-      (λ differs. known t vote (rw (put-other stored.votes s (Some (record { ballot = b; definition = d })) t differs) at has)))
+  accepted_kept s b d true e =
+      let vote : Vote V = record { ballot = b; definition = d } in
+      rw e (λ t v.
+      at_put (λ o. o ≡ Some v → NotBelow (raised stored.promise b) v.ballot) stored.votes s (Some vote) t
+      (λ same has. subst (λ (x : Vote V). NotBelow (raised stored.promise b) x.ballot) (same_Some vote v has) (raised-reached stored.promise b))
+      (λ differs has. raised-kept stored.promise b v.ballot (known t v has)))
   accepted_kept s b d false e = rw e known
-
-  -- Promise and vote of the sequence that is published are removed together.
-  published_kept : (s : ℕ) (d : V) → ArePromised (with_record stored (Published s d))
-  unfolding with_record
-  published_kept s d = λ t vote. elim (cases_eq t s) [
-    | inl same ↦ λ has. absurd (none-some vote (rw (put-same stored.votes s None t same) at has))
-    | inr differs ↦ λ has. subst IsSome (sym (put-other stored.promises s None t differs)) (known t vote (rw (put-other stored.votes s None t differs) at has))
-  ]
 
   record_kept : (r : Record V) → fits stored r ≡ true → ArePromised (with_record stored r)
   unfolding with_record
   record_kept (Tried r) fit = known
-  record_kept (Promised s b) fit = promised_kept s b (nat_lt (published stored) s) refl
+  record_kept (Promised s b) fit = λ t vote has. raised-kept stored.promise b vote.ballot (known t vote has)
   record_kept (Accepted s b d) fit = accepted_kept s b d (nat_lt (published stored) s) refl
-  record_kept (Published s d) fit = published_kept s d
+  record_kept (Published s d) fit = λ t vote.
+      at_put (λ o. o ≡ Some vote → NotBelow stored.promise vote.ballot) stored.votes s None t (λ same has. absurd (none-some vote has)) (λ differs has. known t vote has)
 
 pub votes_are_promised : (V : Type 0) → VotesArePromised V
 unfolding fold nothing_stored

@@ -1,18 +1,18 @@
 -- The example runs, by computing each.
-use Rattle.std.proofs.Common.{◌≡◌, ℕ, [], ◌∷◌, refl, Some}
+use Rattle.std.proofs.Common.{◌≡◌, ℕ, [], ◌∷◌, refl, Some, None}
 use Rattle.wf_ballot.specs.Ballot.{below}
 use Rattle.wf_ballot.specs.Majority.{count_nodes, is_majority_of}
-use Rattle.wf_model.specs.Message.{Prepare, Promise, Accept, Accepted, Nack, Chosen, Ask}
-use Rattle.wf_model.specs.Stored.{nothing_stored, published, next_sequence, definition_at, put, with_record}
-use Rattle.wf_model.specs.Working.{nobody, and_node, better, carried, same_ballot, same_phase, is_at}
-use Rattle.wf_model.specs.Table.{Busy, SequenceFull, RoundsFull, NothingToRetry, store, quiet, says, stores, rounds_full, round_known, refuse_proposal, refuse_retry, refusal, begin_at, on_propose, on_retry, on_catch_up, told_of, told, told_from, on_ask, promise_to, prepare_open, on_prepare, votes_at, vote_for, accept_open, on_accept, hears, with_promise, asking_votes, promised, on_promise, with_vote, on_nack, ended, ends, voted, on_accepted, on_chosen, on_message, row}
+use Rattle.wf_model.specs.Message.{Prepare, Promise, Accept, Accepted, Nack, Chosen, Ask, first_vote, from_sequence}
+use Rattle.wf_model.specs.Stored.{nothing_stored, published, next_sequence, definition_at, put, raised, with_record}
+use Rattle.wf_model.specs.Working.{at_start, nobody, and_node, better, better_each, carried, proposed, same_ballot, same_phase, is_at, is_in_window, leading_at}
+use Rattle.wf_model.specs.Table.{Busy, SequenceFull, RoundsFull, NothingToRetry, store, quiet, says, stores, with_proposal, rounds_full, round_known, refuse_round, refuse_proposal, refuse_retry, refusal, begin_at, ask_votes, lead, propose_by, on_propose, on_retry, on_catch_up, told_of, told, told_from, on_ask, votes_from, promise_to, prepare_open, on_prepare, votes_at, vote_for, accept_open, on_accept, hears, with_promise, asking_votes, leadership_of, promised, on_promise, with_vote, on_nack, ended, ends, after_publishing, voted, on_accepted, on_chosen, on_message, row}
 use Rattle.wf_model.specs.World.{refusal_running, refusal_of, refused_at, refused, Propose, Retry, CatchUp, Before, After, delivered, input_of, stored_after, kept_part, with_node, after_turn, after_torn, stop_running, after_stop, restart_stopped, after_restart, turn_running, turn_of, turn, happens, steps, start, after}
 use Rattle.wf_model.specs.Chosen.{history_of, history, definition}
-use Rattle.wf_model.specs.Examples.{full_history, full_rounds, only, a, b, empty, same_map, histories, Runs, PublishedAt, OvertakenAt, standing_of, standing, run, Leaves, none, just, to_each, pump, thrice_back, alone, three_pumped, two_of_four, three_of_four, half_accepted, comes_back, taken_over, voted_once, late_accept, two_told, old_accept, outrun, behind, catches_up, new_round, repeated, torn, torn_then, sent_from, ballot, vote}
+use Rattle.wf_model.specs.Examples.{full_history, full_rounds, only, a, b, empty, same_map, last_leader, histories, Runs, PublishedAt, OvertakenAt, standing_by, standing_of, standing, run, Leaves, none, just, to_each, pump, thrice_back, alone, three_pumped, two_of_four, three_of_four, half_accepted, comes_back, taken_over, voted_once, late_accept, two_told, old_accept, outrun, behind, catches_up, new_round, repeated, torn, torn_then, two_led, four_led, fifth_prepared, led_too_low, led_again, told_ahead, leader_restarts, sent_from, ballot, vote, no_votes}
 
 -- unfolds all definitions that a run computes with
 abbrev computed : ℕ
-unfolding below count_nodes is_majority_of nothing_stored published next_sequence definition_at put with_record nobody and_node better carried same_ballot same_phase is_at store quiet says stores rounds_full round_known refuse_proposal refuse_retry refusal begin_at on_propose on_retry on_catch_up told_of told told_from on_ask promise_to prepare_open on_prepare votes_at vote_for accept_open on_accept hears with_promise asking_votes promised on_promise with_vote on_nack ended ends voted on_accepted on_chosen on_message row delivered input_of stored_after kept_part with_node after_turn after_torn stop_running after_stop restart_stopped after_restart turn_running turn_of turn happens steps start after history_of history definition same_map histories standing_of standing to_each pump thrice_back alone three_pumped two_of_four three_of_four half_accepted comes_back taken_over voted_once late_accept two_told old_accept outrun behind catches_up new_round repeated torn torn_then sent_from refusal_running refusal_of refused_at refused full_history full_rounds only
+unfolding below count_nodes is_majority_of nothing_stored published next_sequence definition_at put raised with_record at_start nobody and_node better better_each carried proposed same_ballot same_phase is_at is_in_window leading_at first_vote from_sequence store quiet says stores with_proposal rounds_full round_known refuse_round refuse_proposal refuse_retry refusal begin_at ask_votes lead propose_by on_propose on_retry on_catch_up told_of told told_from on_ask votes_from promise_to prepare_open on_prepare votes_at vote_for accept_open on_accept hears with_promise asking_votes leadership_of promised on_promise with_vote on_nack ended ends after_publishing voted on_accepted on_chosen on_message row delivered input_of stored_after kept_part with_node after_turn after_torn stop_running after_stop restart_stopped after_restart turn_running turn_of turn happens steps start after history_of history definition same_map histories standing_by standing_of standing to_each pump thrice_back alone three_pumped two_of_four three_of_four half_accepted comes_back taken_over voted_once late_accept two_told old_accept outrun behind catches_up new_round repeated torn torn_then two_led four_led fifth_prepared led_too_low led_again told_ahead leader_restarts last_leader sent_from refusal_running refusal_of refused_at refused full_history full_rounds only
 computed = 0
 
 pub alone_leaves : Leaves 1 alone (just a ∷ []) 5
@@ -63,7 +63,7 @@ pub late_accept_answers : sent_from (run 3 late_accept) 11 ≡ Accepted 0 1 (bal
 unfolding computed
 late_accept_answers = refl
 
-pub two_told_asks : sent_from (run 3 two_told) 14 ≡ Promise 2 1 (ballot 2 0) (Some (vote 1 1 b)) ∷ Promise 0 1 (ballot 2 0) (Some (vote 1 0 a)) ∷ Accept 1 (ballot 2 0) b ∷ []
+pub two_told_asks : sent_from (run 3 two_told) 14 ≡ Promise 2 1 (ballot 2 0) (Some (vote 1 1 b) ∷ None ∷ None ∷ None ∷ []) ∷ Promise 0 1 (ballot 2 0) (Some (vote 1 0 a) ∷ None ∷ None ∷ None ∷ []) ∷ Accept 1 (ballot 2 0) b ∷ []
 unfolding computed
 two_told_asks = refl
 
@@ -75,11 +75,11 @@ pub outrun_asks : sent_from (run 3 outrun) 4 ≡ Prepare 1 (ballot 1 0) ∷ Nack
 unfolding computed
 outrun_asks = refl
 
-pub behind_leaves : Leaves 3 behind ((a ∷ b ∷ a ∷ []) ∷ (a ∷ b ∷ a ∷ []) ∷ (a ∷ b ∷ a ∷ []) ∷ []) 26
+pub behind_leaves : Leaves 3 behind ((a ∷ b ∷ a ∷ []) ∷ (a ∷ b ∷ a ∷ []) ∷ (a ∷ b ∷ a ∷ []) ∷ []) 20
 unfolding computed
 behind_leaves = (refl, refl)
 
-pub behind_asks : sent_from (run 3 behind) 23 ≡ Ask 2 ∷ Chosen 2 b ∷ Chosen 3 a ∷ []
+pub behind_asks : sent_from (run 3 behind) 17 ≡ Ask 2 ∷ Chosen 2 b ∷ Chosen 3 a ∷ []
 unfolding computed
 behind_asks = refl
 
@@ -170,3 +170,46 @@ refused_rounds = refl
 pub refused_rounds_unchanged : happens same_map (only full_rounds) (Propose 0 a) ≡ only full_rounds
 unfolding computed
 refused_rounds_unchanged = refl
+
+pub two_led_asks : sent_from (run 3 two_led) 9 ≡ Accept 2 (ballot 1 0) a ∷ Accepted 0 2 (ballot 1 0) ∷ Accepted 1 2 (ballot 1 0) ∷ Accepted 2 2 (ballot 1 0) ∷ Chosen 2 a ∷ []
+unfolding computed
+two_led_asks = refl
+
+pub four_led_leave : Leaves 3 four_led ((a ∷ a ∷ a ∷ a ∷ []) ∷ (a ∷ a ∷ a ∷ a ∷ []) ∷ (a ∷ a ∷ a ∷ a ∷ []) ∷ []) 24
+unfolding computed
+four_led_leave = (refl, refl)
+
+pub fifth_prepared_leaves : Leaves 3 fifth_prepared ((a ∷ a ∷ a ∷ a ∷ a ∷ []) ∷ (a ∷ a ∷ a ∷ a ∷ a ∷ []) ∷ (a ∷ a ∷ a ∷ a ∷ a ∷ []) ∷ []) 33
+unfolding computed
+fifth_prepared_leaves = (refl, refl)
+
+pub led_too_low_leaves : Leaves 3 led_too_low ((a ∷ b ∷ []) ∷ (a ∷ b ∷ []) ∷ (a ∷ b ∷ []) ∷ []) 22
+unfolding computed
+led_too_low_leaves = (refl, refl)
+
+pub led_too_low_stands : standing (run 3 led_too_low) 0 ≡ Runs
+unfolding computed
+led_too_low_stands = refl
+
+pub led_again_leaves : Leaves 3 led_again ((a ∷ b ∷ a ∷ []) ∷ (a ∷ b ∷ a ∷ []) ∷ (a ∷ b ∷ a ∷ []) ∷ []) 31
+unfolding computed
+led_again_leaves = (refl, refl)
+
+pub told_ahead_asks : sent_from (run 3 told_ahead) 9 ≡
+    Prepare 1 (ballot 1 2) ∷ Promise 2 1 (ballot 1 2) no_votes ∷ Promise 1 1 (ballot 1 2) (Some (vote 1 0 a) ∷ Some (vote 1 0 b) ∷ None ∷ None ∷ []) ∷
+    Accept 1 (ballot 1 2) a ∷ Accepted 1 1 (ballot 1 2) ∷ Accepted 2 1 (ballot 1 2) ∷ Chosen 1 a ∷
+    Accept 2 (ballot 1 2) b ∷ Accepted 1 2 (ballot 1 2) ∷ Accepted 2 2 (ballot 1 2) ∷ Chosen 2 b ∷ []
+unfolding computed
+told_ahead_asks = refl
+
+pub told_ahead_stands : standing (run 3 told_ahead) 2 ≡ OvertakenAt 2
+unfolding computed
+told_ahead_stands = refl
+
+pub leader_restarts_asks : sent_from (run 3 leader_restarts) 9 ≡ Prepare 2 (ballot 2 0) ∷ []
+unfolding computed
+leader_restarts_asks = refl
+
+pub last_leader_proposes : refused last_leader (Propose 0 a) ≡ None
+unfolding computed
+last_leader_proposes = refl

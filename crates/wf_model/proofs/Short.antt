@@ -1,12 +1,12 @@
 -- No transition sends more than eight messages: at most one, except when an Ask is answered.
-use Rattle.std.proofs.Common.{◌≡◌, ℕ, zero, suc, ◌+◌, ◌==◌, ◌≤◌, nat_lt, nat_le, Bool, true, false, List, [], ◌∷◌, length, Option, Some, None, refl, length-append, arith}
+use Rattle.std.proofs.Common.{◌≡◌, ℕ, zero, suc, ◌+◌, ◌==◌, ◌≤◌, nat_lt, nat_le, Bool, true, false, cond, List, [], ◌∷◌, length, Option, Some, None, refl, length-append, arith}
 use Rattle.wf_ballot.specs.Ballot.{Ballot}
 use Rattle.wf_ballot.specs.Majority.{count_nodes, is_majority_of}
 use Rattle.wf_ballot.specs.Sequence.{last_sequence}
 use Rattle.wf_model.specs.Message.{Vote, Message, Prepare, Promise, Accept, Accepted, Nack, Chosen, Ask}
-use Rattle.wf_model.specs.Stored.{Stored, Record, published, next_sequence, definition_at, promise_at}
-use Rattle.wf_model.specs.Working.{Proposal, Working, Idle, Running, Won, Overtaken, Preparing, Accepting, is_at}
-use Rattle.wf_model.specs.Table.{Row, Input, Propose, Retry, CatchUp, Deliver, quiet, says, stores, when_running, round_known, begin_at, on_propose, on_retry, on_catch_up, told_of, told, told_from, on_ask, most_told, is_above, is_refused, nack, promise_to, prepare_open, on_prepare, votes_at, vote_for, accept_open, on_accept, hears, with_promise, promised, on_promise, with_vote, on_nack, voted, on_accepted, on_chosen, on_message, row}
+use Rattle.wf_model.specs.Stored.{Stored, Record, published, next_sequence, definition_at}
+use Rattle.wf_model.specs.Working.{Proposal, Proposing, Idle, Running, Won, Overtaken, Leadership, Working, Preparing, Accepting, is_at, leading_at}
+use Rattle.wf_model.specs.Table.{Row, Input, Propose, Retry, CatchUp, Deliver, quiet, says, stores, running_row, when_running, with_proposal, round_known, begin_at, ask_votes, lead, propose_by, on_propose, on_retry, on_catch_up, told_of, told, told_from, on_ask, most_told, is_above, is_refused, nack, promise_to, prepare_open, on_prepare, votes_at, vote_for, accept_open, on_accept, hears, with_promise, asking_votes, leadership_of, promised, on_promise, with_vote, on_nack, voted, on_accepted, on_chosen, on_message, row}
 use Rattle.wf_model.specs.Fits.{RowsAreShort}
 
 abbrev IsShort : {V : Type 0} → Row V → Type 0
@@ -31,11 +31,15 @@ module _ {V : Type 0} where
   unfolding stores
   stores_short working r message = omega arith
 
+  running_row_short : (working : Working V) (proposing : Proposing V) (row_of : Proposal V → Row V) → ((p : Proposal V) → IsShort (row_of p)) →
+      IsShort (running_row working proposing row_of)
+  running_row_short working Idle row_of short = quiet_short working
+  running_row_short working (Running p) row_of short = short p
+  running_row_short working (Won s) row_of short = quiet_short working
+  running_row_short working (Overtaken s) row_of short = quiet_short working
+
   when_running_short : (working : Working V) (row_of : Proposal V → Row V) → ((p : Proposal V) → IsShort (row_of p)) → IsShort (when_running working row_of)
-  when_running_short Idle row_of short = quiet_short Idle
-  when_running_short (Running p) row_of short = short p
-  when_running_short (Won s) row_of short = quiet_short (Won s)
-  when_running_short (Overtaken s) row_of short = quiet_short (Overtaken s)
+  when_running_short working row_of short = running_row_short working working.proposing row_of short
 
   -- ---- published definitions are sent
 
@@ -74,7 +78,7 @@ module _ {V : Type 0} where
     prepare_short : (is_published : Bool) → nat_le s (published stored) ≡ is_published → IsShort (on_prepare me stored working s b)
     unfolding on_prepare
     prepare_short true e = rw e (told_row_short working stored.history s)
-    prepare_short false e = rw e (prepare_open_short (promise_at stored s) (is_above (promise_at stored s) b) (is_refused (promise_at stored s) b) refl refl)
+    prepare_short false e = rw e (prepare_open_short stored.promise (is_above stored.promise b) (is_refused stored.promise b) refl refl)
 
     vote_short : (d : V) (again : Bool) → votes_at (stored.votes s) b ≡ again → IsShort (vote_for me stored working s b d)
     unfolding vote_for
@@ -89,7 +93,7 @@ module _ {V : Type 0} where
     accept_short : (d : V) (is_published : Bool) → nat_le s (published stored) ≡ is_published → IsShort (on_accept me stored working s b d)
     unfolding on_accept
     accept_short d true e = rw e (told_row_short working stored.history s)
-    accept_short d false e = rw e (accept_open_short d (promise_at stored s) (is_refused (promise_at stored s) b) refl)
+    accept_short d false e = rw e (accept_open_short d stored.promise (is_refused stored.promise b) refl)
 
   -- ---- the proposer
 
@@ -102,49 +106,50 @@ module _ {V : Type 0} where
   catch_up_short stored working true e = rw e (says_short working (Ask (next_sequence stored) ∷ []) (omega arith))
   catch_up_short stored working false e = rw e (quiet_short working)
 
-  promised_short : (n : ℕ) (p : Proposal V) (is_majority : Bool) → is_majority_of (count_nodes n p.heard) n ≡ is_majority → IsShort (promised n p)
+  ask_short : (leadership : Leadership V) (p : Proposal V) → IsShort (ask_votes leadership p)
+  unfolding ask_votes
+  ask_short leadership p = says_short _ _ (omega arith)
+
+  propose_short : (me : ℕ) (stored : Stored V) (leadership : Option (Leadership V)) (own : V) → IsShort (propose_by me stored leadership own)
+  unfolding propose_by lead
+  propose_short me stored None own = begin_short me stored own (stored.tried + 1)
+  propose_short me stored (Some leadership) own = ask_short leadership _
+
+  promised_short : (n : ℕ) (working : Working V) (p : Proposal V) (is_majority : Bool) → is_majority_of (count_nodes n p.heard) n ≡ is_majority → IsShort (promised n working p)
   unfolding promised
-  promised_short n p true e = rw e (says_short _ _ (omega arith))
-  promised_short n p false e = rw e (quiet_short (Running p))
+  promised_short n working p true e = rw e (ask_short (leadership_of p) (asking_votes p))
+  promised_short n working p false e = rw e (quiet_short (with_proposal working p))
 
-  promise_by_short : (n : ℕ) (p : Proposal V) (sender s : ℕ) (b : Ballot) (vote : Option (Vote V)) (is_heard : Bool) → hears n p Preparing sender s b ≡ is_heard →
-      IsShort (on_promise n (Running p) sender s b vote)
-  unfolding on_promise with_promise
-  promise_by_short n p sender s b vote true e =
-      let q : Proposal V = with_promise p sender vote in
-      rw e (promised_short n q (is_majority_of (count_nodes n q.heard) n) refl)
-  promise_by_short n p sender s b vote false e = rw e (quiet_short (Running p))
+  promise_by_short : (n : ℕ) (working : Working V) (p : Proposal V) (is_heard : Bool) → IsShort (cond is_heard (promised n working p) (quiet working))
+  promise_by_short n working p true = promised_short n working p (is_majority_of (count_nodes n p.heard) n) refl
+  promise_by_short n working p false = quiet_short working
 
-  promises_short : (n : ℕ) (working : Working V) (sender s : ℕ) (b : Ballot) (vote : Option (Vote V)) → IsShort (on_promise n working sender s b vote)
+  promises_short : (n : ℕ) (working : Working V) (sender s : ℕ) (b : Ballot) (votes : List (Option (Vote V))) → IsShort (on_promise n working sender s b votes)
   unfolding on_promise
-  promises_short n working sender s b vote = when_running_short working _ (λ p. promise_by_short n p sender s b vote (hears n p Preparing sender s b) refl)
+  promises_short n working sender s b votes =
+      when_running_short working _ (λ p. promise_by_short n working (with_promise p sender votes) (hears n p Preparing sender s b))
 
-  nack_by_short : (p : Proposal V) (s : ℕ) (b promise : Ballot) (here : Bool) → is_at p s b ≡ here → IsShort (on_nack (Running p) s b promise)
-  unfolding on_nack
-  nack_by_short p s b promise true e = rw e (quiet_short _)
-  nack_by_short p s b promise false e = rw e (quiet_short (Running p))
+  either_short : (first second : Working V) (is_first : Bool) → IsShort (cond is_first (quiet first) (quiet second))
+  either_short first second true = quiet_short first
+  either_short first second false = quiet_short second
 
   nacks_short : (working : Working V) (s : ℕ) (b promise : Ballot) → IsShort (on_nack working s b promise)
   unfolding on_nack
-  nacks_short working s b promise = when_running_short working _ (λ p. nack_by_short p s b promise (is_at p s b) refl)
+  nacks_short working s b promise = when_running_short working _ (λ p. either_short _ working (is_at p s b))
 
 module _ {V : Type 0} (same : V → V → Bool) where
-  voted_short : (n : ℕ) (p : Proposal V) (is_majority : Bool) → is_majority_of (count_nodes n p.heard) n ≡ is_majority → IsShort (voted same n p)
+  voted_short : (n : ℕ) (working : Working V) (p : Proposal V) (is_majority : Bool) → is_majority_of (count_nodes n p.heard) n ≡ is_majority → IsShort (voted same n working p)
   unfolding voted
-  voted_short n p true e = rw e (stores_short _ _ _)
-  voted_short n p false e = rw e (quiet_short (Running p))
+  voted_short n working p true e = rw e (stores_short _ _ _)
+  voted_short n working p false e = rw e (quiet_short (with_proposal working p))
 
-  vote_by_short : (n : ℕ) (p : Proposal V) (sender s : ℕ) (b : Ballot) (is_heard : Bool) → hears n p Accepting sender s b ≡ is_heard →
-      IsShort (on_accepted same n (Running p) sender s b)
-  unfolding on_accepted with_vote
-  vote_by_short n p sender s b true e =
-      let q : Proposal V = with_vote p sender in
-      rw e (voted_short n q (is_majority_of (count_nodes n q.heard) n) refl)
-  vote_by_short n p sender s b false e = rw e (quiet_short (Running p))
+  vote_by_short : (n : ℕ) (working : Working V) (p : Proposal V) (is_heard : Bool) → IsShort (cond is_heard (voted same n working p) (quiet working))
+  vote_by_short n working p true = voted_short n working p (is_majority_of (count_nodes n p.heard) n) refl
+  vote_by_short n working p false = quiet_short working
 
   votes_short : (n : ℕ) (working : Working V) (sender s : ℕ) (b : Ballot) → IsShort (on_accepted same n working sender s b)
   unfolding on_accepted
-  votes_short n working sender s b = when_running_short working _ (λ p. vote_by_short n p sender s b (hears n p Accepting sender s b) refl)
+  votes_short n working sender s b = when_running_short working _ (λ p. vote_by_short n working (with_vote p sender) (hears n p Accepting sender s b))
 
   chosen_short : (stored : Stored V) (working : Working V) (s : ℕ) (d : V) (is_next is_ahead : Bool) → (s == next_sequence stored) ≡ is_next → nat_lt (next_sequence stored) s ≡ is_ahead →
       IsShort (on_chosen same stored working s d)
@@ -158,7 +163,7 @@ module _ {V : Type 0} (same : V → V → Bool) where
   message_short : (n me : ℕ) (stored : Stored V) (working : Working V) (message : Message V) → IsShort (on_message same n me stored working message)
   unfolding on_message on_ask
   message_short n me stored working (Prepare s b) = prepare_short me stored working s b (nat_le s (published stored)) refl
-  message_short n me stored working (Promise sender s b vote) = promises_short n working sender s b vote
+  message_short n me stored working (Promise sender s b votes) = promises_short n working sender s b votes
   message_short n me stored working (Accept s b d) = accept_short me stored working s b d (nat_le s (published stored)) refl
   message_short n me stored working (Accepted sender s b) = votes_short n working sender s b
   message_short n me stored working (Nack sender s b promise) = nacks_short working s b promise
@@ -172,7 +177,7 @@ module _ {V : Type 0} (same : V → V → Bool) where
 
   row_short : (n me : ℕ) (stored : Stored V) (working : Working V) (input : Input V) → IsShort (row same n me stored working input)
   unfolding row on_propose
-  row_short n me stored working (Propose d) = begin_short me stored d (stored.tried + 1)
+  row_short n me stored working (Propose d) = propose_short me stored (leading_at working.leadership (next_sequence stored)) d
   row_short n me stored working Retry = retry_short me stored working
   row_short n me stored working CatchUp = catch_up_short stored working (nat_lt (published stored) last_sequence) refl
   row_short n me stored working (Deliver message) = message_short n me stored working message

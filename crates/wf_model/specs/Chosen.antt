@@ -15,9 +15,16 @@ pub record Voted {V : Type 0} (sent : List (Message V)) (s : ℕ) (b : Ballot) (
   pub said : IsIn (Accepted i s b) sent
   pub asked : IsIn (Accept s b d) sent
 
--- Node i promised at the ballot, and reported this for the sequence: its vote there, or that it has none.
-abbrev pub Told : {V : Type 0} → List (Message V) → ℕ → Ballot → Option (Vote V) → ℕ → Type 0
-Told sent s b vote i = IsIn (Promise i s b vote) sent
+-- A list of votes, that at `base` first, reports this for the sequence: a vote there, or that there is none.
+abbrev pub Reports : {V : Type 0} → ℕ → List (Option (Vote V)) → ℕ → Option (Vote V) → Type 0
+Reports base [] s vote = ⊥
+Reports base (first ∷ rest) s vote = ((s ≡ base) × (first ≡ vote)) ⊎ Reports (suc base) rest s vote
+
+-- Node i promised at the ballot from `base` on, and reported this for the sequence: its vote there, or that it has none.
+pub record Told {V : Type 0} (sent : List (Message V)) (base s : ℕ) (b : Ballot) (vote : Option (Vote V)) (i : ℕ) : Type 0 where
+  pub votes : List (Option (Vote V))
+  pub said : IsIn (Promise i base b votes) sent
+  pub reported : Reports base votes s vote
 
 -- d is chosen for the sequence: at some ballot a majority of the n nodes voted for it.
 pub record IsChosen {V : Type 0} (n : ℕ) (sent : List (Message V)) (s : ℕ) (d : V) : Type 0 where

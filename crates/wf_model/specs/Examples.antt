@@ -4,7 +4,7 @@ use Rattle.wf_ballot.specs.Ballot.{Ballot, last_round}
 use Rattle.wf_ballot.specs.Sequence.{last_sequence}
 use Rattle.wf_model.specs.Message.{Vote, Message}
 use Rattle.wf_model.specs.Stored.{Stored}
-use Rattle.wf_model.specs.Working.{Working, Idle, Running, Won, Overtaken}
+use Rattle.wf_model.specs.Working.{Proposing, Idle, Running, Won, Overtaken, Working, at_start}
 use Rattle.wf_model.specs.World.{World, Node, Event, Propose, Retry, CatchUp, Deliver, Stop, Restart, Torn, Kept, after}
 use Rattle.wf_model.specs.Table as table
 
@@ -29,12 +29,15 @@ pub data Standing : Type 0 where
   Stopped NoProposal Runs : Standing
   PublishedAt OvertakenAt : (sequence : ℕ) → Standing
 
+unfoldable pub standing_by : Proposing Map → Standing
+standing_by Idle = NoProposal
+standing_by (Running proposal) = Runs
+standing_by (Won s) = PublishedAt s
+standing_by (Overtaken s) = OvertakenAt s
+
 unfoldable pub standing_of : Option (Working Map) → Standing
 standing_of None = Stopped
-standing_of (Some Idle) = NoProposal
-standing_of (Some (Running proposal)) = Runs
-standing_of (Some (Won s)) = PublishedAt s
-standing_of (Some (Overtaken s)) = OvertakenAt s
+standing_of (Some working) = standing_by working.proposing
 
 unfoldable pub standing : World Map → ℕ → Standing
 standing w i = standing_of (option_and_then (λ (node : Node Map). node.working) (slice_get w.nodes i))
@@ -58,12 +61,15 @@ just d = d ∷ []
 unfoldable pub sent_from : World Map → ℕ → List (Message Map)
 sent_from w k = drop k w.sent
 
--- a ballot, and a vote
+-- a ballot, and a vote; and the report of a node that has voted at none of the four sequences
 abbrev pub ballot : ℕ → ℕ → Ballot
 ballot round node = record { round = round; node = node }
 
 abbrev pub vote : ℕ → ℕ → Map → Vote Map
 vote round node d = record { ballot = ballot round node; definition = d }
+
+abbrev pub no_votes : List (Option (Vote Map))
+no_votes = None ∷ None ∷ None ∷ None ∷ []
 
 -- ---- deliveries
 
@@ -144,9 +150,9 @@ outrun = Propose 1 b ∷ Retry 1 ∷ Retry 1 ∷ Deliver 2 2 ∷ Propose 0 a ∷
 unfoldable pub behind : List (Event Map)
 behind =
     three_pumped ++ (
-    Propose 0 b ∷ (pump (0 ∷ 1 ∷ []) 9 7 ++ (
-    Propose 0 a ∷ (pump (0 ∷ 1 ∷ []) 16 7 ++ (
-    Deliver 2 22 ∷ Deliver 0 23 ∷ Deliver 2 24 ∷ Deliver 2 25 ∷ []))))
+    Propose 0 b ∷ (pump (0 ∷ 1 ∷ []) 9 4 ++ (
+    Propose 0 a ∷ (pump (0 ∷ 1 ∷ []) 13 4 ++ (
+    Deliver 2 16 ∷ Deliver 0 17 ∷ Deliver 2 18 ∷ Deliver 2 19 ∷ []))))
     )
 
 -- two of three nodes publish; the third one received nothing, and asks by itself
@@ -170,13 +176,55 @@ torn kept = Propose 0 a ∷ Deliver 0 0 ∷ Deliver 0 1 ∷ Torn 1 (table.Delive
 unfoldable pub torn_then : Kept → ℕ → List (Event Map)
 torn_then kept messages = torn kept ++ (Retry 0 ∷ pump (0 ∷ 1 ∷ 2 ∷ []) messages 9)
 
+-- node 0 makes a second proposal, as the leader, then a third and a fourth, and a fifth for which it must ask for promises again
+unfoldable pub two_led : List (Event Map)
+two_led = three_pumped ++ (Propose 0 a ∷ pump (0 ∷ 1 ∷ 2 ∷ []) 9 5)
+
+unfoldable pub four_led : List (Event Map)
+four_led = two_led ++ (Propose 0 a ∷ (pump (0 ∷ 1 ∷ 2 ∷ []) 14 5 ++ (Propose 0 a ∷ pump (0 ∷ 1 ∷ 2 ∷ []) 19 5)))
+
+unfoldable pub fifth_prepared : List (Event Map)
+fifth_prepared = four_led ++ (Propose 0 a ∷ pump (0 ∷ 1 ∷ 2 ∷ []) 24 9)
+
+-- between two proposals of node 0, node 1 makes one; node 0 still leads, and asks for votes below what the others promised since
+unfoldable pub led_too_low : List (Event Map)
+led_too_low = three_pumped ++ (Propose 1 b ∷ (pump (0 ∷ 1 ∷ 2 ∷ []) 9 9 ++ (Propose 0 a ∷ pump (0 ∷ 1 ∷ 2 ∷ []) 18 4)))
+
+-- it retries, with a new round
+unfoldable pub led_again : List (Event Map)
+led_again = led_too_low ++ (Retry 0 ∷ pump (0 ∷ 1 ∷ 2 ∷ []) 22 9)
+
+-- Node 0 leads and stops while its second proposal runs; node 1 voted for both, and learned nothing. Node 2 becomes the leader
+-- and makes two proposals: it is told both votes of node 1, and must adopt each at its sequence.
+unfoldable pub told_ahead : List (Event Map)
+told_ahead =
+    Propose 0 a ∷ Deliver 0 0 ∷ Deliver 1 0 ∷ Deliver 0 1 ∷ Deliver 0 2 ∷ Deliver 0 3 ∷ Deliver 1 3 ∷ Deliver 0 4 ∷ Deliver 0 5 ∷
+    Propose 0 b ∷ Deliver 1 7 ∷ Stop 0 ∷
+    Propose 2 b ∷ Deliver 2 9 ∷ Deliver 1 9 ∷ Deliver 2 10 ∷ Deliver 2 11 ∷ Deliver 1 12 ∷ Deliver 2 12 ∷ Deliver 2 13 ∷ Deliver 2 14 ∷
+    Propose 2 a ∷ Deliver 1 16 ∷ Deliver 2 16 ∷ Deliver 2 17 ∷ Deliver 2 18 ∷ []
+
+-- A node stops after its first proposal: the leadership is lost, and its next proposal asks for promises.
+unfoldable pub leader_restarts : List (Event Map)
+leader_restarts = three_pumped ++ (Stop 0 ∷ Restart 0 ∷ Propose 0 b ∷ [])
+
 -- a node at the last sequence, and one that tried the last round
 unfoldable pub full_history : Stored Map
-full_history = record { tried = 1; promises = λ s. None; votes = λ s. None; history = replicate last_sequence a }
+full_history = record { tried = 1; promise = None; votes = λ s. None; history = replicate last_sequence a }
 
 unfoldable pub full_rounds : Stored Map
-full_rounds = record { tried = last_round; promises = λ s. None; votes = λ s. None; history = [] }
+full_rounds = record { tried = last_round; promise = None; votes = λ s. None; history = [] }
 
 -- a farm of one node, with this stored state and no proposal
 unfoldable pub only : Stored Map → World Map
-only stored = record { nodes = record { stored = stored; working = Some Idle } ∷ []; sent = [] }
+only stored = record { nodes = record { stored = stored; working = Some at_start } ∷ []; sent = [] }
+
+-- it leads from sequence 1 on, at the last round
+unfoldable pub last_leader : World Map
+last_leader =
+    record {
+      nodes = record {
+        stored = full_rounds;
+        working = Some (record { proposing = Idle; leadership = Some (record { base = 1; ballot = ballot last_round 0; best = no_votes }) });
+      } ∷ [];
+      sent = [];
+    }

@@ -1,13 +1,14 @@
--- Invariants of the transitions and the fold: a transition's record fits its node's stored state; no promise and no vote of a
--- published sequence is stored; and if a vote is stored, so is a promise.
-use Rattle.std.specs.Prelude.{◌≡◌, ℕ, ◌≤◌, Bool, true, ⊤, List, length, Option, Some, None, IsSome}
+-- Invariants of the transitions and the fold: a transition's record fits its node's stored state; no vote of a published sequence
+-- is stored; and no stored vote is above the promise.
+use Rattle.std.specs.Prelude.{◌≡◌, ℕ, ◌≤◌, Bool, true, false, ⊤, List, length, Option, Some, None}
+use Rattle.wf_ballot.specs.Ballot.{Ballot, below}
 use Rattle.wf_model.specs.Message.{Vote}
-use Rattle.wf_model.specs.Stored.{Stored, Record, published, next_sequence, promise_at, fits, fold}
-use Rattle.wf_model.specs.Working.{Working, Idle, Running, Won, Overtaken}
+use Rattle.wf_model.specs.Stored.{Stored, Record, published, next_sequence, fits, fold}
+use Rattle.wf_model.specs.Working.{Proposing, Idle, Running, Won, Overtaken, Working}
 use Rattle.wf_model.specs.Table.{Row, Input, most_told, store, row}
 
 -- a running proposal is for the next sequence
-abbrev pub IsForNext : {V : Type 0} → Stored V → Working V → Type 0
+abbrev pub IsForNext : {V : Type 0} → Stored V → Proposing V → Type 0
 IsForNext stored Idle = ⊤
 IsForNext stored (Running proposal) = proposal.sequence ≡ next_sequence stored
 IsForNext stored (Won s) = ⊤
@@ -21,12 +22,12 @@ Fits stored (Some r) = fits stored r ≡ true
 -- the transition's record fits, and the proposal that runs after it is for the next sequence then
 pub record RowFits {V : Type 0} (before : Stored V) (row : Row V) : Type 0 where
   pub fits : Fits before row.entry
-  pub for_next : IsForNext (store before row.entry) row.working
+  pub for_next : IsForNext (store before row.entry) row.working.proposing
 
 -- If the running proposal is for the next sequence, each transition's record fits, and the proposal remains for the next
 -- sequence.
 abbrev pub RecordsFit : Type 0 → Type 0
-RecordsFit V = (same : V → V → Bool) (n me : ℕ) (stored : Stored V) (working : Working V) (input : Input V) → IsForNext stored working →
+RecordsFit V = (same : V → V → Bool) (n me : ℕ) (stored : Stored V) (working : Working V) (input : Input V) → IsForNext stored working.proposing →
     RowFits stored (row same n me stored working input)
 
 -- No transition sends more messages than answer one Ask.
@@ -34,16 +35,20 @@ abbrev pub RowsAreShort : Type 0 → Type 0
 RowsAreShort V = (same : V → V → Bool) (n me : ℕ) (stored : Stored V) (working : Working V) (input : Input V) →
     length (row same n me stored working input).messages ≤ most_told
 
--- promises and votes are of sequences above the published ones only
-pub record IsOpenAlone {V : Type 0} (stored : Stored V) : Type 0 where
-  pub promises : (s : ℕ) → s ≤ published stored → promise_at stored s ≡ None
-  pub votes : (s : ℕ) → s ≤ published stored → stored.votes s ≡ None
+-- votes are of sequences above the published ones only
+abbrev pub IsOpenAlone : {V : Type 0} → Stored V → Type 0
+IsOpenAlone stored = (s : ℕ) → s ≤ published stored → stored.votes s ≡ None
 
--- a fold of any list of records has no promise and no vote of a published sequence
+-- a fold of any list of records has no vote of a published sequence
 abbrev pub FoldsAreOpen : Type 0 → Type 0
 FoldsAreOpen V = (records : List (Record V)) (stored : Stored V) → fold records ≡ Some stored → IsOpenAlone stored
 
--- If a fold of any list of records has a vote at a sequence, it has a promise there.
+-- there is a promise, and it isn't below the ballot
+abbrev pub NotBelow : Option Ballot → Ballot → Type 0
+NotBelow None b = ⊥
+NotBelow (Some promise) b = below promise b ≡ false
+
+-- Each vote of a fold of any list of records is at the promise or below it.
 abbrev pub VotesArePromised : Type 0 → Type 0
 VotesArePromised V = (records : List (Record V)) (stored : Stored V) (s : ℕ) (vote : Vote V) → fold records ≡ Some stored →
-    stored.votes s ≡ Some vote → IsSome (promise_at stored s)
+    stored.votes s ≡ Some vote → NotBelow stored.promise vote.ballot

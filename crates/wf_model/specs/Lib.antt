@@ -8,4 +8,6 @@ pub mod Examples
 pub mod Fits
 pub mod Steps
 pub mod PutLaws
+pub mod RaisedLaws
+pub mod VotesLaws
 pub mod StepsLaws

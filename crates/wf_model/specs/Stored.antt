@@ -1,6 +1,6 @@
 -- A node's tape: records, and the state that they fold to.
 use Rattle.std.specs.Prelude.{◌≡◌, ℕ, zero, suc, ◌+◌, Bool, true, List, [], ◌∷◌, ◌++◌, length, slice_get, Option, Some, None, ◌==◌, nat_lt, if◌then◌else◌}
-use Rattle.wf_ballot.specs.Ballot.{Ballot}
+use Rattle.wf_ballot.specs.Ballot.{Ballot, below}
 use Rattle.wf_model.specs.Message.{Vote}
 
 -- one record on the tape
@@ -10,17 +10,17 @@ pub data Record (V : Type 0) : Type 0 where
   Accepted : (sequence : ℕ) (ballot : Ballot) (definition : V) → Record V
   Published : (sequence : ℕ) (definition : V) → Record V
 
--- The state of a tape: the last round that the node tried, its promise and its vote at each sequence, and the published
--- definitions, sequence 1 first.
+-- The state of a tape: the last round that the node tried, its promise, which is one for all sequences, its vote at each
+-- sequence, and the published definitions, sequence 1 first.
 pub record Stored (V : Type 0) : Type 0 where
   pub tried : ℕ
-  pub promises : ℕ → Option Ballot
+  pub promise : Option Ballot
   pub votes : ℕ → Option (Vote V)
   pub history : List V
 
 -- a node that has stored nothing yet
 unfoldable pub nothing_stored : {V : Type 0} → Stored V
-nothing_stored = record { tried = 0; promises = λ s. None; votes = λ s. None; history = [] }
+nothing_stored = record { tried = 0; promise = None; votes = λ s. None; history = [] }
 
 -- the number of published definitions, and the next sequence
 unfoldable pub published : {V : Type 0} → Stored V → ℕ
@@ -39,26 +39,25 @@ unfoldable pub definition_at : {V : Type 0} → List V → ℕ → Option V
 definition_at history zero = None
 definition_at history (suc k) = slice_get history k
 
--- the promise at a sequence; all definitions read promises here
-abbrev pub promise_at : {V : Type 0} → Stored V → ℕ → Option Ballot
-promise_at stored s = stored.promises s
-
 -- the function that is x at s, and unchanged elsewhere
 unfoldable pub put : {A : Type 0} → (ℕ → Option A) → ℕ → Option A → ℕ → Option A
 put f s x t = if t == s then x else f t
 
--- The state after one more record. Tried sets the round, Promised the promise, Accepted the promise and the vote. Published
--- appends, and removes promise and vote. A Promised or an Accepted of a published sequence changes nothing.
+-- the promise, raised to the ballot if that is above it
+unfoldable pub raised : Option Ballot → Ballot → Option Ballot
+raised None b = Some b
+raised (Some promise) b = if below promise b then Some b else Some promise
+
+-- The state after one more record. Tried sets the round, Promised raises the promise, Accepted raises the promise and sets the
+-- vote. Published appends, and removes the vote; the promise stays. An Accepted of a published sequence changes nothing.
 unfoldable pub with_record : {V : Type 0} → Stored V → Record V → Stored V
 with_record stored (Tried r) = record stored { tried = r }
-with_record stored (Promised s b) =
-    if nat_lt (published stored) s then record stored { promises = put stored.promises s (Some b) } else stored
+with_record stored (Promised s b) = record stored { promise = raised stored.promise b }
 with_record stored (Accepted s b d) =
     if nat_lt (published stored) s
-    then record stored { promises = put stored.promises s (Some b); votes = put stored.votes s (Some (record { ballot = b; definition = d })) }
+    then record stored { promise = raised stored.promise b; votes = put stored.votes s (Some (record { ballot = b; definition = d })) }
     else stored
-with_record stored (Published s d) =
-    record stored { promises = put stored.promises s None; votes = put stored.votes s None; history = stored.history ++ d ∷ [] }
+with_record stored (Published s d) = record stored { votes = put stored.votes s None; history = stored.history ++ d ∷ [] }
 
 -- A record fits unless it is a Published of another sequence than the next.
 unfoldable pub fits : {V : Type 0} → Stored V → Record V → Bool

@@ -4,10 +4,10 @@ use Rattle.std.specs.Prelude.{ℕ, zero, suc, ◌+◌, max, Bool, true, false, n
 use Rattle.wf_ballot.specs.Ballot.{last_round, Ballot, below}
 use Rattle.wf_ballot.specs.Sequence.{last_sequence}
 use Rattle.wf_ballot.specs.Majority.{count_nodes, is_majority_of}
-use Rattle.wf_model.specs.Message.{Vote, Message, Prepare, Promise, Accept, Accepted, Nack, Chosen, Ask}
+use Rattle.wf_model.specs.Message.{Vote, Message, Prepare, Promise, Accept, Accepted, Nack, Chosen, Ask, from_sequence}
 use Rattle.wf_model.specs.Stored as stored_part
-use Rattle.wf_model.specs.Stored.{Stored, Record, published, next_sequence, definition_at, promise_at, with_record}
-use Rattle.wf_model.specs.Working.{Phase, Preparing, Accepting, Proposal, Working, Idle, Running, Won, Overtaken, nobody, and_node, better, carried, same_ballot, same_phase, is_at}
+use Rattle.wf_model.specs.Stored.{Stored, Record, published, next_sequence, definition_at, with_record}
+use Rattle.wf_model.specs.Working.{Phase, Preparing, Accepting, Proposal, Proposing, Idle, Running, Won, Overtaken, Leadership, Working, nobody, and_node, better_each, proposed, same_ballot, same_phase, is_at, window, leading_at}
 
 -- the most published definitions that answer one Ask
 abbrev pub most_told : ℕ
@@ -35,9 +35,16 @@ unfoldable pub stores : {V : Type 0} → Working V → Record V → Message V �
 stores working r message = record { entry = Some r; messages = message ∷ []; working = working }
 
 -- the transition of the running proposal; if none runs, nothing happens
+abbrev pub running_row : {V : Type 0} → Working V → Proposing V → (Proposal V → Row V) → Row V
+running_row working (Running proposal) row_of = row_of proposal
+running_row working proposing row_of = quiet working
+
 abbrev pub when_running : {V : Type 0} → Working V → (Proposal V → Row V) → Row V
-when_running (Running proposal) row_of = row_of proposal
-when_running working row_of = quiet working
+when_running working row_of = running_row working working.proposing row_of
+
+-- the working part in which this proposal runs
+unfoldable pub with_proposal : {V : Type 0} → Working V → Proposal V → Working V
+with_proposal working proposal = record working { proposing = Running proposal }
 
 -- ---- actions of a node
 
@@ -64,43 +71,73 @@ rounds_full round = if nat_le last_round round then Some RoundsFull else None
 unfoldable pub round_known : {V : Type 0} → Stored V → Proposal V → ℕ
 round_known stored proposal = max stored.tried proposal.seen
 
-unfoldable pub refuse_proposal : {V : Type 0} → Stored V → Working V → Option Refusal
-refuse_proposal stored (Running proposal) = Some Busy
-refuse_proposal stored working = if nat_le last_sequence (published stored) then Some SequenceFull else rounds_full stored.tried
+-- A leader needs no new round.
+unfoldable pub refuse_round : {V : Type 0} → Stored V → Option (Leadership V) → Option Refusal
+refuse_round stored None = rounds_full stored.tried
+refuse_round stored (Some leadership) = None
 
-unfoldable pub refuse_retry : {V : Type 0} → Stored V → Working V → Option Refusal
+unfoldable pub refuse_proposal : {V : Type 0} → Stored V → Option (Leadership V) → Proposing V → Option Refusal
+refuse_proposal stored leadership (Running proposal) = Some Busy
+refuse_proposal stored leadership proposing =
+    if nat_le last_sequence (published stored) then Some SequenceFull else refuse_round stored (leading_at leadership (next_sequence stored))
+
+unfoldable pub refuse_retry : {V : Type 0} → Stored V → Proposing V → Option Refusal
 refuse_retry stored (Running proposal) = rounds_full (round_known stored proposal)
-refuse_retry stored working = Some NothingToRetry
+refuse_retry stored proposing = Some NothingToRetry
 
 -- A rejected step changes nothing. A running node rejects a proposal; none begins past the last sequence or the last round; only
 -- a running proposal is retried.
 unfoldable pub refusal : {V : Type 0} → Stored V → Working V → Input V → Option Refusal
-refusal stored working (Propose d) = refuse_proposal stored working
-refusal stored working Retry = refuse_retry stored working
+refusal stored working (Propose d) = refuse_proposal stored working.leadership working.proposing
+refusal stored working Retry = refuse_retry stored working.proposing
 refusal stored working CatchUp = None
 refusal stored working (Deliver message) = None
 
 -- ---- proposals begin
 
 -- A proposal of `own` begins, or begins again, at a round that its node hasn't tried: the round is stored before any Prepare is
--- sent.
+-- sent. A leadership ends.
 unfoldable pub begin_at : {V : Type 0} → ℕ → Stored V → V → ℕ → Row V
 begin_at me stored own round =
     let ballot : Ballot = record { round = round; node = me } in
     stores
-    (Running (record {
-      sequence = next_sequence stored;
-      ballot = ballot;
-      own = own;
-      phase = Preparing;
-      heard = nobody;
-      best = None;
-      seen = 0;
-    }))
+    (record {
+      proposing = Running (record {
+        sequence = next_sequence stored;
+        ballot = ballot;
+        own = own;
+        phase = Preparing;
+        heard = nobody;
+        best = [];
+        seen = 0;
+      });
+      leadership = None;
+    })
     (stored_part.Tried round) (Prepare (next_sequence stored) ballot)
 
-unfoldable pub on_propose : {V : Type 0} → ℕ → Stored V → V → Row V
-on_propose me stored own = begin_at me stored own (stored.tried + 1)
+-- A proposal asks for votes: for the best vote reported at its sequence, or else for its own definition.
+unfoldable pub ask_votes : {V : Type 0} → Leadership V → Proposal V → Row V
+ask_votes leadership proposal =
+    says (record { proposing = Running proposal; leadership = Some leadership }) (Accept proposal.sequence proposal.ballot (proposed proposal) ∷ [])
+
+-- A leader's proposal of `own` begins by asking for votes: a majority has promised its ballot already, and reported its votes.
+unfoldable pub lead : {V : Type 0} → Stored V → Leadership V → V → Row V
+lead stored leadership own = ask_votes leadership (record {
+  sequence = next_sequence stored;
+  ballot = leadership.ballot;
+  own = own;
+  phase = Accepting;
+  heard = nobody;
+  best = from_sequence leadership.base leadership.best (next_sequence stored);
+  seen = 0;
+})
+
+unfoldable pub propose_by : {V : Type 0} → ℕ → Stored V → Option (Leadership V) → V → Row V
+propose_by me stored None own = begin_at me stored own (stored.tried + 1)
+propose_by me stored (Some leadership) own = lead stored leadership own
+
+unfoldable pub on_propose : {V : Type 0} → ℕ → Stored V → Working V → V → Row V
+on_propose me stored working own = propose_by me stored (leading_at working.leadership (next_sequence stored)) own
 
 unfoldable pub on_retry : {V : Type 0} → ℕ → Stored V → Working V → Row V
 on_retry me stored working = when_running working (λ proposal. begin_at me stored proposal.own (round_known stored proposal + 1))
@@ -143,12 +180,22 @@ abbrev pub nack : {V : Type 0} → ℕ → ℕ → Ballot → Option Ballot → 
 nack me s b None = []
 nack me s b (Some promise) = Nack me s b promise ∷ []
 
--- It promises, and reports its vote.
+-- the number of sequences from s on, at most `count`
+unfoldable pub sequences_from : ℕ → ℕ → ℕ
+sequences_from s zero = 0
+sequences_from s (suc count) = if nat_le s last_sequence then suc (sequences_from (suc s) count) else 0
+
+-- the votes at the `count` sequences from s on, as far as there are sequences
+unfoldable pub votes_from : {V : Type 0} → (ℕ → Option (Vote V)) → ℕ → ℕ → List (Option (Vote V))
+votes_from votes s zero = []
+votes_from votes s (suc count) = if nat_le s last_sequence then votes s ∷ votes_from votes (suc s) count else []
+
+-- It promises the ballot for s and all later sequences, and reports its votes at the first few of them.
 unfoldable pub promise_to : {V : Type 0} → ℕ → Stored V → Working V → ℕ → Ballot → Row V
 promise_to me stored working s b =
-    stores working (stored_part.Promised s b) (Promise me s b (stored.votes s))
+    stores working (stored_part.Promised s b) (Promise me s b (votes_from stored.votes s window))
 
--- a Prepare of a sequence that isn't published, by the promise there
+-- a Prepare of a sequence that isn't published, by the promise
 unfoldable pub prepare_open : {V : Type 0} → ℕ → Stored V → Working V → ℕ → Ballot → Option Ballot → Row V
 prepare_open me stored working s b promise =
     if is_above promise b then promise_to me stored working s b
@@ -158,7 +205,7 @@ prepare_open me stored working s b promise =
 unfoldable pub on_prepare : {V : Type 0} → ℕ → Stored V → Working V → ℕ → Ballot → Row V
 on_prepare me stored working s b =
     if nat_le s (published stored) then says working (told stored.history s)
-    else prepare_open me stored working s b (promise_at stored s)
+    else prepare_open me stored working s b stored.promise
 
 -- whether the vote was given at this ballot
 unfoldable pub votes_at : {V : Type 0} → Option (Vote V) → Ballot → Bool
@@ -171,7 +218,7 @@ vote_for me stored working s b d =
     if votes_at (stored.votes s) b then says working (Accepted me s b ∷ [])
     else stores working (stored_part.Accepted s b d) (Accepted me s b)
 
--- an Accept of a sequence that isn't published, by the promise there: below the promise there is no vote
+-- an Accept of a sequence that isn't published, by the promise: below the promise there is no vote
 unfoldable pub accept_open : {V : Type 0} → ℕ → Stored V → Working V → ℕ → Ballot → V → Option Ballot → Row V
 accept_open me stored working s b d promise =
     if is_refused promise b then says working (nack me s b promise)
@@ -180,7 +227,7 @@ accept_open me stored working s b d promise =
 unfoldable pub on_accept : {V : Type 0} → ℕ → Stored V → Working V → ℕ → Ballot → V → Row V
 on_accept me stored working s b d =
     if nat_le s (published stored) then says working (told stored.history s)
-    else accept_open me stored working s b d (promise_at stored s)
+    else accept_open me stored working s b d stored.promise
 
 -- ---- the proposer
 
@@ -190,66 +237,74 @@ hears n proposal phase sender s b =
     same_phase proposal.phase phase && (is_at proposal s b && (nat_lt sender n && not (proposal.heard sender)))
 
 -- the proposal after a promise, and once a majority has promised: no answer to its Accept is counted yet
-unfoldable pub with_promise : {V : Type 0} → Proposal V → ℕ → Option (Vote V) → Proposal V
-with_promise proposal sender vote =
-    record proposal { heard = and_node proposal.heard sender; best = better proposal.best vote }
+unfoldable pub with_promise : {V : Type 0} → Proposal V → ℕ → List (Option (Vote V)) → Proposal V
+with_promise proposal sender votes =
+    record proposal { heard = and_node proposal.heard sender; best = better_each proposal.best votes }
 
 unfoldable pub asking_votes : {V : Type 0} → Proposal V → Proposal V
 asking_votes proposal = record proposal { phase = Accepting; heard = nobody }
 
-unfoldable pub promised : {V : Type 0} → ℕ → Proposal V → Row V
-promised n proposal =
-    if is_majority_of (count_nodes n proposal.heard) n
-    then says (Running (asking_votes proposal)) (Accept proposal.sequence proposal.ballot (carried proposal.best proposal.own) ∷ [])
-    else quiet (Running proposal)
+-- the leadership that a majority's promises to the proposal give its node
+unfoldable pub leadership_of : {V : Type 0} → Proposal V → Leadership V
+leadership_of proposal = record { base = proposal.sequence; ballot = proposal.ballot; best = proposal.best }
 
-unfoldable pub on_promise : {V : Type 0} → ℕ → Working V → ℕ → ℕ → Ballot → Option (Vote V) → Row V
-on_promise n working sender s b vote = when_running working (λ proposal.
-    if hears n proposal Preparing sender s b then promised n (with_promise proposal sender vote) else quiet (Running proposal))
+unfoldable pub promised : {V : Type 0} → ℕ → Working V → Proposal V → Row V
+promised n working proposal =
+    if is_majority_of (count_nodes n proposal.heard) n
+    then ask_votes (leadership_of proposal) (asking_votes proposal)
+    else quiet (with_proposal working proposal)
+
+unfoldable pub on_promise : {V : Type 0} → ℕ → Working V → ℕ → ℕ → Ballot → List (Option (Vote V)) → Row V
+on_promise n working sender s b votes = when_running working (λ proposal.
+    if hears n proposal Preparing sender s b then promised n working (with_promise proposal sender votes) else quiet working)
 
 unfoldable pub with_vote : {V : Type 0} → Proposal V → ℕ → Proposal V
 with_vote proposal sender = record proposal { heard = and_node proposal.heard sender }
 
 unfoldable pub on_nack : {V : Type 0} → Working V → ℕ → Ballot → Ballot → Row V
 on_nack working s b promise = when_running working (λ proposal.
-    if is_at proposal s b then quiet (Running (record proposal { seen = max proposal.seen promise.round })) else quiet (Running proposal))
+    if is_at proposal s b then quiet (with_proposal working (record proposal { seen = max proposal.seen promise.round })) else quiet working)
 
 -- ---- the transitions that distinguish a node's own definition from another's
 
 -- `same` tests two definitions for equality. The theorem of agreement requires nothing of it.
 module _ {V : Type 0} (same : V → V → Bool) where
   -- how a proposal ends if d is published at its sequence
-  unfoldable pub ended : Proposal V → V → Working V
+  unfoldable pub ended : Proposal V → V → Proposing V
   ended proposal d = if same proposal.own d then Won proposal.sequence else Overtaken proposal.sequence
 
-  unfoldable pub ends : Working V → V → Working V
+  unfoldable pub ends : Proposing V → V → Proposing V
   ends (Running proposal) d = ended proposal d
   ends Idle d = Idle
   ends (Won s) d = Won s
   ends (Overtaken s) d = Overtaken s
 
-  unfoldable pub voted : ℕ → Proposal V → Row V
-  voted n proposal =
-      let d : V = carried proposal.best proposal.own in
+  -- the working part after d is published: a running proposal ends, a leadership stays
+  unfoldable pub after_publishing : Working V → V → Working V
+  after_publishing working d = record working { proposing = ends working.proposing d }
+
+  unfoldable pub voted : ℕ → Working V → Proposal V → Row V
+  voted n working proposal =
+      let d : V = proposed proposal in
       if is_majority_of (count_nodes n proposal.heard) n
-      then stores (ended proposal d) (stored_part.Published proposal.sequence d) (Chosen proposal.sequence d)
-      else quiet (Running proposal)
+      then stores (record working { proposing = ended proposal d }) (stored_part.Published proposal.sequence d) (Chosen proposal.sequence d)
+      else quiet (with_proposal working proposal)
 
   unfoldable pub on_accepted : ℕ → Working V → ℕ → ℕ → Ballot → Row V
   on_accepted n working sender s b = when_running working (λ proposal.
-      if hears n proposal Accepting sender s b then voted n (with_vote proposal sender) else quiet (Running proposal))
+      if hears n proposal Accepting sender s b then voted n working (with_vote proposal sender) else quiet working)
 
   -- A chosen definition is published if its sequence is the next; if it is later, the missing definitions are asked for.
   unfoldable pub on_chosen : Stored V → Working V → ℕ → V → Row V
   on_chosen stored working s d =
-      if s == next_sequence stored then record { entry = Some (stored_part.Published s d); messages = []; working = ends working d }
+      if s == next_sequence stored then record { entry = Some (stored_part.Published s d); messages = []; working = after_publishing working d }
       else (if nat_lt (next_sequence stored) s then says working (Ask (next_sequence stored) ∷ []) else quiet working)
 
   -- ---- the table: the transition of node `me` of n
 
   unfoldable pub on_message : ℕ → ℕ → Stored V → Working V → Message V → Row V
   on_message n me stored working (Prepare s b) = on_prepare me stored working s b
-  on_message n me stored working (Promise sender s b vote) = on_promise n working sender s b vote
+  on_message n me stored working (Promise sender s b votes) = on_promise n working sender s b votes
   on_message n me stored working (Accept s b d) = on_accept me stored working s b d
   on_message n me stored working (Accepted sender s b) = on_accepted n working sender s b
   on_message n me stored working (Nack sender s b promise) = on_nack working s b promise
@@ -257,7 +312,7 @@ module _ {V : Type 0} (same : V → V → Bool) where
   on_message n me stored working (Ask s) = on_ask stored working s
 
   unfoldable pub row : ℕ → ℕ → Stored V → Working V → Input V → Row V
-  row n me stored working (Propose d) = on_propose me stored d
+  row n me stored working (Propose d) = on_propose me stored working d
   row n me stored working Retry = on_retry me stored working
   row n me stored working CatchUp = on_catch_up stored working
   row n me stored working (Deliver message) = on_message n me stored working message

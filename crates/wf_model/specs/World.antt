@@ -2,7 +2,7 @@
 use Rattle.std.specs.Prelude.{ℕ, Bool, List, [], ◌∷◌, ◌++◌, length, replicate, slice_get, slice_set, Option, Some, None, is_some, if◌then◌else◌}
 use Rattle.wf_model.specs.Message.{Message}
 use Rattle.wf_model.specs.Stored.{Stored, nothing_stored}
-use Rattle.wf_model.specs.Working.{Working, Idle}
+use Rattle.wf_model.specs.Working.{Working, at_start}
 use Rattle.wf_model.specs.Table as table
 use Rattle.wf_model.specs.Table.{Action, Input, Refusal, Row, row, refusal, store}
 
@@ -107,9 +107,9 @@ unfoldable pub after_stop : {V : Type 0} → World V → ℕ → Option (Node V)
 after_stop w i None = w
 after_stop w i (Some node) = stop_running w i node.stored node.working
 
--- A stopped node comes back with its stored state, and no proposal. A running node can't be restarted.
+-- A stopped node comes back with its stored state, no proposal and no leadership. A running node can't be restarted.
 unfoldable pub restart_stopped : {V : Type 0} → World V → ℕ → Stored V → Option (Working V) → World V
-restart_stopped w i stored None = with_node w i stored (Some Idle)
+restart_stopped w i stored None = with_node w i stored (Some at_start)
 restart_stopped w i stored (Some working) = w
 
 unfoldable pub after_restart : {V : Type 0} → World V → ℕ → Option (Node V) → World V
@@ -148,7 +148,7 @@ module _ {V : Type 0} (same : V → V → Bool) where
 
 -- n running nodes, all empty
 unfoldable pub start : {V : Type 0} → ℕ → World V
-start n = record { nodes = replicate n (record { stored = nothing_stored; working = Some Idle }); sent = [] }
+start n = record { nodes = replicate n (record { stored = nothing_stored; working = Some at_start }); sent = [] }
 
 unfoldable pub after : {V : Type 0} → (V → V → Bool) → ℕ → List (Event V) → World V
 after same n events = steps same (start n) events

@@ -1,24 +1,27 @@
 //! The protocol's definitions: what nodes send and store, what one step does, which events may happen, and what is then chosen
 //! and published. All contracts about consensus in other crates use these definitions.
 //!
-//! **Model.** A node is the state that its tape records (the last round it tried, its promise and its vote at each sequence, the
-//! published definitions) and a working part that a stop loses (at most one proposal). `Table` has a transition for each input:
-//! the record to store, the messages to send after that, and the next working part. A world is the nodes and the list of all
-//! messages ever sent. An event names a message by its number, so messages may be lost, repeated and reordered, but never
-//! invented. All of it is generic in the type of what is agreed on, with a test `same` that distinguishes a proposal's own
+//! **Model.** A node is the state that its tape records (the last round it tried, its one promise, its vote at each sequence, the
+//! published definitions) and a working part that a stop loses (at most one proposal, and a leadership). `Table` has a transition
+//! for each input: the record to store, the messages to send after that, and the next working part. A world is the nodes and the
+//! list of all messages ever sent. An event names a message by its number, so messages may be lost, repeated and reordered, but
+//! never invented. All of it is generic in the type of what is agreed on, with a test `same` that distinguishes a proposal's own
 //! definition from another's.
 //!
+//! **Leadership.** A promise is for a sequence and all later ones, and reports the votes at four of them. So a node that a
+//! majority has promised proposes at these four sequences without asking for promises again.
+//!
 //! **Promises.** Each transition's record fits the stored state, whatever the messages are, and no transition sends more than
-//! eight messages. A fold of records leaves no promise and no vote of a published sequence, and no vote without a promise.
+//! eight messages. A fold of records leaves no vote of a published sequence, and no vote above the promise.
 //! Running two lists of events in turn is running their concatenation, and a rejected event changes nothing. Example runs, proved
 //! by computing them, leave the expected worlds.
 //!
 //! **Not here.** Code, and the theorem of agreement, which is `wf_law`'s.
 #![tactic(auto)]
 
-ghost use Rattle.std.specs.Prelude.{◌≡◌, [], ◌∷◌, Some};
+ghost use Rattle.std.specs.Prelude.{◌≡◌, [], ◌∷◌, None, Some};
 ghost use Rattle.wf_model.specs.Chosen.{definition};
-ghost use Rattle.wf_model.specs.Examples.{a, alone, b, ballot, behind, catches_up, comes_back, empty, full_history, full_rounds, just, late_accept, new_round, none, old_accept, only, outrun, repeated, run, same_map, sent_from, standing, taken_over, three_of_four, three_pumped, torn, torn_then, two_of_four, two_told, vote, voted_once, Leaves, OvertakenAt, PublishedAt, Runs};
+ghost use Rattle.wf_model.specs.Examples.{a, alone, b, ballot, behind, catches_up, comes_back, empty, fifth_prepared, four_led, full_history, full_rounds, just, last_leader, late_accept, leader_restarts, led_again, led_too_low, new_round, no_votes, none, old_accept, only, outrun, repeated, run, same_map, sent_from, standing, taken_over, three_of_four, three_pumped, told_ahead, torn, torn_then, two_led, two_of_four, two_told, vote, voted_once, Leaves, OvertakenAt, PublishedAt, Runs};
 ghost use Rattle.wf_model.specs.Fits.{FoldsAreOpen, RecordsFit, RowsAreShort, VotesArePromised};
 ghost use Rattle.wf_model.specs.Message.{Accept, Accepted, Ask, Chosen, Nack, Prepare, Promise};
 ghost use Rattle.wf_model.specs.Steps.{RefusedChangesNothing, StepsInTurn};
@@ -36,12 +39,12 @@ pub fn rows_are_short<V>()
     ensures { RowsAreShort V }
 {}
 
-/// A fold of records leaves no promise and no vote of a published sequence.
+/// A fold of records leaves no vote of a published sequence.
 pub fn folds_are_open<V>()
     ensures { FoldsAreOpen V }
 {}
 
-/// If a fold of records leaves a vote, it leaves a promise at its sequence.
+/// If a fold of records leaves a vote, it leaves a promise that isn't below it.
 pub fn votes_are_promised<V>()
     ensures { VotesArePromised V }
 {}
@@ -84,7 +87,37 @@ pub fn reported_vote()
     ensures other { standing (run 3 taken_over) 0 ≡ Runs }
     ensures definition { definition empty (run 3 taken_over) 2 1 ≡ Some a }
     ensures two { sent_from (run 3 two_told) 14 ≡
-        Promise 2 1 (ballot 2 0) (Some (vote 1 1 b)) ∷ Promise 0 1 (ballot 2 0) (Some (vote 1 0 a)) ∷ Accept 1 (ballot 2 0) b ∷ [] }
+        Promise 2 1 (ballot 2 0) (Some (vote 1 1 b) ∷ None ∷ None ∷ None ∷ []) ∷ Promise 0 1 (ballot 2 0) (Some (vote 1 0 a) ∷ None ∷ None ∷ None ∷ []) ∷
+        Accept 1 (ballot 2 0) b ∷ [] }
+{}
+
+/// A node that a majority has promised proposes four definitions with these promises: from the second on it begins by asking for
+/// votes. The fifth needs new promises. At the last round too a leader's proposal isn't rejected.
+pub fn four_sequences_led()
+    ensures second { sent_from (run 3 two_led) 9 ≡
+        Accept 2 (ballot 1 0) a ∷ Accepted 0 2 (ballot 1 0) ∷ Accepted 1 2 (ballot 1 0) ∷ Accepted 2 2 (ballot 1 0) ∷ Chosen 2 a ∷ [] }
+    ensures fourth { Leaves 3 four_led ((a ∷ a ∷ a ∷ a ∷ []) ∷ (a ∷ a ∷ a ∷ a ∷ []) ∷ (a ∷ a ∷ a ∷ a ∷ []) ∷ []) 24 }
+    ensures fifth { Leaves 3 fifth_prepared ((a ∷ a ∷ a ∷ a ∷ a ∷ []) ∷ (a ∷ a ∷ a ∷ a ∷ a ∷ []) ∷ (a ∷ a ∷ a ∷ a ∷ a ∷ []) ∷ []) 33 }
+    ensures last_round { refused last_leader (Propose 0 a) ≡ None }
+{}
+
+/// Another node makes a proposal meanwhile: the leader's next Accept is below what the nodes promised since, and is rejected. Its
+/// proposal runs until a retry takes a higher round. A leader that stops loses its leadership.
+pub fn leadership_ends()
+    ensures rejected { Leaves 3 led_too_low ((a ∷ b ∷ []) ∷ (a ∷ b ∷ []) ∷ (a ∷ b ∷ []) ∷ []) 22 }
+    ensures runs { standing (run 3 led_too_low) 0 ≡ Runs }
+    ensures retried { Leaves 3 led_again ((a ∷ b ∷ a ∷ []) ∷ (a ∷ b ∷ a ∷ []) ∷ (a ∷ b ∷ a ∷ []) ∷ []) 31 }
+    ensures stopped { sent_from (run 3 leader_restarts) 9 ≡ Prepare 2 (ballot 2 0) ∷ [] }
+{}
+
+/// A node reports its votes at two sequences in one Promise. The new leader adopts each at its sequence, though it proposes
+/// another definition there.
+pub fn reported_votes_ahead()
+    ensures asked { sent_from (run 3 told_ahead) 9 ≡
+        Prepare 1 (ballot 1 2) ∷ Promise 2 1 (ballot 1 2) no_votes ∷ Promise 1 1 (ballot 1 2) (Some (vote 1 0 a) ∷ Some (vote 1 0 b) ∷ None ∷ None ∷ []) ∷
+        Accept 1 (ballot 1 2) a ∷ Accepted 1 1 (ballot 1 2) ∷ Accepted 2 1 (ballot 1 2) ∷ Chosen 1 a ∷
+        Accept 2 (ballot 1 2) b ∷ Accepted 1 2 (ballot 1 2) ∷ Accepted 2 2 (ballot 1 2) ∷ Chosen 2 b ∷ [] }
+    ensures proposal { standing (run 3 told_ahead) 2 ≡ OvertakenAt 2 }
 {}
 
 /// A late Accept reaches a node that has promised a higher ballot: it is rejected, with the promise. A vote there would publish
@@ -100,8 +133,8 @@ pub fn refused_ballots()
 /// A node that missed two sequences asks for the first of them, is sent both, and publishes them in order. A node that missed all
 /// catches up by asking, and asks for nothing once the last sequence is published.
 pub fn node_behind()
-    ensures leaves { Leaves 3 behind ((a ∷ b ∷ a ∷ []) ∷ (a ∷ b ∷ a ∷ []) ∷ (a ∷ b ∷ a ∷ []) ∷ []) 26 }
-    ensures asked { sent_from (run 3 behind) 23 ≡ Ask 2 ∷ Chosen 2 b ∷ Chosen 3 a ∷ [] }
+    ensures leaves { Leaves 3 behind ((a ∷ b ∷ a ∷ []) ∷ (a ∷ b ∷ a ∷ []) ∷ (a ∷ b ∷ a ∷ []) ∷ []) 20 }
+    ensures asked { sent_from (run 3 behind) 17 ≡ Ask 2 ∷ Chosen 2 b ∷ Chosen 3 a ∷ [] }
     ensures caught_up { Leaves 3 catches_up (just a ∷ just a ∷ just a ∷ []) 9 }
     ensures caught_up_by { sent_from (run 3 catches_up) 7 ≡ Ask 1 ∷ Chosen 1 a ∷ [] }
     ensures full { happens same_map (only full_history) (CatchUp 0) ≡ only full_history }

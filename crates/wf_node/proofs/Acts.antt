@@ -34,7 +34,7 @@ abbrev pub row_at : Parts → Proposer → Input Definition → Row Definition
 row_at parts proposer input = row definition_eq proposer.nodes proposer.node (stored_of parts) (working_of proposer) input
 
 -- the record of an input's transition fits
-pub row_fits : (parts : Parts) (proposer : Proposer) (input : Input Definition) (given : Row Definition) → RecordsFit Definition → IsForNext (stored_of parts) (working_of proposer) →
+pub row_fits : (parts : Parts) (proposer : Proposer) (input : Input Definition) (given : Row Definition) → RecordsFit Definition → IsForNext (stored_of parts) (working_of proposer).proposing →
     given ≡ row_at parts proposer input → Fits (stored_of parts) given.entry
 row_fits parts proposer input given fit for_next is =
     subst (λ r. Fits (stored_of parts) r.entry) (sym is)
@@ -100,7 +100,7 @@ accept_row id parts proposer s b d same = ap (λ me. on_accept me (stored_of par
 
 -- the record of the acceptor's answer fits
 pub answer_fits : (input : Input Definition) (given : Working Definition → Row Definition) (answer : Answer) (parts made : Parts) (proposer : Proposer) →
-    RecordsFit Definition → IsForNext (stored_of parts) (working_of proposer) → keeping.IsRow given answer → given (working_of proposer) ≡ row_at parts proposer input → made ≡ parts →
+    RecordsFit Definition → IsForNext (stored_of parts) (working_of proposer).proposing → keeping.IsRow given answer → given (working_of proposer) ≡ row_at parts proposer input → made ≡ parts →
     Fits (stored_of made) (option_map view answer.entry)
 answer_fits input given answer parts made proposer fit for_next is_row is same =
     subst (λ p. Fits (stored_of p) (option_map view answer.entry)) (sym same)
@@ -169,11 +169,11 @@ pub row_ask : (parts : Parts) (proposer : Proposer) (s : ℕ) → row_at parts p
 unfolding row on_message on_ask
 row_ask parts proposer s = refl
 
-pub row_propose : (parts : Parts) (proposer : Proposer) (own : Definition) → on_propose proposer.node (stored_of parts) own ≡ row_at parts proposer (Propose own)
+pub row_propose : (parts : Parts) (proposer : Proposer) (own : Definition) → on_propose proposer.node (stored_of parts) (working_of proposer) own ≡ row_at parts proposer (Propose own)
 unfolding row
 row_propose parts proposer own = refl
 
-pub refusal_propose : (stored : Stored Definition) (working : Working Definition) (own : Definition) → refusal stored working (Propose own) ≡ refuse_proposal stored working
+pub refusal_propose : (stored : Stored Definition) (working : Working Definition) (own : Definition) → refusal stored working (Propose own) ≡ refuse_proposal stored working.leadership working.proposing
 unfolding refusal
 refusal_propose stored working own = refl
 
@@ -181,14 +181,14 @@ pub row_retry : (parts : Parts) (proposer : Proposer) → on_retry proposer.node
 unfolding row
 row_retry parts proposer = refl
 
-pub refusal_retry : (stored : Stored Definition) (working : Working Definition) → refusal stored working Retry ≡ refuse_retry stored working
+pub refusal_retry : (stored : Stored Definition) (working : Working Definition) → refusal stored working Retry ≡ refuse_retry stored working.proposing
 unfolding refusal
 refusal_retry stored working = refl
 
-pub row_promise : (parts : Parts) (proposer : Proposer) (sender s : ℕ) (b : Ballot) (vote : Option (model.Vote Definition)) →
-    on_promise proposer.nodes (working_of proposer) sender s b vote ≡ row_at parts proposer (Deliver (model.Promise sender s b vote))
+pub row_promise : (parts : Parts) (proposer : Proposer) (sender s : ℕ) (b : Ballot) (votes : List (Option (model.Vote Definition))) →
+    on_promise proposer.nodes (working_of proposer) sender s b votes ≡ row_at parts proposer (Deliver (model.Promise sender s b votes))
 unfolding row on_message
-row_promise parts proposer sender s b vote = refl
+row_promise parts proposer sender s b votes = refl
 
 pub row_accepted : (parts : Parts) (proposer : Proposer) (sender s : ℕ) (b : Ballot) →
     on_accepted definition_eq proposer.nodes (working_of proposer) sender s b ≡ row_at parts proposer (Deliver (model.Accepted sender s b))

@@ -7,8 +7,8 @@ use Rattle.wf_def.specs.Definition.{Definition}
 use Rattle.wf_model.specs.Message as message
 use Rattle.wf_model.specs.Message.{Vote}
 use Rattle.wf_model.specs.Stored as model
-use Rattle.wf_model.specs.Stored.{Stored, published, next_sequence, put, with_record, fits, promise_at}
-use Rattle.wf_model.specs.Working.{Working, Idle}
+use Rattle.wf_model.specs.Stored.{Stored, published, next_sequence, put, raised, with_record, fits}
+use Rattle.wf_model.specs.Working.{Working, at_start}
 use Rattle.wf_model.specs.Table.{Row, store, on_prepare, prepare_open, promise_to, on_accept, accept_open, vote_for, told, nack, says, quiet, stores, is_above, is_refused, votes_at}
 use Rattle.wf_journal.specs.Record.{view}
 use Rattle.wf_journal.specs.declared.record.Record.{Record}
@@ -23,18 +23,18 @@ use Rattle.wf_node.specs.Kept.{IsRow, Stores, IsRoomFor, tried_after, definition
 
 -- the stored part, of a tried round, an acceptor's part and a history
 abbrev pub parts_of : ℕ → Part → List Definition → Parts
-parts_of tried part definitions = record { tried = tried; promises = part.promises; votes = part.votes; history = definitions }
+parts_of tried part definitions = record { tried = tried; promise = part.promise; votes = part.votes; history = definitions }
 
 -- The acceptor's part agrees with the stored part.
 pub acts_for_kept : (tried : ℕ) (part : Part) (definitions : List Definition) → part.published ≡ length definitions → ActsFor part (stored_of (parts_of tried part definitions))
 unfolding published
-acts_for_kept tried part definitions as_many = record { promises = refl; votes = refl; published = sym as_many }
+acts_for_kept tried part definitions as_many = record { promise = refl; votes = refl; published = sym as_many }
 
 -- A stored state with which the acceptor's part agrees, and with the same tried round and history, is the stored part.
 pub kept_is : (tried : ℕ) (part : Part) (definitions : List Definition) (stored : Stored Definition) → tried ≡ stored.tried → ActsFor part stored → definitions ≡ stored.history →
     stored_of (parts_of tried part definitions) ≡ stored
 kept_is tried part definitions stored same_tried acts same_history =
-    λ i. record { tried = same_tried i; promises = sym acts.promises i; votes = sym acts.votes i; history = same_history i }
+    λ i. record { tried = same_tried i; promise = sym acts.promise i; votes = sym acts.votes i; history = same_history i }
 
 -- ---- applying a record
 
@@ -42,24 +42,22 @@ kept_is tried part definitions stored same_tried acts same_history =
 tried_is : (stored : Stored Definition) (r : Record) → tried_after stored.tried r ≡ (with_record stored (view r)).tried
 unfolding with_record
 tried_is stored (Tried round) = refl
-tried_is stored (Promised s b) =
-    elim (nat_lt (published stored) s) as (λ v. stored.tried ≡ (if v then record stored { promises = put stored.promises s (Some b) } else stored).tried) [ true ↦ refl | false ↦ refl ]
+tried_is stored (Promised s b) = refl
 tried_is stored (Accepted s b d) =
     let vote : Vote Definition = record { ballot = b; definition = d } in
     elim (nat_lt (published stored) s) as (λ v.
-    stored.tried ≡ (if v then record stored { promises = put stored.promises s (Some b); votes = put stored.votes s (Some vote) } else stored).tried) [ true ↦ refl | false ↦ refl ]
+    stored.tried ≡ (if v then record stored { promise = raised stored.promise b; votes = put stored.votes s (Some vote) } else stored).tried) [ true ↦ refl | false ↦ refl ]
 tried_is stored (Published s d) = refl
 
 -- Only a published definition's record adds to the history.
 history_is : (stored : Stored Definition) (r : Record) → fits stored (view r) ≡ true → definitions_after stored.history r ≡ (with_record stored (view r)).history
 unfolding with_record fits next_sequence published
 history_is stored (Tried round) fit = refl
-history_is stored (Promised s b) fit =
-    elim (nat_lt (published stored) s) as (λ v. stored.history ≡ (if v then record stored { promises = put stored.promises s (Some b) } else stored).history) [ true ↦ refl | false ↦ refl ]
+history_is stored (Promised s b) fit = refl
 history_is stored (Accepted s b d) fit =
     let vote : Vote Definition = record { ballot = b; definition = d } in
     elim (nat_lt (published stored) s) as (λ v.
-    stored.history ≡ (if v then record stored { promises = put stored.promises s (Some b); votes = put stored.votes s (Some vote) } else stored).history) [ true ↦ refl | false ↦ refl ]
+    stored.history ≡ (if v then record stored { promise = raised stored.promise b; votes = put stored.votes s (Some vote) } else stored).history) [ true ↦ refl | false ↦ refl ]
 history_is stored (Published s d) fit = rw fit refl
 
 -- whether a published definition is the next one
@@ -102,7 +100,7 @@ as_many_after tried old new definitions new_definitions r as_many fit applies ar
 -- If there is room for the record, there is room in the acceptor.
 pub room_in_acceptor : (a : acceptor.Acceptor) (has_room : Bool) (r : Record) → IsRoomFor a.prepared has_room r → acceptor.HasRoomFor a r
 room_in_acceptor a has_room (Tried round) room = tt
-room_in_acceptor a has_room (Promised s b) room = room
+room_in_acceptor a has_room (Promised s b) room = tt
 room_in_acceptor a has_room (Accepted s b d) room = room
 room_in_acceptor a has_room (Published s d) room = tt
 
@@ -150,9 +148,9 @@ prepare_open_publishes_nothing me stored working s b promise =
 pub prepare_publishes_nothing : (me : ℕ) (stored : Stored Definition) (s : ℕ) (b : Ballot) (working : Working Definition) → PublishesNothing (on_prepare me stored working s b).entry
 unfolding on_prepare says
 prepare_publishes_nothing me stored s b working =
-    elim (nat_le s (published stored)) as (λ v. PublishesNothing (if v then says working (told stored.history s) else prepare_open me stored working s b (promise_at stored s)).entry) [
+    elim (nat_le s (published stored)) as (λ v. PublishesNothing (if v then says working (told stored.history s) else prepare_open me stored working s b stored.promise).entry) [
       | true ↦ tt
-      | false ↦ prepare_open_publishes_nothing me stored working s b (promise_at stored s)
+      | false ↦ prepare_open_publishes_nothing me stored working s b stored.promise
     ]
 
 vote_publishes_nothing : (me : ℕ) (stored : Stored Definition) (working : Working Definition) (s : ℕ) (b : Ballot) (d : Definition) → PublishesNothing (vote_for me stored working s b d).entry
@@ -175,9 +173,9 @@ pub accept_publishes_nothing : (me : ℕ) (stored : Stored Definition) (s : ℕ)
 unfolding on_accept says
 accept_publishes_nothing me stored s b d working =
     elim (nat_le s (published stored)) as (λ v.
-    PublishesNothing (if v then says working (told stored.history s) else accept_open me stored working s b d (promise_at stored s)).entry) [
+    PublishesNothing (if v then says working (told stored.history s) else accept_open me stored working s b d stored.promise).entry) [
       | true ↦ tt
-      | false ↦ accept_open_publishes_nothing me stored working s b d (promise_at stored s)
+      | false ↦ accept_open_publishes_nothing me stored working s b d stored.promise
     ]
 
 -- So if the acceptor has room for an answer's record, there is room for it.
@@ -185,7 +183,7 @@ entry_has_room : (a : acceptor.Acceptor) (has_room : Bool) (entry : Option Recor
     IfSome entry (IsRoomFor a.prepared has_room)
 entry_has_room a has_room None nothing room = tt
 entry_has_room a has_room (Some (Tried round)) nothing room = tt
-entry_has_room a has_room (Some (Promised s b)) nothing room = room
+entry_has_room a has_room (Some (Promised s b)) nothing room = tt
 entry_has_room a has_room (Some (Accepted s b d)) nothing room = room
 entry_has_room a has_room (Some (Published s d)) nothing room = absurd nothing
 
@@ -193,6 +191,6 @@ pub room_if_ok : {E : Type 0} (a : acceptor.Acceptor) (has_room : Bool) (row : W
     ((working : Working Definition) → PublishesNothing (row working).entry) → IfOk result (IsRow row) → IfOk result (λ answer. IfSome answer.entry (acceptor.HasRoomFor a)) →
     IfOk result (λ answer. IfSome answer.entry (IsRoomFor a.prepared has_room))
 room_if_ok a has_room row (Ok answer) nothing is_row room =
-    let same = ap (λ (r : Row Definition). r.entry) (is_row Idle) in
-    entry_has_room a has_room answer.entry (subst (λ (entry : Option (model.Record Definition)). PublishesNothing entry) (sym same) (nothing Idle)) room
+    let same = ap (λ (r : Row Definition). r.entry) (is_row at_start) in
+    entry_has_room a has_room answer.entry (subst (λ (entry : Option (model.Record Definition)). PublishesNothing entry) (sym same) (nothing at_start)) room
 room_if_ok a has_room row (Err e) nothing is_row room = tt

@@ -10,3 +10,4 @@ mod Rows
 mod Shortened
 mod Shown
 mod Steps
+mod Voted

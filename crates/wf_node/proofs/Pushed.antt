@@ -1,15 +1,16 @@
 -- The records that are pushed are those of a shortened tape.
-use Rattle.std.proofs.Common.{◌≡◌, ℕ, zero, suc, ◌+◌, ◌≤◌, true, false, List, [], ◌∷◌, ◌++◌, map, Option, Some, None, Result, Ok, Err, OnOk, add-one, refl, sym, ap, ◌∙◌, append_assoc, append-nil, arith}
+use Rattle.std.proofs.Common.{◌≡◌, ℕ, zero, suc, ◌+◌, ◌≤◌, ◌<◌, true, false, List, [], ◌∷◌, ◌++◌, map, length, Option, Some, None, Result, Ok, Err, OnOk, add-one, refl, sym, ap, ◌∙◌, append_assoc, append-nil, arith}
+use Rattle.std.proofs.Math.Nat.{min-eq_left, min-eq_right}
 use Rattle.std.proofs.lemmas.List.{map-append}
 use Rattle.wf_ballot.specs.Ballot.{Ballot, last_round}
 use Rattle.wf_ballot.specs.Round.{IsRound}
+use Rattle.wf_ballot.specs.Sequence.{last_sequence}
 use Rattle.wf_def.specs.Definition.{Definition}
 use Rattle.wf_model.specs.Message.{Vote}
-use Rattle.wf_model.specs.Stored.{Stored, Record, Tried, Promised, Accepted, Published, definition_at, promise_at}
-use Rattle.wf_model.specs.Table.{votes_at}
+use Rattle.wf_model.specs.Stored.{Stored, Record, Tried, Promised, Accepted, Published, published, next_sequence, definition_at}
 use Rattle.wf_journal.specs.Record.{view}
 use Rattle.wf_journal.specs.declared.record.Record as code
-use Rattle.wf_node.specs.Shortening.{tried_records, vote_records, promise_records, open_records, records_by, records_at, records_from}
+use Rattle.wf_node.specs.Shortening.{tried_records, vote_records, is_voted, promised_sequence, promise_record, promise_records, records_by, records_at, records_from}
 
 pub one_more : (before after : List code.Record) (r : code.Record) → after ≡ before ++ r ∷ [] → map view after ≡ map view before ++ view r ∷ []
 one_more before after r is = ap (map view) is ∙ map-append view before (r ∷ [])
@@ -42,15 +43,11 @@ none_tried (suc r) short none = absurd (none (record { from_one = omega arith; t
 module _ (stored : Stored Definition) (s : ℕ) where
   pub published_here : (d : Definition) → definition_at stored.history s ≡ Some d → Published s d ∷ [] ≡ records_at stored s
   unfolding records_at
-  published_here d is = sym (ap (records_by stored s) is)
+  published_here d is = sym (ap (λ here. records_by s here (stored.votes s)) is)
 
-  pub open_here : definition_at stored.history s ≡ None → open_records stored s ≡ records_at stored s
+  pub open_here : definition_at stored.history s ≡ None → vote_records s (stored.votes s) ≡ records_at stored s
   unfolding records_at
-  open_here none = sym (ap (records_by stored s) none)
-
-  pub open_is : vote_records s (stored.votes s) ++ promise_records s (stored.votes s) (promise_at stored s) ≡ open_records stored s
-  unfolding open_records
-  open_is = refl
+  open_here none = sym (ap (λ here. records_by s here (stored.votes s)) none)
 
 pub voted_here : (s : ℕ) (vote : Option (Vote Definition)) (b : Ballot) (d : Definition) → Some (record { ballot = b; definition = d }) ≡ vote → Accepted s b d ∷ [] ≡ vote_records s vote
 voted_here s vote b d is = ap (vote_records s) is
@@ -58,16 +55,28 @@ voted_here s vote b d is = ap (vote_records s) is
 pub none_voted : (s : ℕ) (vote : Option (Vote Definition)) → None ≡ vote → vote_records s vote ≡ []
 none_voted s vote none = sym (ap (vote_records s) none)
 
-module _ (s : ℕ) (vote : Option (Vote Definition)) (promise : Option Ballot) where
-  pub promised_here : (b : Ballot) → promise ≡ Some b → votes_at vote b ≡ false → Promised s b ∷ [] ≡ promise_records s vote promise
-  promised_here b is other = sym (ap (promise_records s vote) is ∙ rw other refl)
+-- ---- the promise
 
-  -- The vote implies the promise.
-  pub implied_here : (b : Ballot) → promise ≡ Some b → votes_at vote b ≡ true → promise_records s vote promise ≡ []
-  implied_here b is same = ap (promise_records s vote) is ∙ rw same refl
+module _ (stored : Stored Definition) (promise : Option Ballot) where
+  pub promised_here : (b : Ballot) (s : ℕ) → promise ≡ Some b → is_voted stored.votes b last_sequence ≡ false → s ≡ promised_sequence stored →
+      Promised s b ∷ [] ≡ promise_records stored promise
+  promised_here b s is none here = sym (ap (promise_records stored) is ∙ ap (promise_record (promised_sequence stored) b) none ∙ ap (λ (t : ℕ). Promised t b ∷ []) (sym here))
 
-  pub none_promised : promise ≡ None → promise_records s vote promise ≡ []
-  none_promised none = ap (promise_records s vote) none
+  -- A vote is at its ballot.
+  pub implied_here : (b : Ballot) → promise ≡ Some b → is_voted stored.votes b last_sequence ≡ true → promise_records stored promise ≡ []
+  implied_here b is some = ap (promise_records stored) is ∙ ap (promise_record (promised_sequence stored) b) some
+
+  pub none_promised : promise ≡ None → promise_records stored promise ≡ []
+  none_promised none = ap (promise_records stored) none
+
+-- the sequence of its record
+pub promised_next : (stored : Stored Definition) (s : ℕ) → length stored.history < last_sequence → s ≡ length stored.history + 1 → s ≡ promised_sequence stored
+unfolding promised_sequence next_sequence published
+promised_next stored s more is = is ∙ sym (min-eq_left (omega (arith, more)))
+
+pub promised_last : (stored : Stored Definition) → (length stored.history < last_sequence → ⊥) → last_sequence ≡ promised_sequence stored
+unfolding promised_sequence next_sequence published
+promised_last stored full = sym (min-eq_right (omega (arith, full)))
 
 -- ---- sequence by sequence: the records so far, and those still to come
 

@@ -1,5 +1,5 @@
 -- Which record a transition can have, and which transitions send something.
-use Rattle.std.proofs.Common.{◌≡◌, ℕ, max, zero, suc, ◌+◌, ◌≤◌, ◌<◌, true, false, nat_le, nat_lt, ◌==◌, List, [], ◌∷◌, ◌++◌, length, slice_get, Option, Some, None, IsSome, if◌then◌else◌, refl, sym, subst, ap, ◌∙◌, arith, inl, inr}
+use Rattle.std.proofs.Common.{◌≡◌, ℕ, max, zero, suc, ◌+◌, ◌≤◌, ◌<◌, Bool, true, false, nat_le, nat_lt, ◌==◌, List, [], ◌∷◌, ◌++◌, length, slice_get, Option, Some, None, IsSome, if◌then◌else◌, refl, sym, subst, ap, ◌∙◌, arith, inl, inr}
 use Rattle.std.proofs.lemmas.Bool.{cases_lt, false≢true, true≢false, eq-eqb, ne_eqb, lt-ltb, le-ltb}
 use Rattle.std.proofs.lemmas.Option.{none-some}
 use Rattle.wf_ballot.specs.Ballot.{Ballot}
@@ -8,85 +8,113 @@ use Rattle.wf_def.specs.Definition.{Definition}
 use Rattle.wf_def.specs.Equality.{definition_eq}
 use Rattle.wf_model.specs.Fits.{IsForNext}
 use Rattle.wf_ballot.specs.Sequence.{last_sequence}
-use Rattle.wf_model.specs.Message.{Vote, Accept, Chosen, Ask}
+use Rattle.wf_model.specs.Message.{Vote, Chosen, Ask}
 use Rattle.wf_model.specs.Stored as stored_part
 use Rattle.wf_model.specs.Stored.{HasStored, Stored, Record, fits, published, next_sequence, definition_at}
-use Rattle.wf_model.specs.Table.{Row, on_promise, on_accepted, on_nack, on_prepare, on_accept, on_chosen, on_catch_up, on_retry, refuse_proposal, refuse_retry, Busy, SequenceFull, on_propose, begin_at, stores, says, quiet, promised, voted, hears, asking_votes, with_promise, with_vote, told, told_of, told_from, most_told, ends, ended}
-use Rattle.wf_model.specs.Working.{Working, Idle, Running, Won, Overtaken, Proposal, Preparing, Accepting, carried, is_at}
+use Rattle.wf_model.specs.Table.{Row, running_row, on_promise, on_accepted, on_nack, on_prepare, on_accept, on_chosen, on_catch_up, on_retry, refuse_proposal, refuse_retry, round_known, Busy, SequenceFull, on_propose, propose_by, begin_at, lead, ask_votes, stores, says, quiet, with_proposal, promised, voted, hears, leadership_of, asking_votes, with_promise, with_vote, told, told_of, told_from, most_told, ends, ended, after_publishing}
+use Rattle.wf_model.specs.Working.{Working, Proposing, Idle, Running, Won, Overtaken, Proposal, Preparing, Accepting, Leadership, proposed, is_at, leading_at}
 use Rattle.wf_proposer.specs.Proposer.{runs_for}
 use Rattle.wf_node.specs.Act.{IsOwn, runs}
+use Rattle.wf_node.specs.Memory.{TakesMemory, ByEntry, ByMessages}
 
 -- ---- records of the proposer
+
+-- What holds of no record, and of that of the running proposal's transition, holds of the transition's record.
+entry_if_running : (P : Option (Record Definition) → Type 0) (working : Working Definition) (proposing : Proposing Definition) (row_of : Proposal Definition → Row Definition) →
+    P None → ((proposal : Proposal Definition) → P (row_of proposal).entry) → P (running_row working proposing row_of).entry
+unfolding quiet
+entry_if_running P working Idle row_of none some = none
+entry_if_running P working (Running proposal) row_of none some = some proposal
+entry_if_running P working (Won s) row_of none some = none
+entry_if_running P working (Overtaken s) row_of none some = none
 
 pub none_own : (entry : Option (Record Definition)) → entry ≡ None → IsOwn entry
 none_own entry none = subst IsOwn (sym none) tt
 
-promised_none : (n : ℕ) (proposal : Proposal Definition) → (promised n proposal).entry ≡ None
-unfolding promised says quiet
-promised_none n proposal =
+promised_none : (n : ℕ) (working : Working Definition) (proposal : Proposal Definition) → (promised n working proposal).entry ≡ None
+unfolding promised ask_votes says quiet
+promised_none n working proposal =
     elim (is_majority_of (count_nodes n proposal.heard) n) as (λ b.
-    (if b then says (Running (asking_votes proposal)) (Accept proposal.sequence proposal.ballot (carried proposal.best proposal.own) ∷ []) else quiet (Running proposal)).entry ≡ None) [
+    (if b then ask_votes (leadership_of proposal) (asking_votes proposal) else quiet (with_proposal working proposal)).entry ≡ None) [
       | true ↦ refl
       | false ↦ refl
     ]
 
-pub promise_stores_none : (n : ℕ) (working : Working Definition) (sender s : ℕ) (b : Ballot) (vote : Option (Vote Definition)) → (on_promise n working sender s b vote).entry ≡ None
-unfolding on_promise quiet
-promise_stores_none n Idle sender s b vote = refl
-promise_stores_none n (Running proposal) sender s b vote =
-    elim (hears n proposal Preparing sender s b) as (λ x. (if x then promised n (with_promise proposal sender vote) else quiet (Running proposal)).entry ≡ None) [
-      | true ↦ promised_none n (with_promise proposal sender vote)
-      | false ↦ refl
-    ]
-promise_stores_none n (Won t) sender s b vote = refl
-promise_stores_none n (Overtaken t) sender s b vote = refl
+heard_promise_none : (n : ℕ) (working : Working Definition) (proposal : Proposal Definition) (sender : ℕ) (votes : List (Option (Vote Definition))) (is_heard : Bool) →
+    (if is_heard then promised n working (with_promise proposal sender votes) else quiet working).entry ≡ None
+unfolding quiet
+heard_promise_none n working proposal sender votes true = promised_none n working (with_promise proposal sender votes)
+heard_promise_none n working proposal sender votes false = refl
 
-voted_own : (n : ℕ) (proposal : Proposal Definition) → IsOwn (voted definition_eq n proposal).entry
+pub promise_stores_none : (n : ℕ) (working : Working Definition) (sender s : ℕ) (b : Ballot) (votes : List (Option (Vote Definition))) →
+    (on_promise n working sender s b votes).entry ≡ None
+unfolding on_promise
+promise_stores_none n working sender s b votes =
+    entry_if_running (λ entry. entry ≡ None) working working.proposing
+    (λ proposal. if hears n proposal Preparing sender s b then promised n working (with_promise proposal sender votes) else quiet working) refl
+    (λ proposal. heard_promise_none n working proposal sender votes (hears n proposal Preparing sender s b))
+
+voted_own : (n : ℕ) (working : Working Definition) (proposal : Proposal Definition) → IsOwn (voted definition_eq n working proposal).entry
 unfolding voted stores quiet
-voted_own n proposal =
-    let d : Definition = carried proposal.best proposal.own in
+voted_own n working proposal =
+    let d : Definition = proposed proposal in
     elim (is_majority_of (count_nodes n proposal.heard) n) as (λ b.
-    IsOwn (if b then stores (ended definition_eq proposal d) (stored_part.Published proposal.sequence d) (Chosen proposal.sequence d) else quiet (Running proposal)).entry) [
+    IsOwn (if b then stores (record working { proposing = ended definition_eq proposal d }) (stored_part.Published proposal.sequence d) (Chosen proposal.sequence d)
+    else quiet (with_proposal working proposal)).entry) [
       | true ↦ tt
       | false ↦ tt
     ]
 
+heard_vote_own : (n : ℕ) (working : Working Definition) (proposal : Proposal Definition) (sender : ℕ) (is_heard : Bool) →
+    IsOwn (if is_heard then voted definition_eq n working (with_vote proposal sender) else quiet working).entry
+unfolding quiet
+heard_vote_own n working proposal sender true = voted_own n working (with_vote proposal sender)
+heard_vote_own n working proposal sender false = tt
+
 pub accepted_own : (n : ℕ) (working : Working Definition) (sender s : ℕ) (b : Ballot) → IsOwn (on_accepted definition_eq n working sender s b).entry
-unfolding on_accepted quiet
-accepted_own n Idle sender s b = tt
-accepted_own n (Running proposal) sender s b =
-    elim (hears n proposal Accepting sender s b) as (λ x. IsOwn (if x then voted definition_eq n (with_vote proposal sender) else quiet (Running proposal)).entry) [
-      | true ↦ voted_own n (with_vote proposal sender)
-      | false ↦ tt
-    ]
-accepted_own n (Won t) sender s b = tt
-accepted_own n (Overtaken t) sender s b = tt
+unfolding on_accepted
+accepted_own n working sender s b =
+    entry_if_running IsOwn working working.proposing
+    (λ proposal. if hears n proposal Accepting sender s b then voted definition_eq n working (with_vote proposal sender) else quiet working) tt
+    (λ proposal. heard_vote_own n working proposal sender (hears n proposal Accepting sender s b))
+
+seen_none : (working : Working Definition) (proposal seen : Proposal Definition) (is_here : Bool) →
+    (if is_here then quiet (with_proposal working seen) else quiet working).entry ≡ None
+unfolding quiet
+seen_none working proposal seen true = refl
+seen_none working proposal seen false = refl
 
 pub nack_stores_none : (working : Working Definition) (s : ℕ) (b promise : Ballot) → (on_nack working s b promise).entry ≡ None
-unfolding on_nack quiet
-nack_stores_none Idle s b promise = refl
-nack_stores_none (Running proposal) s b promise =
-    elim (is_at proposal s b) as (λ x. (if x then quiet (Running (record proposal { seen = max proposal.seen promise.round })) else quiet (Running proposal)).entry ≡ None) [
-      | true ↦ refl
-      | false ↦ refl
-    ]
-nack_stores_none (Won t) s b promise = refl
-nack_stores_none (Overtaken t) s b promise = refl
+unfolding on_nack
+nack_stores_none working s b promise =
+    entry_if_running (λ entry. entry ≡ None) working working.proposing
+    (λ proposal. if is_at proposal s b then quiet (with_proposal working (record proposal { seen = max proposal.seen promise.round })) else quiet working) refl
+    (λ proposal. seen_none working proposal (record proposal { seen = max proposal.seen promise.round }) (is_at proposal s b))
 
-pub propose_own : (me : ℕ) (stored : Stored Definition) (own : Definition) → IsOwn (on_propose me stored own).entry
-unfolding on_propose begin_at stores
-propose_own me stored own = tt
+-- A new round's record is the proposer's own, and a leader's proposal has none.
+begun_own : (me : ℕ) (stored : Stored Definition) (leadership : Option (Leadership Definition)) (own : Definition) → IsOwn (propose_by me stored leadership own).entry
+unfolding propose_by begin_at stores lead ask_votes says
+begun_own me stored None own = tt
+begun_own me stored (Some leadership) own = tt
 
-pub propose_stores : (me : ℕ) (stored : Stored Definition) (own : Definition) → IsSome (on_propose me stored own).entry
-unfolding on_propose begin_at stores
-propose_stores me stored own = refl
+pub propose_own : (me : ℕ) (stored : Stored Definition) (working : Working Definition) (own : Definition) → IsOwn (on_propose me stored working own).entry
+unfolding on_propose
+propose_own me stored working own = begun_own me stored (leading_at working.leadership (next_sequence stored)) own
+
+-- A proposal that begins sends something.
+begun_takes : (me : ℕ) (stored : Stored Definition) (leadership : Option (Leadership Definition)) (own : Definition) → TakesMemory (propose_by me stored leadership own)
+unfolding propose_by begin_at stores lead ask_votes says
+begun_takes me stored None own = ByEntry refl
+begun_takes me stored (Some leadership) own = ByMessages (λ nothing. omega (arith, ap length nothing))
+
+pub propose_takes : (me : ℕ) (stored : Stored Definition) (working : Working Definition) (own : Definition) → TakesMemory (on_propose me stored working own)
+unfolding on_propose
+propose_takes me stored working own = begun_takes me stored (leading_at working.leadership (next_sequence stored)) own
 
 pub retry_own : (me : ℕ) (stored : Stored Definition) (working : Working Definition) → IsOwn (on_retry me stored working).entry
-unfolding on_retry begin_at stores quiet
-retry_own me stored Idle = tt
-retry_own me stored (Running proposal) = tt
-retry_own me stored (Won s) = tt
-retry_own me stored (Overtaken s) = tt
+unfolding on_retry begin_at stores
+retry_own me stored working =
+    entry_if_running IsOwn working working.proposing (λ proposal. begin_at me stored proposal.own (round_known stored proposal + 1)) tt (λ proposal. tt)
 
 -- ---- published definitions are sent
 
@@ -127,15 +155,23 @@ accept_told me stored working s b d is = rw is refl
 
 -- ---- a definition that is published ends a proposal
 
-pub ends_at_next : (stored : Stored Definition) (working : Working Definition) (s : ℕ) (d : Definition) → IsForNext stored working → s ≡ length stored.history + 1 →
-    (if runs_for s working then ends definition_eq working d else working) ≡ ends definition_eq working d
+ends_by : (stored : Stored Definition) (leadership : Option (Leadership Definition)) (proposing : Proposing Definition) (s : ℕ) (d : Definition) →
+    IsForNext stored proposing → s ≡ length stored.history + 1 →
+    ◌≡◌ {A = Working Definition}
+    (if runs_for s proposing then record { proposing = ends definition_eq proposing d; leadership = leadership } else record { proposing = proposing; leadership = leadership })
+    (record { proposing = ends definition_eq proposing d; leadership = leadership })
 unfolding ends next_sequence published
-ends_at_next stored Idle s d for_next is = refl
-ends_at_next stored (Running proposal) s d for_next is =
+ends_by stored leadership Idle s d for_next is = refl
+ends_by stored leadership (Running proposal) s d for_next is =
     let here : (proposal.sequence == s) ≡ true = eq-eqb proposal.sequence s (for_next ∙ sym is) in
     rw here refl
-ends_at_next stored (Won t) s d for_next is = refl
-ends_at_next stored (Overtaken t) s d for_next is = refl
+ends_by stored leadership (Won t) s d for_next is = refl
+ends_by stored leadership (Overtaken t) s d for_next is = refl
+
+pub ends_at_next : (stored : Stored Definition) (working : Working Definition) (s : ℕ) (d : Definition) → IsForNext stored working.proposing → s ≡ length stored.history + 1 →
+    (if runs_for s working.proposing then after_publishing definition_eq working d else working) ≡ after_publishing definition_eq working d
+unfolding after_publishing
+ends_at_next stored working s d for_next is = ends_by stored working.leadership working.proposing s d for_next is
 
 -- ---- the question for the next definition
 
@@ -151,18 +187,23 @@ catch_up_rests stored working full = rw (le-ltb (length stored.history) last_seq
 
 -- ---- a retry
 
-pub retry_stores : (me : ℕ) (stored : Stored Definition) (working : Working Definition) → refuse_retry stored working ≡ None → IsSome (on_retry me stored working).entry
-unfolding refuse_retry on_retry begin_at stores
-retry_stores me stored Idle allowed = absurd (none-some _ (sym allowed))
-retry_stores me stored (Running proposal) allowed = refl
-retry_stores me stored (Won s) allowed = absurd (none-some _ (sym allowed))
-retry_stores me stored (Overtaken s) allowed = absurd (none-some _ (sym allowed))
+retry_stores_by : (me : ℕ) (stored : Stored Definition) (working : Working Definition) (proposing : Proposing Definition) → refuse_retry stored proposing ≡ None →
+    IsSome (running_row working proposing (λ proposal. begin_at me stored proposal.own (round_known stored proposal + 1))).entry
+unfolding refuse_retry begin_at stores
+retry_stores_by me stored working Idle allowed = absurd (none-some _ (sym allowed))
+retry_stores_by me stored working (Running proposal) allowed = refl
+retry_stores_by me stored working (Won s) allowed = absurd (none-some _ (sym allowed))
+retry_stores_by me stored working (Overtaken s) allowed = absurd (none-some _ (sym allowed))
+
+pub retry_stores : (me : ℕ) (stored : Stored Definition) (working : Working Definition) → refuse_retry stored working.proposing ≡ None → IsSome (on_retry me stored working).entry
+unfolding on_retry
+retry_stores me stored working allowed = retry_stores_by me stored working working.proposing allowed
 
 -- ---- a definition that is chosen
 
 -- the transition if its sequence is the next
 abbrev pub publishing : Working Definition → ℕ → Definition → Row Definition
-publishing working s d = record { entry = Some (stored_part.Published s d); messages = []; working = ends definition_eq working d }
+publishing working s d = record { entry = Some (stored_part.Published s d); messages = []; working = after_publishing definition_eq working d }
 
 pub chosen_next : (stored : Stored Definition) (working : Working Definition) (s : ℕ) (d : Definition) → s ≡ length stored.history + 1 →
     on_chosen definition_eq stored working s d ≡ publishing working s d
@@ -202,20 +243,21 @@ next_fits stored s d is = eq-eqb s (length stored.history + 1) is
 
 -- ---- a proposal that the table rejects
 
-pub busy : (stored : Stored Definition) (working : Working Definition) → runs working ≡ true → refuse_proposal stored working ≡ Some Busy
+pub busy : (stored : Stored Definition) (leadership : Option (Leadership Definition)) (proposing : Proposing Definition) → runs proposing ≡ true →
+    refuse_proposal stored leadership proposing ≡ Some Busy
 unfolding refuse_proposal
-busy stored Idle is = absurd (false≢true is)
-busy stored (Running proposal) is = refl
-busy stored (Won s) is = absurd (false≢true is)
-busy stored (Overtaken s) is = absurd (false≢true is)
+busy stored leadership Idle is = absurd (false≢true is)
+busy stored leadership (Running proposal) is = refl
+busy stored leadership (Won s) is = absurd (false≢true is)
+busy stored leadership (Overtaken s) is = absurd (false≢true is)
 
-pub full : (stored : Stored Definition) (working : Working Definition) → runs working ≡ false → nat_le last_sequence (length stored.history) ≡ true →
-    refuse_proposal stored working ≡ Some SequenceFull
+pub full : (stored : Stored Definition) (leadership : Option (Leadership Definition)) (proposing : Proposing Definition) → runs proposing ≡ false →
+    nat_le last_sequence (length stored.history) ≡ true → refuse_proposal stored leadership proposing ≡ Some SequenceFull
 unfolding refuse_proposal published
-full stored Idle is last = rw last refl
-full stored (Running proposal) is last = absurd (true≢false is)
-full stored (Won s) is last = rw last refl
-full stored (Overtaken s) is last = rw last refl
+full stored leadership Idle is last = rw last refl
+full stored leadership (Running proposal) is last = absurd (true≢false is)
+full stored leadership (Won s) is last = rw last refl
+full stored leadership (Overtaken s) is last = rw last refl
 
 -- the stored state has the round and the sequence that a proposer is given
 pub has_stored : (stored : Stored Definition) (tried sequence : ℕ) → tried ≡ stored.tried → sequence ≡ length stored.history → HasStored stored tried sequence

@@ -265,17 +265,17 @@ module _ {T : Type 0} (honest : Type 0) (content : T → List ℕ) (images : T �
       IsNode honest images journal_after kept_after proposer_after
   done_node journal journal_after kept kept_after proposer proposer_after input (Ok messages) is running fits id change = record {
     same_node = id ∙ (is.same_node ∙ sym change.1.node);
-    for_next = subst (λ s. IsForNext s (working_of proposer_after)) (sym change.1.stored) (subst (λ w. IsForNext (store (stored_of kept.parts) (proposer_row proposer kept.parts input).entry) w) (sym change.1.working) fits.for_next);
+    for_next = subst (λ s. IsForNext s (working_of proposer_after).proposing) (sym change.1.stored) (subst (λ w. IsForNext (store (stored_of kept.parts) (proposer_row proposer kept.parts input).entry) w.proposing) (sym change.1.working) fits.for_next);
     stands = λ h _. subst (λ s. AllStandFor s (images journal_after.tape)) (sym change.1.stored) (change.0.stored h (stored_of kept.parts) fits.fits (is.stands h running));
   }
   done_node journal journal_after kept kept_after proposer proposer_after input (Err Memory) is running fits id change = record {
     same_node = id ∙ (is.same_node ∙ ap (λ (p : Proposer). p.node) (sym change.1.proposer));
-    for_next = subst (λ parts. IsForNext (stored_of parts) (working_of proposer_after)) (sym change.1.parts) (subst (λ p. IsForNext (stored_of kept.parts) (working_of p)) (sym change.1.proposer) is.for_next);
+    for_next = subst (λ parts. IsForNext (stored_of parts) (working_of proposer_after).proposing) (sym change.1.parts) (subst (λ p. IsForNext (stored_of kept.parts) (working_of p).proposing) (sym change.1.proposer) is.for_next);
     stands = λ h _ image left. subst (λ parts. StandsFor (stored_of parts) image) (sym change.1.parts) (is.stands h running image ((change.0.same h).no_other image left));
   }
   done_node journal journal_after kept kept_after proposer proposer_after input (Err TapeFailed) is running fits id change = record {
     same_node = id ∙ (is.same_node ∙ ap (λ (p : Proposer). p.node) (sym change.1.proposer));
-    for_next = subst (λ parts. IsForNext (stored_of parts) (working_of proposer_after)) (sym change.1.parts) (subst (λ p. IsForNext (stored_of kept.parts) (working_of p)) (sym change.1.proposer) is.for_next);
+    for_next = subst (λ parts. IsForNext (stored_of parts) (working_of proposer_after).proposing) (sym change.1.parts) (subst (λ p. IsForNext (stored_of kept.parts) (working_of p).proposing) (sym change.1.proposer) is.for_next);
     stands = λ h runs. absurd (false≢true (sym runs ∙ change.0.halted));
   }
   done_node journal journal_after kept kept_after proposer proposer_after input (Err Busy) is running fits id change = absurd change
@@ -288,7 +288,7 @@ module _ {T : Type 0} (honest : Type 0) (content : T → List ℕ) (images : T �
       kept_after.id ≡ kept.id → journal_after ≡ journal → IsSame kept.parts kept_after.parts proposer proposer_after → IsNode honest images journal_after kept_after proposer_after
   refused_node journal journal_after kept kept_after proposer proposer_after is id same_journal same = record {
     same_node = id ∙ (is.same_node ∙ ap (λ (p : Proposer). p.node) (sym same.proposer));
-    for_next = subst (λ parts. IsForNext (stored_of parts) (working_of proposer_after)) (sym same.parts) (subst (λ p. IsForNext (stored_of kept.parts) (working_of p)) (sym same.proposer) is.for_next);
+    for_next = subst (λ parts. IsForNext (stored_of parts) (working_of proposer_after).proposing) (sym same.parts) (subst (λ p. IsForNext (stored_of kept.parts) (working_of p).proposing) (sym same.proposer) is.for_next);
     stands = subst (λ (j : Journal T). honest → j.halted ≡ false → AllStandFor (stored_of kept_after.parts) (images j.tape)) (sym same_journal)
         (subst (λ parts. honest → journal.halted ≡ false → AllStandFor (stored_of parts) (images journal.tape)) (sym same.parts) is.stands);
   }

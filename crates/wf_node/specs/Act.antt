@@ -8,7 +8,7 @@ use Rattle.wf_model.specs.Fits.{IsForNext, RecordsFit}
 use Rattle.wf_model.specs.Message as model
 use Rattle.wf_model.specs.Stored as model_stored
 use Rattle.wf_model.specs.Stored.{Record}
-use Rattle.wf_model.specs.Table.{Row, Input, Refusal, row, refusal, store, ends}
+use Rattle.wf_model.specs.Table.{Row, Input, Refusal, row, refusal, store, after_publishing}
 use Rattle.wf_model.specs.Working as model_working
 use Rattle.wf_proposer.specs.Proposer.{Proposer, runs_for, working_of}
 use Rattle.wf_journal.specs.Journal.{Journal}
@@ -28,7 +28,7 @@ use Rattle.wf_node.specs.Storing.{IsTornAt, IsWritten, IsSpared, IsBroken}
 pub record IsReady {T : Type 0} (journal : Journal T) (kept : Kept) (proposer : Proposer) : Type 0 where
   pub running : journal.halted ≡ false
   pub same_node : kept.id ≡ proposer.node
-  pub for_next : IsForNext (keeping.stored_of kept) (working_of proposer)
+  pub for_next : IsForNext (keeping.stored_of kept) (working_of proposer).proposing
   pub fits : RecordsFit Definition
 
 -- The messages, or allocation failure, which is possible only if there are some.
@@ -43,7 +43,7 @@ IsReply messages (Err Halted) = ⊥
 IsReply messages (Err Nothing) = ⊥
 
 -- whether a proposal runs
-abbrev pub runs : model_working.Working Definition → Bool
+abbrev pub runs : model_working.Proposing Definition → Bool
 runs model_working.Idle = false
 runs (model_working.Running proposal) = true
 runs (model_working.Won s) = false
@@ -57,11 +57,11 @@ IsOwn (Some (model_stored.Promised s b)) = ⊥
 IsOwn (Some (model_stored.Accepted s b d)) = ⊥
 IsOwn (Some (model_stored.Published s d)) = ⊤
 
--- A definition is published at the slot: a running proposal for the slot ends.
+-- A definition is published at the slot: a running proposal for the slot ends. A leadership stays.
 pub record IsEndedAt (s : ℕ) (d : Definition) (before after : Proposer) : Type 0 where
   pub node : after.node ≡ before.node
   pub nodes : after.nodes ≡ before.nodes
-  pub working : working_of after ≡ (if runs_for s (working_of before) then ends definition_eq (working_of before) d else working_of before)
+  pub working : working_of after ≡ (if runs_for s (working_of before).proposing then after_publishing definition_eq (working_of before) d else working_of before)
 
 -- the effect of a published definition's record on a proposer
 abbrev pub IsEnded : tape.Record → Proposer → Proposer → Type 0

@@ -27,11 +27,6 @@ grown_twice xs ys zs first second = record {
 -- ---- a record
 
 module _ (stored : Stored Definition) where
-  promised_grown : (s : ℕ) (b : Ballot) (is_open : Bool) → nat_lt (published stored) s ≡ is_open → IsGrown stored.history (with_record stored (Promised s b)).history
-  unfolding with_record
-  promised_grown s b true e = rw e (grown_itself stored.history)
-  promised_grown s b false e = rw e (grown_itself stored.history)
-
   accepted_grown : (s : ℕ) (b : Ballot) (d : Definition) (is_open : Bool) → nat_lt (published stored) s ≡ is_open → IsGrown stored.history (with_record stored (Accepted s b d)).history
   unfolding with_record
   accepted_grown s b d true e = rw e (grown_itself stored.history)
@@ -40,7 +35,7 @@ module _ (stored : Stored Definition) where
   record_grown : (r : Record Definition) → IsGrown stored.history (with_record stored r).history
   unfolding with_record
   record_grown (Tried r) = grown_itself stored.history
-  record_grown (Promised s b) = promised_grown s b (nat_lt (published stored) s) refl
+  record_grown (Promised s b) = grown_itself stored.history
   record_grown (Accepted s b d) = accepted_grown s b d (nat_lt (published stored) s) refl
   record_grown (Published s d) = record { more = d ∷ []; is = refl }
 

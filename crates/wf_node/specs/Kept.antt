@@ -24,18 +24,18 @@ pub record Kept : Type 0 where
 abbrev pub stored_of : Kept → Stored Definition
 stored_of kept = parts.stored_of kept.parts
 
--- There is room for the record: applying it doesn't allocate. That holds of a tried round, of a promise and a vote that is
+-- There is room for the record: applying it doesn't allocate. That holds of a tried round and a promise, of a vote that is
 -- prepared, and of a published definition if there is room for one more.
 abbrev pub IsRoomFor : Option Record → Bool → Record → Type 0
 IsRoomFor prepared has_room (Tried round) = ⊤
-IsRoomFor prepared has_room (Promised s b) = prepared ≡ Some (Promised s b)
+IsRoomFor prepared has_room (Promised s b) = ⊤
 IsRoomFor prepared has_room (Accepted s b d) = prepared ≡ Some (Accepted s b d)
 IsRoomFor prepared has_room (Published s d) = has_room ≡ true
 
 abbrev pub HasRoomFor : Kept → Record → Type 0
 HasRoomFor kept r = IsRoomFor kept.prepared kept.has_room r
 
--- There is room for the record, unless it is a promise or a vote.
+-- There is room for the record, unless it is a vote.
 abbrev pub HasRoomIfOwn : Kept → Option Record → Type 0
 HasRoomIfOwn kept None = ⊤
 HasRoomIfOwn kept (Some (Tried round)) = ⊤

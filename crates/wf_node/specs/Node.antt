@@ -47,5 +47,5 @@ view_of journal kept_parts proposes =
 -- if the journal runs, every image of an honest tape stands for the stored part.
 pub record IsNode {T : Type 0} (honest : Type 0) (images : T → List ℕ → Type 0) (journal : Journal T) (kept : Kept) (proposes : Proposer) : Type 0 where
   pub same_node : kept.id ≡ proposes.node
-  pub for_next : IsForNext (keeping.stored_of kept) (proposer.working_of proposes)
+  pub for_next : IsForNext (keeping.stored_of kept) (proposer.working_of proposes).proposing
   pub stands : honest → journal.halted ≡ false → AllStandFor (keeping.stored_of kept) (images journal.tape)

@@ -1,5 +1,5 @@
--- The stored part of a node as data: a model can't contain a function, so promises and votes are maps.
-use Rattle.std.specs.Prelude.{ℕ, List}
+-- The stored part of a node as data: a model can't contain a function, so the votes are a map.
+use Rattle.std.specs.Prelude.{ℕ, List, Option}
 use Rattle.std.specs.Ordering.{nat_cmp}
 use Rattle.std.specs.FinMap as map
 use Rattle.std.specs.FinMap.{FinMap}
@@ -8,10 +8,10 @@ use Rattle.wf_codec.specs.Message.{view_vote}
 use Rattle.wf_def.specs.Definition.{Definition}
 use Rattle.wf_model.specs.Stored.{Stored}
 
--- the round tried, the promise and the vote at each sequence, and the published definitions
+-- the round tried, the promise, which is one for all sequences, the vote at each sequence, and the published definitions
 pub record Parts : Type 0 where
   pub tried : ℕ
-  pub promises : FinMap nat_cmp Ballot
+  pub promise : Option Ballot
   pub votes : FinMap nat_cmp (Ballot × Definition)
   pub history : List Definition
 
@@ -20,7 +20,7 @@ abbrev pub stored_of : Parts → Stored Definition
 stored_of parts =
     record {
       tried = parts.tried;
-      promises = λ s. map.get parts.promises s;
+      promise = parts.promise;
       votes = λ s. view_vote (map.get parts.votes s);
       history = parts.history;
     }

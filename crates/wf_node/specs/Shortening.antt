@@ -1,10 +1,10 @@
 -- The records of a shortened tape, and the effect of shortening it on a node.
-use Rattle.std.specs.Prelude.{◌≡◌, ◌≢◌, ℕ, zero, suc, true, false, List, [], ◌∷◌, ◌++◌, Option, Some, None, Result, Err, OnOk, if◌then◌else◌}
+use Rattle.std.specs.Prelude.{◌≡◌, ◌≢◌, ℕ, zero, suc, min, Bool, true, false, ◌||◌, List, [], ◌∷◌, ◌++◌, Option, Some, None, Result, Err, OnOk}
 use Rattle.wf_ballot.specs.Ballot.{Ballot}
 use Rattle.wf_ballot.specs.Sequence.{last_sequence}
 use Rattle.wf_def.specs.Definition.{Definition}
 use Rattle.wf_model.specs.Message.{Vote}
-use Rattle.wf_model.specs.Stored.{Stored, Record, Tried, Promised, Accepted, Published, definition_at, promise_at}
+use Rattle.wf_model.specs.Stored.{Stored, Record, Tried, Promised, Accepted, Published, next_sequence, definition_at}
 use Rattle.wf_model.specs.Table.{votes_at}
 use Rattle.wf_journal.specs.Journal.{Holds}
 use Rattle.wf_tape.specs.Tape.{IsUnchanged, HasRisen}
@@ -25,33 +25,43 @@ abbrev pub vote_records : ℕ → Option (Vote Definition) → List (Record Defi
 vote_records s None = []
 vote_records s (Some vote) = Accepted s vote.ballot vote.definition ∷ []
 
--- the record of the promise there, unless it is the one that comes with the vote
-abbrev pub promise_records : ℕ → Option (Vote Definition) → Option Ballot → List (Record Definition)
-promise_records s vote None = []
-promise_records s vote (Some promise) = if votes_at vote promise then [] else Promised s promise ∷ []
-
--- of a sequence that isn't published: the vote, then the promise
-unfoldable pub open_records : Stored Definition → ℕ → List (Record Definition)
-open_records stored s = vote_records s (stored.votes s) ++ promise_records s (stored.votes s) (promise_at stored s)
-
--- of a sequence with this definition published, or with none
-abbrev pub records_by : Stored Definition → ℕ → Option Definition → List (Record Definition)
-records_by stored s None = open_records stored s
-records_by stored s (Some d) = Published s d ∷ []
+-- the records of a sequence with this definition published, or none, and with this vote, or none
+abbrev pub records_by : ℕ → Option Definition → Option (Vote Definition) → List (Record Definition)
+records_by s None vote = vote_records s vote
+records_by s (Some d) vote = Published s d ∷ []
 
 -- the records of a sequence
 unfoldable pub records_at : Stored Definition → ℕ → List (Record Definition)
-records_at stored s = records_by stored s (definition_at stored.history s)
+records_at stored s = records_by s (definition_at stored.history s) (stored.votes s)
 
 -- the records of the `count` sequences from s on
 unfoldable pub records_from : Stored Definition → ℕ → ℕ → List (Record Definition)
 records_from stored s zero = []
 records_from stored s (suc count) = records_at stored s ++ records_from stored (suc s) count
 
--- The records of a shortened tape: the last round tried, and then by sequence the published definitions, and the votes and
--- promises of those that aren't published.
+-- whether one of the votes at the first n sequences is at the ballot
+unfoldable pub is_voted : (ℕ → Option (Vote Definition)) → Ballot → ℕ → Bool
+is_voted votes b zero = false
+is_voted votes b (suc n) = is_voted votes b n || votes_at (votes (suc n)) b
+
+-- the sequence of the promise's record: the next one, or the last if that is published
+unfoldable pub promised_sequence : Stored Definition → ℕ
+promised_sequence stored = min (next_sequence stored) last_sequence
+
+-- the record of a promise, unless a vote is at its ballot
+abbrev pub promise_record : ℕ → Ballot → Bool → List (Record Definition)
+promise_record s b true = []
+promise_record s b false = Promised s b ∷ []
+
+-- the record of this promise, if there is one and no vote is at its ballot
+abbrev pub promise_records : Stored Definition → Option Ballot → List (Record Definition)
+promise_records stored None = []
+promise_records stored (Some b) = promise_record (promised_sequence stored) b (is_voted stored.votes b last_sequence)
+
+-- The records of a shortened tape: the last round tried, then by sequence the published definitions and the votes above them, and
+-- last the promise, unless a vote is at its ballot.
 unfoldable pub shortened : Stored Definition → List (Record Definition)
-shortened stored = tried_records stored.tried ++ records_from stored 1 last_sequence
+shortened stored = tried_records stored.tried ++ (records_from stored 1 last_sequence ++ promise_records stored stored.promise)
 
 module _ {T : Type 0} (honest : Type 0) (content : T → List ℕ) (images : T → List ℕ → Type 0) (failures : T → ℕ) where
   -- The contract of shortening the tape of a node that isn't halted, clause by clause.

@@ -20,7 +20,7 @@ pub enum NodeFault {
     /// N3: a proposal was requested, and the last sequence, 4,096, is published.
     #[error("N3: the last sequence is published")]
     SequenceFull,
-    /// N4: a proposal would begin, and there is no round above those tried and reported.
+    /// N4: a proposal would begin in a new round, and there is none above those tried and reported.
     #[error("N4: no higher round")]
     RoundsFull,
     /// N5: the node is halted, since its tape failed.

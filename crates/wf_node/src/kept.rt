@@ -36,7 +36,7 @@ impl Model for Kept {
       id = k.acceptor.part.id;
       parts = record {
         tried = k.tried;
-        promises = k.acceptor.part.promises;
+        promise = k.acceptor.part.promise;
         votes = k.acceptor.part.votes;
         history = k.history.definitions;
       };
@@ -52,7 +52,7 @@ impl Kept {
     ghost use Rattle.std.specs.Option.{option_copied};
     ghost use Rattle.wf_model.specs.Fits.{Fits};
     ghost use Rattle.wf_codec.specs.Message.{view_vote};
-    ghost use Rattle.wf_model.specs.Stored.{fits, nothing_stored, promise_at, with_record};
+    ghost use Rattle.wf_model.specs.Stored.{fits, nothing_stored, with_record};
     ghost use Rattle.wf_model.specs.Table.{on_accept as accept_row, on_prepare as prepare_row, store, votes_at};
     ghost use Rattle.wf_journal.specs.Record.{view};
     ghost use Rattle.wf_node.specs.Kept.{stored_of, HasRoomFor, HasRoomIfOwn, IsRow, Stores};
@@ -90,11 +90,11 @@ impl Kept {
         self.acceptor.is_published(slot)
     }
 
-    /// The promise at the slot.
-    pub(crate) fn promise_at(&self, slot: Slot) -> Option<Ballot>
-        ensures { result ≡ promise_at (stored_of self.now) slot }
+    /// The promise, which is one for all slots.
+    pub(crate) fn promise(&self) -> Option<Ballot>
+        ensures { result ≡ self.now.parts.promise }
     {
-        self.acceptor.promise_at(slot)
+        self.acceptor.promise()
     }
 
     /// The vote at the slot: its ballot and its definition.

@@ -4,7 +4,7 @@
 //! (`specs/Node.antt`); `stored_of` and `working_of` map these to wf_model's. An image of a tape stands for a stored part if its
 //! records fold to it (`specs/Images.antt`).
 //!
-//! Promises, of an honest tape: a node opens as the fold of its records, with no proposal. A step is the transition of wf_model's
+//! Promises, of an honest tape: a node opens as the fold of its records, with no proposal and no leadership. A step is the transition of wf_model's
 //! step table at this node, and returns exactly its messages. Before it returns them, the transition's record is on the tape, and
 //! every image stands for the new stored part. If the tape fails, no message is returned, and each image stands for the old
 //! stored part or the new one. When its tape is shortened, every image stands for the stored part, whatever happens. Of every tape:

@@ -48,9 +48,7 @@ impl<T: Tape> Machine<T> {
     {
         match message {
             Message::Prepare(slot, ballot) => self.on_prepare(alloc, slot, ballot),
-            Message::Promise(from, slot, ballot, vote) => {
-                self.on_promise(alloc, from, slot, ballot, vote)
-            }
+            Message::Promise(from, ballot, report) => self.on_promise(alloc, from, ballot, report),
             Message::Accept(slot, ballot, canon) => self.on_accept(alloc, slot, ballot, canon),
             Message::Accepted(from, slot, ballot) => self.on_accepted(alloc, from, slot, ballot),
             Message::Nack(from, slot, ballot, promised) => {

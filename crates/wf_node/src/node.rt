@@ -7,8 +7,8 @@ use wf_learner::History;
 use wf_proposer::Standing;
 use wf_tape::{MemoryTape, Tape};
 
-/// One node of the farm: its stored part, which is on its tape, and its proposal. Model: the parts of wf_model. Unless the node
-/// is halted, every image of an honest tape stands for the stored part.
+/// One node of the farm: its stored part, which is on its tape, and its proposal and leadership. Model: the parts of wf_model.
+/// Unless the node is halted, every image of an honest tape stands for the stored part.
 #[derive(Drop)]
 pub struct Node<T: Tape> {
     pub(crate) machine: Machine<T>,
@@ -86,7 +86,7 @@ impl<T: Tape> Node<T> {
     /// Doesn't allocate, changes nothing.
     pub fn proposal_refusal(&self) -> Option<NodeFault>
         ensures halted { self.now.halted ≡ true → result ≡ Some NodeFault.Halted }
-        ensures refusal { self.now.halted ≡ false → IsWhyNot (refuse_proposal (stored_of self.now) (working_of self.now)) result }
+        ensures refusal { self.now.halted ≡ false → IsWhyNot (refuse_proposal (stored_of self.now) (working_of self.now).leadership (working_of self.now).proposing) result }
     {
         if self.machine.journal.is_halted() {
             return Some(NodeFault::Halted);
@@ -98,7 +98,7 @@ impl<T: Tape> Node<T> {
     /// allocate, changes nothing.
     pub fn retry_refusal(&self) -> Option<NodeFault>
         ensures halted { self.now.halted ≡ true → result ≡ Some NodeFault.Halted }
-        ensures refusal { self.now.halted ≡ false → IsWhyNot (refuse_retry (stored_of self.now) (working_of self.now)) result }
+        ensures refusal { self.now.halted ≡ false → IsWhyNot (refuse_retry (stored_of self.now) (working_of self.now).proposing) result }
     {
         if self.machine.journal.is_halted() {
             return Some(NodeFault::Halted);
@@ -108,7 +108,7 @@ impl<T: Tape> Node<T> {
 
     /// The state of the node's proposal: None on a halted node.
     pub fn proposal(&self) -> Standing
-        ensures { result ≡ (if self.now.halted then Standing.None else standing_of (working_of self.now)) }
+        ensures { result ≡ (if self.now.halted then Standing.None else standing_of (working_of self.now).proposing) }
     {
         if self.machine.journal.is_halted() {
             Standing::None

@@ -23,12 +23,12 @@ use wf_proposer::Proposer;
 use wf_tape::Tape;
 
 impl<T: Tape> Node<T> {
-    /// Node `id` of `n` nodes, with the stored part of its tape and no proposal. A torn record after the whole ones is removed,
-    /// and what is kept is synced. An error returns the tape, unchanged unless the tape itself failed: P1 if the tape failed; P2
-    /// with the byte offset if what follows the whole records isn't a record, or if a published definition isn't the next one; P3
-    /// if allocation failed. Each record is moved once, so opening takes time in proportion to the tape. A crash at each moment
-    /// inside the call leaves what reads as something that a crash could have left before it. A tape that won't fail still won't,
-    /// and P1 isn't returned.
+    /// Node `id` of `n` nodes, with the stored part of its tape, no proposal and no leadership. A torn record after the whole ones
+    /// is removed, and what is kept is synced. An error returns the tape, unchanged unless the tape itself failed: P1 if the tape
+    /// failed; P2 with the byte offset if what follows the whole records isn't a record, or if a published definition isn't the
+    /// next one; P3 if allocation failed. Each record is moved once, so opening takes time in proportion to the tape. A crash at
+    /// each moment inside the call leaves what reads as something that a crash could have left before it. A tape that won't fail
+    /// still won't, and P1 isn't returned.
     #[tactic(auto, using(crate::proofs::Opened::fold_of, crate::proofs::Opened::stands_all, crate::proofs::Opened::bad_read, crate::proofs::Opened::bad_fold, crate::proofs::Opened::bad_settle, crate::proofs::Opened::unfolded_soundly, crate::proofs::Opened::same_before, wf_journal::specs::MomentLaws::inside_opened, crate::proofs::Opened::follows_before, crate::proofs::Opened::unchanged_before, crate::proofs::Opened::why_failed_before))]
     pub fn open(alloc: Global, tape: T, id: NodeId, n: u8) -> Result<Node<T>, (T, OpenFault)>
         requires nodes { n ≤ 64 }
@@ -36,7 +36,7 @@ impl<T: Tape> Node<T> {
         ensures running { IfOk result (λ node. node.halted ≡ false) }
         ensures id { IfOk result (λ node. node.id ≡ id) }
         ensures n { IfOk result (λ node. node.n ≡ n) }
-        ensures working { IfOk result (λ node. working_of node ≡ model.Idle) }
+        ensures working { IfOk result (λ node. working_of node ≡ model.at_start) }
         ensures stored { T.honest → IfOk result (λ node. IsFoldOf (stored_of node) (T.content tape)) }
         ensures stands { T.honest → IfOk result (λ node. AllStandFor (stored_of node) (T.images node.tape)) }
         ensures images { T.honest → IfOk result (λ node. Follows ReadsSame (T.images tape) (T.images node.tape)) }
@@ -77,7 +77,7 @@ impl<T: Tape> Node<T> {
     }
 }
 
-/// The node of this journal and this stored part, with no proposal yet.
+/// The node of this journal and this stored part, with no proposal and no leadership yet.
 #[tactic(auto, using(crate::proofs::Shown::working_shown))]
 fn assemble<T: Tape>(journal: Journal<T>, kept: Kept, id: NodeId, n: u8) -> Node<T>
     requires id { kept.id ≡ id }
@@ -87,7 +87,7 @@ fn assemble<T: Tape>(journal: Journal<T>, kept: Kept, id: NodeId, n: u8) -> Node
     ensures id { result.id ≡ id }
     ensures n { result.n ≡ n }
     ensures parts { result.parts ≡ kept.parts }
-    ensures working { working_of result ≡ model.Idle }
+    ensures working { working_of result ≡ model.at_start }
 {
     let proposer = Proposer::new(id, n);
     let machine = Machine {

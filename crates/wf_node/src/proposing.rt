@@ -2,7 +2,7 @@
 
 ghost use Rattle.std.specs.Prelude.{◌≡◌, false, length, nat_le};
 ghost use Rattle.wf_ballot.specs.Sequence.{last_sequence};
-ghost use Rattle.wf_codec.specs.Message.{view_vote};
+ghost use Rattle.wf_codec.specs.Message.{view_votes};
 ghost use Rattle.wf_model.specs.Fits.{Fits};
 ghost use Rattle.wf_model.specs.Message as model;
 ghost use Rattle.wf_model.specs.Table as table;
@@ -18,12 +18,13 @@ use crate::storing::store;
 use std::alloc::Global;
 use wf_ballot::{Ballot, NodeId, SEQUENCES, Slot};
 use wf_canon::Canon;
-use wf_codec::Message;
+use wf_codec::{Message, Report};
 use wf_proposer::{Next, Standing};
 use wf_tape::Tape;
 
 impl<T: Tape> Machine<T> {
-    /// Begins a proposal of `own`, unless one is running or the last sequence is published.
+    /// Begins a proposal of `own`, unless one is running or the last sequence is published. A leader whose leadership covers the
+    /// next sequence asks for votes at once; otherwise a new round is needed.
     pub(crate) fn propose(&mut self, alloc: Global, own: Canon) -> Result<Vec<Message>, NodeFault>
         requires { IsReady self.old.journal self.old.kept self.old.proposer }
         ensures act { IsAct T.honest T.content T.images (left_from T.moment T.left_since) T.failed T.never_fails (table.Propose own) self.old.journal self.old.kept.parts self.old.proposer result self.new.journal self.new.kept.parts self.new.proposer }
@@ -45,7 +46,7 @@ impl<T: Tape> Machine<T> {
         }
     }
 
-    /// Begins the running proposal again.
+    /// Begins the running proposal again, in a new round.
     pub(crate) fn retry(&mut self, alloc: Global) -> Result<Vec<Message>, NodeFault>
         requires { IsReady self.old.journal self.old.kept self.old.proposer }
         ensures act { IsAct T.honest T.content T.images (left_from T.moment T.left_since) T.failed T.never_fails table.Retry self.old.journal self.old.kept.parts self.old.proposer result self.new.journal self.new.kept.parts self.new.proposer }
@@ -59,7 +60,7 @@ impl<T: Tape> Machine<T> {
 
     /// Why a proposal would be rejected now; None if it would begin.
     pub(crate) fn proposal_refusal(&self) -> Option<NodeFault>
-        ensures { IsWhyNot (table.refuse_proposal (stored_of self.now.kept) (working_of self.now.proposer)) result }
+        ensures { IsWhyNot (table.refuse_proposal (stored_of self.now.kept) (working_of self.now.proposer).leadership (working_of self.now.proposer).proposing) result }
     {
         if self.runs() {
             return Some(NodeFault::Busy);
@@ -73,7 +74,7 @@ impl<T: Tape> Machine<T> {
 
     /// Why a retry would be rejected now; None if it would begin.
     pub(crate) fn retry_refusal(&self) -> Option<NodeFault>
-        ensures { IsWhyNot (table.refuse_retry (stored_of self.now.kept) (working_of self.now.proposer)) result }
+        ensures { IsWhyNot (table.refuse_retry (stored_of self.now.kept) (working_of self.now.proposer).proposing) result }
     {
         fault_for(self.proposer.retry_refusal(self.kept.tried()))
     }
@@ -83,15 +84,14 @@ impl<T: Tape> Machine<T> {
         &mut self,
         alloc: Global,
         from: NodeId,
-        slot: Slot,
         ballot: Ballot,
-        vote: Option<(Ballot, Canon)>,
+        report: Report,
     ) -> Result<Vec<Message>, NodeFault>
         requires { IsReady self.old.journal self.old.kept self.old.proposer }
-        ensures act { IsAct T.honest T.content T.images (left_from T.moment T.left_since) T.failed T.never_fails (table.Deliver (model.Promise from slot ballot (view_vote vote))) self.old.journal self.old.kept.parts self.old.proposer result self.new.journal self.new.kept.parts self.new.proposer }
+        ensures act { IsAct T.honest T.content T.images (left_from T.moment T.left_since) T.failed T.never_fails (table.Deliver (model.Promise from report.slot ballot (view_votes report.votes))) self.old.journal self.old.kept.parts self.old.proposer result self.new.journal self.new.kept.parts self.new.proposer }
         ensures id { self.new.kept.id ≡ self.old.kept.id }
     {
-        match self.proposer.on_promise(alloc, from, slot, ballot, vote) {
+        match self.proposer.on_promise(alloc, from, ballot, report) {
             Ok(next) => self.perform(alloc, next),
             Err(refusal) => Err(fault_of(refusal)),
         }
@@ -159,7 +159,7 @@ impl<T: Tape> Machine<T> {
 
     /// Whether a proposal is running.
     fn runs(&self) -> bool
-        ensures { result ≡ runs (working_of self.now.proposer) }
+        ensures { result ≡ runs (working_of self.now.proposer).proposing }
     {
         matches!(self.proposer.proposal(), Standing::Running)
     }

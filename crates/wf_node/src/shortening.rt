@@ -3,9 +3,8 @@
 ghost use Rattle.std.specs.Prelude.{◌≡◌, ◌++◌, ◌∷◌, [], false, map, IfOk, OnOk};
 ghost use Rattle.wf_ballot.specs.Sequence.{last_sequence};
 ghost use Rattle.wf_ballot.specs.Slot.{IsSlot};
-ghost use Rattle.wf_model.specs.Stored.{promise_at};
 ghost use Rattle.wf_node.specs.Kept.{stored_of as stored_in};
-ghost use Rattle.wf_node.specs.Shortening.{tried_records, vote_records, promise_records, open_records, records_at, records_from, shortened};
+ghost use Rattle.wf_node.specs.Shortening.{tried_records, vote_records, promised_sequence, promise_records, is_voted, records_at, records_from, shortened};
 ghost use Rattle.wf_node.specs.Storing.{IsReplacement, left_from};
 ghost use Rattle.wf_journal.specs.Journal.{Follows, IsSameOrReads};
 ghost use Rattle.wf_journal.specs.Record.{view};
@@ -15,7 +14,7 @@ use crate::kept::Kept;
 use crate::machine::Machine;
 use crate::node::Node;
 use std::alloc::{AllocError, Global};
-use wf_ballot::{Round, SEQUENCES, Slot};
+use wf_ballot::{Ballot, Round, SEQUENCES, Slot};
 use wf_canon::Canon;
 use wf_journal::{AddFault, Journal, Record};
 use wf_model::{folds_are_open, votes_are_promised};
@@ -31,12 +30,12 @@ impl<T: Tape> Node<T> {
     ghost use Rattle.wf_journal.specs.Journal.{Holds};
     ghost use Rattle.wf_tape.specs.Tape.{HasRisen, IsUnchanged};
 
-    /// Rewrites the node's tape, in one call of it: after Ok it holds the last round tried, the published definitions, and the
-    /// votes and promises above them, each once, and no promise that a vote implies. The node itself is unchanged, and
+    /// Rewrites the node's tape, in one call of it: after Ok it holds the last round tried, by sequence the published definitions
+    /// and the votes above them, each once, and the promise, unless a vote is at its ballot. The node itself is unchanged, and
     /// whatever is returned, every image of an honest tape stands for its stored part, as does what a crash at each moment inside
-    /// the call leaves. A halted node returns N5; then N1 if
-    /// allocation failed, which changes nothing; N6 if the tape failed, which halts the node. With a tape that won't fail N6 isn't
-    /// returned, and the tape still won't fail. It takes time in proportion to what is stored, and copies it.
+    /// the call leaves. A halted node returns N5; then N1 if allocation failed, which changes nothing; N6 if the tape failed, which
+    /// halts the node. With a tape that won't fail N6 isn't returned, and the tape still won't fail. It takes time in proportion to
+    /// what is stored, and copies it.
     pub fn shorten(&mut self, alloc: Global) -> Result<(), NodeFault>
         ensures halted { self.old.halted ≡ true → result ≡ Err NodeFault.Halted }
         ensures running { result ≡ Err NodeFault.Halted → self.old.halted ≡ true }
@@ -120,6 +119,7 @@ fn shortened(alloc: Global, kept: &Kept) -> Result<Vec<Record>, AllocError>
     let mut records = Vec::new(alloc);
     push_tried(&mut records, kept.tried())?;
     push_sequences(&mut records, kept)?;
+    push_promise(&mut records, kept)?;
     Ok(records)
 }
 
@@ -157,16 +157,8 @@ fn push_sequence(records: &mut Vec<Record>, kept: &Kept, slot: Slot) -> Result<(
 {
     match kept.history().canon(slot) {
         Some(canon) => push(records, Record::Published(slot, canon.copy()?)),
-        None => push_open(records, kept, slot),
+        None => push_vote(records, kept, slot),
     }
-}
-
-/// Appends the records of a slot that isn't published.
-fn push_open(records: &mut Vec<Record>, kept: &Kept, slot: Slot) -> Result<(), AllocError>
-    ensures { OnOk result (map view records.new.items ≡ map view records.old.items ++ open_records (stored_in kept.now) slot) }
-{
-    push_vote(records, kept, slot)?;
-    push_promise(records, kept, slot)
 }
 
 /// Appends the record of the slot's vote, if there is one.
@@ -179,17 +171,39 @@ fn push_vote(records: &mut Vec<Record>, kept: &Kept, slot: Slot) -> Result<(), A
     }
 }
 
-/// Appends the record of the slot's promise, unless the slot's vote implies it.
-fn push_promise(records: &mut Vec<Record>, kept: &Kept, slot: Slot) -> Result<(), AllocError>
-    ensures { OnOk result (map view records.new.items ≡ map view records.old.items ++ promise_records slot ((stored_in kept.now).votes slot) (promise_at (stored_in kept.now) slot)) }
+/// Appends the record of the promise, if there is one and no vote is at its ballot.
+fn push_promise(records: &mut Vec<Record>, kept: &Kept) -> Result<(), AllocError>
+    ensures { OnOk result (map view records.new.items ≡ map view records.old.items ++ promise_records (stored_in kept.now) (stored_in kept.now).promise) }
 {
-    let Some(promise) = kept.promise_at(slot) else {
+    let Some(promise) = kept.promise() else {
         return Ok(());
     };
-    if kept.voted_at(slot, promise) {
+    if is_voted(kept, promise) {
         return Ok(());
     }
-    push(records, Record::Promised(slot, promise))
+    push(records, Record::Promised(promised_slot(kept), promise))
+}
+
+/// Whether a vote is at the ballot.
+fn is_voted(kept: &Kept, ballot: Ballot) -> bool
+    ensures { result ≡ is_voted (stored_in kept.now).votes ballot last_sequence }
+{
+    for number in 1..SEQUENCES + 1 {
+        if kept.voted_at(slot_of(number), ballot) {
+            return true;
+        }
+    }
+    false
+}
+
+/// The slot of the promise's record: the next one, or the last if that is published.
+fn promised_slot(kept: &Kept) -> Slot
+    ensures { result ≡ promised_sequence (stored_in kept.now) }
+{
+    match kept.history().next_slot() {
+        Some(slot) => slot,
+        None => slot_of(SEQUENCES),
+    }
 }
 
 /// Appends a record.

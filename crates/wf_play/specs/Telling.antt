@@ -66,7 +66,7 @@ standing_words (standing.Overtaken s) = codes "overtaken " ++ decimal s ++ codes
 -- the proposal of a node; a halted one has none
 abbrev pub proposal_line : ℕ → Option (Node Kept) → List ℕ
 proposal_line i None = no_node
-proposal_line i (Some node) = codes "proposal " ++ decimal i ++ codes " " ++ standing_words (if node.halted then standing.None else standing_of (working_of node))
+proposal_line i (Some node) = codes "proposal " ++ decimal i ++ codes " " ++ standing_words (if node.halted then standing.None else standing_of (working_of node).proposing)
 
 abbrev pub definition_line : Script → ℕ → ℕ → Option (Node Kept) → List ℕ
 definition_line script i s None = no_node

@@ -1,77 +1,180 @@
--- The beginning of a proposal is the table's, for a first attempt and for a retry.
-use Rattle.std.proofs.Common.{◌≡◌, ℕ, ◌+◌, max, Bool, None, Result, Ok, Err, IfOk, ap, sym, subst, ◌∙◌}
+-- The beginning of a proposal is the table's: with a leadership, in a new round, and for a retry.
+use Rattle.std.proofs.Common.{◌≡◌, ℕ, ◌+◌, max, Bool, true, false, if◌then◌else◌, List, [], ◌∷◌, Option, Some, None, Result, Ok, Err, IfOk, ap, sym, subst, ◌∙◌}
 use Rattle.wf_ballot.specs.Ballot.{Ballot}
 use Rattle.wf_def.specs.Definition.{Definition}
 use Rattle.wf_model.specs.Fits.{IsForNext}
-use Rattle.wf_model.specs.Stored.{HasStored, Stored, next_sequence}
-use Rattle.wf_model.specs.Message.{Prepare}
+use Rattle.wf_model.specs.Stored.{HasStored, Stored, published, next_sequence}
+use Rattle.wf_model.specs.Message.{Vote, Prepare, Accept, from_sequence, vote_of}
 use Rattle.wf_model.specs.Stored as stored_part
-use Rattle.wf_model.specs.Table.{Row, begin_at, stores, on_propose, on_retry, round_known}
+use Rattle.wf_model.specs.Table.{Row, Refusal, begin_at, stores, says, ask_votes, lead, propose_by, on_propose, on_retry, running_row, round_known, rounds_full, refuse_round}
 use Rattle.wf_model.specs.Working as model
-use Rattle.wf_proposer.specs.Next.{Next, begun, row_at}
+use Rattle.wf_model.specs.Working.{leading_at, is_in_window, nobody, proposed, carried}
+use Rattle.wf_proposer.specs.Next.{Next, begun, led, row_at}
 use Rattle.wf_proposer.specs.Proposal.{proposal_of}
-use Rattle.wf_proposer.specs.Working.{working_of}
+use Rattle.wf_proposer.specs.Refusal.{refused_by, IsWhyNot}
+use Rattle.wf_proposer.specs.Working.{leadership_of, leading_of, proposing_of, working_from}
 use Rattle.wf_proposer.specs.declared.proposal.Proposal.{Proposal}
-use Rattle.wf_proposer.specs.declared.refusal.Refusal.{Refusal}
-use Rattle.wf_proposer.specs.declared.working.Working.{Working}
-use Rattle.wf_proposer.specs.declared.working.Working.TheVariants.{Running}
+use Rattle.wf_proposer.specs.declared.refusal.Refusal as held
+use Rattle.wf_proposer.specs.declared.working.Leadership.{Leadership}
+use Rattle.wf_proposer.specs.declared.working.Proposing.{Proposing}
+use Rattle.wf_proposer.specs.declared.working.Proposing.TheVariants.{Accepting}
 use Rattle.wf_proposer.proofs.HeardSets.{among-nobody}
+
+abbrev Leading : Type 0
+Leading = Option (model.Leadership Definition)
+
+-- ---- the next sequence
+
+after_published : (slot tried sequence : ℕ) (stored : Stored Definition) → HasStored stored tried sequence → slot ≡ sequence + 1 → slot ≡ next_sequence stored
+unfolding next_sequence
+after_published slot tried sequence stored has after = after ∙ ap (λ p. p + 1) (sym has.up_to)
+
+-- ---- in a new round
 
 -- the beginning of a proposal, with these nodes as those whose answers are counted
 abbrev begun_with : ℕ → Definition → Ballot → (ℕ → Bool) → Row Definition
 begun_with s own ballot heard =
-    stores (model.Running (record {
-      sequence = s;
-      ballot = ballot;
-      own = own;
-      phase = model.Preparing;
-      heard = heard;
-      best = None;
-      seen = 0;
-    }))
+    stores (record {
+      proposing = model.Running (record {
+        sequence = s;
+        ballot = ballot;
+        own = own;
+        phase = model.Preparing;
+        heard = heard;
+        best = [];
+        seen = 0;
+      });
+      leadership = None;
+    })
     (stored_part.Tried ballot.round) (Prepare s ballot)
 
-begun-row : (w : Working) (me slot round : ℕ) (own : Definition) (stored : Stored Definition) → slot ≡ next_sequence stored →
-    row_at w (begun slot own (record { round = round; node = me })) ≡ begin_at me stored own round
+begun-row : (o : Option Leadership) (q : Proposing) (me slot round : ℕ) (own : Definition) (stored : Stored Definition) → slot ≡ next_sequence stored →
+    row_at o q (begun slot own (record { round = round; node = me })) ≡ begin_at me stored own round
 unfolding begin_at stores
-begun-row w me slot round own stored for_next =
+begun-row o q me slot round own stored for_next =
     let ballot : Ballot = record { round = round; node = me } in
-    ap (λ s. row_at w (begun s own ballot)) for_next ∙ ap (begun_with (next_sequence stored) own ballot) among-nobody
+    ap (λ (s : ℕ). row_at o q (begun s own ballot)) for_next ∙ ap (begun_with (next_sequence stored) own ballot) among-nobody
 
 -- the first attempt is for the sequence after the published ones, in the round after the one tried
-first-row : (next : Next) (w : Working) (me slot tried sequence : ℕ) (own : Definition) (stored : Stored Definition) →
-    HasStored stored tried sequence → slot ≡ sequence + 1 → next ≡ begun slot own (record { round = tried + 1; node = me }) →
-    row_at w next ≡ on_propose me stored own
-unfolding on_propose next_sequence
-first-row next w me slot tried sequence own stored has after is =
-    ap (row_at w) (is ∙ ap (λ r. begun slot own (record { round = r + 1; node = me })) (sym has.tried)) ∙
-    begun-row w me slot (stored.tried + 1) own stored (after ∙ ap (λ p. p + 1) (sym has.up_to))
+first-row : (next : Next) (o : Option Leadership) (q : Proposing) (me slot tried sequence : ℕ) (own : Definition) (stored : Stored Definition) →
+    HasStored stored tried sequence → slot ≡ sequence + 1 → None ≡ leading_at (leading_of o) slot →
+    next ≡ begun slot own (record { round = tried + 1; node = me }) →
+    row_at o q next ≡ on_propose me stored (working_from (leading_of o) q) own
+unfolding on_propose propose_by
+first-row next o q me slot tried sequence own stored has after leads_not is =
+    let for_next : slot ≡ next_sequence stored = after_published slot tried sequence stored has after in
+    let none : None ≡ leading_at (leading_of o) (next_sequence stored) = leads_not ∙ ap (leading_at (leading_of o)) for_next in
+    ap (row_at o q) (is ∙ ap (λ (r : ℕ). begun slot own (record { round = r + 1; node = me })) (sym has.tried)) ∙
+    begun-row o q me slot (stored.tried + 1) own stored for_next ∙
+    ap (λ (l : Leading). propose_by me stored l own) none
 
-pub first-answer : (r : Result Next Refusal) (w : Working) (me slot tried sequence : ℕ) (own : Definition) (stored : Stored Definition) →
-    HasStored stored tried sequence → slot ≡ sequence + 1 →
-    IfOk r (λ next. next ≡ begun slot own (record { round = tried + 1; node = me })) → IfOk r (λ next. row_at w next ≡ on_propose me stored own)
-first-answer (Ok next) w me slot tried sequence own stored has after is = first-row next w me slot tried sequence own stored has after is
-first-answer (Err e) w me slot tried sequence own stored has after is = is
+pub first_answer : (r : Result Next held.Refusal) (o : Option Leadership) (q : Proposing) (me slot tried sequence : ℕ) (own : Definition) (stored : Stored Definition) →
+    HasStored stored tried sequence → slot ≡ sequence + 1 → None ≡ leading_at (leading_of o) slot →
+    IfOk r (λ next. next ≡ begun slot own (record { round = tried + 1; node = me })) →
+    IfOk r (λ next. row_at o q next ≡ on_propose me stored (working_from (leading_of o) q) own)
+first_answer (Ok next) o q me slot tried sequence own stored has after leads_not is = first-row next o q me slot tried sequence own stored has after leads_not is
+first_answer (Err e) o q me slot tried sequence own stored has after leads_not is = is
+
+-- ---- with a leadership
+
+-- the beginning of a leader's proposal under this leadership, with these nodes as those whose answers are counted
+abbrev led_with : model.Leadership Definition → ℕ → Definition → (ℕ → Bool) → Row Definition
+led_with l s own heard =
+    ask_votes l (record {
+      sequence = s;
+      ballot = l.ballot;
+      own = own;
+      phase = model.Accepting;
+      heard = heard;
+      best = from_sequence l.base l.best s;
+      seen = 0;
+    })
+
+inside : (l : model.Leadership Definition) (k : model.Leadership Definition) (b : Bool) → Some l ≡ (if b then Some k else None) → ◌≡◌ {A = Leading} (Some k) (Some l)
+inside l k true e = sym e
+inside l k false e = absurd cc
+
+-- a leadership that covers the sequence is the one held
+covering : (o : Leading) (s : ℕ) (l : model.Leadership Definition) → Some l ≡ leading_at o s → o ≡ Some l
+unfolding leading_at
+covering None s l e = absurd cc
+covering (Some k) s l e = inside l k (is_in_window k.base s) e
+
+-- its transition, if this is the leadership held
+abbrev led_under : Leadership → ℕ → Definition → Leading → Row Definition
+led_under l slot own m =
+    record {
+      entry = None;
+      messages = Accept slot l.ballot (carried (vote_of l.base l.best slot) own) ∷ [];
+      working = working_from m (Accepting (record { slot = slot; ballot = l.ballot; own = own; heard = 0; seen = 0 }));
+    }
+
+led-row : (l : Leadership) (o : Option Leadership) (q : Proposing) (me slot : ℕ) (own : Definition) (stored : Stored Definition) → slot ≡ next_sequence stored →
+    Some (leadership_of l) ≡ leading_at (leading_of o) slot →
+    row_at o q (led l slot own) ≡ on_propose me stored (working_from (leading_of o) q) own
+unfolding on_propose propose_by lead ask_votes says proposed
+led-row l o q me slot own stored for_next leads =
+    let held : leading_of o ≡ Some (leadership_of l) = covering (leading_of o) slot (leadership_of l) leads in
+    let at_next : Some (leadership_of l) ≡ leading_at (leading_of o) (next_sequence stored) = leads ∙ ap (leading_at (leading_of o)) for_next in
+    ap (led_under l slot own) held ∙
+    ap (led_with (leadership_of l) slot own) among-nobody ∙
+    ap (λ (s : ℕ). led_with (leadership_of l) s own nobody) for_next ∙
+    ap (λ (m : Leading). propose_by me stored m own) at_next
+
+pub led_answer : (r : Result Next held.Refusal) (l : Leadership) (o : Option Leadership) (q : Proposing) (me slot tried sequence : ℕ) (own : Definition) (stored : Stored Definition) →
+    HasStored stored tried sequence → slot ≡ sequence + 1 → Some (leadership_of l) ≡ leading_at (leading_of o) slot →
+    IfOk r (λ next. next ≡ led l slot own) → IfOk r (λ next. row_at o q next ≡ on_propose me stored (working_from (leading_of o) q) own)
+led_answer (Ok next) l o q me slot tried sequence own stored has after leads is =
+    ap (row_at o q) is ∙ led-row l o q me slot own stored (after_published slot tried sequence stored has after) leads
+led_answer (Err e) l o q me slot tried sequence own stored has after leads is = is
+
+-- ---- rejections
+
+pub led_refused : (r : Result Next held.Refusal) (o : Leading) (l : model.Leadership Definition) (slot tried sequence : ℕ) (stored : Stored Definition) →
+    HasStored stored tried sequence → slot ≡ sequence + 1 → Some l ≡ leading_at o slot → refused_by r ≡ None → refused_by r ≡ refuse_round stored (leading_at o (next_sequence stored))
+unfolding refuse_round
+led_refused r o l slot tried sequence stored has after leads none =
+    none ∙ ap (refuse_round stored) (leads ∙ ap (leading_at o) (after_published slot tried sequence stored has after))
+
+pub first_refused : (r : Result Next held.Refusal) (o : Leading) (slot tried sequence : ℕ) (stored : Stored Definition) →
+    HasStored stored tried sequence → slot ≡ sequence + 1 → None ≡ leading_at o slot → refused_by r ≡ rounds_full tried → refused_by r ≡ refuse_round stored (leading_at o (next_sequence stored))
+unfolding refuse_round
+first_refused r o slot tried sequence stored has after leads_not full =
+    full ∙ ap rounds_full (sym has.tried) ∙ ap (refuse_round stored) (leads_not ∙ ap (leading_at o) (after_published slot tried sequence stored has after))
+
+-- why a proposal would be rejected where none runs
+pub led_allowed : (o : Leading) (l : model.Leadership Definition) (slot tried sequence : ℕ) (stored : Stored Definition) →
+    HasStored stored tried sequence → slot ≡ sequence + 1 → Some l ≡ leading_at o slot → IsWhyNot (refuse_round stored (leading_at o (next_sequence stored))) None
+unfolding refuse_round
+led_allowed o l slot tried sequence stored has after leads =
+    sym (ap (refuse_round stored) (leads ∙ ap (leading_at o) (after_published slot tried sequence stored has after)))
+
+pub first_why : (why : Option held.Refusal) (o : Leading) (slot tried sequence : ℕ) (stored : Stored Definition) →
+    HasStored stored tried sequence → slot ≡ sequence + 1 → None ≡ leading_at o slot → IsWhyNot (rounds_full tried) why → IsWhyNot (refuse_round stored (leading_at o (next_sequence stored))) why
+unfolding refuse_round
+first_why why o slot tried sequence stored has after leads_not is =
+    let full : rounds_full tried ≡ refuse_round stored (leading_at o (next_sequence stored)) =
+    ap rounds_full (sym has.tried) ∙ ap (refuse_round stored) (leads_not ∙ ap (leading_at o) (after_published slot tried sequence stored has after)) in
+    subst (λ (x : Option Refusal). IsWhyNot x why) full is
+
+-- ---- a retry
 
 -- a retry is for the same sequence, in the round after the highest one known
-again-row : (next : Next) (p : Proposal) (me tried : ℕ) (stored : Stored Definition) → stored.tried ≡ tried → p.slot ≡ next_sequence stored →
+again-row : (next : Next) (o : Option Leadership) (q : Proposing) (p : Proposal) (phase : model.Phase) (best : List (Option (Vote Definition))) (me tried : ℕ) (stored : Stored Definition) →
+    proposing_of (leading_of o) q ≡ model.Running (proposal_of phase best p) → stored.tried ≡ tried → p.slot ≡ next_sequence stored →
     next ≡ begun p.slot p.own (record { round = max tried p.seen + 1; node = me }) →
-    row_at (Running p) next ≡ on_retry me stored (model.Running (proposal_of p))
+    row_at o q next ≡ on_retry me stored (working_from (leading_of o) q)
 unfolding on_retry round_known
-again-row next p me tried stored same for_next is =
-    ap (row_at (Running p)) (is ∙ ap (λ r. begun p.slot p.own (record { round = max r p.seen + 1; node = me })) (sym same)) ∙
-    begun-row (Running p) me p.slot (max stored.tried p.seen + 1) p.own stored for_next
+again-row next o q p phase best me tried stored runs same for_next is =
+    let W : model.Working Definition = working_from (leading_of o) q in
+    ap (row_at o q) (is ∙ ap (λ (r : ℕ). begun p.slot p.own (record { round = max r p.seen + 1; node = me })) (sym same)) ∙
+    begun-row o q me p.slot (max stored.tried p.seen + 1) p.own stored for_next ∙
+    ap (λ (x : model.Proposing Definition). running_row W x (λ proposal. begin_at me stored proposal.own (round_known stored proposal + 1))) (sym runs)
 
-again-at : (r : Result Next Refusal) (p : Proposal) (me tried : ℕ) (stored : Stored Definition) → stored.tried ≡ tried → p.slot ≡ next_sequence stored →
+pub again_answer : (r : Result Next held.Refusal) (o : Option Leadership) (q : Proposing) (p : Proposal) (phase : model.Phase) (best : List (Option (Vote Definition))) (me tried : ℕ) (stored : Stored Definition) →
+    proposing_of (leading_of o) q ≡ model.Running (proposal_of phase best p) → stored.tried ≡ tried → IsForNext stored (proposing_of (leading_of o) q) →
     IfOk r (λ next. next ≡ begun p.slot p.own (record { round = max tried p.seen + 1; node = me })) →
-    IfOk r (λ next. row_at (Running p) next ≡ on_retry me stored (model.Running (proposal_of p)))
-again-at (Ok next) p me tried stored same for_next is = again-row next p me tried stored same for_next is
-again-at (Err e) p me tried stored same for_next is = is
-
-pub again-answer : (r : Result Next Refusal) (w : Working) (p : Proposal) (me tried : ℕ) (stored : Stored Definition) → w ≡ Running p → stored.tried ≡ tried →
-    IsForNext stored (working_of w) → IfOk r (λ next. next ≡ begun p.slot p.own (record { round = max tried p.seen + 1; node = me })) →
-    IfOk r (λ next. row_at w next ≡ on_retry me stored (working_of w))
-again-answer r w p me tried stored runs same for_next is =
-    let At : Working → Type 0 = λ v. IsForNext stored (working_of v) in
-    let Goal : Working → Type 0 = λ v. IfOk r (λ next. row_at v next ≡ on_retry me stored (working_of v)) in
-    subst Goal (sym runs) (again-at r p me tried stored same (subst At runs for_next) is)
+    IfOk r (λ next. row_at o q next ≡ on_retry me stored (working_from (leading_of o) q))
+again_answer (Ok next) o q p phase best me tried stored runs same for_next is =
+    again-row next o q p phase best me tried stored runs same (subst (IsForNext stored) runs for_next) is
+again_answer (Err e) o q p phase best me tried stored runs same for_next is = is

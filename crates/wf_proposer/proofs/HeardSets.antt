@@ -18,8 +18,6 @@ among-nobody-at i = ap (λ bit. bit == 1) (bit_at-zero i)
 pub among-nobody : among 0 ≡ nobody
 among-nobody = fun_ext among-nobody-at
 
-pub ruleset nobody_rules = (among-nobody)
-
 -- ---- one node
 
 -- a shift brings the node's bit to the lowest place

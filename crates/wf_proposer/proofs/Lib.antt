@@ -1,2 +1,3 @@
 pub mod HeardSets
 pub mod Begun
+pub mod Counted

@@ -1,40 +1,45 @@
 -- The effect of a commit on the working part.
-use Rattle.std.specs.Prelude.{ℕ, Option, Some, None}
+use Rattle.std.specs.Prelude.{ℕ, List, Option}
 use Rattle.wf_ballot.specs.Ballot.{Ballot}
 use Rattle.wf_def.specs.Definition.{Definition}
-use Rattle.wf_proposer.specs.declared.proposal.Progress.{Progress}
-use Rattle.wf_proposer.specs.declared.proposal.Proposal.{Proposal}
+use Rattle.wf_codec.specs.Message.{view_votes}
+use Rattle.wf_model.specs.Working.{better_each}
+use Rattle.wf_proposer.specs.declared.working.Leadership.{Leadership}
+use Rattle.wf_proposer.specs.declared.working.Proposing.{Proposing}
+use Rattle.wf_proposer.specs.declared.working.Proposing.TheVariants.{Idle, Preparing, Accepting, Published, Overtaken}
 use Rattle.wf_proposer.specs.declared.working.Working.{Working}
-use Rattle.wf_proposer.specs.declared.working.Working.TheVariants.{Idle, Running, Published, Overtaken}
 use Rattle.wf_proposer.specs.declared.change.Change.{Change}
-use Rattle.wf_proposer.specs.declared.change.Change.TheVariants.{Nothing, Becomes, Advances, Sees}
+use Rattle.wf_proposer.specs.declared.change.Change.TheVariants.{Nothing, Becomes, Proposes, Promised, Voted, Sees}
 
--- the best vote: the better one if there is one, else the one before
-abbrev pub best_now : Option (Ballot × Definition) → Option (Ballot × Definition) → Option (Ballot × Definition)
-best_now None best = best
-best_now (Some vote) best = Some vote
+-- the proposal after a promise: these nodes have promised, and these votes are reported
+abbrev pub with_promise : ℕ → List (Option (Ballot × Definition)) → Proposing → Proposing
+with_promise heard votes Idle = Idle
+with_promise heard votes (Preparing p best) = Preparing (record p { heard = heard }) (better_each best (view_votes votes))
+with_promise heard votes (Accepting p) = Accepting p
+with_promise heard votes (Published s) = Published s
+with_promise heard votes (Overtaken s) = Overtaken s
 
--- the proposal after it advanced
-abbrev pub advanced : Progress → Proposal → Proposal
-advanced progress p = record p { phase = progress.phase; heard = progress.heard; best = best_now progress.better p.best }
+-- the proposal after a vote: these nodes have voted
+abbrev pub with_vote : ℕ → Proposing → Proposing
+with_vote heard Idle = Idle
+with_vote heard (Preparing p best) = Preparing p best
+with_vote heard (Accepting p) = Accepting (record p { heard = heard })
+with_vote heard (Published s) = Published s
+with_vote heard (Overtaken s) = Overtaken s
 
--- the working part after the running proposal advanced
-abbrev pub with_progress : Progress → Working → Working
-with_progress progress (Running p) = Running (advanced progress p)
-with_progress progress Idle = Idle
-with_progress progress (Published s) = Published s
-with_progress progress (Overtaken s) = Overtaken s
-
--- the working part with this as the highest round that a Nack reported
-abbrev pub with_seen : ℕ → Working → Working
-with_seen round (Running p) = Running (record p { seen = round })
+-- the proposal with this as the highest round that a Nack reported
+abbrev pub with_seen : ℕ → Proposing → Proposing
 with_seen round Idle = Idle
+with_seen round (Preparing p best) = Preparing (record p { seen = round }) best
+with_seen round (Accepting p) = Accepting (record p { seen = round })
 with_seen round (Published s) = Published s
 with_seen round (Overtaken s) = Overtaken s
 
 -- the working part after the change
-abbrev pub changed : Change → Working → Working
-changed Nothing working = working
-changed (Becomes next) working = next
-changed (Advances progress) working = with_progress progress working
-changed (Sees round) working = with_seen round working
+abbrev pub changed : Change → Option Leadership → Proposing → Working
+changed Nothing leadership proposing = record { proposing = proposing; leadership = leadership }
+changed (Becomes next) leadership proposing = next
+changed (Proposes next) leadership proposing = record { proposing = next; leadership = leadership }
+changed (Promised heard report) leadership proposing = record { proposing = with_promise heard report.votes proposing; leadership = leadership }
+changed (Voted heard) leadership proposing = record { proposing = with_vote heard proposing; leadership = leadership }
+changed (Sees round) leadership proposing = record { proposing = with_seen round proposing; leadership = leadership }

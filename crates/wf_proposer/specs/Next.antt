@@ -1,21 +1,30 @@
 -- A proposer's result, as a transition of the step table.
-use Rattle.std.specs.Prelude.{◌≡◌, ℕ, List, [], ◌∷◌, map, Option, Some, None, option_map}
+use Rattle.std.specs.Prelude.{◌≡◌, ℕ, List, [], ◌∷◌, map, Option, Some, None, option_map, max, ◌==◌, ◌&&◌, if◌then◌else◌}
 use Rattle.wf_ballot.specs.Ballot.{Ballot}
+use Rattle.wf_ballot.specs.Majority.{count_nodes, is_majority_of}
 use Rattle.wf_def.specs.Definition.{Definition}
+use Rattle.wf_def.specs.Equality.{definition_eq}
 use Rattle.wf_journal.specs.declared.record.Record.{Record}
 use Rattle.wf_journal.specs.declared.record.Record.TheVariants.{Tried}
+use Rattle.wf_journal.specs.declared.record.Record.TheVariants as tape
 use Rattle.wf_journal.specs.Record as record_of_tape
 use Rattle.wf_codec.specs.declared.message.Message.{Message}
-use Rattle.wf_codec.specs.declared.message.Message.TheVariants.{Prepare}
+use Rattle.wf_codec.specs.declared.message.Message.TheVariants.{Prepare, Accept, Chosen}
 use Rattle.wf_codec.specs.Message as message
+use Rattle.wf_codec.specs.Message.{view_votes}
+use Rattle.wf_codec.specs.Report.{Report}
+use Rattle.wf_model.specs.Message.{Vote, first_vote, vote_of}
+use Rattle.wf_model.specs.Working.{better_each, carried, same_ballot}
 use Rattle.wf_model.specs.Table.{Row}
+use Rattle.wf_proposer.specs.Heard.{among}
 use Rattle.wf_proposer.specs.Working.{working_of}
 use Rattle.wf_proposer.specs.Change.{changed}
-use Rattle.wf_proposer.specs.declared.working.Working.{Working}
-use Rattle.wf_proposer.specs.declared.proposal.Phase.TheVariants.{Preparing}
-use Rattle.wf_proposer.specs.declared.working.Working.TheVariants.{Running}
+use Rattle.wf_proposer.specs.declared.proposal.Proposal.{Proposal}
+use Rattle.wf_proposer.specs.declared.working.Leadership.{Leadership}
+use Rattle.wf_proposer.specs.declared.working.Proposing.{Proposing}
+use Rattle.wf_proposer.specs.declared.working.Proposing.TheVariants.{Preparing, Accepting, Published, Overtaken}
 use Rattle.wf_proposer.specs.declared.change.Change.{Change}
-use Rattle.wf_proposer.specs.declared.change.Change.TheVariants.{Becomes}
+use Rattle.wf_proposer.specs.declared.change.Change.TheVariants.{Nothing, Becomes, Proposes, Promised, Voted, Sees}
 
 -- the record to store, None if there is none; the messages to send after that; and the effect of a commit on the working part
 pub record Next : Type 0 where
@@ -24,12 +33,12 @@ pub record Next : Type 0 where
   pub change : Change
 
 -- the transition of this result, at a proposer with that working part
-abbrev pub row_at : Working → Next → Row Definition
-row_at working next =
+abbrev pub row_at : Option Leadership → Proposing → Next → Row Definition
+row_at leadership proposing next =
     record {
       entry = option_map record_of_tape.view next.entry;
       messages = map message.view next.messages;
-      working = working_of (changed next.change working);
+      working = working_of (changed next.change leadership proposing);
     }
 
 -- the result if a proposal of `own` begins at the ballot
@@ -38,7 +47,70 @@ begun slot own ballot =
     record {
       entry = Some (Tried ballot.round);
       messages = Prepare slot ballot ∷ [];
-      change = Becomes (Running (record { slot = slot; ballot = ballot; own = own; phase = Preparing; heard = 0; best = None; seen = 0 }));
+      change = Becomes (record {
+        proposing = Preparing (record { slot = slot; ballot = ballot; own = own; heard = 0; seen = 0 }) [];
+        leadership = None;
+      });
+    }
+
+-- the result if a leader's proposal of `own` begins
+abbrev pub led : Leadership → ℕ → Definition → Next
+led leadership slot own =
+    record {
+      entry = None;
+      messages = Accept slot leadership.ballot (carried (vote_of leadership.base leadership.best slot) own) ∷ [];
+      change = Proposes (Accepting (record { slot = slot; ballot = leadership.ballot; own = own; heard = 0; seen = 0 }));
+    }
+
+-- the result once a majority has promised, with these best votes; votes are asked for d
+abbrev pub elected_for : Proposal → List (Option (Vote Definition)) → Definition → Next
+elected_for p best d =
+    record {
+      entry = None;
+      messages = Accept p.slot p.ballot d ∷ [];
+      change = Becomes (record {
+        proposing = Accepting (record p { heard = 0 });
+        leadership = Some (record { base = p.slot; ballot = p.ballot; best = best });
+      });
+    }
+
+abbrev pub elected : Proposal → List (Option (Vote Definition)) → Next
+elected p best = elected_for p best (carried (first_vote best) p.own)
+
+-- the result after these of n nodes promised, the last one with this report
+abbrev pub promised_by : ℕ → Proposal → List (Option (Vote Definition)) → ℕ → Report → Next
+promised_by n p best heard report =
+    if is_majority_of (count_nodes n (among heard)) n
+    then elected p (better_each best (view_votes report.votes))
+    else record { entry = None; messages = []; change = Promised heard report }
+
+-- how the proposal ends if d is published at its slot
+abbrev pub ended_with : Proposal → Definition → Proposing
+ended_with p d = if definition_eq p.own d then Published p.slot else Overtaken p.slot
+
+-- the result once a majority has voted for d
+abbrev pub chosen_for : Proposal → Definition → Next
+chosen_for p d =
+    record {
+      entry = Some (tape.Published p.slot d);
+      messages = Chosen p.slot d ∷ [];
+      change = Proposes (ended_with p d);
+    }
+
+-- the result after these of n nodes voted for d
+abbrev pub voted_by : ℕ → Proposal → Definition → ℕ → Next
+voted_by n p d heard =
+    if is_majority_of (count_nodes n (among heard)) n
+    then chosen_for p d
+    else record { entry = None; messages = []; change = Voted heard }
+
+-- the result after a Nack of this ballot at the slot, with the promise
+abbrev pub nacked_by : Proposal → ℕ → Ballot → Ballot → Next
+nacked_by p slot ballot promise =
+    record {
+      entry = None;
+      messages = [];
+      change = (if (p.slot == slot) && same_ballot p.ballot ballot then Sees (max p.seen promise.round) else Nothing);
     }
 
 -- the transition sends something

@@ -4,7 +4,7 @@ use Rattle.wf_model.specs.Working as model
 use Rattle.wf_proposer.specs.declared.standing.Standing.{Standing}
 use Rattle.wf_proposer.specs.declared.standing.Standing.TheVariants.{None, Running, Published, Overtaken}
 
-abbrev pub standing_of : model.Working Definition → Standing
+abbrev pub standing_of : model.Proposing Definition → Standing
 standing_of model.Idle = None
 standing_of (model.Running proposal) = Running
 standing_of (model.Won s) = Published s

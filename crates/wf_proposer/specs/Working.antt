@@ -1,12 +1,35 @@
 -- The working part of a node, as in wf_model.
+use Rattle.std.specs.Prelude.{ℕ, List, [], Option, Some, None, option_map}
 use Rattle.wf_def.specs.Definition.{Definition}
+use Rattle.wf_model.specs.Message.{Vote, from_sequence}
 use Rattle.wf_model.specs.Working as model
 use Rattle.wf_proposer.specs.Proposal.{proposal_of}
+use Rattle.wf_proposer.specs.declared.working.Leadership.{Leadership}
+use Rattle.wf_proposer.specs.declared.working.Proposing.{Proposing}
+use Rattle.wf_proposer.specs.declared.working.Proposing.TheVariants.{Idle, Preparing, Accepting, Published, Overtaken}
 use Rattle.wf_proposer.specs.declared.working.Working.{Working}
-use Rattle.wf_proposer.specs.declared.working.Working.TheVariants.{Idle, Running, Published, Overtaken}
+
+abbrev pub leadership_of : Leadership → model.Leadership Definition
+leadership_of leadership = record { base = leadership.base; ballot = leadership.ballot; best = leadership.best }
+
+abbrev pub leading_of : Option Leadership → Option (model.Leadership Definition)
+leading_of leadership = option_map leadership_of leadership
+
+-- the best votes of a proposal that asks for votes at s: those of the leadership, from s on
+abbrev pub led_votes : Option (model.Leadership Definition) → ℕ → List (Option (Vote Definition))
+led_votes None s = []
+led_votes (Some leadership) s = from_sequence leadership.base leadership.best s
+
+abbrev pub proposing_of : Option (model.Leadership Definition) → Proposing → model.Proposing Definition
+proposing_of leadership Idle = model.Idle
+proposing_of leadership (Preparing p best) = model.Running (proposal_of model.Preparing best p)
+proposing_of leadership (Accepting p) = model.Running (proposal_of model.Accepting (led_votes leadership p.slot) p)
+proposing_of leadership (Published s) = model.Won s
+proposing_of leadership (Overtaken s) = model.Overtaken s
+
+-- the working part of this leadership and proposal
+abbrev pub working_from : Option (model.Leadership Definition) → Proposing → model.Working Definition
+working_from leadership proposing = record { proposing = proposing_of leadership proposing; leadership = leadership }
 
 abbrev pub working_of : Working → model.Working Definition
-working_of Idle = model.Idle
-working_of (Running p) = model.Running (proposal_of p)
-working_of (Published s) = model.Won s
-working_of (Overtaken s) = model.Overtaken s
+working_of working = working_from (leading_of working.leadership) working.proposing

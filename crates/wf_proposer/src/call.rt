@@ -1,41 +1,48 @@
 ghost use Rattle.std.specs.Prelude.{◌≡◌, ◌+◌, ◌<◌, if◌then◌else◌, Err, IfOk, IsErr};
+ghost use Rattle.std.specs.Option.{option_copied};
 ghost use Rattle.wf_ballot.specs.Sequence.{last_sequence};
-ghost use Rattle.wf_codec.specs.Message.{view_vote};
+ghost use Rattle.wf_codec.specs.Message.{view_votes};
 ghost use Rattle.wf_def.specs.Definition.{Definition};
 ghost use Rattle.wf_def.specs.Equality.{definition_eq};
 ghost use Rattle.wf_model.specs.Fits.{IsForNext};
-ghost use Rattle.wf_model.specs.Stored.{HasStored, Stored};
+ghost use Rattle.wf_model.specs.Stored.{HasStored, Stored, next_sequence};
 ghost use Rattle.wf_model.specs.Table as table;
 ghost use Rattle.wf_model.specs.Working as model;
 ghost use Rattle.wf_proposer.specs.Next.{Sends};
 ghost use Rattle.wf_proposer.specs.Proposer.{row_of, runs_for, working_of};
 ghost use Rattle.wf_proposer.specs.Refusal.{refused_by, IsWhyNot};
 ghost use Rattle.wf_proposer.specs.Standing.{standing_of};
+ghost use Rattle.wf_proposer.specs.Working.{leading_of};
 
 use crate::change::Change;
 use crate::next::Next;
 use crate::proposal::Proposal;
 use crate::proposer::Proposer;
 use crate::refusal::Refusal;
+use crate::row::ignored;
 use crate::standing::Standing;
-use crate::working::Working;
+use crate::working::{Leadership, Proposing, Working};
 use std::alloc::Global;
 use wf_ballot::{Ballot, NodeId, ROUNDS, Seq, Slot};
 use wf_canon::Canon;
-use wf_codec::Message;
+use wf_codec::{Message, Report};
 use wf_journal::Record;
 
 impl Proposer {
-    /// The proposer of node `id` in a farm of `n` nodes, with no proposal.
+    /// The proposer of node `id` in a farm of `n` nodes, with no proposal and no leadership.
+    #[tactic(auto, unfolding(wf_model::specs::Working::at_start))]
     pub fn new(id: NodeId, n: u8) -> Proposer
         ensures node { result.node ≡ id }
         ensures nodes { result.nodes ≡ n }
-        ensures idle { working_of result ≡ model.Idle }
+        ensures idle { working_of result ≡ model.at_start }
     {
         Proposer {
             node: id,
             nodes: n,
-            working: Working::Idle,
+            working: Working {
+                proposing: Proposing::Idle,
+                leadership: None,
+            },
         }
     }
 
@@ -48,19 +55,21 @@ impl Proposer {
 
     /// The state of the node's proposal.
     pub fn proposal(&self) -> Standing
-        ensures { result ≡ standing_of (working_of self.now) }
+        ensures { result ≡ standing_of (working_of self.now).proposing }
     {
-        match &self.working {
-            Working::Idle => Standing::None,
-            Working::Running(_) => Standing::Running,
-            Working::Published(slot) => Standing::Published(*slot),
-            Working::Overtaken(slot) => Standing::Overtaken(*slot),
+        match &self.working.proposing {
+            Proposing::Idle => Standing::None,
+            Proposing::Preparing(_, _) => Standing::Running,
+            Proposing::Accepting(_) => Standing::Running,
+            Proposing::Published(slot) => Standing::Published(*slot),
+            Proposing::Overtaken(slot) => Standing::Overtaken(*slot),
         }
     }
 
-    /// Begins a proposal of `own`; `tried` is the stored round, and `published` the last published sequence. Rejected as Busy if
-    /// a proposal runs, then as RoundsFull after the last round.
-    #[tactic(auto, unfolding(wf_model::specs::Table::refuse_proposal, wf_model::specs::Table::on_propose, wf_model::specs::Table::begin_at, wf_model::specs::Table::stores, wf_model::specs::Working::nobody, wf_model::specs::Stored::next_sequence))]
+    /// Begins a proposal of `own`; `tried` is the stored round, and `published` the last published sequence. A leader asks for votes
+    /// at once if its leadership covers the next sequence, and otherwise promises are asked for in a new round. Rejected as Busy if a
+    /// proposal runs, then as RoundsFull if a new round is needed after the last one.
+    #[tactic(auto, unfolding(wf_model::specs::Table::refuse_proposal))]
     pub fn start(
         &self,
         alloc: Global,
@@ -69,95 +78,133 @@ impl Proposer {
         own: Canon,
     ) -> Result<Next, Refusal>
         requires { published < last_sequence }
-        ensures refused { (stored : Stored Definition) → HasStored stored tried published → refused_by result ≡ table.refuse_proposal stored (working_of self.now) }
-        ensures row { (stored : Stored Definition) → HasStored stored tried published → IfOk result (λ next. row_of self.now next ≡ table.on_propose self.now.node stored own) }
+        ensures refused { (stored : Stored Definition) → HasStored stored tried published → refused_by result ≡ table.refuse_proposal stored (working_of self.now).leadership (working_of self.now).proposing }
+        ensures row { (stored : Stored Definition) → HasStored stored tried published → IfOk result (λ next. row_of self.now next ≡ table.on_propose self.now.node stored (working_of self.now) own) }
     {
-        match &self.working {
-            Working::Running(_) => {
+        match &self.working.proposing {
+            Proposing::Preparing(_, _) | Proposing::Accepting(_) => {
                 drop(own);
                 Err(Refusal::Busy)
             }
-            Working::Idle => Proposal::first(alloc, self.node, slot_after(published), own, tried),
-            Working::Published(_) => {
-                Proposal::first(alloc, self.node, slot_after(published), own, tried)
-            }
-            Working::Overtaken(_) => {
-                Proposal::first(alloc, self.node, slot_after(published), own, tried)
+            Proposing::Idle => self.begin(alloc, tried, published, own),
+            Proposing::Published(_) => self.begin(alloc, tried, published, own),
+            Proposing::Overtaken(_) => self.begin(alloc, tried, published, own),
+        }
+    }
+
+    /// Begins a proposal where none runs.
+    fn begin(&self, alloc: Global, tried: u32, published: Seq, own: Canon) -> Result<Next, Refusal>
+        requires { published < last_sequence }
+        ensures refused { (stored : Stored Definition) → HasStored stored tried published → refused_by result ≡ table.refuse_round stored (model.leading_at (working_of self.now).leadership (next_sequence stored)) }
+        ensures row { (stored : Stored Definition) → HasStored stored tried published → IfOk result (λ next. row_of self.now next ≡ table.on_propose self.now.node stored (working_of self.now) own) }
+    {
+        let slot = slot_after(published);
+        match self.leadership_at(slot) {
+            Some(leadership) => leadership.propose(alloc, slot, own),
+            None => Proposal::first(alloc, self.node, slot, own, tried),
+        }
+    }
+
+    /// The leadership, if there is one and it covers the slot.
+    #[tactic(auto, unfolding(wf_model::specs::Working::leading_at))]
+    fn leadership_at(&self, slot: Slot) -> Option<&Leadership>
+        ensures { leading_of (option_copied result) ≡ model.leading_at (working_of self.now).leadership slot }
+    {
+        match &self.working.leadership {
+            None => None,
+            Some(leadership) => {
+                if leadership.covers(slot) {
+                    Some(leadership)
+                } else {
+                    None
+                }
             }
         }
     }
 
-    /// Begins the running proposal again in a higher round; `tried` is the stored round. Rejected as Nothing if no proposal runs,
-    /// and as RoundsFull if the last round was tried or reported.
-    #[tactic(auto, unfolding(wf_model::specs::Table::refuse_retry, wf_model::specs::Table::on_retry, wf_model::specs::Table::round_known, wf_model::specs::Table::begin_at, wf_model::specs::Table::stores, wf_model::specs::Working::nobody))]
+    /// Begins the running proposal again in a higher round, and ends a leadership; `tried` is the stored round. Rejected as Nothing
+    /// if no proposal runs, and as RoundsFull if the last round was tried or reported.
+    #[tactic(auto, unfolding(wf_model::specs::Table::refuse_retry, wf_model::specs::Table::round_known))]
     pub fn retry(&self, alloc: Global, tried: u32) -> Result<Next, Refusal>
-        ensures refused { (stored : Stored Definition) → stored.tried ≡ tried → refused_by result ≡ table.refuse_retry stored (working_of self.now) }
-        ensures row { (stored : Stored Definition) → stored.tried ≡ tried → IsForNext stored (working_of self.now) → IfOk result (λ next. row_of self.now next ≡ table.on_retry self.now.node stored (working_of self.now)) }
+        ensures refused { (stored : Stored Definition) → stored.tried ≡ tried → refused_by result ≡ table.refuse_retry stored (working_of self.now).proposing }
+        ensures row { (stored : Stored Definition) → stored.tried ≡ tried → IsForNext stored (working_of self.now).proposing → IfOk result (λ next. row_of self.now next ≡ table.on_retry self.now.node stored (working_of self.now)) }
     {
-        match &self.working {
-            Working::Running(proposal) => proposal.again(alloc, self.node, tried),
-            Working::Idle => Err(Refusal::Nothing),
-            Working::Published(_) => Err(Refusal::Nothing),
-            Working::Overtaken(_) => Err(Refusal::Nothing),
+        match &self.working.proposing {
+            Proposing::Preparing(proposal, _) => proposal.again(alloc, self.node, tried),
+            Proposing::Accepting(proposal) => proposal.again(alloc, self.node, tried),
+            Proposing::Idle => Err(Refusal::Nothing),
+            Proposing::Published(_) => Err(Refusal::Nothing),
+            Proposing::Overtaken(_) => Err(Refusal::Nothing),
         }
     }
 
     /// Why a proposal would be rejected now, given that `tried` is the stored round and a sequence is left; None if it would
     /// begin.
-    #[tactic(auto, unfolding(wf_model::specs::Table::refuse_proposal, wf_model::specs::Table::rounds_full))]
+    #[tactic(auto, unfolding(wf_model::specs::Table::refuse_proposal))]
     pub fn start_refusal(&self, tried: u32, published: Seq) -> Option<Refusal>
         requires { published < last_sequence }
-        ensures { (stored : Stored Definition) → HasStored stored tried published → IsWhyNot (table.refuse_proposal stored (working_of self.now)) result }
+        ensures { (stored : Stored Definition) → HasStored stored tried published → IsWhyNot (table.refuse_proposal stored (working_of self.now).leadership (working_of self.now).proposing) result }
     {
-        match &self.working {
-            Working::Running(_) => Some(Refusal::Busy),
-            Working::Idle => rounds_refusal(tried),
-            Working::Published(_) => rounds_refusal(tried),
-            Working::Overtaken(_) => rounds_refusal(tried),
+        match &self.working.proposing {
+            Proposing::Preparing(_, _) | Proposing::Accepting(_) => Some(Refusal::Busy),
+            Proposing::Idle => self.begin_refusal(tried, published),
+            Proposing::Published(_) => self.begin_refusal(tried, published),
+            Proposing::Overtaken(_) => self.begin_refusal(tried, published),
+        }
+    }
+
+    /// Why a proposal would be rejected where none runs: only a new round may be missing, which a leader doesn't need.
+    fn begin_refusal(&self, tried: u32, published: Seq) -> Option<Refusal>
+        requires { published < last_sequence }
+        ensures { (stored : Stored Definition) → HasStored stored tried published → IsWhyNot (table.refuse_round stored (model.leading_at (working_of self.now).leadership (next_sequence stored))) result }
+    {
+        match self.leadership_at(slot_after(published)) {
+            Some(_) => None,
+            None => rounds_refusal(tried),
         }
     }
 
     /// Why a retry would be rejected now, given that `tried` is the stored round; None if it would begin.
     #[tactic(auto, unfolding(wf_model::specs::Table::refuse_retry, wf_model::specs::Table::round_known))]
     pub fn retry_refusal(&self, tried: u32) -> Option<Refusal>
-        ensures { (stored : Stored Definition) → stored.tried ≡ tried → IsWhyNot (table.refuse_retry stored (working_of self.now)) result }
+        ensures { (stored : Stored Definition) → stored.tried ≡ tried → IsWhyNot (table.refuse_retry stored (working_of self.now).proposing) result }
     {
-        match &self.working {
-            Working::Running(proposal) => rounds_refusal(tried.max(proposal.seen)),
-            Working::Idle => Some(Refusal::Nothing),
-            Working::Published(_) => Some(Refusal::Nothing),
-            Working::Overtaken(_) => Some(Refusal::Nothing),
+        match &self.working.proposing {
+            Proposing::Preparing(proposal, _) => rounds_refusal(tried.max(proposal.seen)),
+            Proposing::Accepting(proposal) => rounds_refusal(tried.max(proposal.seen)),
+            Proposing::Idle => Some(Refusal::Nothing),
+            Proposing::Published(_) => Some(Refusal::Nothing),
+            Proposing::Overtaken(_) => Some(Refusal::Nothing),
         }
     }
 
     /// A Promise of `from` arrived. The only error is allocation failure, and only if the transition sends something: an answer
     /// that leaves no majority doesn't allocate.
-    #[tactic(auto, unfolding(wf_model::specs::Table::on_promise, wf_model::specs::Table::quiet))]
+    #[tactic(auto, unfolding(wf_model::specs::Table::on_promise, wf_model::specs::Table::quiet, wf_model::specs::Table::hears, wf_model::specs::Working::same_phase))]
     pub fn on_promise(
         &self,
         alloc: Global,
         from: NodeId,
-        slot: Slot,
         ballot: Ballot,
-        vote: Option<(Ballot, Canon)>,
+        report: Report,
     ) -> Result<Next, Refusal>
-        ensures memory { IsErr result → Sends (table.on_promise self.now.nodes (working_of self.now) from slot ballot (view_vote vote)) × (result ≡ Err Refusal.Memory) }
-        ensures row { IfOk result (λ next. row_of self.now next ≡ table.on_promise self.now.nodes (working_of self.now) from slot ballot (view_vote vote)) }
+        ensures memory { IsErr result → Sends (table.on_promise self.now.nodes (working_of self.now) from report.slot ballot (view_votes report.votes)) × (result ≡ Err Refusal.Memory) }
+        ensures row { IfOk result (λ next. row_of self.now next ≡ table.on_promise self.now.nodes (working_of self.now) from report.slot ballot (view_votes report.votes)) }
     {
-        match &self.working {
-            Working::Running(proposal) => {
-                proposal.on_promise(alloc, self.nodes, from, slot, ballot, vote)
+        match &self.working.proposing {
+            Proposing::Preparing(proposal, best) => {
+                proposal.on_promise(alloc, self.nodes, best, from, ballot, report)
             }
-            _ => {
-                drop(vote);
-                Ok(Next::quiet(alloc, Change::Nothing))
-            }
+            Proposing::Idle => ignored(alloc, report),
+            Proposing::Accepting(_) => ignored(alloc, report),
+            Proposing::Published(_) => ignored(alloc, report),
+            Proposing::Overtaken(_) => ignored(alloc, report),
         }
     }
 
     /// An Accepted of `from` arrived. The only error is allocation failure, and only if the transition sends something: an answer
     /// that leaves no majority doesn't allocate.
-    #[tactic(auto, unfolding(wf_model::specs::Table::on_accepted, wf_model::specs::Table::quiet))]
+    #[tactic(auto, unfolding(wf_model::specs::Table::on_accepted, wf_model::specs::Table::quiet, wf_model::specs::Table::hears, wf_model::specs::Working::same_phase))]
     pub fn on_accepted(
         &self,
         alloc: Global,
@@ -168,13 +215,15 @@ impl Proposer {
         ensures memory { IsErr result → Sends (table.on_accepted definition_eq self.now.nodes (working_of self.now) from slot ballot) × (result ≡ Err Refusal.Memory) }
         ensures row { IfOk result (λ next. row_of self.now next ≡ table.on_accepted definition_eq self.now.nodes (working_of self.now) from slot ballot) }
     {
-        match &self.working {
-            Working::Running(proposal) => {
-                proposal.on_accepted(alloc, self.nodes, from, slot, ballot)
+        match &self.working.proposing {
+            Proposing::Accepting(proposal) => {
+                let leadership = &self.working.leadership;
+                proposal.on_accepted(alloc, self.nodes, leadership, from, slot, ballot)
             }
-            Working::Idle => Ok(Next::quiet(alloc, Change::Nothing)),
-            Working::Published(_) => Ok(Next::quiet(alloc, Change::Nothing)),
-            Working::Overtaken(_) => Ok(Next::quiet(alloc, Change::Nothing)),
+            Proposing::Idle => Ok(Next::quiet(alloc, Change::Nothing)),
+            Proposing::Preparing(_, _) => Ok(Next::quiet(alloc, Change::Nothing)),
+            Proposing::Published(_) => Ok(Next::quiet(alloc, Change::Nothing)),
+            Proposing::Overtaken(_) => Ok(Next::quiet(alloc, Change::Nothing)),
         }
     }
 
@@ -183,11 +232,12 @@ impl Proposer {
     pub fn on_nack(&self, alloc: Global, slot: Slot, ballot: Ballot, promised: Ballot) -> Next
         ensures { row_of self.now result ≡ table.on_nack (working_of self.now) slot ballot promised }
     {
-        match &self.working {
-            Working::Running(proposal) => proposal.on_nack(alloc, slot, ballot, promised),
-            Working::Idle => Next::quiet(alloc, Change::Nothing),
-            Working::Published(_) => Next::quiet(alloc, Change::Nothing),
-            Working::Overtaken(_) => Next::quiet(alloc, Change::Nothing),
+        match &self.working.proposing {
+            Proposing::Preparing(proposal, _) => proposal.on_nack(alloc, slot, ballot, promised),
+            Proposing::Accepting(proposal) => proposal.on_nack(alloc, slot, ballot, promised),
+            Proposing::Idle => Next::quiet(alloc, Change::Nothing),
+            Proposing::Published(_) => Next::quiet(alloc, Change::Nothing),
+            Proposing::Overtaken(_) => Next::quiet(alloc, Change::Nothing),
         }
     }
 
@@ -205,23 +255,29 @@ impl Proposer {
         (entry, messages)
     }
 
-    /// The definition is published at the slot: a running proposal for the slot ends. Doesn't allocate.
-    #[tactic(auto, unfolding(wf_model::specs::Table::ends))]
+    /// The definition is published at the slot: a running proposal for the slot ends, and a leadership stays. Doesn't allocate.
+    #[tactic(auto, unfolding(wf_model::specs::Table::after_publishing, wf_model::specs::Table::ends))]
     pub fn on_published(&mut self, slot: Slot, canon: &Canon)
-        ensures working { working_of self.new ≡ (if runs_for slot (working_of self.old) then table.ends definition_eq (working_of self.old) canon.now else working_of self.old) }
+        ensures working { working_of self.new ≡ (if runs_for slot (working_of self.old).proposing then table.after_publishing definition_eq (working_of self.old) canon.now else working_of self.old) }
         ensures node { self.new.node ≡ self.old.node }
         ensures nodes { self.new.nodes ≡ self.old.nodes }
     {
-        match &self.working {
-            Working::Running(proposal) => {
-                if proposal.slot == slot {
+        match &self.working.proposing {
+            Proposing::Preparing(proposal, _) => {
+                if proposal.is_for(slot) {
                     let ended = proposal.ended(canon);
-                    self.working.becomes(ended);
+                    self.working.proposes(ended);
                 }
             }
-            Working::Idle => {}
-            Working::Published(_) => {}
-            Working::Overtaken(_) => {}
+            Proposing::Accepting(proposal) => {
+                if proposal.is_for(slot) {
+                    let ended = proposal.ended(canon);
+                    self.working.proposes(ended);
+                }
+            }
+            Proposing::Idle => {}
+            Proposing::Published(_) => {}
+            Proposing::Overtaken(_) => {}
         }
     }
 }

@@ -1,8 +1,11 @@
-//! The proposer of a node: at most one proposal, from its first Prepare until a definition is published.
+//! The proposer of a node: at most one proposal, from its first message until a definition is published, and a leadership, under
+//! which a proposal begins by asking for votes.
 //!
 //! Model: a `Proposer` is its node, the farm's number of nodes and its working part; `working_of` (`specs/Proposer.antt`) maps
-//! that to wf_model's, with the mask of the nodes whose answers are counted as a set. A `Next` is the record to store, if there is
-//! one, the messages to send and the change of the working part; `row_of` maps it to a transition of wf_model's step table.
+//! that to wf_model's, with the mask of the nodes whose answers are counted as a set. A proposal that asks for votes holds no
+//! reported votes of its own: in the model they are those of the leadership, from its sequence on. A `Next` is the record to store,
+//! if there is one, the messages to send and the change of the working part; `row_of` maps it to a transition of wf_model's step
+//! table.
 //!
 //! Promises: each call returns the step table's transition, as a function of the working part and the input, and rejects exactly
 //! if the table does, or if allocation fails. A call that returns a `Next` changes nothing until `commit` makes its working part
@@ -14,7 +17,9 @@
 
 mod call;
 mod change;
+mod commit;
 mod heard;
+mod lead;
 mod next;
 mod proposal;
 mod proposer;

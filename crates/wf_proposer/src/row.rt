@@ -1,50 +1,55 @@
-ghost use Rattle.std.specs.Prelude.{max, [], ◌∷◌, ◌≡◌, ◌+◌, None, Err, IfOk, IsErr};
-ghost use Rattle.wf_ballot.specs.Ballot.{last_round};
-ghost use Rattle.wf_codec.specs.Message.{view_vote};
+ghost use Rattle.std.specs.Prelude.{max, [], ◌∷◌, ◌≡◌, ◌==◌, ◌&&◌, ◌+◌, true, None, Ok, Err, IfOk, IsErr, List, Option};
+ghost use Rattle.wf_ballot.specs.Majority.{count_nodes, is_majority_of};
+ghost use Rattle.wf_codec.specs.Message.{view_votes};
 ghost use Rattle.wf_def.specs.Definition.{Definition};
 ghost use Rattle.wf_def.specs.Equality.{definition_eq};
-ghost use Rattle.wf_model.specs.Message.{Chosen};
-ghost use Rattle.wf_model.specs.Stored as stored_part;
+ghost use Rattle.wf_model.specs.Message.{Vote, first_vote};
 ghost use Rattle.wf_model.specs.Working as model;
 ghost use Rattle.wf_model.specs.Table as table;
-ghost use Rattle.wf_proposer.specs.Change.{advanced, best_now, changed, with_progress, with_seen};
-ghost use Rattle.wf_proposer.specs.Next.{begun, row_at, Sends};
-ghost use Rattle.wf_proposer.specs.Proposal.{is_improved_by, phase_of, proposal_of};
+ghost use Rattle.wf_proposer.specs.Heard.{among};
+ghost use Rattle.wf_proposer.specs.Next.{begun, chosen_for, elected, elected_for, ended_with, nacked_by, promised_by, row_at, voted_by, Sends};
+ghost use Rattle.wf_proposer.specs.Proposal.{proposal_of};
 ghost use Rattle.wf_proposer.specs.Refusal.{refused_by};
-ghost use Rattle.wf_proposer.specs.Working.{working_of};
-ghost use Rattle.wf_proposer.specs.declared.proposal.Phase.TheVariants.{Accepting};
-ghost use Rattle.wf_proposer.specs.declared.working.Working.TheVariants.{Running};
+ghost use Rattle.wf_proposer.specs.Working.{leading_of, led_votes, working_from};
 
 use crate::change::Change;
 use crate::heard::Heard;
 use crate::next::Next;
-use crate::proposal::{Phase, Progress, Proposal};
+use crate::proposal::Proposal;
 use crate::refusal::Refusal;
-use crate::working::Working;
+use crate::working::{Leadership, Proposing, Working};
 use std::alloc::{AllocError, Global};
-use std::mem::replace;
 use wf_ballot::{Ballot, NodeId, Round, Slot};
 use wf_canon::Canon;
-use wf_codec::Message;
+use wf_codec::{BestVotes, Message, Report};
 use wf_journal::Record;
 
 impl Proposal {
-    /// A proposal of `own` begins at the ballot: its round is stored before any Prepare is sent.
-    pub fn begin(alloc: Global, slot: Slot, own: Canon, ballot: Ballot) -> Result<Next, AllocError>
-        ensures { IfOk result (λ next. next ≡ begun slot own ballot) }
+    /// A proposal of `own`, of which no answer is counted yet.
+    pub fn new(slot: Slot, ballot: Ballot, own: Canon) -> Proposal
+        ensures { result ≡ record { slot = slot; ballot = ballot; own = own; heard = 0; seen = 0 } }
     {
-        let proposal = Proposal {
+        Proposal {
             slot,
             ballot,
             own,
-            phase: Phase::Preparing,
             heard: Heard::nobody(),
-            best: None,
             seen: 0,
+        }
+    }
+
+    /// A proposal of `own` begins at the ballot: its round is stored before any Prepare is sent, and a leadership ends.
+    pub fn begin(alloc: Global, slot: Slot, own: Canon, ballot: Ballot) -> Result<Next, AllocError>
+        ensures { IfOk result (λ next. next ≡ begun slot own ballot) }
+    {
+        let proposal = Proposal::new(slot, ballot, own);
+        let working = Working {
+            proposing: Proposing::Preparing(proposal, BestVotes::none()),
+            leadership: None,
         };
         let tried = Record::Tried(Round::of(ballot));
         let message = Message::Prepare(slot, ballot);
-        let change = Change::Becomes(Working::Running(proposal));
+        let change = Change::Becomes(working);
         Next::says(alloc, Some(tried), message, change)
     }
 
@@ -88,244 +93,194 @@ impl Proposal {
         }
     }
 
-    /// Advances the proposal.
-    pub fn advance(&mut self, progress: Progress)
-        ensures { self.new ≡ advanced progress self.old }
+    /// Whether this is a proposal for the slot.
+    pub fn is_for(&self, slot: Slot) -> bool
+        ensures { result ≡ (self.now.slot == slot) }
     {
-        let Progress {
-            phase,
-            heard,
-            better,
-        } = progress;
-        self.heard = heard;
-        self.phase = phase;
-        match better {
-            None => {}
-            Some(vote) => drop(self.best.replace(vote)),
-        }
-    }
-
-    /// Whether this is the phase.
-    #[tactic(auto, unfolding(wf_model::specs::Working::same_phase))]
-    pub fn is_in(&self, phase: Phase) -> bool
-        ensures { result ≡ model.same_phase (phase_of self.now.phase) (phase_of phase) }
-    {
-        match self.phase {
-            Phase::Preparing => matches!(phase, Phase::Preparing),
-            Phase::Accepting => matches!(phase, Phase::Accepting),
-        }
+        self.slot == slot
     }
 
     /// Whether this is the proposal at the slot and the ballot.
-    #[tactic(auto, unfolding(wf_model::specs::Working::is_at, wf_model::specs::Working::same_ballot))]
+    #[tactic(auto, unfolding(wf_model::specs::Working::same_ballot))]
     pub fn is_at(&self, slot: Slot, ballot: Ballot) -> bool
-        ensures { result ≡ model.is_at (proposal_of self.now) slot ballot }
+        ensures { result ≡ ((self.now.slot == slot) && model.same_ballot self.now.ballot ballot) }
     {
-        self.slot == slot && self.ballot == ballot
+        self.is_for(slot) && self.ballot == ballot
     }
 
-    /// Whether the proposal waits for the answer: it is of its phase, slot and ballot, from a node of the farm whose answer isn't
-    /// counted yet.
-    #[tactic(auto, unfolding(wf_model::specs::Table::hears))]
-    pub fn hears(&self, phase: Phase, n: u8, from: NodeId, slot: Slot, ballot: Ballot) -> bool
-        ensures { result ≡ table.hears n (proposal_of self.now) (phase_of phase) from slot ballot }
+    /// Whether the proposal waits for the answer, which is of its phase: it is of its slot and ballot, from a node of the farm whose
+    /// answer isn't counted yet.
+    #[tactic(auto, unfolding(wf_model::specs::Table::hears, wf_model::specs::Working::is_at, wf_model::specs::Working::same_phase))]
+    fn hears(&self, n: u8, from: NodeId, slot: Slot, ballot: Ballot) -> bool
+        ensures promise { (best : List (Option (Vote Definition))) → result ≡ table.hears n (proposal_of model.Preparing best self.now) model.Preparing from slot ballot }
+        ensures vote { (best : List (Option (Vote Definition))) → result ≡ table.hears n (proposal_of model.Accepting best self.now) model.Accepting from slot ballot }
     {
-        self.is_in(phase)
-            && self.is_at(slot, ballot)
-            && from.number() < n
-            && !self.heard.contains(from)
+        self.is_at(slot, ballot) && from.number() < n && !self.heard.contains(from)
     }
 
-    /// Whether a vote at the ballot is better than the best so far.
-    pub fn is_improved_by(&self, ballot: Ballot) -> bool
-        ensures { result ≡ is_improved_by ballot self.now.best }
-    {
-        match &self.best {
-            None => true,
-            Some((best, _)) => best.is_below(ballot),
-        }
-    }
-
-    /// The vote, if it is better than the best so far, that is, at a higher ballot.
-    #[tactic(auto, unfolding(wf_model::specs::Working::better))]
-    pub fn improvement(&self, vote: Option<(Ballot, Canon)>) -> Option<(Ballot, Canon)>
-        ensures { view_vote (best_now result self.now.best) ≡ model.better (view_vote self.now.best) (view_vote vote) }
-    {
-        match vote {
-            None => None,
-            Some((ballot, canon)) => {
-                if self.is_improved_by(ballot) {
-                    Some((ballot, canon))
-                } else {
-                    drop(canon);
-                    None
-                }
-            }
-        }
-    }
-
-    /// The definition that votes are asked for: that of the best vote (`better`, if there is one), or else the node's own.
-    #[tactic(auto, unfolding(wf_model::specs::Working::carried))]
-    pub fn carried<'a>(&'a self, better: &'a Option<(Ballot, Canon)>) -> &'a Canon
-        ensures { result.now ≡ model.carried (view_vote (best_now better.now self.now.best)) self.now.own }
-    {
-        match better {
-            Some((_, canon)) => canon,
-            None => match &self.best {
-                Some((_, canon)) => canon,
-                None => &self.own,
-            },
-        }
-    }
-
-    /// How the proposal ends if the definition is published at its slot.
-    #[tactic(auto, unfolding(wf_model::specs::Table::ended))]
-    pub fn ended(&self, canon: &Canon) -> Working
-        ensures { working_of result ≡ table.ended definition_eq (proposal_of self.now) canon.now }
-    {
-        if self.own == *canon {
-            Working::Published(self.slot)
-        } else {
-            Working::Overtaken(self.slot)
-        }
-    }
-
-    /// A Promise arrived: it is counted, and its vote replaces the best if it is better. Once a majority has promised, votes are
-    /// asked for; only that allocates. An answer that the proposal doesn't wait for has no effect.
-    #[tactic(auto, unfolding(wf_model::specs::Table::on_promise, wf_model::specs::Table::quiet))]
+    /// A Promise arrived while promises are asked for, `best` the best votes so far: it is counted, and for each slot the better vote
+    /// is kept. Once a majority has promised, votes are asked for; only that allocates. An answer that the proposal doesn't wait for
+    /// has no effect.
     pub fn on_promise(
         &self,
         alloc: Global,
         n: u8,
+        best: &BestVotes,
         from: NodeId,
-        slot: Slot,
         ballot: Ballot,
-        vote: Option<(Ballot, Canon)>,
+        report: Report,
     ) -> Result<Next, Refusal>
-        ensures memory { IsErr result → Sends (table.on_promise n (model.Running (proposal_of self.now)) from slot ballot (view_vote vote)) × (result ≡ Err Refusal.Memory) }
-        ensures row { IfOk result (λ next. row_at (Running self.now) next ≡ table.on_promise n (model.Running (proposal_of self.now)) from slot ballot (view_vote vote)) }
+        ensures memory { (leadership : Option Leadership) → IsErr result → Sends (table.on_promise n (working_from (leading_of leadership) (Proposing.Preparing self.now best.now)) from report.slot ballot (view_votes report.votes)) × (result ≡ Err Refusal.Memory) }
+        ensures row { (leadership : Option Leadership) → IfOk result (λ next. row_at leadership (Proposing.Preparing self.now best.now) next ≡ table.on_promise n (working_from (leading_of leadership) (Proposing.Preparing self.now best.now)) from report.slot ballot (view_votes report.votes)) }
     {
-        if !self.hears(Phase::Preparing, n, from, slot, ballot) {
-            drop(vote);
-            return Ok(Next::quiet(alloc, Change::Nothing));
+        if !self.hears(n, from, report.slot(), ballot) {
+            return ignored(alloc, report);
         }
-        Ok(self.with_promise(alloc, n, from, vote)?)
+        self.promised(alloc, n, self.heard.with(from), best, report)
     }
 
-    /// The transition of a promise that the proposal waits for.
-    #[tactic(auto, unfolding(wf_model::specs::Table::with_promise))]
-    fn with_promise(
-        &self,
-        alloc: Global,
-        n: u8,
-        from: NodeId,
-        vote: Option<(Ballot, Canon)>,
-    ) -> Result<Next, AllocError>
-        ensures memory { IsErr result → Sends (table.promised n (table.with_promise (proposal_of self.now) from (view_vote vote))) }
-        ensures row { IfOk result (λ next. row_at (Running self.now) next ≡ table.promised n (table.with_promise (proposal_of self.now) from (view_vote vote))) }
-    {
-        let heard = self.heard.with(from);
-        let better = self.improvement(vote);
-        self.promised(alloc, n, heard, better)
-    }
-
-    /// The transition after these nodes promised, with this vote, if any, as the best.
-    #[tactic(auto, using(crate::proofs::HeardSets::nobody_rules), unfolding(wf_model::specs::Table::promised, wf_model::specs::Table::asking_votes, wf_model::specs::Table::says, wf_model::specs::Table::quiet))]
+    /// The result after these nodes promised, the last one with this report. Once they are a majority, votes are asked for; only
+    /// that allocates.
     fn promised(
         &self,
         alloc: Global,
         n: u8,
         heard: Heard,
-        better: Option<(Ballot, Canon)>,
-    ) -> Result<Next, AllocError>
-        ensures memory { IsErr result → Sends (table.promised n (proposal_of (record self.now { heard = heard; best = best_now better self.now.best }))) }
-        ensures row { IfOk result (λ next. row_at (Running self.now) next ≡ table.promised n (proposal_of (record self.now { heard = heard; best = best_now better self.now.best }))) }
+        best: &BestVotes,
+        report: Report,
+    ) -> Result<Next, Refusal>
+        ensures memory { IsErr result → (is_majority_of (count_nodes n (among heard)) n ≡ true) × (result ≡ Err Refusal.Memory) }
+        ensures next { IfOk result (λ next. next ≡ promised_by n self.now best.now heard report) }
     {
         if !heard.is_majority(n) {
-            return Ok(Next::quiet(alloc, self.hearing(heard, better)));
+            return Ok(Next::quiet(alloc, Change::Promised(heard, report)));
         }
-        self.asks_votes(alloc, better)
+        let next = self.elected(alloc, best, report)?;
+        Ok(next)
     }
 
-    /// These nodes are counted, and this vote, if any, is the best.
-    fn hearing(&self, heard: Heard, better: Option<(Ballot, Canon)>) -> Change
-        ensures { result ≡ Change.Advances (record { phase = self.now.phase; heard = heard; better = better }) }
+    /// A majority has promised, the last node with this report: votes are asked for, and a leadership begins.
+    fn elected(&self, alloc: Global, best: &BestVotes, report: Report) -> Result<Next, AllocError>
+        ensures { IfOk result (λ next. next ≡ elected self.now (model.better_each best.now (view_votes report.votes))) }
     {
-        Change::Advances(Progress {
-            phase: self.phase,
-            heard,
-            better,
-        })
-    }
-
-    /// Votes are asked for, with this vote, if any, as the best. No answer to that is counted yet.
-    fn asks_votes(&self, alloc: Global, better: Option<(Ballot, Canon)>) -> Result<Next, AllocError>
-        ensures { IfOk result (λ next. next ≡ record {
-          entry = None;
-          messages = Message.Accept self.now.slot self.now.ballot (model.carried (view_vote (best_now better self.now.best)) self.now.own) ∷ [];
-          change = Change.Advances (record { phase = Accepting; heard = 0; better = better });
-        }) }
-    {
-        match self.carried(&better).copy() {
-            Ok(canon) => {
-                let message = Message::Accept(self.slot, self.ballot, canon);
-                let progress = Progress {
-                    phase: Phase::Accepting,
-                    heard: Heard::nobody(),
-                    better,
-                };
-                Next::says(alloc, None, message, Change::Advances(progress))
+        match best.copy() {
+            Ok(copy) => {
+                let mut better = copy;
+                better.improve(report);
+                self.leads(alloc, better)
             }
             Err(fault) => {
-                drop(better);
+                drop(report);
                 Err(fault)
             }
         }
     }
 
-    /// An Accepted arrived: it is counted. Once a majority has voted, the definition is published and the proposal ends; only that
-    /// allocates. An answer that the proposal doesn't wait for has no effect.
-    #[tactic(auto, unfolding(wf_model::specs::Table::on_accepted, wf_model::specs::Table::with_vote, wf_model::specs::Table::quiet))]
+    /// Votes are asked for, for the best vote reported at the proposal's slot, or else for its own definition.
+    fn leads(&self, alloc: Global, best: BestVotes) -> Result<Next, AllocError>
+        ensures { IfOk result (λ next. next ≡ elected self.now best) }
+    {
+        match best.first_or(&self.own).copy() {
+            Ok(canon) => self.asks_votes(alloc, best, canon),
+            Err(fault) => {
+                drop(best);
+                Err(fault)
+            }
+        }
+    }
+
+    /// Votes are asked for the definition. No answer to that is counted yet.
+    fn asks_votes(&self, alloc: Global, best: BestVotes, canon: Canon) -> Result<Next, AllocError>
+        ensures { IfOk result (λ next. next ≡ elected_for self.now best canon) }
+    {
+        match self.own.copy() {
+            Ok(own) => {
+                let message = Message::Accept(self.slot, self.ballot, canon);
+                let change = Change::Becomes(self.led_by(own, best));
+                Next::says(alloc, None, message, change)
+            }
+            Err(fault) => {
+                drop(best);
+                drop(canon);
+                Err(fault)
+            }
+        }
+    }
+
+    /// The working part once votes are asked for; `own` is a copy of the proposal's own definition.
+    fn led_by(&self, own: Canon, best: BestVotes) -> Working
+        ensures { result ≡ record {
+          proposing = Proposing.Accepting (record { slot = self.now.slot; ballot = self.now.ballot; own = own; heard = 0; seen = self.now.seen });
+          leadership = Some (record { base = self.now.slot; ballot = self.now.ballot; best = best });
+        } }
+    {
+        let mut proposal = Proposal::new(self.slot, self.ballot, own);
+        proposal.seen = self.seen;
+        let leadership = Leadership {
+            base: self.slot,
+            ballot: self.ballot,
+            best,
+        };
+        Working {
+            proposing: Proposing::Accepting(proposal),
+            leadership: Some(leadership),
+        }
+    }
+
+    /// The definition that votes were asked for under the leadership: that of the best vote reported at the proposal's slot, or else
+    /// its own.
+    #[tactic(auto, unfolding(wf_model::specs::Message::first_vote, wf_model::specs::Working::carried))]
+    fn carried<'a>(&'a self, leadership: &'a Option<Leadership>) -> &'a Canon
+        ensures { result.now ≡ model.carried (first_vote (led_votes (leading_of leadership.now) self.now.slot)) self.now.own }
+    {
+        match leadership {
+            None => &self.own,
+            Some(leadership) => leadership.best.at_or(leadership.base, self.slot, &self.own),
+        }
+    }
+
+    /// An Accepted arrived while votes are asked for: it is counted. Once a majority has voted, the definition is published and the
+    /// proposal ends; only that allocates. An answer that the proposal doesn't wait for has no effect.
     pub fn on_accepted(
         &self,
         alloc: Global,
         n: u8,
+        leadership: &Option<Leadership>,
         from: NodeId,
         slot: Slot,
         ballot: Ballot,
     ) -> Result<Next, Refusal>
-        ensures memory { IsErr result → Sends (table.on_accepted definition_eq n (model.Running (proposal_of self.now)) from slot ballot) × (result ≡ Err Refusal.Memory) }
-        ensures row { IfOk result (λ next. row_at (Running self.now) next ≡ table.on_accepted definition_eq n (model.Running (proposal_of self.now)) from slot ballot) }
+        ensures memory { IsErr result → Sends (table.on_accepted definition_eq n (working_from (leading_of leadership.now) (Proposing.Accepting self.now)) from slot ballot) × (result ≡ Err Refusal.Memory) }
+        ensures row { IfOk result (λ next. row_at leadership.now (Proposing.Accepting self.now) next ≡ table.on_accepted definition_eq n (working_from (leading_of leadership.now) (Proposing.Accepting self.now)) from slot ballot) }
     {
-        if !self.hears(Phase::Accepting, n, from, slot, ballot) {
+        if !self.hears(n, from, slot, ballot) {
             return Ok(Next::quiet(alloc, Change::Nothing));
         }
-        let heard = self.heard.with(from);
-        Ok(self.voted(alloc, n, heard)?)
+        self.voted(alloc, n, self.heard.with(from), self.carried(leadership))
     }
 
-    /// The transition after these nodes voted.
-    #[tactic(auto, unfolding(wf_model::specs::Table::voted, wf_model::specs::Table::ended, wf_model::specs::Table::stores, wf_model::specs::Table::quiet))]
-    fn voted(&self, alloc: Global, n: u8, heard: Heard) -> Result<Next, AllocError>
-        ensures memory { IsErr result → Sends (table.voted definition_eq n (proposal_of (record self.now { heard = heard }))) }
-        ensures row { IfOk result (λ next. row_at (Running self.now) next ≡ table.voted definition_eq n (proposal_of (record self.now { heard = heard }))) }
+    /// The result after these nodes voted for the definition. Once they are a majority, it is published and the proposal ends; only
+    /// that allocates.
+    fn voted(&self, alloc: Global, n: u8, heard: Heard, canon: &Canon) -> Result<Next, Refusal>
+        ensures memory { IsErr result → (is_majority_of (count_nodes n (among heard)) n ≡ true) × (result ≡ Err Refusal.Memory) }
+        ensures next { IfOk result (λ next. next ≡ voted_by n self.now canon.now heard) }
     {
         if !heard.is_majority(n) {
-            return Ok(Next::quiet(alloc, self.hearing(heard, None)));
+            return Ok(Next::quiet(alloc, Change::Voted(heard)));
         }
-        self.publishes(alloc, self.carried(&None))
+        let next = self.publishes(alloc, canon)?;
+        Ok(next)
     }
 
     /// The definition is published, and the proposal ends.
-    #[tactic(auto, unfolding(wf_model::specs::Table::stores))]
     fn publishes(&self, alloc: Global, canon: &Canon) -> Result<Next, AllocError>
-        ensures { IfOk result (λ next. row_at (Running self.now) next ≡ table.stores (table.ended definition_eq (proposal_of self.now) canon.now) (stored_part.Published self.now.slot canon.now) (Chosen self.now.slot canon.now)) }
+        ensures { IfOk result (λ next. next ≡ chosen_for self.now canon.now) }
     {
         let published = Record::Published(self.slot, canon.copy()?);
         match canon.copy() {
             Ok(told) => {
                 let message = Message::Chosen(self.slot, told);
-                let change = Change::Becomes(self.ended(canon));
+                let change = Change::Proposes(self.ended(canon));
                 Next::says(alloc, Some(published), message, change)
             }
             Err(fault) => {
@@ -335,10 +290,20 @@ impl Proposal {
         }
     }
 
+    /// How the proposal ends if the definition is published at its slot.
+    pub fn ended(&self, canon: &Canon) -> Proposing
+        ensures { result ≡ ended_with self.now canon.now }
+    {
+        if self.own == *canon {
+            Proposing::Published(self.slot)
+        } else {
+            Proposing::Overtaken(self.slot)
+        }
+    }
+
     /// A Nack arrived: the highest reported round is kept for the next attempt. Doesn't allocate.
-    #[tactic(auto, unfolding(wf_model::specs::Table::on_nack, wf_model::specs::Table::quiet))]
     pub fn on_nack(&self, alloc: Global, slot: Slot, ballot: Ballot, promised: Ballot) -> Next
-        ensures { row_at (Running self.now) result ≡ table.on_nack (model.Running (proposal_of self.now)) slot ballot promised }
+        ensures { result ≡ nacked_by self.now slot ballot promised }
     {
         if !self.is_at(slot, ballot) {
             return Next::quiet(alloc, Change::Nothing);
@@ -347,46 +312,10 @@ impl Proposal {
     }
 }
 
-impl Working {
-    /// Makes the change.
-    pub fn make(&mut self, change: Change)
-        ensures { self.new ≡ changed change self.old }
-    {
-        match change {
-            Change::Nothing => {}
-            Change::Becomes(next) => self.becomes(next),
-            Change::Advances(progress) => self.advance(progress),
-            Change::Sees(round) => self.see(round),
-        }
-    }
-
-    /// Replaces the working part. The old one is dropped by one call: if it were dropped in place, its parts would make each
-    /// proof long.
-    pub fn becomes(&mut self, next: Working)
-        ensures { self.new ≡ next }
-    {
-        drop(replace(self, next));
-    }
-
-    fn advance(&mut self, progress: Progress)
-        ensures { self.new ≡ with_progress progress self.old }
-    {
-        match self {
-            Working::Running(proposal) => proposal.advance(progress),
-            Working::Idle => drop(progress),
-            Working::Published(_) => drop(progress),
-            Working::Overtaken(_) => drop(progress),
-        }
-    }
-
-    fn see(&mut self, round: u32)
-        ensures { self.new ≡ with_seen round self.old }
-    {
-        match self {
-            Working::Running(proposal) => proposal.seen = round,
-            Working::Idle => {}
-            Working::Published(_) => {}
-            Working::Overtaken(_) => {}
-        }
-    }
+/// A report that no proposal waits for has no effect.
+pub fn ignored(alloc: Global, report: Report) -> Result<Next, Refusal>
+    ensures { result ≡ Ok (record { entry = None; messages = []; change = Change.Nothing }) }
+{
+    drop(report);
+    Ok(Next::quiet(alloc, Change::Nothing))
 }

@@ -111,7 +111,7 @@ module _ {T : Type 0} (honest : Type 0) (content : T → List ℕ) (images : T �
 -- ---- the nodes
 
 -- A proposal that rests isn't running.
-rests_still : (working : model.Working Definition) → Rests working → standing_of working ≡ standing.Running → ⊥
+rests_still : (proposing : model.Proposing Definition) → Rests proposing → standing_of proposing ≡ standing.Running → ⊥
 rests_still model.Idle rests is = cc
 rests_still (model.Running proposal) rests is = rests
 rests_still (model.Won s) rests is = cc
@@ -121,8 +121,8 @@ module _ {T : Type 0} (honest : Type 0) (content : T → List ℕ) (images : T �
   not_running : RunsAt place heard → ⊥
   unfolding AllPublish NoneHalted
   not_running runs =
-      rests_still (working_of runs.0) (published place runs.0 runs.1).1
-      (subst (λ b. (if b then standing.None else standing_of (working_of runs.0)) ≡ standing.Running) (none place runs.0 runs.1) runs.2)
+      rests_still (working_of runs.0).proposing (published place runs.0 runs.1).1
+      (subst (λ b. (if b then standing.None else standing_of (working_of runs.0).proposing) ≡ standing.Running) (none place runs.0 runs.1) runs.2)
 
   -- So no proposal is restarted.
   not_retried : (after : List (Node T)) → IsRetried honest content images failures place heard after → AllPublish after map

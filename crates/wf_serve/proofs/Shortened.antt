@@ -3,7 +3,7 @@ use Rattle.std.proofs.Common.{◌≡◌, ◌∙◌, ℕ, Bool, false, List, sym,
 use Rattle.std.specs.Prelude.{Result, Ok, Err, IfOk}
 use Rattle.wf_def.specs.Definition.{Definition}
 use Rattle.wf_model.specs.Stored.{Stored}
-use Rattle.wf_model.specs.Working as model
+use Rattle.wf_model.specs.Working.{at_start}
 use Rattle.wf_node.specs.Images.{AllStandFor}
 use Rattle.wf_node.specs.Node.{Node, stored_of, working_of}
 use Rattle.wf_node.specs.Opening.{IsFoldOf}
@@ -11,7 +11,7 @@ use Rattle.wf_serve.specs.Shortening.{IsOpened, IsShort}
 
 -- a node that is unchanged but for its tape stands as it did when it opened
 pub opened_again : {T E : Type 0} (honest : Type 0) (content : T → List ℕ) (images : T → List ℕ → Type 0) (tape : T) (node : Node T) (result : Result (Node T × Bool) E) →
-    node.halted ≡ false → working_of node ≡ model.Idle → (honest → IsFoldOf (stored_of node) (content tape)) →
+    node.halted ≡ false → working_of node ≡ at_start → (honest → IsFoldOf (stored_of node) (content tape)) →
     IfOk result (λ x. x.0 ≡ record node { tape = x.0.tape }) → (honest → IfOk result (λ x. IsShort content images x.0 x.1)) →
     (honest → IfOk result (λ x. AllStandFor (stored_of node) (images x.0.tape))) → IfOk result (λ x. IsOpened honest content images tape x.0 x.1)
 opened_again honest content images tape node (Err e) running working stored same short stands = tt

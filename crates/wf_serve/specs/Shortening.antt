@@ -2,7 +2,7 @@
 use Rattle.std.specs.Prelude.{◌≡◌, ◌⊎◌, ℕ, Bool, true, false, List}
 use Rattle.wf_def.specs.Definition.{Definition}
 use Rattle.wf_model.specs.Stored.{Stored}
-use Rattle.wf_model.specs.Working as model
+use Rattle.wf_model.specs.Working.{at_start}
 use Rattle.wf_node.specs.Images.{AllStandFor}
 use Rattle.wf_node.specs.Node.{Node, stored_of, working_of}
 use Rattle.wf_node.specs.Opening.{IsFoldOf}
@@ -21,11 +21,11 @@ module _ {T : Type 0} (content : T → List ℕ) (images : T → List ℕ → Ty
       ⊎ ((stored : Stored Definition) × IsFoldOf stored (content tape) × AllStandFor stored (images left))
 
 module _ {T : Type 0} (honest : Type 0) (content : T → List ℕ) (images : T → List ℕ → Type 0) where
-  -- The node is open on the tape, with what its records fold to and no proposal. Whether it is shortened or not, every image of an
-  -- honest tape stands for that.
+  -- The node is open on the tape, with what its records fold to, no proposal and no leadership. Whether it is shortened or not, every
+  -- image of an honest tape stands for that.
   pub record IsOpened (tape : T) (node : Node T) (is_short : Bool) : Type 0 where
     pub running : node.halted ≡ false
-    pub working : working_of node ≡ model.Idle
+    pub working : working_of node ≡ at_start
     pub stored : honest → IsFoldOf (stored_of node) (content tape)
     pub stands : honest → AllStandFor (stored_of node) (images node.tape)
     pub short : honest → IsShort content images node is_short

@@ -2,14 +2,14 @@
 use Rattle.std.proofs.Common.{◌≡◌, ℕ, Bool, true, false, cond, ltb, List, [], ◌∷◌, ◌++◌, length, take, Option, Some, None, refl, sym, ap, subst, ◌∙◌, length-append, append_assoc, arith, inl, inr}
 use Rattle.std.proofs.lemmas.Bool.{ltb-false, lt-ltb, le-ltb}
 use Rattle.std.proofs.lemmas.List.{take-append-le}
-use Rattle.std.specs.Prelude.{IsSomeAnd}
 use Rattle.std.specs.Int.{w32, from_be_bytes}
 use Rattle.wf_codec.specs.declared.kind.Kind.{Kind}
 use Rattle.wf_codec.specs.declared.kind.Kind.TheVariants as kinds
 use Rattle.wf_codec.specs.declared.fault.DecodeFault.{DecodeFault}
 use Rattle.wf_codec.specs.declared.fault.DecodeFault.TheVariants as decoder
 use Rattle.wf_codec.specs.Kind.{most_body_bytes, kind_byte, kind_of_byte}
-use Rattle.wf_codec.specs.Fault.{kind_in, length_in, behind_header, body_in, check_version, check_kind, check_longest, check_length, check_whole, check_fields, first_failing, first_fault, text_of_kind, text_in, HasFault, IsNoText}
+use Rattle.wf_codec.specs.Fault.{kind_in, length_in, behind_header, body_in, check_version, check_kind, check_longest, check_length, check_whole, check_fields, first_failing, first_fault, texts_of_kind, texts_in, HasFault, IsNoText}
+use Rattle.wf_codec.specs.Message.{HasOneOf}
 use Rattle.wf_codec.specs.Law.{IsLongestBody, IsUnfinished, LacksBody, IsRefusal, BeginsWithNone}
 use Rattle.wf_wire.specs.declared.fault.InboxFault.{InboxFault}
 use Rattle.wf_wire.specs.declared.fault.InboxFault.TheVariants as inbox
@@ -74,7 +74,7 @@ first_on (v ∷ k ∷ a ∷ b ∷ c ∷ d ∷ bytes) more o e not_short =
     (check_fields (kind_of_byte k) (take n bytes)) (check_fields (kind_of_byte k) (take n (bytes ++ more))) o
     (whole_stays n bytes more) (λ few. ap (check_fields (kind_of_byte k)) (same_body n bytes more few)) e not_short
 
--- ---- the text of more bytes
+-- ---- the texts of more bytes
 
 -- the check of the body's length didn't fail
 fifth : (p q r s : Option DecodeFault) (few : Bool) (fields : Option DecodeFault) → first_failing (p ∷ q ∷ r ∷ s ∷ cond few short None ∷ fields ∷ []) ≡ None → few ≡ false
@@ -93,19 +93,19 @@ two_fail : (p q : Option DecodeFault) (checks : List (Option DecodeFault)) → f
 two_fail None q checks wants e = one_fails q checks wants e
 two_fail (Some x) q checks wants e = absurd cc
 
--- if no check fails, the text is the same, whatever follows
-text_on : (bytes more : List ℕ) → first_fault bytes ≡ None → text_in (bytes ++ more) ≡ text_in bytes
+-- if no check fails, the texts are the same, whatever follows
+texts_on : (bytes more : List ℕ) → first_fault bytes ≡ None → texts_in (bytes ++ more) ≡ texts_in bytes
 unfolding first_fault kind_in length_in
-text_on [] more e = absurd cc
-text_on (v ∷ []) more e = absurd (one_fails (check_version (v ∷ [])) _ refl e)
-text_on (v ∷ k ∷ []) more e = absurd (two_fail (check_version (v ∷ [])) (check_kind (v ∷ k ∷ [])) _ (header_lacks (kind_of_byte k) _) e)
-text_on (v ∷ k ∷ a ∷ []) more e = absurd (two_fail (check_version (v ∷ [])) (check_kind (v ∷ k ∷ [])) _ (header_lacks (kind_of_byte k) _) e)
-text_on (v ∷ k ∷ a ∷ b ∷ []) more e = absurd (two_fail (check_version (v ∷ [])) (check_kind (v ∷ k ∷ [])) _ (header_lacks (kind_of_byte k) _) e)
-text_on (v ∷ k ∷ a ∷ b ∷ c ∷ []) more e = absurd (two_fail (check_version (v ∷ [])) (check_kind (v ∷ k ∷ [])) _ (header_lacks (kind_of_byte k) _) e)
-text_on (v ∷ k ∷ a ∷ b ∷ c ∷ d ∷ bytes) more e =
+texts_on [] more e = absurd cc
+texts_on (v ∷ []) more e = absurd (one_fails (check_version (v ∷ [])) _ refl e)
+texts_on (v ∷ k ∷ []) more e = absurd (two_fail (check_version (v ∷ [])) (check_kind (v ∷ k ∷ [])) _ (header_lacks (kind_of_byte k) _) e)
+texts_on (v ∷ k ∷ a ∷ []) more e = absurd (two_fail (check_version (v ∷ [])) (check_kind (v ∷ k ∷ [])) _ (header_lacks (kind_of_byte k) _) e)
+texts_on (v ∷ k ∷ a ∷ b ∷ []) more e = absurd (two_fail (check_version (v ∷ [])) (check_kind (v ∷ k ∷ [])) _ (header_lacks (kind_of_byte k) _) e)
+texts_on (v ∷ k ∷ a ∷ b ∷ c ∷ []) more e = absurd (two_fail (check_version (v ∷ [])) (check_kind (v ∷ k ∷ [])) _ (header_lacks (kind_of_byte k) _) e)
+texts_on (v ∷ k ∷ a ∷ b ∷ c ∷ d ∷ bytes) more e =
     let n : ℕ = from_be_bytes w32 (a ∷ b ∷ c ∷ d ∷ []) in
     let few = fifth (check_version (v ∷ [])) (check_kind (v ∷ k ∷ [])) (check_longest (Some n)) (check_length (kind_of_byte k) (Some n)) (ltb (length bytes) n) (check_fields (kind_of_byte k) (take n bytes)) e in
-    ap (text_of_kind (kind_of_byte k)) (same_body n bytes more few)
+    ap (texts_of_kind (kind_of_byte k)) (same_body n bytes more few)
 
 -- ---- an error remains
 
@@ -116,7 +116,7 @@ fault_on inbox.BadField bytes more refusal e = first_on bytes more (Some decoder
 fault_on inbox.TooLong bytes more refusal e = first_on bytes more (Some decoder.TooLong) e (λ is. absurd cc)
 fault_on inbox.NotCanonical bytes more refusal carries = record {
   no_fault = first_on bytes more None carries.no_fault (λ is. absurd cc);
-  no_text = subst (λ (text : Option (List ℕ)). IsSomeAnd text IsNoText) (sym (text_on bytes more carries.no_fault)) carries.no_text;
+  no_text = subst (λ (texts : List (List ℕ)). HasOneOf IsNoText texts) (sym (texts_on bytes more carries.no_fault)) carries.no_text;
 }
 fault_on inbox.Memory bytes more refusal e = absurd refusal
 

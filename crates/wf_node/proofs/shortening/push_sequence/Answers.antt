@@ -1,10 +1,10 @@
--- The definition that is published there; else the vote and the promise.
+-- The definition that is published there; else the vote.
 use Rattle.std.proofs.Common.{◌≡◌, [], ◌∷◌, Some, None, map, sym, ap, ◌∙◌}
 use Rattle.std.specs.Option.{option_copied}
 use Rattle.wf_model.specs.Stored.{Published, definition_at}
 use Rattle.wf_journal.specs.Record.{view}
 use Rattle.wf_node.specs.Kept.{stored_of}
-use Rattle.wf_node.specs.Shortening.{open_records, records_at}
+use Rattle.wf_node.specs.Shortening.{vote_records, records_at}
 use Rattle.wf_node.proofs.Pushed.{appends_as, published_here, open_here}
 use Rattle.wf_node.proofs.shortening.push_sequence.Goals as goal
 
@@ -19,5 +19,5 @@ pub returns-in-None : goal.returns-in-None
 returns-in-None c =
     let none : definition_at c.args.kept.now.parts.history c.args.slot ≡ None =
     ap (λ definitions. definition_at definitions c.args.slot) (sym c.history.ensures) ∙ sym c.canon.ensures ∙ ap option_copied c.in-None.is in
-    appends_as c.push_open.result (map view c.args.records.now.items) (map view c.push_open.new.records.items) (open_records (stored_of c.args.kept.now) c.args.slot) (records_at (stored_of c.args.kept.now) c.args.slot)
-    c.push_open.ensures (open_here (stored_of c.args.kept.now) c.args.slot none)
+    appends_as c.push_vote.result (map view c.args.records.now.items) (map view c.push_vote.new.records.items) (vote_records c.args.slot ((stored_of c.args.kept.now).votes c.args.slot)) (records_at (stored_of c.args.kept.now) c.args.slot)
+    c.push_vote.ensures (open_here (stored_of c.args.kept.now) c.args.slot none)

@@ -7,12 +7,12 @@ use Rattle.wf_acceptor.proofs.acceptor.Acceptor.on_prepare.Goals as goal
 pub returns-then-is_above-clause-row : goal.returns-then-is_above-clause-row
 returns-then-is_above-clause-row c =
     answers_if_ok c.args.self.now.part (prepare_row c.args.self.now.part c.args.slot c.args.ballot) (promising c.args.self.now.part c.args.slot c.args.ballot)
-    c.promise.result c.promise.ensures.answer
+    c.promise_to.result c.promise_to.ensures.answer
     (promising_answers c.args.self.now.part c.args.slot c.args.ballot c.requires (sym c.is_above.ensures ∙ c.if-is_above.true))
 
 pub returns-then-is_above-clause-memory : goal.returns-then-is_above-clause-memory
 returns-then-is_above-clause-memory c =
-    stores_if_err c.promise.result _
+    stores_if_err c.promise_to.result _
     (promising_stores c.args.self.now.part c.args.slot c.args.ballot c.requires (sym c.is_above.ensures ∙ c.if-is_above.true))
 
 pub returns-then-is_refused-clause-row : goal.returns-then-is_refused-clause-row

@@ -1,5 +1,5 @@
 -- One delivery, or none: the farm is reached from the start.
-use Rattle.std.proofs.Common.{ℕ, List, [], ◌∷◌, slice_get, subst, arith}
+use Rattle.std.proofs.Common.{ℕ, [], ◌∷◌, slice_get, subst, arith}
 use Rattle.wf_def.specs.Definition.{Definition}
 use Rattle.wf_law.specs.Laws.{IsBeginning}
 use Rattle.wf_model.specs.Stored.{Stored}

@@ -10,15 +10,15 @@ use Rattle.wf_node.proofs.machine.Machine.proposal_refusal.Goals as goal
 
 pub returns-then-runs : goal.returns-then-runs
 returns-then-runs g c =
-    let why = busy (stored_of c.args.self.now.kept.parts) (working_of c.args.self.now.proposer) (sym c.runs.ensures ∙ c.if-runs.true) in
+    let why = busy (stored_of c.args.self.now.kept.parts) (working_of c.args.self.now.proposer).leadership (working_of c.args.self.now.proposer).proposing (sym c.runs.ensures ∙ c.if-runs.true) in
     (sym why, λ none. none-some Busy (sym none ∙ why))
 
 pub returns-then-is_full : goal.returns-then-is_full
 returns-then-is_full g c =
-    let why = full (stored_of c.args.self.now.kept.parts) (working_of c.args.self.now.proposer) (sym c.runs.ensures ∙ c.if-runs.false) (sym c.is_full.ensures ∙ c.if-is_full.true) in
+    let why = full (stored_of c.args.self.now.kept.parts) (working_of c.args.self.now.proposer).leadership (working_of c.args.self.now.proposer).proposing (sym c.runs.ensures ∙ c.if-runs.false) (sym c.is_full.ensures ∙ c.if-is_full.true) in
     (sym why, λ none. none-some SequenceFull (sym none ∙ why))
 
 pub returns : goal.returns
 returns g c =
-    c.fault_for.ensures (refuse_proposal (stored_of c.args.self.now.kept.parts) (working_of c.args.self.now.proposer))
+    c.fault_for.ensures (refuse_proposal (stored_of c.args.self.now.kept.parts) (working_of c.args.self.now.proposer).leadership (working_of c.args.self.now.proposer).proposing)
     (c.start_refusal.ensures (stored_of c.args.self.now.kept.parts) (has_stored (stored_of c.args.self.now.kept.parts) c.tried.result c.published-published.result c.tried.ensures (c.published-published.ensures.value ∙ ap length c.history.ensures)))

@@ -7,5 +7,5 @@ use Rattle.wf_node.proofs.machine.Machine.retry_refusal.Goals as goal
 
 pub returns : goal.returns
 returns g c =
-    c.fault_for.ensures (refuse_retry (stored_of c.args.self.now.kept.parts) (working_of c.args.self.now.proposer))
+    c.fault_for.ensures (refuse_retry (stored_of c.args.self.now.kept.parts) (working_of c.args.self.now.proposer).proposing)
     (c.retry_refusal.ensures (stored_of c.args.self.now.kept.parts) (sym c.tried.ensures))

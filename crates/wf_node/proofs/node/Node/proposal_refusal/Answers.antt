@@ -9,5 +9,5 @@ use Rattle.wf_node.proofs.node.Node.proposal_refusal.Goals as goal
 
 pub returns-clause-refusal : goal.returns-clause-refusal
 returns-clause-refusal g c = λ running.
-    subst (λ node. IsWhyNot (refuse_proposal (stored_of node) (working_of node)) c.proposal_refusal.result) c.self.view_is
-    (subst (λ working. IsWhyNot (refuse_proposal (parts.stored_of c.self.inside.machine.kept.parts) working) c.proposal_refusal.result) (sym (working_shown c.self.inside.machine.proposer.working)) c.proposal_refusal.ensures)
+    subst (λ node. IsWhyNot (refuse_proposal (stored_of node) (working_of node).leadership (working_of node).proposing) c.proposal_refusal.result) c.self.view_is
+    (subst (λ working. IsWhyNot (refuse_proposal (parts.stored_of c.self.inside.machine.kept.parts) working.leadership working.proposing) c.proposal_refusal.result) (sym (working_shown c.self.inside.machine.proposer.working)) c.proposal_refusal.ensures)

@@ -9,5 +9,5 @@ use Rattle.wf_node.proofs.node.Node.retry_refusal.Goals as goal
 
 pub returns-clause-refusal : goal.returns-clause-refusal
 returns-clause-refusal g c = λ running.
-    subst (λ node. IsWhyNot (refuse_retry (stored_of node) (working_of node)) c.retry_refusal.result) c.self.view_is
-    (subst (λ working. IsWhyNot (refuse_retry (parts.stored_of c.self.inside.machine.kept.parts) working) c.retry_refusal.result) (sym (working_shown c.self.inside.machine.proposer.working)) c.retry_refusal.ensures)
+    subst (λ node. IsWhyNot (refuse_retry (stored_of node) (working_of node).proposing) c.retry_refusal.result) c.self.view_is
+    (subst (λ working. IsWhyNot (refuse_retry (parts.stored_of c.self.inside.machine.kept.parts) working.proposing) c.retry_refusal.result) (sym (working_shown c.self.inside.machine.proposer.working)) c.retry_refusal.ensures)
