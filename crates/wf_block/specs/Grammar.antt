@@ -5,8 +5,9 @@ use Rattle.std.specs.Result.{result_ok}
 use Rattle.std.specs.Str.{str_eq_ignore_ascii_case}
 use Rattle.wf_text.specs.Number as micro
 use Rattle.wf_text.specs.Text.{is_text}
+use Rattle.wf_text.specs.ValueList.{is_value_list}
 use Rattle.wf_text.specs.Whole.{whole_between}
-use Rattle.wf_token.specs.Token.{Token, Word, Quoted}
+use Rattle.wf_token.specs.Token.{Token, Word, Quoted, Braced}
 
 -- the second reader reads the tokens that the first leaves
 infixl 10 ◌>>=◌
@@ -27,12 +28,14 @@ is_end word = str_eq_ignore_ascii_case word (codes "END")
 unfoldable pub word : List Token → Option (List ℕ × List Token)
 word [] = None
 word (Quoted bytes ∷ rest) = None
+word (Braced inside ∷ rest) = None
 word (Word bytes ∷ rest) = Some (bytes, rest)
 
--- an argument: the text of a string, or a word other than END
+-- an argument: the text of a string, or a word other than END; a list is an argument of EXPRESSION alone
 unfoldable pub argument : List Token → Option (List ℕ × List Token)
 argument [] = None
 argument (Quoted bytes ∷ rest) = Some (bytes, rest)
+argument (Braced inside ∷ rest) = None
 argument (Word bytes ∷ rest) = if is_end bytes then None else Some (bytes, rest)
 
 -- a text
@@ -40,6 +43,13 @@ unfoldable pub text : List Token → Option (List ℕ × List Token)
 text tokens = do
   x ← argument tokens
   if is_text x.0 then Some x else None
+
+-- a list in braces
+unfoldable pub value_list : List Token → Option (List ℕ × List Token)
+value_list [] = None
+value_list (Word bytes ∷ rest) = None
+value_list (Quoted bytes ∷ rest) = None
+value_list (Braced inside ∷ rest) = if is_value_list inside then Some (inside, rest) else None
 
 -- one of a table's choices
 unfoldable pub chosen : {A : Type 0} → List (List ℕ × A) → List Token → Option (A × List Token)

@@ -1,9 +1,10 @@
 //! The parser: readers of the remaining tokens.
 ghost use Rattle.std.specs.Prelude.{◌≡◌, ◌∷◌, [], drop, false, is_some, length, IfOk, MatchOption, MatchResult, Some, None, if◌then◌else◌};
 ghost use Rattle.wf_text.specs.Text.{IsText, is_text};
+ghost use Rattle.wf_text.specs.ValueList.{is_value_list};
 ghost use Rattle.wf_token.specs.Token.{token_value, token_values};
 ghost use Rattle.wf_block.specs.Reading.{Gives, is_memory};
-ghost use Rattle.wf_block.specs.Grammar.{argument, end, number, text, whole, word};
+ghost use Rattle.wf_block.specs.Grammar.{argument, end, number, text, value_list, whole, word};
 
 use crate::fault::MapFault;
 use crate::keyword::is_end;
@@ -12,6 +13,7 @@ use std::marker::Model;
 use wf_text::fault::{NumberFault, TextFault};
 use wf_text::micro::Micro;
 use wf_text::text::{Text, checked};
+use wf_text::value_list::{ValueList, checked_list};
 use wf_text::whole::Whole;
 use wf_token::token::{Token, TokenKind};
 
@@ -112,6 +114,7 @@ impl<'a> Parser<'a> {
                     Ok(token)
                 }
             }
+            TokenKind::Braced => Err(MapFault::UnexpectedWord(token.place)),
         }
     }
 
@@ -122,7 +125,7 @@ impl<'a> Parser<'a> {
     {
         let token = self.next()?;
         match token.kind {
-            TokenKind::Quoted => Err(MapFault::UnexpectedWord(token.place)),
+            TokenKind::Quoted | TokenKind::Braced => Err(MapFault::UnexpectedWord(token.place)),
             TokenKind::Word => Ok(token),
         }
     }
@@ -148,7 +151,7 @@ impl<'a> Parser<'a> {
         match self.peek() {
             None => false,
             Some(token) => match token.kind {
-                TokenKind::Quoted => false,
+                TokenKind::Quoted | TokenKind::Braced => false,
                 TokenKind::Word => is_end(token.text),
             },
         }
@@ -179,6 +182,28 @@ impl<'a> Parser<'a> {
     {
         let text = text_of(bytes, place)?;
         Ok(Text::from_str(self.alloc, text)?)
+    }
+
+    /// Reads a list in braces.
+    #[tactic(auto, unfolding(crate::specs::Grammar::value_list))]
+    pub fn value_list(&mut self) -> Result<ValueList, MapFault>
+        ensures { Gives (λ l. (l, self.new)) result (value_list self.old) }
+    {
+        let token = self.next()?;
+        match token.kind {
+            TokenKind::Braced => self.value_list_at(token.text, token.place),
+            TokenKind::Word | TokenKind::Quoted => Err(MapFault::UnexpectedWord(token.place)),
+        }
+    }
+
+    /// The bytes of a token as the inside of a list.
+    fn value_list_at(&self, bytes: &[u8], place: usize) -> Result<ValueList, MapFault>
+        ensures { Gives (λ l. l) result (if is_value_list bytes.now then Some bytes.now else None) }
+    {
+        match checked_list(bytes) {
+            Some(inside) => Ok(ValueList::from_str(self.alloc, inside)?),
+            None => Err(MapFault::BadToken(place)),
+        }
     }
 
     /// Reads a number.

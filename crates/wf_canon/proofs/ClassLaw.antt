@@ -1,16 +1,16 @@
 -- What is written for a class, with its styles and its label, is read as that class, whatever follows.
 use Rattle.std.proofs.Common.{ℕ, Bool, true, false, List, [], ◌∷◌, Option, Some, None, refl, arith}
 use Rattle.std.specs.Prelude.{codes}
-use Rattle.wf_def.specs.Definition.{StyleDefinition, LabelDefinition, ClassDefinition}
-use Rattle.wf_def.specs.Limits.{IsColor, IsStyle, IsLabel, IsClass}
-use Rattle.wf_def.specs.Text.{IsText}
+use Rattle.wf_def.specs.Definition.{ExpressionDefinition, StyleDefinition, LabelDefinition, ClassDefinition}
+use Rattle.wf_def.specs.Limits.{IsColor, IsExpression, IsStyle, IsLabel, IsClass}
+use Rattle.wf_def.specs.declared.expression.Expression.TheVariants.{Equals, OneOf}
 use Rattle.wf_def.specs.Limit.{most_styles, most_width, most_size, most_priority, most_buffer}
 use Rattle.wf_def.specs.declared.color.Color.{Color}
 use Rattle.wf_def.specs.declared.choice.LabelSize.{LabelSize}
 use Rattle.wf_def.specs.declared.choice.LabelSize.TheVariants.{Tiny, Small, Medium, Large, Giant}
 use Rattle.wf_def.specs.declared.choice.LabelPosition.{LabelPosition}
 use Rattle.wf_def.specs.declared.choice.LabelPosition.TheVariants.{UpperLeft, UpperCenter, UpperRight, CenterLeft, CenterCenter, CenterRight, LowerLeft, LowerCenter, LowerRight}
-use Rattle.wf_token.specs.Token.{Word, Quoted}
+use Rattle.wf_token.specs.Token.{Word}
 use Rattle.wf_token.specs.Spelling.{tokens_of}
 use Rattle.wf_class.specs.declared.slots.style.StyleSlots.{StyleSlots}
 use Rattle.wf_class.specs.declared.slots.label.LabelSlots.{LabelSlots}
@@ -18,8 +18,8 @@ use Rattle.wf_class.specs.declared.slots.class.ClassSlots.{ClassSlots}
 use Rattle.wf_class.specs.Style as styles
 use Rattle.wf_class.specs.Label as labels
 use Rattle.wf_class.specs.Class as classes
-use Rattle.wf_spelling.specs.Canon.{size_word, position_word, force_word, with_text, with_color, when_there, style_lines, label_lines, optional_label_lines, class_lines}
-use Rattle.wf_canon.proofs.TokenLaw.{text_again, whole_again, color_again, chosen_again}
+use Rattle.wf_spelling.specs.Canon.{size_word, position_word, force_word, expression_token, with_expression, with_color, when_there, style_lines, label_lines, optional_label_lines, class_lines}
+use Rattle.wf_canon.proofs.TokenLaw.{text_again, list_again, whole_again, color_again, chosen_again}
 use Rattle.wf_canon.proofs.Steps.{Reads, inside, is_keyword, Fills, Ended, keyword, line, both, ended, there, each, holds_at, room_at, block_again}
 
 -- ---- styles
@@ -93,22 +93,23 @@ label_again l h = block_again (inside (label_lines l)) (label_fills l h) (λ res
 
 -- ---- classes
 
-expression_again : (t : List ℕ) → IsText t → Reads classes.expression (Quoted t ∷ []) t
-unfolding classes.expression classes.begins_pattern
-expression_again t h = let read = text_again t h in record { written = read.written; read = read.read }
+expression_again : (e : ExpressionDefinition) → IsExpression e → Reads classes.expression (expression_token e ∷ []) e
+unfolding classes.expression classes.begins_list classes.begins_pattern
+expression_again (Equals t) h = let read = text_again t h in record { written = read.written; read = λ rest. rw (read.read rest) refl }
+expression_again (OneOf inside) h = let read = list_again inside h in record { written = read.written; read = λ rest. rw (read.read rest) refl }
 
 class_fills : (c : ClassDefinition) → IsClass c
     → Fills classes.class_put classes.no_class (inside (class_lines c)) (Ended (record { styles = c.styles; single = record { name = Some c.name; expression = c.expression; label = c.label } }))
 unfolding classes.class_put classes.class_once is_keyword
 class_fills c h =
-    let matched : Option (List ℕ) → ClassSlots = λ e. record { styles = []; single = record { name = Some c.name; expression = e; label = None } } in
+    let matched : Option ExpressionDefinition → ClassSlots = λ e. record { styles = []; single = record { name = Some c.name; expression = e; label = None } } in
     let styled : List StyleDefinition → ClassSlots = λ s. record { styles = s; single = record { name = Some c.name; expression = c.expression; label = None } } in
     let labelled : Option LabelDefinition → ClassSlots = λ l. record { styles = c.styles; single = record { name = Some c.name; expression = c.expression; label = l } } in
     line (matched None) refl (text_again c.name h.name) (λ rest e. rw e refl)
     (both (labelled c.label)
     (both (styled c.styles)
     (both (matched c.expression)
-    (there IsText (when_there (with_text (codes "EXPRESSION"))) matched c.expression refl (λ t i. keyword refl (expression_again t i) (λ rest e. rw e refl)) h.expression)
+    (there IsExpression (when_there (with_expression (codes "EXPRESSION"))) matched c.expression refl (λ x i. keyword refl (expression_again x i) (λ rest e. rw e refl)) h.expression)
     (each style_lines styled [] c.styles (λ before s place. keyword refl (style_again s (holds_at IsStyle place h.styles)) (λ rest e. rw (room_at most_styles place h.styles_most, e) refl))))
     (there IsLabel optional_label_lines labelled c.label refl (λ l i. keyword refl (label_again l i) (λ rest e. rw e refl)) h.label))
     ended)

@@ -17,7 +17,7 @@ use Rattle.wf_block.specs.Reading.{IsNotUtf8, is_memory}
 use Rattle.wf_block.specs.declared.fault.MapFault.{MapFault}
 use Rattle.wf_block.specs.declared.fault.MapFault.TheVariants as reading
 use Rattle.wf_token.specs.Spelling.{is_written, are_written, line}
-use Rattle.wf_spelling.specs.Canon.{map_lines, canon, IsCanon}
+use Rattle.wf_spelling.specs.Canon.{map_lines, canon, most_canon_bytes, IsCanon}
 use Rattle.wf_spelling.specs.declared.fault.CanonFault.{CanonFault}
 use Rattle.wf_spelling.specs.declared.fault.CanonFault.TheVariants.{TooBig, NotCanonical, Memory}
 use Rattle.wf_canon.specs.Saying.{Says}
@@ -64,10 +64,10 @@ canon-is_utf8 d h = text_of-is_utf8 (map_lines d) (map_is_written d h)
 pub canon_says : (d : Definition) → IsWithinLimits d → Says (canon d) d
 canon_says d h = record { utf8 = canon-is_utf8 d h; said = canon_again d h }
 
-pub canon_means : (d : Definition) → IsWithinLimits d → length (canon d) ≤ 65536 → Means (canon d) d
+pub canon_means : (d : Definition) → IsWithinLimits d → length (canon d) ≤ longest_mapfile → Means (canon d) d
 unfolding meaning
 canon_means d h short =
-    let fits : leb (length (canon d)) 65536 ≡ true = grind (arith, nat_tests) in
+    let fits : leb (length (canon d)) longest_mapfile ≡ true = grind (arith, nat_tests) in
     rw (fits, canon-is_utf8 d h) (canon_again d h)
 
 abbrev some_of : Definition → Option Definition
@@ -81,21 +81,21 @@ one_definition d e h g same =
     some_is d e (sym (canon_again d h) ∙ ap (λ (bytes : List ℕ). tokens bytes >>= file) same ∙ canon_again e g)
 
 -- bytes that mean nothing aren't a map's text
-pub unread_has_no_canon : (bytes : List ℕ) → length bytes ≤ 32768 → MeansNothing bytes → HasNoCanon bytes
+pub unread_has_no_canon : (bytes : List ℕ) → length bytes ≤ most_canon_bytes → MeansNothing bytes → HasNoCanon bytes
 unread_has_no_canon bytes short none d h e =
-    let short_text : length (canon d) ≤ 65536 = rw e (omega arith) in
+    let short_text : length (canon d) ≤ longest_mapfile = rw e (omega arith) in
     none d (sym (ap meaning e) ∙ canon_means d h short_text)
 
 -- bytes that mean a map are no map's text unless they are that map's text
-pub other_has_no_canon : (bytes text : List ℕ) (def : Definition) → length bytes ≤ 32768 → Means bytes def → text ≡ canon def → (text ≡ bytes → ⊥) → HasNoCanon bytes
+pub other_has_no_canon : (bytes text : List ℕ) (def : Definition) → length bytes ≤ most_canon_bytes → Means bytes def → text ≡ canon def → (text ≡ bytes → ⊥) → HasNoCanon bytes
 other_has_no_canon bytes text def short meant spelled other d h e =
-    let short_text : length (canon d) ≤ 65536 = rw e (omega arith) in
+    let short_text : length (canon d) ≤ longest_mapfile = rw e (omega arith) in
     let means : meaning (canon d) ≡ Some d = canon_means d h short_text in
     let one : some_of def ≡ some_of d = sym meant ∙ sym (ap meaning e) ∙ means in
     other (spelled ∙ ap canon (some_is def d one) ∙ e)
 
 -- bytes within the limit are no map's text if the map that they mean has a text over the limit
-pub long_has_no_canon : (bytes : List ℕ) (def : Definition) → length bytes ≤ 32768 → Means bytes def → 32768 < length (canon def) → HasNoCanon bytes
+pub long_has_no_canon : (bytes : List ℕ) (def : Definition) → length bytes ≤ most_canon_bytes → Means bytes def → most_canon_bytes < length (canon def) → HasNoCanon bytes
 long_has_no_canon bytes def short meant long =
     other_has_no_canon bytes (canon def) def short meant refl (λ same. let e : length (canon def) ≡ length bytes = ap length same in absurd (omega arith))
 
@@ -112,7 +112,7 @@ means-is_utf8 bytes def false is meant =
     let none : None ≡ some_of def = sym unread ∙ meant in
     absurd (let impossible : ⊥ = cc in impossible)
 
-pub why_refused_again : (fault : CanonFault) (bytes : List ℕ) (def : Definition) → length bytes ≤ 32768 → Means bytes def → IsCauseOf fault def → IsWhyRefused (refused_again fault) bytes
+pub why_refused_again : (fault : CanonFault) (bytes : List ℕ) (def : Definition) → length bytes ≤ most_canon_bytes → Means bytes def → IsCauseOf fault def → IsWhyRefused (refused_again fault) bytes
 why_refused_again TooBig bytes def short meant long = long_has_no_canon bytes def short meant long
 why_refused_again NotCanonical bytes def short meant none = absurd none
 why_refused_again Memory bytes def short meant few = (short, means-is_utf8 bytes def (is_utf8 bytes) refl meant)
@@ -130,13 +130,13 @@ memory-is_utf8 reading.Memory bytes false is memory none = absurd (none is)
 memory-is_utf8 _ bytes false is memory none = absurd (let impossible : ⊥ = cc in impossible)
 
 -- the meaning of the reader's error, for allocation failure and for others
-why_unread_by : (memory : Bool) (unread : MapFault) (fault : CanonFault) (bytes : List ℕ) → length bytes ≤ 32768 → is_memory unread ≡ memory
+why_unread_by : (memory : Bool) (unread : MapFault) (fault : CanonFault) (bytes : List ℕ) → length bytes ≤ most_canon_bytes → is_memory unread ≡ memory
     → fault ≡ cond memory Memory NotCanonical → (is_utf8 bytes ≡ false → IsNotUtf8 {X = Definition} (Err unread)) → (memory ≡ false → MeansNothing bytes)
     → IsWhyRefused fault bytes
 why_unread_by true unread fault bytes short kind is utf8 none = rw is (short, memory-is_utf8 unread bytes (is_utf8 bytes) refl kind utf8)
 why_unread_by false unread fault bytes short kind is utf8 none = rw is (unread_has_no_canon bytes short (none refl))
 
-pub why_unread : (unread : MapFault) (fault : CanonFault) (bytes : List ℕ) → length bytes ≤ 32768 → fault ≡ cond (is_memory unread) Memory NotCanonical
+pub why_unread : (unread : MapFault) (fault : CanonFault) (bytes : List ℕ) → length bytes ≤ most_canon_bytes → fault ≡ cond (is_memory unread) Memory NotCanonical
     → (length bytes ≤ longest_mapfile → is_utf8 bytes ≡ false → IsNotUtf8 {X = Definition} (Err unread)) → (is_memory unread ≡ false → MeansNothing bytes)
     → IsWhyRefused fault bytes
 why_unread unread fault bytes short is utf8 none =
@@ -145,7 +145,7 @@ why_unread unread fault bytes short is utf8 none =
 -- bytes that are a canonical text mean their map
 canonical_means : (bytes : List ℕ) (d : Definition) → IsCanon bytes d → Means bytes d
 canonical_means bytes d is =
-    let short_text : length (canon d) ≤ 65536 = let e : length bytes ≡ length (canon d) = ap length is.spelled in let short = is.short in omega arith in
+    let short_text : length (canon d) ≤ longest_mapfile = let e : length bytes ≡ length (canon d) = ap length is.spelled in let short = is.short in omega arith in
     subst (λ (text : List ℕ). Means text d) (sym is.spelled) (canon_means d is.within short_text)
 
 pub scanned_means : (bytes : List ℕ) (d : Definition) (result : Option Definition) → IsCanon bytes d → IfSome result (λ c. c ≡ d) → IfSome result (Means bytes)

@@ -1,4 +1,4 @@
--- What is written for a text, a number, a colour or a choice is read as that value, whatever follows.
+-- What is written for a text, a list, a number, a colour or a choice is read as that value, whatever follows.
 use Rattle.std.proofs.Common.{◌≡◌, ℕ, ◌*◌, ◌/◌, ◌%◌, ◌≤◌, Bool, true, false, not, ◌&&◌, ◌||◌, cond, eqb, leb, List, [], ◌∷◌, Some, refl, arith}
 use Rattle.std.specs.Prelude.{ℤ, pos}
 use Rattle.std.specs.Fmt.{decimal}
@@ -8,15 +8,16 @@ use Rattle.std.proofs.lemmas.List.{append-nil}
 use Rattle.wf_def.specs.Limits.{IsColor}
 use Rattle.wf_def.specs.Micro.{IsMicro}
 use Rattle.wf_def.specs.Text.{is_text, has_both_quotes}
+use Rattle.wf_def.specs.ValueList.{is_value_list}
 use Rattle.wf_def.specs.Whole.{whole_between}
 use Rattle.wf_def.specs.declared.color.Color.{Color}
 use Rattle.wf_text.specs.Booleans.{and_left, and_right, not_true}
 use Rattle.wf_text.specs.NumberText.{fraction_text, magnitude_text, number_text}
 use Rattle.wf_text.specs.NumberTextLaws as numbers
-use Rattle.wf_token.specs.Token.{Word, Quoted}
+use Rattle.wf_token.specs.Token.{Word, Quoted, Braced}
 use Rattle.wf_token.specs.Spelling.{is_word, lacks, is_written}
 use Rattle.wf_token.specs.WordLaws.{decimal_is_word}
-use Rattle.wf_block.specs.Grammar.{is_end, argument, text, chosen, choice, number, whole}
+use Rattle.wf_block.specs.Grammar.{is_end, argument, text, value_list, chosen, choice, number, whole}
 use Rattle.wf_class.specs.Color.{color, rgb_color, hash_digits}
 use Rattle.wf_spelling.specs.Canon.{number_word, whole_word}
 use Rattle.wf_canon.proofs.NumberWord.{number_word_is}
@@ -55,6 +56,10 @@ written_text t e =
 pub text_again : (t : List ℕ) → is_text t ≡ true → Reads text (Quoted t ∷ []) t
 unfolding text argument
 text_again t e = record { written = rw (written_text t e) refl; read = λ rest. rw e refl }
+
+pub list_again : (inside : List ℕ) → is_value_list inside ≡ true → Reads value_list (Braced inside ∷ []) inside
+unfolding value_list
+list_again inside e = record { written = rw e refl; read = λ rest. rw e refl }
 
 -- ---- numbers
 

@@ -26,7 +26,7 @@ struct Written {
     def: MapDef,
 }
 
-/// A map definition with its canonical text, which has at most 32,768 bytes. Copies share both.
+/// A map definition with its canonical text, which has at most [`MOST_CANON_BYTES`] bytes. Copies share both.
 pub struct Canon {
     shared: Rc<Written>,
 }
@@ -52,7 +52,7 @@ impl Model for Canon {
 }
 
 impl Canon {
-    /// The canonical text of a definition, and a copy of the definition (`TooBig` iff the text is over 32,768 bytes).
+    /// The canonical text of a definition, and a copy of the definition (`TooBig` iff the text is over [`MOST_CANON_BYTES`]).
     pub fn of(alloc: Global, def: &MapDef) -> Result<Self, CanonFault>
         ensures value { IfOk result (λ canonical. canonical ≡ def.now) }
         ensures short { OnOk result (length (canon def.now) ≤ most_canon_bytes) }
@@ -63,8 +63,8 @@ impl Canon {
         Ok(share(alloc, text, own)?)
     }
 
-    /// The canonical text of a definition, and the definition itself, which isn't copied (`TooBig` iff the text is over 32,768
-    /// bytes).
+    /// The canonical text of a definition, and the definition itself, which isn't copied (`TooBig` iff the text is over
+    /// [`MOST_CANON_BYTES`]).
     pub fn from_map(alloc: Global, def: MapDef) -> Result<Self, CanonFault>
         ensures value { IfOk result (λ canonical. canonical ≡ def) }
         ensures short { OnOk result (length (canon def) ≤ most_canon_bytes) }
@@ -74,7 +74,7 @@ impl Canon {
         Ok(share(alloc, text, def)?)
     }
 
-    /// The definition that a canonical text means. More than 32,768 bytes are `TooBig`, which is checked first; other bytes that
+    /// The definition that a canonical text means. More than [`MOST_CANON_BYTES`] are `TooBig`, which is checked first; other bytes that
     /// aren't a canonical text are `NotCanonical`, even if they are a mapfile.
     pub fn from_bytes(alloc: Global, bytes: &[u8]) -> Result<Self, CanonFault>
         ensures too_big { most_canon_bytes < length bytes.now → result ≡ Err CanonFault.TooBig }

@@ -5,7 +5,7 @@
 //! definition.
 //!
 //! Promises: [`Canon::of`] and [`Canon::from_map`] return exactly the text of their definition. [`Canon::from_bytes`] accepts exactly
-//! the canonical texts within the limit of 32,768 bytes, and returns their definition. Theorems about the definitions, for every map
+//! the canonical texts within the limit, and returns their definition. Theorems about the definitions, for every map
 //! within the limits: the canonical text of a map means that map, and two maps with the same text are equal. Not here: which of two
 //! mapfiles a user would prefer.
 //!

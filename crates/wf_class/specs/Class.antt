@@ -1,11 +1,12 @@
 -- CLASS: which features it contains, and how they are drawn.
-use Rattle.std.specs.Prelude.{ℕ, Bool, false, if◌then◌else◌, List, [], ◌∷◌, codes, Option, Some, None, unwrap_or}
+use Rattle.std.specs.Prelude.{ℕ, Bool, true, false, if◌then◌else◌, List, [], ◌∷◌, codes, Option, Some, None, unwrap_or}
 use Rattle.wf_def.specs.Limit.{most_styles}
-use Rattle.wf_def.specs.Definition.{ClassDefinition}
+use Rattle.wf_def.specs.Definition.{ClassDefinition, ExpressionDefinition}
+use Rattle.wf_def.specs.declared.expression.Expression.TheVariants.{Equals, OneOf}
 use Rattle.wf_class.specs.declared.slots.class.ClassOnce.{ClassOnce}
 use Rattle.wf_class.specs.declared.slots.class.ClassSlots.{ClassSlots}
-use Rattle.wf_token.specs.Token.{Token, Word, Quoted, is_slash}
-use Rattle.wf_block.specs.Grammar.{◌>>=◌, text}
+use Rattle.wf_token.specs.Token.{Token, Word, Quoted, Braced, is_slash}
+use Rattle.wf_block.specs.Grammar.{◌>>=◌, text, value_list}
 use Rattle.wf_block.specs.Steps.{once, again, step_by, step_or, put_into, block}
 use Rattle.wf_class.specs.Style.{style}
 use Rattle.wf_class.specs.Label.{label}
@@ -14,12 +15,22 @@ use Rattle.wf_class.specs.Label.{label}
 unfoldable pub begins_pattern : List Token → Bool
 begins_pattern [] = false
 begins_pattern (Quoted bytes ∷ rest) = false
+begins_pattern (Braced inside ∷ rest) = false
 begins_pattern (Word [] ∷ rest) = false
 begins_pattern (Word (b ∷ bytes) ∷ rest) = is_slash b
 
--- a text to compare with; a regular expression isn't one
-unfoldable pub expression : List Token → Option (List ℕ × List Token)
-expression tokens = if begins_pattern tokens then None else text tokens
+-- whether a list begins here
+unfoldable pub begins_list : List Token → Bool
+begins_list [] = false
+begins_list (Word bytes ∷ rest) = false
+begins_list (Quoted bytes ∷ rest) = false
+begins_list (Braced inside ∷ rest) = true
+
+-- a list in braces, or a text; a regular expression is neither
+unfoldable pub expression : List Token → Option (ExpressionDefinition × List Token)
+expression tokens =
+    if begins_list tokens then value_list tokens >>= (λ x. Some (OneOf x.0, x.1)) else
+    if begins_pattern tokens then None else text tokens >>= (λ x. Some (Equals x.0, x.1))
 
 -- the slots after a keyword that comes at most once
 unfoldable pub class_once : ClassOnce → List ℕ → List Token → Option (ClassOnce × List Token)

@@ -2,7 +2,7 @@
 use Rattle.std.specs.Prelude.{ℕ, ◌+◌, ◌-◌, ◌*◌, ◌==◌, ◌&&◌, nat_le, if◌then◌else◌, List, [], ◌∷◌, Option, Some, None}
 use Rattle.std.specs.Option.{option_map_or}
 use Rattle.wf_def.specs.declared.color.Color.{Color}
-use Rattle.wf_token.specs.Token.{Token, Word, Quoted}
+use Rattle.wf_token.specs.Token.{Token, Word, Quoted, Braced}
 use Rattle.wf_block.specs.Grammar.{◌>>=◌, whole}
 
 -- `0` to `9`, `a` to `f` and `A` to `F`
@@ -37,6 +37,7 @@ rgb_color tokens = do
 -- the digits of a string that begins with `#` (35)
 unfoldable pub hash_digits : Token → Option (List ℕ)
 hash_digits (Word bytes) = None
+hash_digits (Braced inside) = None
 hash_digits (Quoted []) = None
 hash_digits (Quoted (b ∷ digits)) = if b == 35 then Some digits else None
 

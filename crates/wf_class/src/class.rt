@@ -1,6 +1,6 @@
 //! CLASS: which features it contains, and how they are drawn.
 ghost use Rattle.std.specs.Prelude.{◌≡◌, IfOk, MatchResult, false, length, nat_lt, true};
-ghost use Rattle.wf_class.specs.Class.{begins_pattern, class, class_of, class_once, expression, no_class};
+ghost use Rattle.wf_class.specs.Class.{begins_list, begins_pattern, class, class_of, class_once, expression, no_class};
 ghost use Rattle.wf_block.specs.Reading.{Gives, is_memory};
 ghost use Rattle.wf_def.specs.Limit.{most_styles};
 
@@ -15,7 +15,7 @@ use wf_block::keyword::is_name;
 use wf_block::once;
 use wf_block::parser::Parser;
 use wf_def::class::{Class, Styles};
-use wf_def::text::Text;
+use wf_def::expression::Expression;
 use wf_token::lexer::is_slash;
 use wf_token::token::{Token, TokenKind};
 
@@ -113,15 +113,32 @@ pub fn read_class(parser: &mut Parser<'_>) -> Result<Class, MapFault>
     Ok(slots.filled(parser.alloc())?)
 }
 
-/// Reads a text to compare with (MapServer mapfile reference, EXPRESSION). A regular expression isn't one.
+/// Reads a list or a text to compare with (MapServer mapfile reference, EXPRESSION). A regular expression is neither.
 #[tactic(auto, unfolding(crate::specs::Class::expression))]
-fn read_expression(parser: &mut Parser<'_>) -> Result<Text, MapFault>
-    ensures { Gives (λ t. (t, parser.new)) result (expression parser.old) }
+fn read_expression(parser: &mut Parser<'_>) -> Result<Expression, MapFault>
+    ensures { Gives (λ e. (e, parser.new)) result (expression parser.old) }
 {
+    if begins_list(parser) {
+        return Ok(Expression::OneOf(parser.value_list()?));
+    }
     if begins_pattern(parser) {
         return Err(MapFault::UnexpectedWord(parser.place()));
     }
-    parser.text()
+    Ok(Expression::Equals(parser.text()?))
+}
+
+/// Whether a list begins here.
+#[tactic(auto, unfolding(crate::specs::Class::begins_list))]
+fn begins_list(parser: &Parser<'_>) -> bool
+    ensures { result ≡ begins_list parser.now }
+{
+    match parser.peek() {
+        None => false,
+        Some(token) => match token.kind {
+            TokenKind::Word | TokenKind::Quoted => false,
+            TokenKind::Braced => true,
+        },
+    }
 }
 
 /// Whether a regular expression begins here: a word that begins with `/`, outside quotes.
@@ -132,7 +149,7 @@ fn begins_pattern(parser: &Parser<'_>) -> bool
     match parser.peek() {
         None => false,
         Some(token) => match token.kind {
-            TokenKind::Quoted => false,
+            TokenKind::Quoted | TokenKind::Braced => false,
             TokenKind::Word => match token.text {
                 [first, ..] => is_slash(*first),
                 [] => false,

@@ -43,7 +43,7 @@ fn hash_digits<'a>(token: Token<'a>) -> Option<&'a [u8]>
     ensures { option_copied result ≡ hash_digits (token_value token.entry) }
 {
     match token.kind {
-        TokenKind::Word => None,
+        TokenKind::Word | TokenKind::Braced => None,
         TokenKind::Quoted => match token.text {
             [first, digits @ ..] if is_hash(*first) => Some(digits),
             _ => None,

@@ -4,6 +4,7 @@ use Rattle.wf_def.specs.Extent.{ExtentValue}
 use Rattle.wf_def.specs.declared.point.Point.{Point}
 use Rattle.wf_def.specs.declared.style.Style.{Style}
 use Rattle.wf_def.specs.declared.label.Label.{Label}
+use Rattle.wf_def.specs.declared.expression.Expression.{Expression}
 use Rattle.wf_def.specs.declared.choice.Projection.{Projection}
 use Rattle.wf_def.specs.declared.choice.Projection.TheVariants.{Epsg4326}
 use Rattle.wf_def.specs.declared.choice.LayerKind.{LayerKind}
@@ -15,10 +16,14 @@ StyleDefinition = Style
 abbrev pub LabelDefinition : Type 0
 LabelDefinition = Label
 
+-- which value of its attribute puts a feature into a class: a text, or the inside of a list whose values are between commas
+abbrev pub ExpressionDefinition : Type 0
+ExpressionDefinition = Expression
+
 -- a class: which features it contains, and how they are drawn
 pub record ClassDefinition : Type 0 where
   pub name : List ℕ
-  pub expression : Option (List ℕ)
+  pub expression : Option ExpressionDefinition
   pub styles : List StyleDefinition
   pub label : Option LabelDefinition
 

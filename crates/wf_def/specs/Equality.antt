@@ -1,14 +1,15 @@
 -- The test of equality of two definitions: all their fields are equal. Lists are compared in order, those of layers too.
-use Rattle.std.specs.Prelude.{ℕ, ◌==◌, ◌&&◌, Bool, List, bytes_eq}
+use Rattle.std.specs.Prelude.{ℕ, ◌==◌, ◌&&◌, Bool, false, List, bytes_eq}
 use Rattle.std.specs.Ordering.{int_eq}
 use Rattle.std.specs.Option.{option_eq}
 use Rattle.std.specs.Cmp.Lexicographic.{pointwise}
 use mathlib.Core.Bool.{beq}
 use denote.Enum.Bare.{sameb}
 use Rattle.wf_def.specs.Extent.{ExtentValue}
-use Rattle.wf_def.specs.Definition.{Definition, LayerDefinition, ClassDefinition, StyleDefinition, LabelDefinition, FeatureDefinition}
+use Rattle.wf_def.specs.Definition.{Definition, LayerDefinition, ClassDefinition, ExpressionDefinition, StyleDefinition, LabelDefinition, FeatureDefinition}
 use Rattle.wf_def.specs.declared.color.Color.{Color}
 use Rattle.wf_def.specs.declared.point.Point.{Point}
+use Rattle.wf_def.specs.declared.expression.Expression.TheVariants.{Equals, OneOf}
 use Rattle.wf_def.specs.contracts.choice.Projection.{the_type as projections}
 use Rattle.wf_def.specs.contracts.choice.LayerKind.{the_type as layer_kinds}
 use Rattle.wf_def.specs.contracts.choice.LabelSize.{the_type as label_sizes}
@@ -30,8 +31,14 @@ abbrev pub label_eq : LabelDefinition → LabelDefinition → Bool
 label_eq a b = color_eq a.color b.color && (sameb label_sizes a.size b.size && (sameb label_positions a.position b.position
     && (a.priority == b.priority && (beq a.force b.force && a.buffer == b.buffer))))
 
+abbrev pub expression_eq : ExpressionDefinition → ExpressionDefinition → Bool
+expression_eq (Equals a) (Equals b) = bytes_eq a b
+expression_eq (Equals a) (OneOf b) = false
+expression_eq (OneOf a) (Equals b) = false
+expression_eq (OneOf a) (OneOf b) = bytes_eq a b
+
 unfoldable pub class_eq : ClassDefinition → ClassDefinition → Bool
-class_eq a b = bytes_eq a.name b.name && option_eq bytes_eq a.expression b.expression && pointwise style_eq a.styles b.styles
+class_eq a b = bytes_eq a.name b.name && option_eq expression_eq a.expression b.expression && pointwise style_eq a.styles b.styles
     && option_eq label_eq a.label b.label
 
 unfoldable pub feature_eq : FeatureDefinition → FeatureDefinition → Bool

@@ -9,14 +9,15 @@ use Rattle.std.proofs.lemmas.Option.{none-some, same_Some}
 use denote.Enum.Declared.{Declared}
 use denote.Enum.Bare.{Bare, sameb, same_true, true_same}
 use Rattle.wf_def.specs.Extent.{ExtentValue}
-use Rattle.wf_def.specs.Definition.{Definition, LayerDefinition, ClassDefinition, StyleDefinition, LabelDefinition, FeatureDefinition}
+use Rattle.wf_def.specs.Definition.{Definition, LayerDefinition, ClassDefinition, ExpressionDefinition, StyleDefinition, LabelDefinition, FeatureDefinition}
 use Rattle.wf_def.specs.declared.color.Color.{Color}
 use Rattle.wf_def.specs.declared.point.Point.{Point}
+use Rattle.wf_def.specs.declared.expression.Expression.TheVariants.{Equals, OneOf}
 use Rattle.wf_def.specs.contracts.choice.Projection.{the_type as projections}
 use Rattle.wf_def.specs.contracts.choice.LayerKind.{the_type as layer_kinds}
 use Rattle.wf_def.specs.contracts.choice.LabelSize.{the_type as label_sizes}
 use Rattle.wf_def.specs.contracts.choice.LabelPosition.{the_type as label_positions}
-use Rattle.wf_def.specs.Equality.{color_eq, point_eq, extent_eq, style_eq, label_eq, class_eq, feature_eq, layer_eq, entry_eq, definition_eq}
+use Rattle.wf_def.specs.Equality.{color_eq, point_eq, extent_eq, style_eq, label_eq, expression_eq, class_eq, feature_eq, layer_eq, entry_eq, definition_eq}
 
 pub sameb-Decides : (D : Declared) → Bare D.parts → (a b : D.D) → Decides (sameb D a b) (a ≡ b)
 sameb-Decides D bare a b = (same_true D bare a b, true_same D a b)
@@ -50,11 +51,26 @@ label_eq-Decides a b = Decides-like _ (λ e i. record { color = e.0 i; size = e.
     (λ e. (ap (λ x. x.color) e, (ap (λ x. x.size) e, (ap (λ x. x.position) e, (ap (λ x. x.priority) e, (ap (λ x. x.force) e, ap (λ x. x.buffer) e))))))
     (Decides-and _ _ (color_eq-Decides _ _) (Decides-and _ _ (sameb-Decides label_sizes tt _ _) (Decides-and _ _ (sameb-Decides label_positions tt _ _) (Decides-and _ _ (Decides-eqb _ _) (Decides-and _ _ (booleans_Decides _ _) (Decides-eqb _ _))))))
 
+same_text : (a b : List ℕ) → Equals a ≡ Equals b → a ≡ b
+same_text a b e = cc
+
+same_list : (a b : List ℕ) → OneOf a ≡ OneOf b → a ≡ b
+same_list a b e = cc
+
+pub expression_eq-Decides : (a b : ExpressionDefinition) → Decides (expression_eq a b) (a ≡ b)
+expression_eq-Decides (Equals a) (Equals b) = (λ e. ap Equals ((bytes_decides a b).0 e), λ e. (bytes_decides a b).1 (same_text a b e))
+expression_eq-Decides (Equals a) (OneOf b) = (λ e. grind arith, λ e. absurd cc)
+expression_eq-Decides (OneOf a) (Equals b) = (λ e. grind arith, λ e. absurd cc)
+expression_eq-Decides (OneOf a) (OneOf b) = (λ e. ap OneOf ((bytes_decides a b).0 e), λ e. (bytes_decides a b).1 (same_list a b e))
+
+pub expression_eq_equiv : IsEquivalence expression_eq
+expression_eq_equiv = decided expression_eq expression_eq-Decides
+
 pub class_eq-Decides : (a b : ClassDefinition) → Decides (class_eq a b) (a ≡ b)
 unfolding class_eq
 class_eq-Decides a b = Decides-like _ (λ e i. record { name = e.0.0.0 i; expression = e.0.0.1 i; styles = e.0.1 i; label = e.1 i })
     (λ e. (((ap (λ x. x.name) e, ap (λ x. x.expression) e), ap (λ x. x.styles) e), ap (λ x. x.label) e))
-    (Decides-and _ _ (Decides-and _ _ (Decides-and _ _ (bytes_decides _ _) (option_eq-Decides bytes_decides _ _)) (pointwise_decides style_eq-Decides _ _)) (option_eq-Decides label_eq-Decides _ _))
+    (Decides-and _ _ (Decides-and _ _ (Decides-and _ _ (bytes_decides _ _) (option_eq-Decides expression_eq-Decides _ _)) (pointwise_decides style_eq-Decides _ _)) (option_eq-Decides label_eq-Decides _ _))
 
 pub class_eq_equiv : IsEquivalence class_eq
 class_eq_equiv = decided class_eq class_eq-Decides

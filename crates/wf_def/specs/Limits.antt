@@ -4,11 +4,13 @@ use Rattle.std.specs.List.{list_any, IsDistinct}
 use Rattle.wf_text.specs.Micro.{IsMicro}
 use Rattle.wf_def.specs.Extent.{IsExtent}
 use Rattle.wf_text.specs.Text.{IsText}
-use Rattle.wf_def.specs.Definition.{Definition, LayerDefinition, ClassDefinition, StyleDefinition, LabelDefinition, FeatureDefinition}
+use Rattle.wf_text.specs.ValueList.{IsValueList}
+use Rattle.wf_def.specs.Definition.{Definition, LayerDefinition, ClassDefinition, ExpressionDefinition, StyleDefinition, LabelDefinition, FeatureDefinition}
 use Rattle.wf_def.specs.declared.fault.LayerFault.{LayerFault}
 use Rattle.wf_def.specs.declared.fault.LayerFault.TheVariants.{OutOfMemory, Repeated}
 use Rattle.wf_def.specs.declared.color.Color.{Color}
 use Rattle.wf_def.specs.declared.point.Point.{Point}
+use Rattle.wf_def.specs.declared.expression.Expression.TheVariants.{Equals, OneOf}
 use Rattle.wf_def.specs.declared.choice.LayerKind.{LayerKind}
 use Rattle.wf_def.specs.declared.choice.LayerKind.TheVariants.{Points, Lines, Polygons}
 use Rattle.wf_def.specs.Limit.{most_items_bytes, most_layers, most_classes, most_styles, most_features, most_points, most_width, most_size, most_priority, most_buffer}
@@ -37,9 +39,14 @@ pub record IsLabel (l : LabelDefinition) : Type 0 where
   pub priority_most : l.priority ≤ most_priority
   pub buffer_most : l.buffer ≤ most_buffer
 
+-- a text, or the inside of a list
+abbrev pub IsExpression : ExpressionDefinition → Type 0
+IsExpression (Equals text) = IsText text
+IsExpression (OneOf inside) = IsValueList inside
+
 pub record IsClass (c : ClassDefinition) : Type 0 where
   pub name : IsText c.name
-  pub expression : IfSome c.expression IsText
+  pub expression : IfSome c.expression IsExpression
   pub styles_most : length c.styles ≤ most_styles
   pub styles : All IsStyle c.styles
   pub label : IfSome c.label IsLabel

@@ -1,8 +1,10 @@
 //! The attributes of features, and the class of a feature.
 ghost use Rattle.std.specs.Prelude.{◌≡◌, ◌<◌, length, IfSome, option_copied, position, bytes_eq, slice_get};
-ghost use Rattle.wf_def.specs.Attribute.{attribute, attribute_names, attribute_values, matches, class_of};
+ghost use Rattle.std.specs.List.{list_any};
+ghost use Rattle.wf_def.specs.Attribute.{attribute, attribute_names, attribute_values, between_commas, meets, matches, class_of};
 
 use crate::class::Class;
+use crate::expression::Expression;
 use crate::feature::Feature;
 use crate::layer::Layer;
 use wf_text::text::Text;
@@ -21,8 +23,9 @@ impl Layer {
         )
     }
 
-    /// The index of the feature's class: the first class without an expression, or whose expression equals the feature's value
-    /// under the layer's CLASSITEM byte for byte. A feature without a class isn't drawn.
+    /// The index of the feature's class: the first class without an expression, or whose expression the feature's value under the
+    /// layer's CLASSITEM meets: it equals the text, or one of the list's values, byte for byte. A feature without a class isn't
+    /// drawn.
     #[tactic(auto, unfolding(crate::specs::Attribute::class_of))]
     pub fn class_of(&self, feature: &Feature) -> Option<usize>
         ensures class { result ≡ class_of self.now feature.now }
@@ -41,8 +44,28 @@ fn matches(class: &Class, value: Option<&[u8]>) -> bool
 {
     match class.expression() {
         None => true,
-        Some(expression) => value == Some(expression.as_bytes()),
+        Some(expression) => match value {
+            None => false,
+            Some(value) => meets(expression, value),
+        },
     }
+}
+
+/// Whether a value meets an expression.
+fn meets(expression: &Expression, value: &[u8]) -> bool
+    ensures { result ≡ meets expression.now value.now }
+{
+    match expression {
+        Expression::Equals(text) => text.as_bytes() == value,
+        Expression::OneOf(list) => is_among(list.as_bytes(), value),
+    }
+}
+
+/// Whether a value is one of a list's values, which are between commas.
+fn is_among(list: &[u8], value: &[u8]) -> bool
+    ensures { result ≡ list_any (bytes_eq value.now) (between_commas list.now) }
+{
+    list.split(|b| *b == b',').any(|piece| value == piece)
 }
 
 /// The value under a name, of names between commas and values between semicolons.

@@ -1,9 +1,9 @@
 //! Classes.
 ghost use Rattle.std.specs.Prelude.{◌≡◌, IfSome};
-ghost use Rattle.wf_def.specs.Limits.{IsClass, IsLabel};
-ghost use Rattle.wf_text.specs.Text.{IsText};
+ghost use Rattle.wf_def.specs.Limits.{IsClass, IsExpression, IsLabel};
 
 use crate::color::Color;
+use crate::expression::Expression;
 use crate::label::Label;
 use crate::limits::MOST_STYLES;
 use crate::members::{Capped, Limited};
@@ -18,7 +18,7 @@ pub type Styles = Capped<Style, MOST_STYLES>;
 /// A class: which features it contains, and how they are drawn (MapServer mapfile reference, CLASS).
 pub struct Class {
     name: Text,
-    expression: Option<Text>,
+    expression: Option<Expression>,
     styles: Styles,
     label: Option<Label>,
 }
@@ -50,12 +50,17 @@ impl Model for Class {
 }
 
 impl Class {
-    /// The class of the features whose attribute equals the expression, or of all features if there is none.
-    pub fn new(name: Text, expression: Option<Text>, styles: Styles, label: Option<Label>) -> Self
+    /// The class of the features whose attribute meets the expression, or of all features if there is none.
+    pub fn new(
+        name: Text,
+        expression: Option<Expression>,
+        styles: Styles,
+        label: Option<Label>,
+    ) -> Self
         ensures { result ≡ record { name = name; expression = expression; styles = styles; label = label } }
     {
         let _ = name.as_bytes();
-        know_text(&expression);
+        know_expression(&expression);
         let _ = styles.as_slice();
         know_label(&label);
         Class {
@@ -74,8 +79,8 @@ impl Class {
         &self.name
     }
 
-    /// The text that the attribute of a feature of this class equals (EXPRESSION).
-    pub fn expression(&self) -> &Option<Text>
+    /// What the attribute of a feature of this class equals (EXPRESSION).
+    pub fn expression(&self) -> &Option<Expression>
         ensures value { result.now ≡ self.now.expression }
         ensures within { IsClass self.now }
     {
@@ -99,12 +104,18 @@ impl Class {
     }
 }
 
-/// Makes it known to the prover that the option's value is a text.
-fn know_text(text: &Option<Text>)
-    ensures { IfSome text.now IsText }
+/// Makes it known to the prover that the option's value is an expression within the limits.
+fn know_expression(expression: &Option<Expression>)
+    ensures { IfSome expression.now IsExpression }
 {
-    if let Some(text) = text {
-        let _ = text.as_bytes();
+    match expression {
+        None => {}
+        Some(Expression::Equals(text)) => {
+            let _ = text.as_bytes();
+        }
+        Some(Expression::OneOf(list)) => {
+            let _ = list.as_bytes();
+        }
     }
 }
 

@@ -17,6 +17,7 @@ pub mod choice;
 pub mod class;
 pub mod color;
 mod equality;
+pub mod expression;
 pub mod extent;
 pub mod fault;
 pub mod feature;

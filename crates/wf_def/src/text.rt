@@ -1,8 +1,9 @@
-//! Texts, re-exported from `wf_text`.
+//! Texts and lists, re-exported from `wf_text`.
 ghost use Rattle.std.specs.Prelude.{◌≡◌, IfOk};
 
 use std::alloc::AllocError;
 pub use wf_text::text::{Text, checked, is_text_character};
+pub use wf_text::value_list::{ValueList, checked_list};
 
 /// Copies of two texts: a value of many texts is copied pair by pair, so that fewer are dropped at each allocation failure.
 pub(crate) fn clone_both(first: &Text, second: &Text) -> Result<(Text, Text), AllocError>

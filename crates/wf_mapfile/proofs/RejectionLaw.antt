@@ -12,7 +12,7 @@ use Rattle.wf_def.specs.Definition.{Definition}
 use Rattle.wf_mapfile.specs.Map.{map}
 use Rattle.wf_mapfile.specs.Meaning.{MeansNothing, file, longest_mapfile}
 use Rattle.wf_mapfile.specs.Rejection.{HasError, IsErrorOf, begins_map}
-use Rattle.wf_token.specs.Token.{Token, Word, Quoted, tokens as lexed}
+use Rattle.wf_token.specs.Token.{Token, Word, Quoted, Braced, tokens as lexed}
 
 -- ---- its meaning
 
@@ -35,6 +35,7 @@ no_map : (first : Token) (rest : List Token) → begins_map first ≡ false → 
 unfolding file word begins_map
 no_map (Word bytes) rest is = not_named (str_eq_ignore_ascii_case bytes (codes "MAP")) (map rest) is
 no_map (Quoted bytes) rest is = refl
+no_map (Braced inside) rest is = refl
 
 -- a file that doesn't begin with MAP means nothing
 pub other_first : (tokens : List Token) (first : Token) (rest : List Token) → tokens ≡ first ∷ rest → begins_map first ≡ false → file tokens ≡ None
@@ -44,6 +45,7 @@ map_first : (first : Token) (rest : List Token) → begins_map first ≡ true �
 unfolding file word begins_map
 map_first (Word bytes) rest is = is_named (str_eq_ignore_ascii_case bytes (codes "MAP")) (map rest) is
 map_first (Quoted bytes) rest is = absurd (let impossible : ⊥ = cc in impossible)
+map_first (Braced inside) rest is = absurd (let impossible : ⊥ = cc in impossible)
 
 -- a file that begins with MAP means nothing if no map follows
 pub no_map_follows : (tokens : List Token) (first : Token) (rest : List Token) → tokens ≡ first ∷ rest → begins_map first ≡ true → map rest ≡ None → file tokens ≡ None

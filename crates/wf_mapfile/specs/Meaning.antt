@@ -8,7 +8,7 @@ use Rattle.wf_mapfile.specs.Map.{map}
 
 -- the longest mapfile, in bytes
 abbrev pub longest_mapfile : ℕ
-longest_mapfile = 65_536
+longest_mapfile = 131_072
 
 -- MAP, its contents, END, and nothing else
 unfoldable pub file : List Token → Option Definition
@@ -17,7 +17,7 @@ file tokens = do
   all ← if str_eq_ignore_ascii_case x.0 (codes "MAP") then map x.1 else None
   if length all.1 == 0 then Some all.0 else None
 
--- the meaning of bytes: that of a file of at most 65,536 bytes, in UTF-8
+-- the meaning of bytes: that of a file within that length, in UTF-8
 unfoldable pub meaning : List ℕ → Option Definition
 meaning bytes = if nat_le (length bytes) longest_mapfile && is_utf8 bytes then tokens bytes >>= file else None
 

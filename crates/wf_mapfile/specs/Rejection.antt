@@ -8,12 +8,13 @@ use Rattle.wf_block.specs.declared.fault.MapFault.TheVariants as faults
 use Rattle.wf_def.specs.Definition.{Definition}
 use Rattle.wf_mapfile.specs.Map.{map}
 use Rattle.wf_mapfile.specs.Meaning.{MeansNothing, longest_mapfile}
-use Rattle.wf_token.specs.Token.{Token, Word, Quoted, tokens}
+use Rattle.wf_token.specs.Token.{Token, Word, Quoted, Braced, tokens}
 
 -- the token is the word MAP
 unfoldable pub begins_map : Token → Bool
 begins_map (Word bytes) = str_eq_ignore_ascii_case bytes (codes "MAP")
 begins_map (Quoted bytes) = false
+begins_map (Braced inside) = false
 
 -- M5: it isn't what is expected there
 abbrev pub IsUnexpected : MapFault → Type 0

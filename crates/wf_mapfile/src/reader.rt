@@ -17,7 +17,7 @@ use wf_token::lexer::tokenize;
 use wf_token::token::{LexFault, Token, TokenKind};
 
 /// The longest mapfile, in bytes.
-pub const MOST_MAPFILE_BYTES: usize = 65_536;
+pub const MOST_MAPFILE_BYTES: usize = 131_072;
 
 /// The constant is the number in the definitions. A theorem: the call does nothing.
 pub fn limit_of_mapfiles()
@@ -30,7 +30,7 @@ pub fn limit_of_mapfiles()
 /// keyword at the END of its block. `Memory` says nothing about the file. Each byte is looked at a bounded number of times.
 #[tactic(auto, using(crate::proofs::RejectionLaw::has_error, crate::proofs::RejectionLaw::not_utf8))]
 pub fn read(alloc: Global, bytes: &[u8]) -> Result<MapDef, MapFault>
-    // Over 65,536 bytes nothing else is checked.
+    // Over that length nothing else is checked.
     ensures too_long { longest_mapfile < length bytes.now → result ≡ Err MapFault.TooLong }
     // Otherwise, bytes that aren't UTF-8 are rejected for that, before anything is read.
     ensures not_utf8 { length bytes.now ≤ longest_mapfile → is_utf8 bytes.now ≡ false → IsNotUtf8 result }
@@ -95,7 +95,7 @@ fn begins_map(token: &Token<'_>) -> bool
 {
     match token.kind {
         TokenKind::Word => is_name(token.text, "MAP"),
-        TokenKind::Quoted => false,
+        TokenKind::Quoted | TokenKind::Braced => false,
     }
 }
 

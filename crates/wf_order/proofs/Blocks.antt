@@ -2,7 +2,7 @@
 use Rattle.std.proofs.Common.{◌≡◌, ℕ, suc, Bool, true, false, List, [], ◌∷◌, refl}
 use Rattle.std.specs.Prelude.{Option, Some, None, if◌then◌else◌}
 use Rattle.std.specs.Option.{option_or}
-use Rattle.wf_token.specs.Token.{Token, Word, Quoted}
+use Rattle.wf_token.specs.Token.{Token, Word, Quoted, Braced}
 use Rattle.wf_block.specs.Grammar.{◌>>=◌, word, end, is_end}
 use Rattle.wf_block.specs.Steps.{fill, block}
 use Rattle.wf_order.proofs.Readers.{Reader, give, ReadsOn, word_reads, then_reads}
@@ -25,6 +25,7 @@ module _ {S : Type 0} (put : Put S) where
   unfolding fill word end
   fill_one n s [] = refl
   fill_one n s (Quoted bytes ∷ tokens) = refl
+  fill_one n s (Braced inside ∷ tokens) = refl
   fill_one n s (Word bytes ∷ tokens) = go (is_end bytes) (put s bytes tokens) where
     all : (o : Option (S × List Token)) → o ≡ (o >>= λ v. give v.0 v.1)
     all None = refl

@@ -7,7 +7,7 @@ use Rattle.std.proofs.lemmas.Slice.Eq.{bytes_eq-Decides}
 use Rattle.wf_def.specs.Definition.{Definition, LayerDefinition}
 use Rattle.wf_def.specs.Limits.{points_of_feature}
 use Rattle.wf_def.specs.Limit.{most_points}
-use Rattle.wf_token.specs.Token.{Token, Word, Quoted, tokens}
+use Rattle.wf_token.specs.Token.{Token, Word, Quoted, Braced, tokens}
 use Rattle.wf_block.specs.Grammar.{◌>>=◌, word, is_end}
 use Rattle.wf_block.specs.Steps.{fill, block}
 use Rattle.wf_metadata.specs.Web.{web, web_put, nothing_said}
@@ -291,6 +291,7 @@ is_mapfile : (bytes : List ℕ) (all : List Token) (d : Definition) → tokens b
 unfolding file word
 is_mapfile bytes [] d spells h = none_is_not_some d h
 is_mapfile bytes (Quoted text ∷ contents) d spells h = none_is_not_some d h
+is_mapfile bytes (Braced text ∷ contents) d spells h = none_is_not_some d h
 is_mapfile bytes (Word name ∷ contents) d spells h = whole_map bytes name contents d spells h
 
 pub mapfiles_consist_of_entries : MapfilesConsistOfEntries

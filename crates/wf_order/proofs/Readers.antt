@@ -1,9 +1,10 @@
 -- Readers look no further than they read: what follows may be anything.
 use Rattle.std.proofs.Common.{◌≡◌, ◌∙◌, ℕ, Bool, true, false, List, [], ◌∷◌, ◌++◌, refl, sym, ap, append_assoc}
 use Rattle.std.specs.Prelude.{Option, Some, None, if◌then◌else◌}
-use Rattle.wf_token.specs.Token.{Token, Word, Quoted}
-use Rattle.wf_block.specs.Grammar.{◌>>=◌, word, argument, text, chosen, choice, number, whole, end, is_end}
+use Rattle.wf_token.specs.Token.{Token, Word, Quoted, Braced}
+use Rattle.wf_block.specs.Grammar.{◌>>=◌, word, argument, text, value_list, chosen, choice, number, whole, end, is_end}
 use Rattle.wf_text.specs.Text.{is_text}
+use Rattle.wf_text.specs.ValueList.{is_value_list}
 use Rattle.wf_text.specs.Number as micro
 use Rattle.wf_text.specs.Whole.{whole_between}
 use Rattle.std.specs.Result.{result_ok}
@@ -84,6 +85,7 @@ pub word_reads : ReadsOn word
 unfolding word
 word_reads value [] rest e = none_is_not_some (value, rest) e
 word_reads value (Quoted bytes ∷ more) rest e = none_is_not_some (value, rest) e
+word_reads value (Braced inside ∷ more) rest e = none_is_not_some (value, rest) e
 word_reads value (Word bytes ∷ more) rest e = token_reads word (Word bytes) bytes value more rest (λ other. refl) e
 
 argument_word : (bytes : List ℕ) (b : Bool) → is_end bytes ≡ b → (value : List ℕ) (more rest : List Token) → (if b then None else give bytes more) ≡ Some (value, rest) →
@@ -96,11 +98,25 @@ pub argument_reads : ReadsOn argument
 unfolding argument
 argument_reads value [] rest e = none_is_not_some (value, rest) e
 argument_reads value (Quoted bytes ∷ more) rest e = token_reads argument (Quoted bytes) bytes value more rest (λ other. refl) e
+argument_reads value (Braced inside ∷ more) rest e = none_is_not_some (value, rest) e
 argument_reads value (Word bytes ∷ more) rest e = argument_word bytes (is_end bytes) refl value more rest e
 
 pub text_reads : ReadsOn text
 unfolding text
 text_reads = then_reads argument _ argument_reads (λ x. if_reads (is_text x) (λ tokens. Some (x, tokens)) (λ tokens. None) (gives_reads x) nothing_reads)
+
+list_is_read : (inside : List ℕ) (b : Bool) → is_value_list inside ≡ b → (value : List ℕ) (more rest : List Token) → (if b then give inside more else None) ≡ Some (value, rest) →
+    Reads value_list value (Braced inside ∷ more) rest
+unfolding value_list
+list_is_read inside true is value more rest e = token_reads value_list (Braced inside) inside value more rest (λ other. rw is) (rw is e)
+list_is_read inside false is value more rest e = none_is_not_some (value, rest) e
+
+pub value_list_reads : ReadsOn value_list
+unfolding value_list
+value_list_reads value [] rest e = none_is_not_some (value, rest) e
+value_list_reads value (Word bytes ∷ more) rest e = none_is_not_some (value, rest) e
+value_list_reads value (Quoted bytes ∷ more) rest e = none_is_not_some (value, rest) e
+value_list_reads value (Braced inside ∷ more) rest e = list_is_read inside (is_value_list inside) refl value more rest e
 
 pub chosen_reads : {A : Type 0} (table : List (List ℕ × A)) → ReadsOn (chosen table)
 unfolding chosen
@@ -128,6 +144,7 @@ pub end_is : (tokens rest : List Token) → end tokens ≡ Some rest → IsEnd t
 unfolding end word
 end_is [] rest e = none_is_not_some rest e
 end_is (Quoted bytes ∷ more) rest e = none_is_not_some rest e
+end_is (Braced inside ∷ more) rest e = none_is_not_some rest e
 end_is (Word bytes ∷ more) rest e = end_word bytes (is_end bytes) refl more rest e
 
 pub end_reads : (bytes : List ℕ) (rest : List Token) → is_end bytes ≡ true → end (Word bytes ∷ rest) ≡ Some rest
@@ -138,6 +155,7 @@ end_reads bytes rest is = rw is
 pub end_head : (t : Token) (tokens others : List Token) → end (t ∷ tokens) ≡ None → end (t ∷ others) ≡ None
 unfolding end word
 end_head (Quoted bytes) tokens others e = refl
+end_head (Braced inside) tokens others e = refl
 end_head (Word bytes) tokens others e = go (is_end bytes) e where
   go : (b : Bool) → (if b then Some tokens else None) ≡ None → (if b then Some others else None) ≡ None
   go true f = none_is_not_some tokens (sym f)

@@ -4,7 +4,7 @@ use Rattle.std.specs.Prelude.{Option, Some, None, All, if◌then◌else◌}
 use Rattle.std.specs.Str.{str_eq_ignore_ascii_case}
 use Rattle.std.proofs.lemmas.List.{append_cancel_right}
 use Rattle.std.proofs.lemmas.List.Elements.{All-nil, All-cons, All-head, All-tail}
-use Rattle.wf_token.specs.Token.{Token, Word, Quoted}
+use Rattle.wf_token.specs.Token.{Token, Word, Quoted, Braced}
 use Rattle.wf_block.specs.Grammar.{◌>>=◌, word, is_end}
 use Rattle.wf_block.specs.Steps.{fill, block}
 use Rattle.wf_order.specs.Entries.{Entry, spelled, IsEntry, MayBeReordered, IsBlock, ConsistsOfEntries}
@@ -180,6 +180,7 @@ module _ {S : Type 0} (put : Put S) (first : List ℕ → Reader S) (known : IsO
   fill_is_block zero s value tokens rest h = none_is_not_some (value, rest) h
   fill_is_block (suc n) s value [] rest h = none_is_not_some (value, rest) h
   fill_is_block (suc n) s value (Quoted bytes ∷ tokens) rest h = none_is_not_some (value, rest) h
+  fill_is_block (suc n) s value (Braced inside ∷ tokens) rest h = none_is_not_some (value, rest) h
   fill_is_block (suc n) s value (Word bytes ∷ tokens) rest h = go (fill_is_block n) (is_end bytes) refl h where
     go : ((s value : S) (tokens rest : List Token) → fill put n s tokens ≡ Some (value, rest) → IsBlock first tokens rest) → (b : Bool) → is_end bytes ≡ b →
         (if b then Some (s, tokens) else (put s bytes tokens >>= λ y. fill put n y.0 y.1)) ≡ Some (value, rest) → IsBlock first (Word bytes ∷ tokens) rest

@@ -3,7 +3,7 @@ use Rattle.std.proofs.Common.{◌≡◌, ◌∙◌, ℕ, zero, suc, Bool, true, 
 use Rattle.std.specs.Prelude.{Option, Some, None, if◌then◌else◌}
 use Rattle.std.specs.Option.{option_or}
 use Rattle.std.specs.Str.{str_eq_ignore_ascii_case}
-use Rattle.wf_token.specs.Token.{Token, Word, Quoted}
+use Rattle.wf_token.specs.Token.{Token, Word, Quoted, Braced}
 use Rattle.wf_block.specs.Grammar.{◌>>=◌, word, is_end}
 use Rattle.wf_block.specs.Steps.{fill, block, step_or}
 use Rattle.wf_order.proofs.Options.{none_is_not_some, Binds, binds}
@@ -43,6 +43,7 @@ module _ {S : Type 0} (put other : Put S) (within : PutIsWithin put other) where
   fill_within zero s tokens x h = none_is_not_some x h
   fill_within (suc n) s [] x h = none_is_not_some x h
   fill_within (suc n) s (Quoted bytes ∷ tokens) x h = none_is_not_some x h
+  fill_within (suc n) s (Braced inside ∷ tokens) x h = none_is_not_some x h
   fill_within (suc n) s (Word bytes ∷ tokens) x h = go (is_end bytes) (λ y. fill_within n y.0 y.1) x h where
     go : (b : Bool) → ((y : S × List Token) → Has (fill put n y.0 y.1) (fill other n y.0 y.1)) →
         Has (if b then Some (s, tokens) else (put s bytes tokens >>= λ y. fill put n y.0 y.1)) (if b then Some (s, tokens) else (other s bytes tokens >>= λ y. fill other n y.0 y.1))

@@ -3,9 +3,10 @@
 use Rattle.std.specs.Prelude.{◌≡◌, ℕ, ℤ, ◌≤◌, length, Bool, true, false, List, [], ◌∷◌, ◌++◌, map, Option, Some, None, codes}
 use Rattle.std.specs.List.{flat_map}
 use Rattle.std.specs.Fmt.{decimal}
-use Rattle.wf_def.specs.Definition.{Definition, LayerDefinition, ClassDefinition, StyleDefinition, LabelDefinition, FeatureDefinition}
+use Rattle.wf_def.specs.Definition.{Definition, LayerDefinition, ClassDefinition, ExpressionDefinition, StyleDefinition, LabelDefinition, FeatureDefinition}
 use Rattle.wf_def.specs.Limits.{IsWithinLimits}
 use Rattle.wf_def.specs.Extent.{ExtentValue}
+use Rattle.wf_def.specs.declared.expression.Expression.TheVariants.{Equals, OneOf}
 use Rattle.wf_def.specs.declared.color.Color.{Color}
 use Rattle.wf_def.specs.declared.point.Point.{Point}
 use Rattle.wf_def.specs.declared.choice.Projection.{Projection}
@@ -16,10 +17,10 @@ use Rattle.wf_def.specs.declared.choice.LabelSize.{LabelSize}
 use Rattle.wf_def.specs.declared.choice.LabelSize.TheVariants.{Tiny, Small, Medium, Large, Giant}
 use Rattle.wf_def.specs.declared.choice.LabelPosition.{LabelPosition}
 use Rattle.wf_def.specs.declared.choice.LabelPosition.TheVariants.{UpperLeft, UpperCenter, UpperRight, CenterLeft, CenterCenter, CenterRight, LowerLeft, LowerCenter, LowerRight}
-use Rattle.wf_token.specs.Token.{Token, Word, Quoted}
+use Rattle.wf_token.specs.Token.{Token, Word, Quoted, Braced}
 use Rattle.wf_text.specs.NumberText.{number_text}
 unfoldable pub use Rattle.wf_token.specs.Spelling.{line}
-pub use Rattle.wf_token.specs.Spelling.{quote_for, quoted, spelled, text_of}
+pub use Rattle.wf_token.specs.Spelling.{quote_for, quoted, braced, spelled, text_of}
 
 -- ---- words
 
@@ -69,6 +70,15 @@ alone keyword = Word keyword ∷ []
 -- a keyword and a text
 abbrev pub with_text : List ℕ → List ℕ → List Token
 with_text keyword text = Word keyword ∷ Quoted text ∷ []
+
+-- an expression: its text in quotes, or its list in braces
+abbrev pub expression_token : ExpressionDefinition → Token
+expression_token (Equals text) = Quoted text
+expression_token (OneOf inside) = Braced inside
+
+-- a keyword and an expression
+abbrev pub with_expression : List ℕ → ExpressionDefinition → List Token
+with_expression keyword e = Word keyword ∷ expression_token e ∷ []
 
 -- a keyword and a word
 abbrev pub with_word : List ℕ → List ℕ → List Token
@@ -138,7 +148,7 @@ optional_label_lines (Some l) = label_lines l
 abbrev pub class_lines : ClassDefinition → List (List Token)
 class_lines c =
     (alone (codes "CLASS") ∷ with_text (codes "NAME") c.name ∷ [])
-    ++ when_there (with_text (codes "EXPRESSION")) c.expression
+    ++ when_there (with_expression (codes "EXPRESSION")) c.expression
     ++ flat_map style_lines c.styles
     ++ optional_label_lines c.label
     ++ end_line ∷ []
@@ -197,7 +207,7 @@ canon d = text_of (map_lines d)
 
 -- the longest canonical text, in bytes
 abbrev pub most_canon_bytes : ℕ
-most_canon_bytes = 32768
+most_canon_bytes = 65536
 
 -- the text is a map's canonical text, within the limit
 pub record IsCanon (text : List ℕ) (d : Definition) : Type 0 where

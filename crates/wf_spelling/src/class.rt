@@ -8,7 +8,7 @@ ghost use Rattle.wf_spelling.specs.Draft.{Writes};
 
 use crate::draft::Draft;
 use crate::line::{
-    push_alone, push_optional_color, push_optional_text, push_with_color, push_with_text,
+    push_alone, push_optional_color, push_optional_expression, push_with_color, push_with_text,
     push_with_whole, push_with_word,
 };
 use wf_def::choice::{LabelPosition, LabelSize};
@@ -103,7 +103,7 @@ pub fn push_class(out: &mut Draft, class: &Class)
 {
     push_alone(out, "CLASS");
     push_with_text(out, "NAME", class.name().as_bytes());
-    push_optional_text(out, "EXPRESSION", class.expression());
+    push_optional_expression(out, "EXPRESSION", class.expression());
     push_styles(out, class.styles());
     push_optional_label(out, class.label());
     push_alone(out, "END");

@@ -3,17 +3,17 @@
 ghost use Rattle.std.specs.Prelude.{◌≡◌, ◌∷◌};
 ghost use Rattle.std.specs.Fmt.{decimal};
 ghost use Rattle.wf_text.specs.NumberText.{number_text};
-ghost use Rattle.wf_token.specs.Spelling.{quote_for, quoted, line, text_of};
-ghost use Rattle.wf_spelling.specs.Canon.{alone, with_text, with_word, with_key, with_extent, with_color, when_there, point_line};
+ghost use Rattle.wf_token.specs.Spelling.{quote_for, quoted, braced, spelled, line, text_of};
+ghost use Rattle.wf_spelling.specs.Canon.{alone, with_text, expression_token, with_expression, with_word, with_key, with_extent, with_color, when_there, point_line};
 ghost use Rattle.wf_spelling.specs.Draft.{Writes};
 
 use crate::draft::Draft;
 use crate::number::{push_number, push_whole};
 use wf_def::color::Color;
+use wf_def::expression::Expression;
 use wf_def::extent::Extent;
 use wf_def::micro::Micro;
 use wf_def::point::Point;
-use wf_def::text::Text;
 
 /// The quote around a text.
 pub fn quote_for(text: &[u8]) -> u8
@@ -30,6 +30,25 @@ pub fn push_quoted(out: &mut Draft, text: &[u8])
     out.push(&[quote]);
     out.push(text);
     out.push(&[quote]);
+}
+
+/// Writes a list in its braces.
+fn push_braced(out: &mut Draft, inside: &[u8])
+    ensures { Writes out.old (braced inside.now) out.new }
+{
+    out.push(b"{");
+    out.push(inside);
+    out.push(b"}");
+}
+
+/// Writes an expression.
+fn push_expression(out: &mut Draft, expression: &Expression)
+    ensures { Writes out.old (spelled (expression_token expression.now)) out.new }
+{
+    match expression {
+        Expression::Equals(text) => push_quoted(out, text.as_bytes()),
+        Expression::OneOf(list) => push_braced(out, list.as_bytes()),
+    }
 }
 
 /// Writes a line of one keyword.
@@ -52,12 +71,23 @@ pub fn push_with_text(out: &mut Draft, keyword: &str, text: &[u8])
     out.push(b"\n");
 }
 
-/// Writes a line of a keyword and a text, if there is a text.
-pub fn push_optional_text(out: &mut Draft, keyword: &str, text: &Option<Text>)
-    ensures { Writes out.old (text_of (when_there (with_text keyword.now) text.now)) out.new }
+/// Writes a line of a keyword and an expression.
+#[tactic(auto, unfolding(wf_token::specs::Spelling::line))]
+fn push_with_expression(out: &mut Draft, keyword: &str, expression: &Expression)
+    ensures { Writes out.old (line (with_expression keyword.now expression.now)) out.new }
 {
-    if let Some(text) = text {
-        push_with_text(out, keyword, text.as_bytes());
+    out.push(keyword.as_bytes());
+    out.push(b" ");
+    push_expression(out, expression);
+    out.push(b"\n");
+}
+
+/// Writes a line of a keyword and an expression, if there is an expression.
+pub fn push_optional_expression(out: &mut Draft, keyword: &str, expression: &Option<Expression>)
+    ensures { Writes out.old (text_of (when_there (with_expression keyword.now) expression.now)) out.new }
+{
+    if let Some(expression) = expression {
+        push_with_expression(out, keyword, expression);
     }
 }
 

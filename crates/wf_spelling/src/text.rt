@@ -12,7 +12,7 @@ use std::alloc::{AllocError, Global};
 use wf_def::map::MapDef;
 
 /// The longest canonical text, in bytes.
-pub const MOST_CANON_BYTES: usize = 32_768;
+pub const MOST_CANON_BYTES: usize = 65_536;
 
 /// The canonical text of a definition, within the limit, in a buffer that begins with this room. Beyond that room bytes are
 /// counted before memory for them is allocated.

@@ -7,4 +7,5 @@ pub mod NumberText
 pub mod NumberTextLaws
 pub mod NumberDraft
 pub mod Text
+pub mod ValueList
 pub mod Whole

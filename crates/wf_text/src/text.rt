@@ -123,7 +123,7 @@ pub fn checked(bytes: &[u8]) -> Result<&str, TextFault>
 }
 
 /// The bytes as a `str`, if they are UTF-8.
-fn utf8(bytes: &[u8]) -> Result<&str, TextFault>
+pub(crate) fn utf8(bytes: &[u8]) -> Result<&str, TextFault>
     ensures ok { IfOk result (λ text. (text.now ≡ bytes.now) × (is_utf8 bytes.now ≡ true)) }
     ensures err { IfErr result (λ fault. (fault ≡ NotUtf8) × (is_utf8 bytes.now ≡ false)) }
 {
@@ -134,7 +134,7 @@ fn utf8(bytes: &[u8]) -> Result<&str, TextFault>
 }
 
 /// Whether a text may contain each character.
-fn all_may_stand(text: &str) -> bool
+pub(crate) fn all_may_stand(text: &str) -> bool
     ensures { result ≡ list_all is_text_character (chars text.now) }
 {
     text.chars().all(is_text_character)

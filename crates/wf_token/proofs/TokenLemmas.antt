@@ -1,4 +1,4 @@
--- What the automaton does with a whole word, string or comment, and with what follows it.
+-- What the automaton does with a whole word, string, list or comment, and with what follows it.
 use Rattle.std.proofs.Common.{◌≡◌, ℕ, Bool, true, false, cond, ◌&&◌, List, [], ◌∷◌, ◌++◌, refl, sym, ◌∙◌, ap, append_assoc, arith, ◌<◌, take, drop, length}
 use Rattle.std.specs.Prelude.{Option, Some, None, ◌==◌}
 use Rattle.std.specs.List.{list_all, prefix_len}
@@ -9,10 +9,12 @@ use Rattle.std.proofs.lemmas.Bool.Decides.{nat_tests}
 use Rattle.std.proofs.lemmas.List.{map-append}
 use Rattle.wf_token.proofs.Prefix.{front_passes, back_fails}
 use Rattle.wf_text.specs.Text.{is_text}
+use Rattle.wf_text.specs.ValueList.{is_value_list}
 use Rattle.wf_token.specs.declared.token.Token.{Token as LexedToken}
-use Rattle.wf_token.specs.Lexeme.{begins, ends_word, goes_on}
+use Rattle.wf_text.specs.Booleans.{not_true}
+use Rattle.wf_token.specs.Lexeme.{begins, ends_word, goes_on, stays_in_list}
 use Rattle.wf_token.specs.SpellingLaws.{prepend_all-append, prepend_all-some}
-use Rattle.wf_token.specs.Token.{Token, Word, Quoted, Between, BehindSlash, LineComment, BlockComment, BehindStar, InWord, InString, Goes, is_white, is_quote, is_hash, ends_line, is_slash, is_star, is_plain, step_between, step_in_word, step_in_string, step, at_end, prepend, prepend_all, tokens_from, token_value, token_values}
+use Rattle.wf_token.specs.Token.{Token, Word, Quoted, Braced, Between, BehindSlash, LineComment, BlockComment, BehindStar, InWord, InString, InList, Goes, is_white, is_quote, is_hash, ends_line, is_slash, is_star, is_plain, opens_list, closes_list, step_between, step_in_word, step_in_string, step_in_list, step, at_end, prepend, prepend_all, tokens_from, token_value, token_values}
 
 -- the kinds of bytes exclude each other
 
@@ -39,6 +41,22 @@ plain-is-not-hash b plain = grind (arith, nat_tests)
 plain-is-not-quote : (b : ℕ) → is_plain b ≡ true → is_quote b ≡ false
 unfolding is_plain
 plain-is-not-quote b plain = grind (arith, nat_tests)
+
+brace-is-not-white : (b : ℕ) → opens_list b ≡ true → is_white b ≡ false
+unfolding opens_list is_white
+brace-is-not-white b brace = grind (arith, nat_tests)
+
+brace-is-not-hash : (b : ℕ) → opens_list b ≡ true → is_hash b ≡ false
+unfolding opens_list is_hash
+brace-is-not-hash b brace = grind (arith, nat_tests)
+
+brace-is-not-quote : (b : ℕ) → opens_list b ≡ true → is_quote b ≡ false
+unfolding opens_list is_quote
+brace-is-not-quote b brace = grind (arith, nat_tests)
+
+brace-is-not-plain : (b : ℕ) → opens_list b ≡ true → is_plain b ≡ false
+unfolding opens_list is_plain
+brace-is-not-plain b brace = grind (arith, nat_tests)
 
 slash-is-plain : (b : ℕ) → is_slash b ≡ true → is_plain b ≡ true
 unfolding is_plain is_slash is_quote is_hash
@@ -93,9 +111,15 @@ between-word b bs plain other = begins-word (is_slash b) b bs refl plain other �
 not-slash : (b : ℕ) → is_plain b ≡ false → is_slash b ≡ false
 not-slash b plain = grind (arith, slash-is-plain b)
 
-pub between-other : (b : ℕ) (bs : List ℕ) → is_white b ≡ false → is_hash b ≡ false → is_quote b ≡ false → is_plain b ≡ false → tokens_from Between (b ∷ bs) ≡ None
+pub between-list : (b : ℕ) (bs : List ℕ) → opens_list b ≡ true → tokens_from Between (b ∷ bs) ≡ tokens_from (InList []) bs
 unfolding tokens_from step step_between
-between-other b bs white hash quote plain = rw (white, hash, quote, not-slash b plain, plain)
+between-list b bs brace =
+    let plain = brace-is-not-plain b brace in
+    rw (brace-is-not-white b brace, brace-is-not-hash b brace, brace-is-not-quote b brace, not-slash b plain, plain, brace)
+
+pub between-other : (b : ℕ) (bs : List ℕ) → is_white b ≡ false → is_hash b ≡ false → is_quote b ≡ false → is_plain b ≡ false → opens_list b ≡ false → tokens_from Between (b ∷ bs) ≡ None
+unfolding tokens_from step step_between
+between-other b bs white hash quote plain brace = rw (white, hash, quote, not-slash b plain, plain, brace)
 
 -- in a word
 
@@ -178,6 +202,45 @@ pub string-refused-at : (q : ℕ) (s rest : List ℕ) → begins (goes_on q) res
 string-refused-at q s [] stops may = string-open q s
 string-refused-at q s (b ∷ rest) stops may = rw (quote-stands q b rest stops) (string-refused q s rest may)
 
+-- in a list
+
+in-list : (b : ℕ) (s bs : List ℕ) → closes_list b ≡ false → tokens_from (InList s) (b ∷ bs) ≡ tokens_from (InList (s ++ b ∷ [])) bs
+unfolding tokens_from step step_in_list
+in-list b s bs other = rw other
+
+pub list-run : (s front rest : List ℕ) → list_all stays_in_list front ≡ true → tokens_from (InList s) (front ++ rest) ≡ tokens_from (InList (s ++ front)) rest
+list-run s [] rest all = rw append-nil
+list-run s (b ∷ front) rest all =
+    in-list b s (front ++ rest) (not_true (closes_list b) (first_so _ _ all)) ∙
+    rw (← append_assoc s (b ∷ []) front) (list-run (s ++ b ∷ []) front rest (second_so _ _ all))
+
+-- a list's bytes end at its brace
+pub list-cut : (bs : List ℕ) → tokens_from (InList []) bs ≡ tokens_from (InList (take (prefix_len stays_in_list bs) bs)) (drop (prefix_len stays_in_list bs) bs)
+list-cut bs =
+    let n = prefix_len stays_in_list bs in
+    ap (tokens_from (InList [])) (sym (take-append-drop n bs)) ∙ list-run [] (take n bs) (drop n bs) (front_passes stays_in_list bs)
+
+pub list-stops : (bs : List ℕ) → begins stays_in_list (drop (prefix_len stays_in_list bs) bs) ≡ false
+list-stops bs = back_fails stays_in_list bs
+
+-- the byte that ends a list's bytes is its brace
+brace-stands : (b : ℕ) (bs : List ℕ) → begins stays_in_list (b ∷ bs) ≡ false → closes_list b ≡ true
+brace-stands b bs stops = grind arith
+
+-- a list whose bytes end before `rest`, by what they are
+pub list-closes-at : (s rest : List ℕ) (b : ℕ) (after : List ℕ) → rest ≡ b ∷ after → begins stays_in_list rest ≡ false → is_value_list s ≡ true → tokens_from (InList s) rest ≡ prepend (Braced s) (tokens_from Between after)
+unfolding tokens_from step step_in_list
+list-closes-at s rest b after e stops may = rw e (rw (brace-stands b after (rw e at stops), may))
+
+pub list-refused-at : (s rest : List ℕ) → begins stays_in_list rest ≡ false → is_value_list s ≡ false → tokens_from (InList s) rest ≡ None
+unfolding tokens_from step step_in_list at_end
+list-refused-at s [] stops may = refl
+list-refused-at s (b ∷ rest) stops may = rw (brace-stands b rest stops, may)
+
+pub list-open : (s : List ℕ) → tokens_from (InList s) [] ≡ None
+unfolding tokens_from at_end
+list-open s = refl
+
 -- in a comment
 
 pub line-skips : (b : ℕ) (bs : List ℕ) → ends_line b ≡ false → tokens_from LineComment (b ∷ bs) ≡ tokens_from LineComment bs
@@ -238,12 +301,14 @@ pub ruleset word_steps = (word-cut, word-stops, word-shortens, word-closes, word
 
 pub ruleset string_steps = (string-cut, string-stops, string-closes-at, string-refused-at, string-open)
 
+pub ruleset list_steps = (list-cut, list-stops, list-closes-at, list-refused-at, list-open)
+
 pub ruleset line_steps = (line-skips, line-ends, line-at-end)
 
 pub ruleset block_steps = (block-closes, block-skips, block-open)
 
 pub ruleset comment_steps = (between-comment, empty)
 
-pub ruleset between_steps = (between-white, between-hash, between-quote, between-word, between-other, between-empty)
+pub ruleset between_steps = (between-white, between-hash, between-quote, between-word, between-list, between-other, between-empty)
 
 pub ruleset token_list = (prepend_all-push, prepend_all-end, prepend_all-none)

@@ -2,7 +2,7 @@
 use Rattle.std.specs.Prelude.{ℕ, ◌<◌, ◌≤◌, Bool, true, false, not, ◌&&◌, ◌||◌, ◌==◌, List, [], ◌∷◌, length, Option, Some, None, ⊤}
 use Rattle.wf_token.specs.declared.lexeme.Lexeme.{Lexeme}
 use Rattle.wf_token.specs.declared.lexeme.Lexeme.TheVariants.{Gap, Found, End, Fault}
-use Rattle.wf_token.specs.Token.{Token, Between, is_white, is_hash, is_quote, is_slash, is_star, prepend, tokens_from, value_of_kind}
+use Rattle.wf_token.specs.Token.{Token, Between, is_white, is_hash, is_quote, is_slash, is_star, closes_list, prepend, tokens_from, value_of_kind}
 
 -- the tokens of a text with this at its front
 abbrev pub tokens_by : Lexeme → Option (List Token)
@@ -36,3 +36,7 @@ ends_word (b ∷ bs) = is_white b || is_hash b || is_quote b
 -- whether a byte is inside a string in this quote: it isn't the quote
 abbrev pub goes_on : ℕ → ℕ → Bool
 goes_on q b = not (b == q)
+
+-- whether a byte is inside a list: it isn't the closing brace
+abbrev pub stays_in_list : ℕ → Bool
+stays_in_list b = not (closes_list b)

@@ -7,7 +7,8 @@ use Rattle.std.specs.Str.{is_utf8}
 use Rattle.wf_text.specs.Micro.{IsMicro}
 use Rattle.wf_text.specs.NumberText.{number_text}
 use Rattle.wf_text.specs.Text.{is_text}
-use Rattle.wf_token.specs.Token.{Token, Word, Quoted, Between, is_plain, is_slash, tokens_from}
+use Rattle.wf_text.specs.ValueList.{is_value_list}
+use Rattle.wf_token.specs.Token.{Token, Word, Quoted, Braced, Between, is_plain, is_slash, tokens_from}
 
 -- ---- spelling
 
@@ -18,10 +19,14 @@ quote_for text = if list_any (λ b. b == 34) text then 39 else 34
 abbrev pub quoted : List ℕ → List ℕ
 quoted text = quote_for text ∷ text ++ quote_for text ∷ []
 
--- a word unchanged, a text in its quotes
+abbrev pub braced : List ℕ → List ℕ
+braced inside = 123 ∷ inside ++ 125 ∷ []
+
+-- a word unchanged, a text in its quotes, a list in braces
 abbrev pub spelled : Token → List ℕ
 spelled (Word word) = word
 spelled (Quoted text) = quoted text
+spelled (Braced inside) = braced inside
 
 -- tokens separated by single spaces, followed by LF
 unfoldable pub line : List Token → List ℕ
@@ -52,6 +57,7 @@ lacks q text = list_all (λ b. not (b == q)) text
 abbrev pub is_written : Token → Bool
 is_written (Word w) = is_word w
 is_written (Quoted text) = is_text text && lacks (quote_for text) text
+is_written (Braced inside) = is_value_list inside
 
 -- every token of every line is read back as that token
 abbrev pub are_written : List (List Token) → Bool

@@ -4,7 +4,8 @@ use Rattle.std.specs.List.{flat_map, list_any, list_all}
 use Rattle.std.proofs.lemmas.Bool.Decides.{nat_tests}
 use Rattle.std.proofs.lemmas.List.{append-nil}
 use Rattle.wf_text.specs.Text.{is_text}
-use Rattle.wf_token.specs.Token.{Token, Word, Quoted, Between, InWord, InString, is_white, is_quote, is_hash, is_slash, is_plain, step, step_between, step_in_word, step_in_string, at_end, prepend, prepend_all, tokens_from}
+use Rattle.wf_text.specs.ValueList.{is_value_list, is_list_byte}
+use Rattle.wf_token.specs.Token.{Token, Word, Quoted, Braced, Between, InWord, InString, InList, is_white, is_quote, is_hash, is_slash, is_plain, opens_list, closes_list, step, step_between, step_in_word, step_in_string, step_in_list, at_end, prepend, prepend_all, tokens_from}
 use Rattle.wf_text.specs.Booleans.{and_left, and_right, not_true}
 use Rattle.wf_token.specs.Spelling.{quote_for, spelled, line, is_word, lacks, is_written, are_written, tokens_of}
 
@@ -94,6 +95,28 @@ unfolding is_quote
 quote_for-is_quote text =
     elim (list_any (λ b. eqb b 34) text) as (λ v. is_quote (cond v 39 34) ≡ true) [ true ↦ refl | false ↦ refl ]
 
+-- ---- lists in braces
+
+list_goes_on : (s inside rest : List ℕ) → list_all is_list_byte inside ≡ true → is_value_list (s ++ inside) ≡ true → tokens_from (InList s) (inside ++ 125 ∷ rest) ≡ prepend (Braced (s ++ inside)) (tokens_from Between rest)
+unfolding tokens_from step step_in_list closes_list
+list_goes_on s [] rest e ok =
+    let fits : is_value_list s ≡ true = subst (λ (v : List ℕ). is_value_list v ≡ true) (append-nil s) ok in
+    rw (append-nil s, fits) refl
+list_goes_on s (x ∷ inside) rest e ok =
+    let may : is_list_byte x ≡ true = and_left (is_list_byte x) (list_all is_list_byte inside) e in
+    let other : eqb x 125 ≡ false = grind (arith, nat_tests) in
+    let one : tokens_from (InList s) ((x ∷ inside) ++ 125 ∷ rest) ≡ tokens_from (InList (s ++ x ∷ [])) (inside ++ 125 ∷ rest) = rw other refl in
+    let regrouped : (s ++ x ∷ []) ++ inside ≡ s ++ x ∷ inside = append_assoc s (x ∷ []) inside in
+    one ∙ list_goes_on (s ++ x ∷ []) inside rest (and_right (is_list_byte x) (list_all is_list_byte inside) e) (rw regrouped ok) ∙ ap (λ (v : List ℕ). prepend (Braced v) (tokens_from Between rest)) regrouped
+
+list_bytes : (inside : List ℕ) → is_value_list inside ≡ true → list_all is_list_byte inside ≡ true
+unfolding is_value_list
+list_bytes inside e = and_right _ _ e
+
+lex_list : (inside rest : List ℕ) → is_value_list inside ≡ true → tokens_from Between (123 ∷ inside ++ 125 ∷ rest) ≡ prepend (Braced inside) (tokens_from Between rest)
+unfolding tokens_from step step_between is_white is_hash is_quote is_slash is_plain opens_list
+lex_list inside rest ok = list_goes_on [] inside rest (list_bytes inside ok) ok
+
 -- ---- lines
 
 pub lex_token : (t : Token) (b : ℕ) (rest : List ℕ) → is_written t ≡ true → IsGap b → tokens_from Between (spelled t ++ b ∷ rest) ≡ prepend t (tokens_from Between rest)
@@ -104,6 +127,9 @@ lex_token (Quoted text) b rest e g =
     ap (tokens_from Between) regrouped
     ∙ lex_string q text (b ∷ rest) (quote_for-is_quote text) (and_right (is_text text) (lacks q text) e) (and_left (is_text text) (lacks q text) e)
     ∙ ap (prepend (Quoted text)) (skip_gap b rest g)
+lex_token (Braced inside) b rest e g =
+    let regrouped : (123 ∷ inside ++ 125 ∷ []) ++ b ∷ rest ≡ 123 ∷ inside ++ 125 ∷ b ∷ rest = append_assoc (123 ∷ inside) (125 ∷ []) (b ∷ rest) in
+    ap (tokens_from Between) regrouped ∙ lex_list inside (b ∷ rest) e ∙ ap (prepend (Braced inside)) (skip_gap b rest g)
 
 pub prepend_all-append : (ts us : List Token) (rest : Option (List Token)) → prepend_all (ts ++ us) rest ≡ prepend_all ts (prepend_all us rest)
 prepend_all-append [] us rest = refl

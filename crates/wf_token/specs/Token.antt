@@ -1,16 +1,18 @@
--- The tokens of a mapfile (MapServer mapfile reference: words, strings in either quote, comments), by an automaton that reads the
--- text byte by byte.
+-- The tokens of a mapfile (MapServer mapfile reference: words, strings in either quote, lists in braces, comments), by an automaton
+-- that reads the text byte by byte.
 use Rattle.std.specs.Prelude.{ℕ, Bool, not, ◌&&◌, ◌||◌, ◌==◌, nat_lt, if◌then◌else◌, List, [], ◌∷◌, ◌++◌, drop, nat_eq, Option, Some, None, map}
 use Rattle.std.specs.List.{starts_with}
 use Rattle.wf_text.specs.Text.{is_text}
+use Rattle.wf_text.specs.ValueList.{is_value_list}
 use Rattle.wf_token.specs.declared.token.Token.{Token as LexedToken}
 use Rattle.wf_token.specs.declared.token.TokenKind.{TokenKind}
-use Rattle.wf_token.specs.declared.token.TokenKind.TheVariants.{Word as WordKind, Quoted as QuotedKind}
+use Rattle.wf_token.specs.declared.token.TokenKind.TheVariants.{Word as WordKind, Quoted as QuotedKind, Braced as BracedKind}
 
--- what the grammar sees: a word, or the text between two quotes
+-- what the grammar sees: a word, the text between two quotes, or the list between two braces
 pub data Token : Type 0 where
   Word : List ℕ → Token
   Quoted : List ℕ → Token
+  Braced : List ℕ → Token
 
 -- space, TAB, CR or LF
 unfoldable pub is_white : ℕ → Bool
@@ -35,6 +37,13 @@ is_slash b = b == 47
 unfoldable pub is_star : ℕ → Bool
 is_star b = b == 42
 
+-- `{` and `}`, around a list
+unfoldable pub opens_list : ℕ → Bool
+opens_list b = b == 123
+
+unfoldable pub closes_list : ℕ → Bool
+closes_list b = b == 125
+
 -- a byte of a word: printable ASCII other than quotes, `#`, the backslash and `( ) [ ] { }`
 unfoldable pub is_plain : ℕ → Bool
 is_plain b =
@@ -55,6 +64,8 @@ pub data Place : Type 0 where
   InWord : List ℕ → Place
   -- in a string in this quote, after these bytes of it
   InString : ℕ → List ℕ → Place
+  -- in a list, after these bytes of it
+  InList : List ℕ → Place
 
 -- the effect of one byte: a new state, the end of a token and a new state, or the text has no tokens
 pub data Step : Type 0 where
@@ -69,7 +80,8 @@ step_between b =
     if is_hash b then Goes LineComment else
     if is_quote b then Goes (InString b []) else
     if is_slash b then Goes BehindSlash else
-    if is_plain b then Goes (InWord (b ∷ [])) else Refuses
+    if is_plain b then Goes (InWord (b ∷ [])) else
+    if opens_list b then Goes (InList []) else Refuses
 
 -- a word ends before white space, `#` or a quote; that byte then counts as one between tokens
 unfoldable pub step_in_word : List ℕ → ℕ → Step
@@ -86,6 +98,13 @@ step_in_string q s b =
     then (if is_text s then Ends (Quoted s) Between else Refuses)
     else Goes (InString q (s ++ b ∷ []))
 
+-- a list ends at the next `}`, and its bytes are a valid list: quotes and `#` are bytes like others
+unfoldable pub step_in_list : List ℕ → ℕ → Step
+step_in_list s b =
+    if closes_list b
+    then (if is_value_list s then Ends (Braced s) Between else Refuses)
+    else Goes (InList (s ++ b ∷ []))
+
 unfoldable pub step : Place → ℕ → Step
 step Between b = step_between b
 step BehindSlash b = if is_star b then Goes BlockComment else step_in_word (47 ∷ []) b
@@ -95,8 +114,9 @@ step BehindStar b =
     if is_slash b then Goes Between else if is_star b then Goes BehindStar else Goes BlockComment
 step (InWord w) b = step_in_word w b
 step (InString q s) b = step_in_string q s b
+step (InList s) b = step_in_list s b
 
--- at the end of the text: a word and a line comment end there, a string and a block comment don't
+-- at the end of the text: a word and a line comment end there, a string, a list and a block comment don't
 unfoldable pub at_end : Place → Option (List Token)
 at_end Between = Some []
 at_end BehindSlash = Some (Word (47 ∷ []) ∷ [])
@@ -105,6 +125,7 @@ at_end BlockComment = None
 at_end BehindStar = None
 at_end (InWord w) = Some (Word w ∷ [])
 at_end (InString q s) = None
+at_end (InList s) = None
 
 -- a token followed by those of the rest, if the rest has tokens
 abbrev pub prepend : Token → Option (List Token) → Option (List Token)
@@ -130,8 +151,8 @@ tokens_from p (b ∷ bs) = follow (step p b) (λ q. tokens_from q bs)
 unfoldable pub without_mark : List ℕ → List ℕ
 without_mark bs = if starts_with nat_eq bs (239 ∷ 187 ∷ 191 ∷ []) then drop 3 bs else bs
 
--- the tokens of a whole text: none if it contains a byte that no token may hold, a string that isn't a valid text, or a string or
--- block comment that doesn't end
+-- the tokens of a whole text: none if it contains a byte that no token may hold, a string that isn't a valid text, a list that
+-- isn't a valid one, or a string, list or block comment that doesn't end
 unfoldable pub tokens : List ℕ → Option (List Token)
 tokens bs = tokens_from Between (without_mark bs)
 
@@ -139,6 +160,7 @@ tokens bs = tokens_from Between (without_mark bs)
 abbrev pub value_of_kind : TokenKind → List ℕ → Token
 value_of_kind WordKind bytes = Word bytes
 value_of_kind QuotedKind bytes = Quoted bytes
+value_of_kind BracedKind bytes = Braced bytes
 
 abbrev pub token_value : LexedToken → Token
 token_value t = value_of_kind t.kind t.text.now

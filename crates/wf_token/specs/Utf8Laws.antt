@@ -1,11 +1,12 @@
--- Spelled lines are UTF-8: their words are ASCII, and their texts are UTF-8.
+-- Spelled lines are UTF-8: their words are ASCII, and their texts and lists are UTF-8.
 use Rattle.std.proofs.Common.{◌≡◌, ℕ, zero, suc, ◌<◌, true, false, cond, eqb, List, [], ◌∷◌, arith, lit<}
 use Rattle.std.specs.List.{list_all, list_any}
 use Rattle.std.specs.Str.{IsAscii, IsUtf8, is_utf8}
 use Rattle.std.proofs.lemmas.Bool.Decides.{nat_tests}
 use Rattle.std.proofs.lemmas.Str.{IsUtf8-append, IsUtf8-nil, IsUtf8-from_ascii, IsUtf8-from_is_utf8, is_utf8-from_IsUtf8}
 use Rattle.wf_text.specs.Text.{is_text}
-use Rattle.wf_token.specs.Token.{Token, Word, Quoted, is_plain}
+use Rattle.wf_text.specs.ValueList.{is_value_list}
+use Rattle.wf_token.specs.Token.{Token, Word, Quoted, Braced, is_plain}
 use Rattle.wf_token.specs.Spelling.{quote_for, spelled, line, text_of, lacks, is_written, are_written}
 use Rattle.wf_text.specs.Booleans.{and_left, and_right}
 use Rattle.wf_token.specs.WordLaws.{word_is_plain}
@@ -30,6 +31,11 @@ unfolding is_text
 text_is_utf8 t e =
     IsUtf8-from_is_utf8 t (and_right _ _ (and_left _ _ (and_left _ _ e)))
 
+list_is_utf8 : (inside : List ℕ) → is_value_list inside ≡ true → IsUtf8 inside
+unfolding is_value_list
+list_is_utf8 inside e =
+    IsUtf8-from_is_utf8 inside (and_right _ _ (and_left _ _ (and_left _ _ e)))
+
 quote_below : (t : List ℕ) → quote_for t < 128
 quote_below t = elim (list_any (λ b. eqb b 34) t) as (λ v. cond v 39 34 < 128) [ true ↦ lit< tt | false ↦ lit< tt ]
 
@@ -38,6 +44,8 @@ spelled_is_utf8 (Word w) e = IsUtf8-from_ascii w (plain_is_ascii w (word_is_plai
 spelled_is_utf8 (Quoted text) e =
     let mark = one_ascii (quote_for text) (quote_below text) in
     IsUtf8-append (quote_for text ∷ text) (quote_for text ∷ []) (IsUtf8-append (quote_for text ∷ []) text mark (text_is_utf8 text (and_left (is_text text) (lacks (quote_for text) text) e))) mark
+spelled_is_utf8 (Braced inside) e =
+    IsUtf8-append (123 ∷ inside) (125 ∷ []) (IsUtf8-append (123 ∷ []) inside (one_ascii 123 (lit< tt)) (list_is_utf8 inside e)) (one_ascii 125 (lit< tt))
 
 line_is_utf8 : (ts : List Token) → list_all is_written ts ≡ true → IsUtf8 (line ts)
 unfolding line

@@ -2,15 +2,17 @@
 
 ghost use Rattle.std.specs.Prelude.{◌≡◌, ℕ, ◌<◌, ◌≤◌, ◌∷◌, [], true, false, length, Some, None, IfOk, IfSome, IfNone, OnSome};
 ghost use Rattle.std.specs.List.{prefix_len};
-ghost use Rattle.wf_token.specs.Token.{is_white, is_quote, is_hash, ends_line, is_slash, is_star, is_plain, Between, LineComment, BlockComment, InWord, InString, tokens_from, tokens, without_mark, token_values};
+ghost use Rattle.wf_token.specs.Token.{is_white, is_quote, is_hash, ends_line, is_slash, is_star, is_plain, opens_list, closes_list, Between, LineComment, BlockComment, InWord, InString, InList, tokens_from, tokens, without_mark, token_values};
 ghost use Rattle.wf_text.specs.Text.{is_text};
-ghost use Rattle.wf_token.specs.Lexeme.{tokens_by, IsWithin, begins, ends_word, goes_on, opens_comment};
+ghost use Rattle.wf_text.specs.ValueList.{is_value_list};
+ghost use Rattle.wf_token.specs.Lexeme.{tokens_by, IsWithin, begins, ends_word, goes_on, opens_comment, stays_in_list};
 
 use crate::lexeme::Lexeme;
 use crate::token::{LexFault, LexFaultKind, Token, TokenKind, Tokens};
 use std::alloc::{AllocError, Global};
 use wf_text::limits::MOST_TEXT_BYTES;
 use wf_text::text::{checked, is_text_character};
+use wf_text::value_list::checked_list;
 
 /// U+FEFF in UTF-8.
 const BYTE_ORDER_MARK: [u8; 3] = [0xEF, 0xBB, 0xBF];
@@ -68,6 +70,20 @@ fn is_star(byte: u8) -> bool
     byte == b'*'
 }
 
+#[tactic(auto, unfolding(crate::specs::Token::opens_list))]
+fn opens_list(byte: u8) -> bool
+    ensures { result ≡ opens_list byte }
+{
+    byte == b'{'
+}
+
+#[tactic(auto, unfolding(crate::specs::Token::closes_list))]
+fn closes_list(byte: u8) -> bool
+    ensures { result ≡ closes_list byte }
+{
+    byte == b'}'
+}
+
 /// Whether the byte may stand in a word.
 fn is_plain(byte: u8) -> bool
     ensures { result ≡ is_plain byte }
@@ -89,6 +105,14 @@ fn string_length(bytes: &[u8], quote: u8) -> usize
     ensures within { result ≤ length bytes.now }
 {
     bytes.iter().take_while(|byte| **byte != quote).count()
+}
+
+/// The number of bytes before the next closing brace, or of all bytes if there is none.
+fn list_length(bytes: &[u8]) -> usize
+    ensures length { result ≡ prefix_len stays_in_list bytes.now }
+    ensures within { result ≤ length bytes.now }
+{
+    bytes.iter().take_while(|byte| !closes_list(**byte)).count()
 }
 
 /// Whether a word may end before these bytes.
@@ -177,22 +201,39 @@ fn is_text(bytes: &[u8]) -> bool
     checked(bytes).is_ok()
 }
 
-/// The byte offset of the first character that no text may hold.
-fn first_forbidden(text: &[u8]) -> Option<usize>
+/// Whether the bytes are the inside of a list.
+fn is_value_list(bytes: &[u8]) -> bool
+    ensures { result ≡ is_value_list bytes.now }
+{
+    checked_list(bytes).is_some()
+}
+
+/// Whether a string, or a list, may contain the character.
+fn may_stand(kind: TokenKind, character: char) -> bool {
+    match kind {
+        TokenKind::Braced => is_text_character(character)
+            && !matches!(character, '{' | '\n' | '\r'),
+        _ => is_text_character(character),
+    }
+}
+
+/// The byte offset of the first character that no string, or no list, may contain.
+fn first_forbidden(kind: TokenKind, text: &[u8]) -> Option<usize>
     ensures { IfSome result (λ offset. offset < length text.now) }
 {
     let text = str::from_utf8(text).ok()?;
     for (offset, character) in text.char_indices() {
-        if !is_text_character(character) {
+        if !may_stand(kind, character) {
             return Some(offset);
         }
     }
     None
 }
 
-/// The error of a string that begins at `opening`, whose bytes are the first `count` of `inside`: a character that no text may
-/// hold, else its length, else a missing closing quote.
-fn refused_string<'a>(
+/// The error of a string or a list that begins at `opening`, whose bytes are the first `count` of `inside`: a character that it
+/// may not contain, else its length, else a missing closing quote or brace.
+fn refused<'a>(
+    kind: TokenKind,
     opening: &'a [u8],
     inside: &'a [u8],
     count: usize,
@@ -203,7 +244,7 @@ fn refused_string<'a>(
     ensures tokens { tokens_by result ≡ None }
     ensures within { IsWithin (length opening.now) result }
 {
-    match first_forbidden(&inside[..count]) {
+    match first_forbidden(kind, &inside[..count]) {
         Some(offset) => Lexeme::Fault {
             kind: LexFaultKind::BadToken,
             at: &inside[offset..],
@@ -234,8 +275,28 @@ fn string<'a>(opening: &'a [u8], quote: u8, inside: &'a [u8]) -> Lexeme<'a>
             text,
             after,
         },
-        Some(_) => refused_string(opening, inside, count, true),
-        None => refused_string(opening, inside, count, false),
+        Some(_) => refused(TokenKind::Quoted, opening, inside, count, true),
+        None => refused(TokenKind::Quoted, opening, inside, count, false),
+    }
+}
+
+/// The list that begins at `opening`, whose bytes begin at `inside`.
+#[tactic(auto, using(crate::proofs::TokenLemmas::list_steps))]
+fn list<'a>(opening: &'a [u8], inside: &'a [u8]) -> Lexeme<'a>
+    requires { length inside.now < length opening.now }
+    ensures tokens { tokens_by result ≡ tokens_from (InList []) inside.now }
+    ensures within { IsWithin (length opening.now) result }
+{
+    let count = list_length(inside);
+    let (text, rest) = inside.split_at(count);
+    match rest.split_first() {
+        Some((_, after)) if is_value_list(text) => Lexeme::Found {
+            kind: TokenKind::Braced,
+            text,
+            after,
+        },
+        Some(_) => refused(TokenKind::Braced, opening, inside, count, true),
+        None => refused(TokenKind::Braced, opening, inside, count, false),
     }
 }
 
@@ -289,6 +350,8 @@ fn lexeme(bytes: &[u8]) -> Lexeme<'_>
         block_comment(bytes, inside)
     } else if is_plain(*byte) {
         word(bytes)
+    } else if opens_list(*byte) {
+        list(bytes, after)
     } else {
         Lexeme::Fault {
             kind: LexFaultKind::BadToken,

@@ -1,33 +1,35 @@
-//! The tokens of a mapfile, words and strings with their byte offsets, and the errors of a text that has none.
+//! The tokens of a mapfile, words, strings and lists with their byte offsets, and the errors of a text that has none.
 
 use std::alloc::Global;
 
-/// Whether a token was quoted.
+/// What a token stands between.
 #[derive(Clone, Copy)]
 pub enum TokenKind {
-    /// A run of bytes without quotes.
+    /// A run of bytes without quotes or braces.
     Word,
     /// The bytes between two quotes.
     Quoted,
+    /// The bytes between two braces.
+    Braced,
 }
 
 /// A token, which borrows from its text.
 #[derive(Clone, Copy)]
 pub struct Token<'a> {
-    /// Whether it was quoted.
+    /// What it stands between.
     pub kind: TokenKind,
-    /// Its byte offset in the file; that of a string is its opening quote's.
+    /// Its byte offset in the file; that of a string is its opening quote's, that of a list its opening brace's.
     pub place: usize,
-    /// Its bytes, without quotes.
+    /// Its bytes, without quotes or braces.
     pub text: &'a [u8],
 }
 
 /// Why a text has no tokens.
 #[derive(Clone, Copy)]
 pub enum LexFaultKind {
-    /// A missing closing quote or comment end, or a byte that no token may hold.
+    /// A missing closing quote, brace or comment end, or a byte that no token may hold there.
     BadToken,
-    /// A string over 1,000 bytes.
+    /// A string or a list over 1,000 bytes.
     OutOfRange,
 }
 

@@ -1,6 +1,7 @@
 //! What the keywords of CLASS fill.
 
 use wf_def::class::Styles;
+use wf_def::expression::Expression;
 use wf_def::label::Label;
 use wf_def::text::Text;
 
@@ -18,8 +19,8 @@ pub struct ClassSlots {
 pub struct ClassOnce {
     /// The name.
     pub name: Option<Text>,
-    /// The text that the attribute of a feature of this class equals.
-    pub expression: Option<Text>,
+    /// What the attribute of a feature of this class equals.
+    pub expression: Option<Expression>,
     /// How the features' labels are drawn.
     pub label: Option<Label>,
 }

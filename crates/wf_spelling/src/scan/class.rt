@@ -9,7 +9,7 @@ ghost use Rattle.wf_spelling.specs.Scan.{Scans};
 use crate::class::{force_word, position_word, size_word};
 use crate::scan::cursor::Cursor;
 use crate::scan::line::{
-    scan_alone, scan_optional_color, scan_optional_text, scan_with_color, scan_with_text,
+    scan_alone, scan_optional_color, scan_optional_expression, scan_with_color, scan_with_text,
     scan_with_whole, scan_with_word,
 };
 use wf_def::choice::{LabelPosition, LabelSize};
@@ -171,7 +171,7 @@ pub fn scan_class(cursor: &mut Cursor<'_>) -> Option<Class>
 {
     scan_alone(cursor, "CLASS");
     let name = scan_with_text(cursor, "NAME")?;
-    let Some(expression) = scan_optional_text(cursor, "EXPRESSION") else {
+    let Some(expression) = scan_optional_expression(cursor, "EXPRESSION") else {
         drop(name);
         return None;
     };

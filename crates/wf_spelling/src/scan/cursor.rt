@@ -1,7 +1,7 @@
 //! What is ahead in bytes that are compared with a canonical text.
 
 ghost use Rattle.std.specs.Prelude.{◌≡◌, ◌+◌, ◌<◌, ◌∷◌, [], true, false, IfNone, IfSome};
-ghost use Rattle.wf_token.specs.Spelling.{quoted};
+ghost use Rattle.wf_token.specs.Spelling.{quoted, braced};
 ghost use Rattle.wf_spelling.specs.Scan.{IsAt, Scans};
 
 use crate::line::quote_for;
@@ -107,5 +107,19 @@ impl<'a> Cursor<'a> {
         }
         self.rest = &closing[1..];
         Some(text)
+    }
+
+    /// Goes past a list in its braces, and returns its inside; `None` unless one is ahead.
+    pub fn braced(&mut self) -> Option<&'a [u8]>
+        ensures { IfSome result (λ inside. Scans self.old (braced inside.now) self.new) }
+    {
+        let (opening, behind) = self.rest.split_first()?;
+        let length = behind.iter().position(|byte| *byte == b'}')?;
+        let (inside, closing) = behind.split_at(length);
+        if *opening != b'{' {
+            return None;
+        }
+        self.rest = &closing[1..];
+        Some(inside)
     }
 }

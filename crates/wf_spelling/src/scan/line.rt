@@ -3,8 +3,8 @@
 ghost use Rattle.std.specs.Prelude.{◌≡◌, ◌<◌, [], ◌∷◌, ◌++◌, IfSome};
 ghost use Rattle.std.specs.Fmt.{decimal};
 ghost use Rattle.wf_text.specs.NumberText.{number_text};
-ghost use Rattle.wf_token.specs.Spelling.{quote_for, quoted, line, text_of};
-ghost use Rattle.wf_spelling.specs.Canon.{alone, with_text, with_word, with_key, with_extent, with_color, when_there, point_line};
+ghost use Rattle.wf_token.specs.Spelling.{quote_for, quoted, braced, spelled, line, text_of};
+ghost use Rattle.wf_spelling.specs.Canon.{alone, with_text, expression_token, with_expression, with_word, with_key, with_extent, with_color, when_there, point_line};
 ghost use Rattle.wf_spelling.specs.Scan.{Scans};
 
 use crate::line::quote_for;
@@ -12,10 +12,11 @@ use crate::scan::cursor::Cursor;
 use crate::scan::number::{scan_number, scan_whole};
 use std::alloc::Global;
 use wf_def::color::Color;
+use wf_def::expression::Expression;
 use wf_def::extent::Extent;
 use wf_def::micro::Micro;
 use wf_def::point::Point;
-use wf_def::text::Text;
+use wf_def::text::{Text, ValueList, checked_list};
 
 /// Scans a line of one keyword.
 #[inline(always)]
@@ -53,6 +54,31 @@ pub fn scan_text(cursor: &mut Cursor<'_>) -> Option<Text>
     }
 }
 
+/// Scans a list in its braces.
+fn scan_list(cursor: &mut Cursor<'_>) -> Option<ValueList>
+    ensures { IfSome result (λ list. Scans cursor.old (braced list) cursor.new) }
+{
+    let bytes = cursor.braced()?;
+    let inside = checked_list(bytes)?;
+    match ValueList::from_str(cursor.alloc(), inside) {
+        Ok(list) => Some(list),
+        Err(_) => None,
+    }
+}
+
+/// Scans an expression: a list if a brace is ahead, else a text.
+fn scan_expression(cursor: &mut Cursor<'_>) -> Option<Expression>
+    ensures { IfSome result (λ e. Scans cursor.old (spelled (expression_token e)) cursor.new) }
+{
+    if cursor.is_at(b"{") {
+        let list = scan_list(cursor)?;
+        Some(Expression::OneOf(list))
+    } else {
+        let text = scan_text(cursor)?;
+        Some(Expression::Equals(text))
+    }
+}
+
 /// Scans this text in its quotes.
 pub fn scan_quoted(cursor: &mut Cursor<'_>, text: &[u8])
     ensures { Scans cursor.old (quoted text.now) cursor.new }
@@ -75,15 +101,30 @@ pub fn scan_with_text(cursor: &mut Cursor<'_>, keyword: &str) -> Option<Text>
     text
 }
 
-/// Scans a line of a keyword and a text, if the keyword is ahead; `Some(None)` if it isn't.
-pub fn scan_optional_text(cursor: &mut Cursor<'_>, keyword: &str) -> Option<Option<Text>>
-    ensures { IfSome result (λ text. Scans cursor.old (text_of (when_there (with_text keyword.now) text)) cursor.new) }
+/// Scans a line of a keyword and an expression.
+#[tactic(auto, unfolding(wf_token::specs::Spelling::line))]
+fn scan_with_expression(cursor: &mut Cursor<'_>, keyword: &str) -> Option<Expression>
+    ensures { IfSome result (λ e. Scans cursor.old (line (with_expression keyword.now e)) cursor.new) }
+{
+    cursor.take(keyword.as_bytes());
+    cursor.take(b" ");
+    let expression = scan_expression(cursor);
+    cursor.take(b"\n");
+    expression
+}
+
+/// Scans a line of a keyword and an expression, if the keyword is ahead; `Some(None)` if it isn't.
+pub fn scan_optional_expression(
+    cursor: &mut Cursor<'_>,
+    keyword: &str,
+) -> Option<Option<Expression>>
+    ensures { IfSome result (λ e. Scans cursor.old (text_of (when_there (with_expression keyword.now) e)) cursor.new) }
 {
     if !cursor.is_at(keyword.as_bytes()) {
         return Some(None);
     }
-    match scan_with_text(cursor, keyword) {
-        Some(text) => Some(Some(text)),
+    match scan_with_expression(cursor, keyword) {
+        Some(expression) => Some(Some(expression)),
         None => None,
     }
 }

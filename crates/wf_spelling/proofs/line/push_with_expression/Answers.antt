@@ -1,0 +1,8 @@
+use Rattle.wf_spelling.proofs.Writing.{both}
+use Rattle.wf_token.specs.Spelling.{line}
+use Rattle.wf_spelling.proofs.line.push_with_expression.Goals as goal
+
+pub returns : goal.returns
+unfolding line
+returns c =
+    both (rw c.as_bytes.ensures.value at c.push.ensures.bytes) (both c.push-2.ensures.bytes (both c.push_expression.ensures c.push-3.ensures.bytes))
