@@ -3,7 +3,7 @@ use Rattle.std.specs.Prelude.{◌≡◌, ◌+◌, ◌<◌, ℕ, List, [], ◌∷
 use Rattle.std.specs.Io.KnownBytes.{Appends, Keeps}
 use Rattle.wf_def.specs.Definition.{Definition}
 use Rattle.wf_def.specs.Limits.{IsWithinLimits}
-use Rattle.wf_mapfile.specs.Meaning.{Means, MeansNothing}
+use Rattle.wf_mapfile.specs.Meaning.{Means, MeansNothing, longest_mapfile}
 use Rattle.wf_block.specs.Reading.{is_memory}
 use Rattle.wf_spelling.specs.Canon.{canon}
 use Rattle.wf_spelling.specs.Refusal.{IsCauseOf}
@@ -23,7 +23,7 @@ use Rattle.wf_commands.specs.declared.fault.RunFault.TheVariants as faults
 
 -- the most bytes read of an input: the longest mapfile's length plus one
 abbrev pub most_input_bytes : ℕ
-most_input_bytes = 65537
+most_input_bytes = longest_mapfile + 1
 
 -- the most bytes of standard input that each command reads: of a script, the longest script's length plus one; none for `tape` and
 -- `serve`

@@ -17,7 +17,7 @@
 //!   canonical text
 //! - an error of the map or of its canonical text is returned only for its cause
 //! - before a write error a prefix of the output is written, before any other error nothing
-//! - at most 65,537 bytes are read
+//! - at most one byte more than the longest mapfile has is read
 //!
 //! About a script:
 //! - if the input isn't a script, nothing is written

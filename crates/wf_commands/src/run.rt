@@ -21,6 +21,7 @@ use wf_canon::Canon;
 use wf_def::map::MapDef;
 use wf_farm::{Carrier, Copies};
 use wf_line::line::Line;
+use wf_mapfile::MOST_MAPFILE_BYTES;
 use wf_mapfile::fault::MapFault;
 use wf_play::PlayFault;
 use wf_stream::{Sink, Source, read_up_to, write_all};
@@ -28,7 +29,7 @@ use wf_wms::describe;
 use wf_wms::service::preview;
 
 /// The most bytes read of an input: the longest mapfile's length plus one.
-pub const MOST_INPUT_BYTES: usize = 65_537;
+pub const MOST_INPUT_BYTES: usize = MOST_MAPFILE_BYTES + 1;
 
 /// The code's limits are those of the definitions. A theorem: the call does nothing.
 pub fn limits_are_as_defined()

@@ -7,7 +7,7 @@ use Rattle.httparse.specs.Grammar.{RequestHead, ReadsRequest, HasNoRequest, prin
 use Rattle.httparse.specs.Spans.{IsRequestOf, RequestOverflows, name_and_value, header_bytes}
 use Rattle.httparse.specs.declared.spans.HeaderSpan.{HeaderSpan}
 use Rattle.httparse.specs.declared.spans.RequestSpans.{RequestSpans}
-use Rattle.wf_http.specs.Head.{Head, Begins, HasNoSmallRequest}
+use Rattle.wf_http.specs.Head.{Head, Begins, HasNoSmallRequest, most_fields, most_head_bytes}
 use Rattle.wf_stream.specs.Reading.{ReadsPiece}
 use Rattle.wf_http.specs.Request.{front_of, IsHeadRefusal, IsHeadFault, IsUnfinished, TakesPiece, TakesHead}
 use Rattle.wf_http.specs.declared.refusal.Refusal.{Refusal}
@@ -25,7 +25,7 @@ pub same_head : (m n t u : List ℕ) (fs gs : List (List ℕ × List ℕ)) → m
 same_head m n t u fs gs same_method same_target same_fields = rw (same_method, same_target, same_fields) refl
 
 -- a head that the parser found in this many bytes, with this much room for fields, is within the limits
-pub small : (bytes : List ℕ) (fields : List HeaderSpan) (spans : RequestSpans) → length bytes ≤ 8192 → length fields ≡ 32
+pub small : (bytes : List ℕ) (fields : List HeaderSpan) (spans : RequestSpans) → length bytes ≤ most_head_bytes → length fields ≡ most_fields
     → IsRequestOf bytes fields spans → Begins bytes (front_of bytes fields spans).head (front_of bytes fields spans).behind
 small bytes fields spans short room (h, at) = record {
   printed = h;
@@ -42,7 +42,7 @@ small bytes fields spans short room (h, at) = record {
 }
 
 -- a head with too many fields isn't within the limits, whatever bytes follow
-pub overflows : (bytes : List ℕ) → RequestOverflows 32 bytes → (more : List ℕ) → HasNoSmallRequest (bytes ++ more)
+pub overflows : (bytes : List ℕ) → RequestOverflows most_fields bytes → (more : List ℕ) → HasNoSmallRequest (bytes ++ more)
 overflows bytes over more h rest reads within = let many = over more h rest reads in let few = within.fields in absurd (omega arith)
 
 -- ---- how much is taken
@@ -73,8 +73,8 @@ piece_taken piece room count old new given taken within small =
     (take count given, omega arith, still_small piece count (length (take count given)) (omega arith) small, taken)
 
 -- one more piece is taken if no head is complete yet
-pub head_looked_for : (here piece : Option ℕ) (start old new : Option (List ℕ)) (bytes : List ℕ) → here ≡ piece → IsUnfinished bytes → length bytes < 8192
-    → Consumes start old bytes → TakesPiece here (8192 - length bytes) old new → TakesHead piece start new
+pub head_looked_for : (here piece : Option ℕ) (start old new : Option (List ℕ)) (bytes : List ℕ) → here ≡ piece → IsUnfinished bytes → length bytes < most_head_bytes
+    → Consumes start old bytes → TakesPiece here (most_head_bytes - length bytes) old new → TakesHead piece start new
 head_looked_for here piece start old new bytes same unfinished room first (more, within, small, second) = record {
   before = bytes;
   last = more;
@@ -85,7 +85,7 @@ head_looked_for here piece start old new bytes same unfinished room first (more,
 }
 
 -- no more is taken once as much was as a head may have
-pub taken_at_limit : (piece : Option ℕ) (start left : Option (List ℕ)) (bytes : List ℕ) → Consumes start left bytes → IsUnfinished bytes → length bytes ≤ 8192
+pub taken_at_limit : (piece : Option ℕ) (start left : Option (List ℕ)) (bytes : List ℕ) → Consumes start left bytes → IsUnfinished bytes → length bytes ≤ most_head_bytes
     → TakesHead piece start left
 taken_at_limit piece start left bytes taken unfinished within = record {
   before = bytes;
@@ -147,7 +147,7 @@ shorter bytes more h rest reads short =
     (reads.0, sym (take-append-drop size bytes) ∙ ap (λ xs. xs ++ drop size bytes) front)
 
 -- the limit was read, and no head is complete
-pub fault_at_limit : (start left : Option (List ℕ)) (bytes : List ℕ) → Consumes start left bytes → length bytes ≡ 8192 → IsUnfinished bytes
+pub fault_at_limit : (start left : Option (List ℕ)) (bytes : List ℕ) → Consumes start left bytes → length bytes ≡ most_head_bytes → IsUnfinished bytes
     → IfSome start (λ input. IsHeadFault input (fault.Refused refusal.HeadTooLarge))
 fault_at_limit start left bytes taken full unfinished =
     let none : HasNoRequest bytes = unfinished (omega arith) in

@@ -13,7 +13,7 @@ use Rattle.wf_http.specs.declared.resource.Asked.TheVariants as asked
 
 -- the greatest length of a body, in bytes
 abbrev pub most_body_bytes : ℕ
-most_body_bytes = 65536
+most_body_bytes = 131072
 
 -- the rejection by the first check that fails
 abbrev pub first_failing : List (Option Refusal) → Option Refusal

@@ -33,9 +33,13 @@ front_of bytes fields spans = record {
   behind = drop spans.len bytes;
 }
 
--- the bytes read are that head and the bytes after it
+-- the bytes are that head and the bytes after it
+abbrev pub IsFront : List ℕ → Front → Type 0
+IsFront bytes front = Begins bytes front.head front.behind
+
+-- the bytes read are that
 abbrev pub TakesFront : Option (List ℕ) → Option (List ℕ) → Front → Type 0
-TakesFront old new front = (bytes : List ℕ) × Consumes old new bytes × Begins bytes front.head front.behind
+TakesFront old new front = (bytes : List ℕ) × Consumes old new bytes × IsFront bytes front
 
 -- no head is at the front of the bytes, if there are any
 abbrev pub IsUnfinished : List ℕ → Type 0

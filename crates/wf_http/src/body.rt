@@ -26,8 +26,10 @@ fn read_missing<S: Source>(
     bytes: usize,
 ) -> Result<Vec<u8>, RequestFault>
     requires { 0 < bytes }
-    ensures ok { IfOk result (λ body. IfSome (S.left source.old) (λ left. IsBody (behind.now ++ left) bytes body.items)) }
-    ensures err { IfErr result (λ fault. IfSome (S.left source.old) (λ left. IsBodyFault (behind.now ++ left) bytes fault)) }
+    ensures ok { IfOk result (λ body.
+        IfSome (S.left source.old) (λ left. IsBody (behind.now ++ left) bytes body.items)) }
+    ensures err { IfErr result (λ fault.
+        IfSome (S.left source.old) (λ left. IsBodyFault (behind.now ++ left) bytes fault)) }
     ensures takes { TakesUpTo (bytes - length behind.now) (S.left source.old) (S.left source.new) }
     ensures reads { CountsReads result (S.failures source.old) (S.failures source.new) }
 {
@@ -58,8 +60,10 @@ pub fn read_body<S: Source>(
     behind: &[u8],
     bytes: usize,
 ) -> Result<Vec<u8>, RequestFault>
-    ensures ok { IfOk result (λ body. IfSome (S.left source.old) (λ left. IsBody (behind.now ++ left) bytes body.items)) }
-    ensures err { IfErr result (λ fault. IfSome (S.left source.old) (λ left. IsBodyFault (behind.now ++ left) bytes fault)) }
+    ensures ok { IfOk result (λ body.
+        IfSome (S.left source.old) (λ left. IsBody (behind.now ++ left) bytes body.items)) }
+    ensures err { IfErr result (λ fault.
+        IfSome (S.left source.old) (λ left. IsBodyFault (behind.now ++ left) bytes fault)) }
     ensures takes { TakesUpTo (bytes - length behind.now) (S.left source.old) (S.left source.new) }
     ensures reads { CountsReads result (S.failures source.old) (S.failures source.new) }
     ensures empty { bytes ≡ 0 → IsOk result × (source.new ≡ source.old) }

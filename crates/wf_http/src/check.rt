@@ -9,7 +9,7 @@ use crate::resource::{Asked, Resource};
 use crate::target::{method_name, method_of, path_of, resource_at};
 
 /// The greatest length of a body, in bytes.
-pub const MOST_BODY_BYTES: usize = 65_536;
+pub const MOST_BODY_BYTES: usize = 131_072;
 
 #[tactic(auto, unfolding(crate::specs::Checks::check_target))]
 fn check_target(target: &[u8]) -> Option<Refusal>
@@ -145,7 +145,8 @@ fn refuse_body(fields: &Fields<'_>) -> Option<Refusal>
 
 // The length of a body within the limit.
 fn body_length(first: Option<&[u8]>) -> usize
-    requires { IfSome (option_map (λ value. value.now) first) (λ digits. number digits ≤ most_body_bytes) }
+    requires { IfSome
+        (option_map (λ value. value.now) first) (λ digits. number digits ≤ most_body_bytes) }
     ensures { result ≡ body_length (option_map (λ value. value.now) first.entry) }
 {
     match first {
@@ -157,8 +158,8 @@ fn body_length(first: Option<&[u8]>) -> usize
 // A publish, if the checks on its body pass.
 #[tactic(auto, using(crate::proofs::CheckLaw::size_passed))]
 fn publish_asked(fields: &Fields<'_>) -> Result<Asked, Refusal>
-    ensures { result ≡ publish_asked (first_failing (body_checks (codings_of fields.now) (lengths_of fields.now)))
-        (body_length (first_of (lengths_of fields.now))) }
+    ensures { result ≡ publish_asked (first_failing (body_checks (codings_of fields.now)
+        (lengths_of fields.now))) (body_length (first_of (lengths_of fields.now))) }
 {
     match refuse_body(fields) {
         Some(refusal) => Err(refusal),
@@ -183,7 +184,8 @@ fn asked_at(found: Option<Resource>, fields: &Fields<'_>) -> Result<Asked, Refus
 /// limit (413).
 #[tactic(auto, unfolding(crate::specs::Checks::judged))]
 pub fn judge(method: &[u8], target: &[u8], fields: &Fields<'_>) -> Result<Asked, Refusal>
-    ensures { result ≡ judged (record { method = method.now; target = target.now; fields = fields.now }) }
+    ensures { result
+        ≡ judged (record { method = method.now; target = target.now; fields = fields.now }) }
 {
     let found = resource_at(path_of(target));
     match refuse_head(found, target, method) {

@@ -67,7 +67,8 @@ fn is_named(bytes: &[u8], span: &HeaderSpan, name: &[u8]) -> bool
 
 // Whether the field at a span has this name, and its value isn't digits.
 fn has_no_digits(bytes: &[u8], span: &HeaderSpan, name: &[u8]) -> bool
-    ensures { result ≡ (is_named name.now (header_bytes bytes.now span.now) && not (is_digits (header_bytes bytes.now span.now).1)) }
+    ensures { result ≡ (is_named name.now (header_bytes bytes.now span.now)
+        && not (is_digits (header_bytes bytes.now span.now).1)) }
 {
     is_named(bytes, span, name) && !is_digits(covered(bytes, span.value))
 }
@@ -75,7 +76,8 @@ fn has_no_digits(bytes: &[u8], span: &HeaderSpan, name: &[u8]) -> bool
 // Whether the field at a span has this name, and its value differs from this one, leading zeros aside.
 fn has_other(bytes: &[u8], span: &HeaderSpan, name: &[u8], first: &[u8]) -> bool
     ensures { result ≡ (is_named name.now (header_bytes bytes.now span.now)
-        && not (bytes_eq (significant (header_bytes bytes.now span.now).1) (significant first.now))) }
+        && not (bytes_eq
+        (significant (header_bytes bytes.now span.now).1) (significant first.now))) }
 {
     is_named(bytes, span, name) && significant(covered(bytes, span.value)) != significant(first)
 }
@@ -105,7 +107,8 @@ impl<'b> Fields<'b> {
     }
 
     fn found(&self, name: &[u8]) -> Option<&'b [u8]>
-        ensures { option_map (λ value. value.now) result ≡ option_map (λ field. field.1) (find (is_named name.now) self.now) }
+        ensures { option_map (λ value. value.now) result
+            ≡ option_map (λ field. field.1) (find (is_named name.now) self.now) }
     {
         for span in self.spans {
             if is_named(self.bytes, span, name) {
@@ -116,7 +119,8 @@ impl<'b> Fields<'b> {
     }
 
     fn found_no_digits(&self, name: &[u8]) -> bool
-        ensures { result ≡ is_some (find (λ field. is_named name.now field && not (is_digits field.1)) self.now) }
+        ensures { result ≡ is_some
+            (find (λ field. is_named name.now field && not (is_digits field.1)) self.now) }
     {
         for span in self.spans {
             if has_no_digits(self.bytes, span, name) {
@@ -127,7 +131,8 @@ impl<'b> Fields<'b> {
     }
 
     fn found_other(&self, name: &[u8], first: &[u8]) -> bool
-        ensures { result ≡ is_some (find (λ field. is_named name.now field && not (bytes_eq (significant field.1) (significant first.now))) self.now) }
+        ensures { result ≡ is_some (find (λ field. is_named name.now field
+            && not (bytes_eq (significant field.1) (significant first.now))) self.now) }
     {
         for span in self.spans {
             if has_other(self.bytes, span, name, first) {
@@ -153,7 +158,8 @@ impl<'b> Fields<'b> {
 
     /// Whether the value of each field of that name is this one, leading zeros aside.
     pub fn are_same(&self, name: &[u8], first: &[u8]) -> bool
-        ensures { result ≡ list_all (λ value. bytes_eq (significant value) (significant first.now)) (values name.now self.now) }
+        ensures { result ≡ list_all (λ value. bytes_eq (significant value) (significant first.now))
+            (values name.now self.now) }
     {
         !self.found_other(name, first)
     }

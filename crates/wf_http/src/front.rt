@@ -2,8 +2,8 @@
 ghost use Rattle.std.specs.Prelude.{◌≡◌, ◌≢◌, ◌≤◌, ◌<◌, ◌+◌, ◌-◌, ◌++◌, ℕ, List, Option, None, Ok, length, IfOk, IfErr, IfSome, OnOk};
 ghost use Rattle.std.specs.Io.KnownBytes.{Consumes, IsAtEnd};
 ghost use Rattle.httparse.specs.Grammar.{HasNoRequest};
-ghost use Rattle.wf_http.specs.Head.{most_head_bytes, most_fields, Begins};
-ghost use Rattle.wf_http.specs.Request.{front_of, TakesFront, TakesMore, TakesPiece, TakesHead, IsUnfinished, IsHeadRefusal, IsHeadFault, CountsReads};
+ghost use Rattle.wf_http.specs.Head.{most_head_bytes, most_fields};
+ghost use Rattle.wf_http.specs.Request.{front_of, IsFront, TakesFront, TakesMore, TakesPiece, TakesHead, IsUnfinished, IsHeadRefusal, IsHeadFault, CountsReads};
 ghost use Rattle.wf_http.specs.Checks.{judged, most_body_bytes};
 ghost use Rattle.wf_http.specs.declared.fault.RequestFault.TheVariants.{ReadFailed, Memory};
 ghost use Rattle.wf_stream.specs.Reading.{Counts, ReadsPiece};
@@ -45,11 +45,12 @@ struct Parts {
 #[tactic(auto, using(crate::proofs::HeadLaw::small, crate::proofs::HeadLaw::overflows))]
 fn parse(bytes: &[u8]) -> Result<Option<Parts>, Refusal>
     requires { length bytes.now ≤ most_head_bytes }
-    ensures found { IfOk result (λ found. IfSome found (λ parts.
-        Begins bytes.now (front_of bytes.now parts.fields parts.spans).head (front_of bytes.now parts.fields parts.spans).behind)) }
+    ensures found { IfOk result (λ found. IfSome found
+        (λ parts. IsFront bytes.now (front_of bytes.now parts.fields parts.spans))) }
     ensures none { result ≡ Ok None → HasNoRequest bytes.now }
     // Whatever bytes follow.
-    ensures refused { IfErr result (λ refusal. (more : List ℕ) → IsHeadRefusal (bytes.now ++ more) refusal) }
+    ensures refused { IfErr result
+        (λ refusal. (more : List ℕ) → IsHeadRefusal (bytes.now ++ more) refusal) }
 {
     let mut fields = [EMPTY_HEADER_SPAN; MOST_FIELDS];
     match parse_request(bytes, &mut fields) {
@@ -91,10 +92,12 @@ fn extend(bytes: &mut HeadBytes, piece: &[u8])
 #[tactic(auto, using(crate::proofs::HeadLaw::piece_kept, crate::proofs::HeadLaw::piece_taken))]
 fn read_on<S: Source>(source: &mut S, bytes: &mut HeadBytes) -> io::Result<usize>
     requires { length bytes.old.items < most_head_bytes }
-    ensures read { IfOk result (λ count. ReadsPiece count (S.left source.old) (S.left source.new) bytes.old.items bytes.new.items) }
+    ensures read { IfOk result (λ count.
+        ReadsPiece count (S.left source.old) (S.left source.new) bytes.old.items bytes.new.items) }
     ensures within { OnOk result (length bytes.new.items ≤ most_head_bytes) }
     ensures end { IfOk result (λ count. count ≡ 0 → IsAtEnd (S.left source.new)) }
-    ensures takes { TakesPiece (S.piece source.old) (most_head_bytes - length bytes.old.items) (S.left source.old) (S.left source.new) }
+    ensures takes { TakesPiece (S.piece source.old)
+        (most_head_bytes - length bytes.old.items) (S.left source.old) (S.left source.new) }
     ensures piece { S.piece source.new ≡ S.piece source.old }
     ensures cause { Counts result (S.failures source.old) (S.failures source.new) }
 {
@@ -117,15 +120,18 @@ fn read_more<S: Source>(
 ) -> Result<Option<Parts>, RequestFault>
     requires room { length bytes.old.items < most_head_bytes }
     requires unfinished { IsUnfinished bytes.old.items }
-    ensures taken { OnOk result (TakesMore (S.left source.old) (S.left source.new) bytes.old.items bytes.new.items) }
+    ensures taken { OnOk result
+        (TakesMore (S.left source.old) (S.left source.new) bytes.old.items bytes.new.items) }
     ensures room { OnOk result (length bytes.new.items ≤ most_head_bytes) }
-    ensures found { IfOk result (λ found. IfSome found (λ parts.
-        Begins bytes.new.items (front_of bytes.new.items parts.fields parts.spans).head (front_of bytes.new.items parts.fields parts.spans).behind)) }
+    ensures found { IfOk result (λ found. IfSome found
+        (λ parts. IsFront bytes.new.items (front_of bytes.new.items parts.fields parts.spans))) }
     ensures none { result ≡ Ok None → HasNoRequest bytes.new.items }
-    ensures err { IfErr result (λ fault. (start : Option (List ℕ)) → Consumes start (S.left source.old) bytes.old.items
-        → IfSome start (λ input. IsHeadFault input fault)) }
-    ensures takes { (piece : Option ℕ) (start : Option (List ℕ)) → S.piece source.old ≡ piece → Consumes start (S.left source.old) bytes.old.items
-        → TakesHead piece start (S.left source.new) }
+    ensures err { IfErr result (λ fault. (start : Option (List ℕ)) →
+        Consumes start (S.left source.old) bytes.old.items →
+        IfSome start (λ input. IsHeadFault input fault)) }
+    ensures takes { (piece : Option ℕ) (start : Option (List ℕ)) →
+        S.piece source.old ≡ piece → Consumes start (S.left source.old) bytes.old.items →
+        TakesHead piece start (S.left source.new) }
     ensures piece { S.piece source.new ≡ S.piece source.old }
     ensures no_memory { IfErr result (λ fault. fault ≢ Memory) }
     ensures reads { CountsReads result (S.failures source.old) (S.failures source.new) }
@@ -161,7 +167,8 @@ impl Front {
     #[tactic(auto, using(crate::proofs::HeadLaw::fault_at_limit, crate::proofs::HeadLaw::taken_at_limit))]
     pub fn read<S: Source>(source: &mut S) -> Result<Self, RequestFault>
         ensures ok { IfOk result (TakesFront (S.left source.old) (S.left source.new)) }
-        ensures err { IfErr result (λ fault. IfSome (S.left source.old) (λ input. IsHeadFault input fault)) }
+        ensures err { IfErr result
+            (λ fault. IfSome (S.left source.old) (λ input. IsHeadFault input fault)) }
         ensures takes { TakesHead (S.piece source.old) (S.left source.old) (S.left source.new) }
         ensures no_memory { IfErr result (λ fault. fault ≢ Memory) }
         ensures reads { CountsReads result (S.failures source.old) (S.failures source.new) }

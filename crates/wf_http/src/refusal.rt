@@ -19,7 +19,7 @@ pub enum Refusal {
     MethodNotAllowed(Allowed),
     /// 411: the body's length isn't given.
     LengthRequired,
-    /// 413: the body is longer than 65,536 bytes.
+    /// 413: the body is longer than [`MOST_BODY_BYTES`](crate::check::MOST_BODY_BYTES).
     ContentTooLarge,
     /// 431: the head is longer than 8,192 bytes or has more than 32 fields.
     HeadTooLarge,

@@ -45,8 +45,10 @@ impl Request {
     #[tactic(auto, using(crate::proofs::RequestLaw::head_failed, crate::proofs::RequestLaw::check_failed, crate::proofs::RequestLaw::body_failed, crate::proofs::RequestLaw::request_read, crate::proofs::RequestLaw::request_taken))]
     pub fn read<S: Source>(alloc: Global, source: &mut S) -> Result<Self, RequestFault>
         ensures asks { IfOk result (λ request. judged request.head ≡ Ok request.asked) }
-        ensures ok { IfOk result (λ request. IfSome (S.left source.old) (λ input. BeginsWith input request)) }
-        ensures err { IfErr result (λ fault. IfSome (S.left source.old) (λ input. IsRequestFault input fault)) }
+        ensures ok { IfOk result
+            (λ request. IfSome (S.left source.old) (λ input. BeginsWith input request)) }
+        ensures err { IfErr result
+            (λ fault. IfSome (S.left source.old) (λ input. IsRequestFault input fault)) }
         ensures takes { TakesRequest (S.piece source.old) (S.left source.old) (S.left source.new) }
         ensures reads { CountsReads result (S.failures source.old) (S.failures source.new) }
     {

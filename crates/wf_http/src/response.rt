@@ -41,12 +41,17 @@ impl Progress {
 
 // Writes one more piece, unless the writer has failed.
 fn put<K: Sink>(sink: &mut K, progress: &mut Progress, piece: &[u8])
-    ensures written { (start : Option (List ℕ)) (bytes : List ℕ) → IsProgress start bytes (K.written sink.old) progress.old.written progress.old.failed
-        → IsProgress start (bytes ++ piece.now) (K.written sink.new) progress.new.written progress.new.failed }
+    ensures written { (start : Option (List ℕ)) (bytes : List ℕ) →
+        IsProgress start bytes (K.written sink.old) progress.old.written progress.old.failed →
+        IsProgress start (bytes ++ piece.now)
+        (K.written sink.new) progress.new.written progress.new.failed }
     ensures failures { (first : ℕ) → CountsProgress first (K.failures sink.old) progress.old.failed
         → CountsProgress first (K.failures sink.new) progress.new.failed }
-    ensures last { (first : K) (bytes : List ℕ) → IsWriting K.written K.failures K.fails first bytes sink.old progress.old.written progress.old.failed
-        → IsWriting K.written K.failures K.fails first (bytes ++ piece.now) sink.new progress.new.written progress.new.failed }
+    ensures last { (first : K) (bytes : List ℕ) →
+        IsWriting K.written K.failures K.fails first bytes
+        sink.old progress.old.written progress.old.failed →
+        IsWriting K.written K.failures K.fails first (bytes ++ piece.now)
+        sink.new progress.new.written progress.new.failed }
 {
     if progress.failed {
         return;
@@ -96,13 +101,15 @@ impl<'b> Model for Response<'b> {
 
     ghost Value = { ResponseValue };
 
-    ghost view = { λ r. record { status = r.status; media = r.media.now; allowed = r.allowed; body = r.body.now } };
+    ghost view = { λ r.
+        record { status = r.status; media = r.media.now; allowed = r.allowed; body = r.body.now } };
 }
 
 impl<'b> Response<'b> {
     /// A response with a status, and a body of a media type; with status 405 the allowed method.
     pub fn new(status: StatusCode, media: &'b str, allowed: Option<Allowed>, body: &'b [u8]) -> Self
-        ensures { result ≡ record { status = status; media = media.now; allowed = allowed; body = body.now } }
+        ensures { result
+            ≡ record { status = status; media = media.now; allowed = allowed; body = body.now } }
     {
         Response {
             status,
@@ -121,12 +128,18 @@ impl<'b> Response<'b> {
 
     // Writes the lines before the body.
     fn put_lines<K: Sink>(&self, sink: &mut K, progress: &mut Progress)
-        ensures written { (start : Option (List ℕ)) → IsProgress start [] (K.written sink.old) progress.old.written progress.old.failed
-            → IsProgress start (head_bytes self.now) (K.written sink.new) progress.new.written progress.new.failed }
-        ensures failures { (first : ℕ) → CountsProgress first (K.failures sink.old) progress.old.failed
-            → CountsProgress first (K.failures sink.new) progress.new.failed }
-        ensures last { (first : K) → IsWriting K.written K.failures K.fails first [] sink.old progress.old.written progress.old.failed
-            → IsWriting K.written K.failures K.fails first (head_bytes self.now) sink.new progress.new.written progress.new.failed }
+        ensures written { (start : Option (List ℕ)) →
+            IsProgress start [] (K.written sink.old) progress.old.written progress.old.failed →
+            IsProgress start (head_bytes self.now)
+            (K.written sink.new) progress.new.written progress.new.failed }
+        ensures failures { (first : ℕ) →
+            CountsProgress first (K.failures sink.old) progress.old.failed →
+            CountsProgress first (K.failures sink.new) progress.new.failed }
+        ensures last { (first : K) →
+            IsWriting K.written K.failures K.fails first []
+            sink.old progress.old.written progress.old.failed →
+            IsWriting K.written K.failures K.fails first (head_bytes self.now)
+            sink.new progress.new.written progress.new.failed }
     {
         let mut digits = Buffer::new();
         put(sink, progress, b"HTTP/1.1 ");
@@ -144,12 +157,18 @@ impl<'b> Response<'b> {
 
     // Writes the lines before the body, in one piece if they fit the buffer.
     fn put_head<K: Sink>(&self, sink: &mut K, progress: &mut Progress)
-        ensures written { (start : Option (List ℕ)) → IsProgress start [] (K.written sink.old) progress.old.written progress.old.failed
-            → IsProgress start (head_bytes self.now) (K.written sink.new) progress.new.written progress.new.failed }
-        ensures failures { (first : ℕ) → CountsProgress first (K.failures sink.old) progress.old.failed
-            → CountsProgress first (K.failures sink.new) progress.new.failed }
-        ensures last { (first : K) → IsWriting K.written K.failures K.fails first [] sink.old progress.old.written progress.old.failed
-            → IsWriting K.written K.failures K.fails first (head_bytes self.now) sink.new progress.new.written progress.new.failed }
+        ensures written { (start : Option (List ℕ)) →
+            IsProgress start [] (K.written sink.old) progress.old.written progress.old.failed →
+            IsProgress start (head_bytes self.now)
+            (K.written sink.new) progress.new.written progress.new.failed }
+        ensures failures { (first : ℕ) →
+            CountsProgress first (K.failures sink.old) progress.old.failed →
+            CountsProgress first (K.failures sink.new) progress.new.failed }
+        ensures last { (first : K) →
+            IsWriting K.written K.failures K.fails first []
+            sink.old progress.old.written progress.old.failed →
+            IsWriting K.written K.failures K.fails first (head_bytes self.now)
+            sink.new progress.new.written progress.new.failed }
     {
         let mut head = Gathered::new();
         let mut gathering = Progress::start();
@@ -164,13 +183,16 @@ impl<'b> Response<'b> {
     /// Writes the response without allocating, its head in one piece and its body in another, and returns its number of bytes. If
     /// the writer fails, a prefix of the response is written, and the failed call is the last.
     pub fn write<K: Sink>(&self, sink: &mut K) -> Result<u64, CutShort>
-        ensures whole { OnOk result (Appends (K.written sink.old) (K.written sink.new) (response_bytes self.now)) }
+        ensures whole { OnOk result
+            (Appends (K.written sink.old) (K.written sink.new) (response_bytes self.now)) }
         ensures count { IfOk result (IsCount (length (response_bytes self.now))) }
-        ensures part { IfErr result (λ cut. WritesPart (response_bytes self.now) (K.written sink.old) (K.written sink.new) cut.written) }
+        ensures part { IfErr result (λ cut. WritesPart
+            (response_bytes self.now) (K.written sink.old) (K.written sink.new) cut.written) }
         ensures calm { OnOk result (K.failures sink.new ≡ K.failures sink.old) }
         ensures cause { OnErr result (Rises (K.failures sink.old) (K.failures sink.new)) }
         // No call comes after one that failed.
-        ensures last { IfErr result (λ cut. BreaksOff K.written K.failures K.fails (response_bytes self.now) sink.old sink.new cut.written) }
+        ensures last { IfErr result (λ cut. BreaksOff K.written K.failures K.fails
+            (response_bytes self.now) sink.old sink.new cut.written) }
     {
         let mut progress = Progress::start();
         self.put_head(sink, &mut progress);

@@ -5,15 +5,16 @@ use Rattle.wf_def.specs.Definition.{Definition}
 use Rattle.wf_canon.specs.Saying.{OneTextOneMap}
 use Rattle.wf_model.specs.Stored.{Record}
 use Rattle.wf_journal.specs.Record.{IsRecord}
-use Rattle.wf_journal.specs.Spelling.{spelling, Spells}
-use Rattle.wf_journal.specs.Records.{Splits, BeginsWithNone, ReadsAs, AreRecords, IsCleanOrTorn, IsTapeOf, IsBad, length_of}
+use Rattle.wf_journal.specs.Spelling.{spelling, spellings, Encodes}
+use Rattle.wf_journal.specs.Records.{Splits, BeginsWithNone, ReadsAs, AreRecords, AreWritten, IsCleanOrTorn, IsTapeOf, IsBad, length_of}
 use Rattle.wf_journal.specs.Front.{TakesOne, HasRead}
 use Rattle.wf_journal.specs.Journal.{IsBadAt}
+use Rattle.wf_journal.specs.SpellingLaws.{length_of_encoding, written_encodes}
 use Rattle.wf_journal.proofs.Judged.{spelling_not_empty, none_begins_another}
 
 -- one record more, split off the rest
 pub splits_push : (bytes : List ℕ) (records : List (Record Definition)) (rest : List ℕ) (r : Record Definition) (spelled after : List ℕ) →
-    Splits bytes records rest → Spells r spelled → rest ≡ spelled ++ after → Splits bytes (records ++ r ∷ []) after
+    Splits bytes records rest → Encodes r spelled → rest ≡ spelled ++ after → Splits bytes (records ++ r ∷ []) after
 splits_push bytes [] rest r spelled after splits spells e = (spelled, after, spells, splits ∙ e, refl)
 splits_push bytes (q ∷ records) rest r spelled after splits spells e =
     (splits.0, splits.1, splits.2, splits.3, splits_push splits.1 records rest r spelled after splits.4 spells e)
@@ -64,7 +65,7 @@ pub reads_only : OneTextOneMap → (bytes : List ℕ) (records others : List (Re
 reads_only one_map bytes records others are reads = one_reading one_map bytes records others [] reads.0 are none_begins_nothing reads.1.splits reads.1.longest
 
 -- A prefix of a record begins with no record: what follows the cut would follow the whole record too.
-pub cut_begins_none : OneTextOneMap → (r : Record Definition) (front : List ℕ) (byte : ℕ) (after : List ℕ) → Spells r (front ++ byte ∷ after) → BeginsWithNone front
+pub cut_begins_none : OneTextOneMap → (r : Record Definition) (front : List ℕ) (byte : ℕ) (after : List ℕ) → Encodes r (front ++ byte ∷ after) → BeginsWithNone front
 cut_begins_none one_map r front byte after spells q spelled behind spells_q e =
     let longer : spelled ++ (behind ++ byte ∷ after) ≡ (front ++ byte ∷ after) ++ [] =
     sym (append_assoc spelled behind (byte ∷ after)) ∙ ap (λ (t : List ℕ). t ++ byte ∷ after) (sym e) ∙ sym (append-nil (front ++ byte ∷ after)) in
@@ -72,25 +73,38 @@ cut_begins_none one_map r front byte after spells q spelled behind spells_q e =
     absurd (omega (arith, ap length same.2, length-append behind (byte ∷ after)))
 
 -- one more record after whole records
-pub one_more : (content : List ℕ) (records : List (Record Definition)) (r : Record Definition) (spelled : List ℕ) → AreRecords content records → Spells r spelled →
+pub one_more : (content : List ℕ) (records : List (Record Definition)) (r : Record Definition) (spelled : List ℕ) → AreRecords content records → Encodes r spelled →
     AreRecords (content ++ spelled) (records ++ r ∷ [])
 one_more content records r spelled are spells = splits_push (content ++ spelled) records spelled r spelled [] (splits_on content records [] spelled are) spells (sym (append-nil spelled))
 
+pub nothing_spelled : (bytes : List ℕ) → bytes ≡ [] → bytes ≡ spellings []
+unfolding spellings
+nothing_spelled bytes none = none
+
+-- one more record behind others
+spellings-push : (records : List (Record Definition)) (r : Record Definition) → spellings (records ++ r ∷ []) ≡ spellings records ++ spelling r
+unfolding spellings
+spellings-push [] r = append-nil (spelling r)
+spellings-push (q ∷ records) r = ap (λ (t : List ℕ). spelling q ++ t) (spellings-push records r) ∙ sym (append_assoc (spelling q) (spellings records) (spelling r))
+
 -- One more element of a list is a record that was appended.
 pub one_more_taken : {X : Type 0} (view : X → Record Definition) (content new : List ℕ) (xs : List X) (i : ℕ) (x : X) → i < length xs → x ≡ get_or xs i x →
-    AreRecords content (map view (take i xs)) → IsRecord (view x) → new ≡ content ++ spelling (view x) → AreRecords new (map view (take (i + 1) xs))
+    AreWritten content (map view (take i xs)) → IsRecord (view x) → new ≡ content ++ spelling (view x) → AreWritten new (map view (take (i + 1) xs))
 one_more_taken {X} view content new xs i x within is are is_record spelled =
     let next : take (i + 1) xs ≡ take i xs ++ x ∷ [] = take_more xs i x within ∙ ap (λ (y : X). take i xs ++ y ∷ []) (sym is) in
     let records : map view (take (i + 1) xs) ≡ map view (take i xs) ++ view x ∷ [] = ap (map view) next ∙ map-append view (take i xs) (x ∷ []) in
-    let appended = one_more content (map view (take i xs)) (view x) (spelling (view x)) are (record { is_record = is_record; spelled = refl }) in
-    subst (λ (t : List ℕ). AreRecords t (map view (take (i + 1) xs))) (sym spelled)
-    (subst (λ (rs : List (Record Definition)). AreRecords (content ++ spelling (view x)) rs) (sym records) appended)
+    let appended = one_more content (map view (take i xs)) (view x) (spelling (view x)) are.are_records (written_encodes (view x) (spelling (view x)) (record { is_record = is_record; spelled = refl })) in
+    record {
+      are_records = subst (λ (t : List ℕ). AreRecords t (map view (take (i + 1) xs))) (sym spelled)
+          (subst (λ (rs : List (Record Definition)). AreRecords (content ++ spelling (view x)) rs) (sym records) appended);
+      spelled = spelled ∙ ap (λ (t : List ℕ). t ++ spelling (view x)) are.spelled ∙ sym (spellings-push (map view (take i xs)) (view x)) ∙ ap spellings (sym records);
+    }
 
 -- Whole records followed by a prefix of one more read as the same records, or as one more if the prefix is the whole record.
-pub cut_reads : OneTextOneMap → (content : List ℕ) (records : List (Record Definition)) (r : Record Definition) (front after : List ℕ) → AreRecords content records → Spells r (front ++ after) →
+pub cut_reads : OneTextOneMap → (content : List ℕ) (records : List (Record Definition)) (r : Record Definition) (front after : List ℕ) → AreRecords content records → Encodes r (front ++ after) →
     ReadsAs (content ++ front) records ⊎ ReadsAs (content ++ front) (records ++ r ∷ [])
 cut_reads one_map content records r front [] are spells =
-    let whole : Spells r front = subst (λ (t : List ℕ). Spells r t) (append-nil front) spells in
+    let whole : Encodes r front = subst (λ (t : List ℕ). Encodes r t) (append-nil front) spells in
     inr (whole_reads (content ++ front) (records ++ r ∷ []) (one_more content records r front are whole))
 cut_reads one_map content records r front (byte ∷ after) are spells =
     inl (front, record { splits = splits_on content records [] front are; longest = cut_begins_none one_map r front byte after spells })
@@ -120,7 +134,7 @@ rest_within bytes records rest splits = let found = front_of bytes records rest 
 pub takes_one : (bytes : List ℕ) (rest : List ℕ) (n : ℕ) (old new : List (Record Definition)) → Splits bytes old rest → TakesOne rest n old new → Splits bytes new (drop n rest)
 takes_one bytes rest n old new splits takes =
     subst (λ (rs : List (Record Definition)). Splits bytes rs (drop n rest)) (sym takes.one_more)
-    (splits_push bytes old rest takes.taken (take n rest) (drop n rest) splits takes.begins.spells (sym (take-append-drop n rest)))
+    (splits_push bytes old rest takes.taken (take n rest) (drop n rest) splits takes.begins.encodes (sym (take-append-drop n rest)))
 
 -- the rest is shorter
 pub takes_less : (rest : List ℕ) (n : ℕ) (old new : List (Record Definition)) → TakesOne rest n old new → length (drop n rest) < length rest
@@ -147,7 +161,7 @@ length_splits : (bytes : List ℕ) (records : List (Record Definition)) (rest : 
 unfolding length_of
 length_splits bytes [] rest splits = omega (arith, ap length splits)
 length_splits bytes (r ∷ records) rest splits =
-    omega (arith, ap length splits.3, length-append splits.0 splits.1, ap length splits.2.spelled, length_splits splits.1 records rest splits.4)
+    omega (arith, ap length splits.3, length-append splits.0 splits.1, length_of_encoding r splits.0 splits.2, length_splits splits.1 records rest splits.4)
 
 -- The length of records that were read is below 2 ^ 64.
 pub length_of_read : (bytes : List ℕ) (records : List (Record Definition)) (n : ℕ) → HasRead bytes records n → n < 2 ^ 64 → length_of records < 2 ^ 64

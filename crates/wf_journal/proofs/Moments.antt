@@ -7,7 +7,7 @@ use Rattle.wf_tape.specs.declared.fault.TapeFault.{TapeFault}
 use Rattle.wf_tape.specs.declared.fault.TapeFault.TheVariants.{Device, Memory}
 use Rattle.wf_tape.specs.Tape.{IsBeginning, IsUnchanged, IsExtended, IsCutShort, IsNotMemory, LeavesNoOther, LeavesOldOrCut, LeavesOldOrNew, Elapses, IsNow, AreNested}
 use Rattle.wf_journal.specs.MomentLaws.{inside_two}
-use Rattle.wf_journal.specs.Spelling.{Spells}
+use Rattle.wf_journal.specs.Spelling.{Encodes}
 use Rattle.wf_journal.specs.Journal.{IsSettled, Follows, ReadsSameOrOneMore}
 use Rattle.wf_journal.proofs.Settling.{cut_shorter, same_or_more}
 
@@ -65,7 +65,7 @@ pub inside_none : (r : Record Definition) (images since : List ℕ → Type 0) �
 inside_none r images since now image left = (image, now.nothing_else image left, λ records reads. inl reads)
 
 -- Inside an addition each image reads as the records before, or with the new one.
-pub inside_added : OneTextOneMap → (content spelled : List ℕ) (r : Record Definition) (old inside : List ℕ → Type 0) → IsSettled content old → Spells r spelled → LeavesOldOrCut (content ++ spelled) old inside →
+pub inside_added : OneTextOneMap → (content spelled : List ℕ) (r : Record Definition) (old inside : List ℕ → Type 0) → IsSettled content old → Encodes r spelled → LeavesOldOrCut (content ++ spelled) old inside →
     Follows (ReadsSameOrOneMore r) old inside
 inside_added one_map content spelled r old inside settled spells leaves image left = elim (leaves image left) [
   | inl was ↦ (image, was, λ records reads. inl reads)

@@ -8,10 +8,10 @@ use Rattle.wf_model.specs.Stored.{Record}
 use Rattle.wf_journal.specs.declared.opening.OpenFault.{OpenFault}
 use Rattle.wf_journal.specs.declared.opening.OpenFault.TheVariants.{TapeFailed, BadRecord, Memory}
 use Rattle.wf_tape.specs.Tape.{IsBeginning, IsOnlyImage, IsUnchanged, LeavesNoOther, IsExtended, IsCutShort, LeavesOldOr, HasRisen}
-use Rattle.wf_journal.specs.Spelling.{Spells}
-use Rattle.wf_journal.specs.Records.{ReadsAs, AreRecords}
+use Rattle.wf_journal.specs.Spelling.{Encodes}
+use Rattle.wf_journal.specs.Records.{ReadsAs, AreRecords, AreWritten}
 use Rattle.wf_journal.specs.Front.{HasRead}
-use Rattle.wf_journal.specs.Journal.{IsContent, Holds, IsSettled, AllReadAs, Follows, ReadsSame, ReadsOneMore, ReadsSameOrOneMore, IsSameOrRecords, IsSameOrReads, IsWhereBad, IsNotBad, IsWhyFailed}
+use Rattle.wf_journal.specs.Journal.{IsContent, Holds, HoldsRecords, IsSettled, AllReadAs, Follows, ReadsSame, ReadsOneMore, ReadsSameOrOneMore, IsSameOrRecords, IsSameOrReads, IsWhereBad, IsNotBad, IsWhyFailed}
 use Rattle.wf_journal.proofs.Lists.{one_more, cut_reads, whole_reads, reads_only, one_reading, first_are_records}
 
 -- ---- appending
@@ -53,7 +53,7 @@ same_settled one_map content records n old mid new read is_image no_other or_fro
       | inr is ↦ (content, is_image, subst (λ (t : List ℕ). ReadsSame content t) (sym is) (front_same one_map content records n read))
     ]
 
-pub holds_front : (content new_content : List ℕ) (records : List (Record Definition)) (n : ℕ) (images : List ℕ → Type 0) → HasRead content records n → new_content ≡ take n content → IsOnlyImage new_content images → Holds new_content images records
+pub holds_front : (content new_content : List ℕ) (records : List (Record Definition)) (n : ℕ) (images : List ℕ → Type 0) → HasRead content records n → new_content ≡ take n content → IsOnlyImage new_content images → HoldsRecords new_content images records
 holds_front content new_content records n images read is only =
     record { are_records = subst (λ (t : List ℕ). AreRecords t records) (sym is) (first_are_records content records n read.within read.is_tape.reads.splits); only = only }
 
@@ -61,12 +61,12 @@ holds_front content new_content records n images read is only =
 
 -- The tape holds the records at the front of the bytes that were read, after it is cut to them.
 pub holds_found : (bytes kept new_content : List ℕ) (records : List (Record Definition)) (n m : ℕ) (images : List ℕ → Type 0) → HasRead bytes records n → kept ≡ bytes → m ≡ n →
-    new_content ≡ take m kept → IsOnlyImage new_content images → Holds new_content images records
+    new_content ≡ take m kept → IsOnlyImage new_content images → HoldsRecords new_content images records
 holds_found bytes kept new_content records n m images read same_bytes same_front is only =
     holds_front bytes new_content records n images read (is ∙ ap (λ (t : List ℕ). take m t) same_bytes ∙ ap (λ (k : ℕ). take k bytes) same_front) only
 
 -- So each image then reads as the records.
-pub reads_held : (content : List ℕ) (records : List (Record Definition)) (images : List ℕ → Type 0) → Holds content images records → AllReadAs images records
+pub reads_held : (content : List ℕ) (records : List (Record Definition)) (images : List ℕ → Type 0) → HoldsRecords content images records → AllReadAs images records
 reads_held content records images held image left = subst (λ (t : List ℕ). ReadsAs t records) (sym (held.only.no_other image left)) (whole_reads content records held.are_records)
 
 -- Images during that read as the bytes did.
@@ -115,13 +115,13 @@ added_front content spelled image within behind =
     (behind.0, within.0, behind.1, append_cancel_left content spelled (behind.0 ++ within.0) regrouped)
 
 -- each image reads as the records before, or with the one that is added
-pub same_or_more : OneTextOneMap → (content spelled : List ℕ) (r : Record Definition) (old new : List ℕ → Type 0) → IsSettled content old → Spells r spelled → IsCutShort (content ++ spelled) old new →
+pub same_or_more : OneTextOneMap → (content spelled : List ℕ) (r : Record Definition) (old new : List ℕ → Type 0) → IsSettled content old → Encodes r spelled → IsCutShort (content ++ spelled) old new →
     Follows (ReadsSameOrOneMore r) old new
 same_or_more one_map content spelled r old new settled spells cut image left =
     let held = settled.1 in
     let behind : IsBeginning content image = subst (λ (t : List ℕ). IsBeginning t image) (held.only.no_other (cut image left).1.0 (cut image left).1.1) (cut image left).1.2 in
     let parts = added_front content spelled image (cut image left).0 behind in
-    let cut_spelled : Spells r (parts.0 ++ parts.1) = subst (λ (t : List ℕ). Spells r t) parts.3 spells in
+    let cut_spelled : Encodes r (parts.0 ++ parts.1) = subst (λ (t : List ℕ). Encodes r t) parts.3 spells in
     let reads = subst (λ (t : List ℕ). ReadsAs t settled.0 ⊎ ReadsAs t (settled.0 ++ r ∷ [])) (sym parts.2) (cut_reads one_map content settled.0 r parts.0 parts.1 held.are_records cut_spelled) in
     (content, held.only.is_image, λ others read. subst (λ (rs : List (Record Definition)). ReadsAs image rs ⊎ ReadsAs image (rs ++ r ∷ [])) (reads_only one_map content settled.0 others held.are_records read) reads)
 
@@ -129,7 +129,7 @@ pub same_kept : (r : Record Definition) (old new : List ℕ → Type 0) → Leav
 same_kept r old new no_other image left = (image, no_other image left, λ records reads. inl reads)
 
 -- after Ok it reads as one more
-pub now_more : OneTextOneMap → (content spelled new_content : List ℕ) (r : Record Definition) (old new : List ℕ → Type 0) → IsSettled content old → Spells r spelled → new_content ≡ content ++ spelled → IsOnlyImage new_content new →
+pub now_more : OneTextOneMap → (content spelled new_content : List ℕ) (r : Record Definition) (old new : List ℕ → Type 0) → IsSettled content old → Encodes r spelled → new_content ≡ content ++ spelled → IsOnlyImage new_content new →
     Follows (ReadsOneMore r) old new
 now_more one_map content spelled new_content r old new settled spells is only image left =
     let held = settled.1 in
@@ -138,7 +138,7 @@ now_more one_map content spelled new_content r old new settled spells is only im
     (content, held.only.is_image, λ others read. subst (λ (rs : List (Record Definition)). ReadsAs image (rs ++ r ∷ [])) (reads_only one_map content settled.0 others held.are_records read) reads)
 
 -- and the tape holds exactly them
-pub settled_more : (content spelled new_content : List ℕ) (r : Record Definition) (old new : List ℕ → Type 0) → IsSettled content old → Spells r spelled → new_content ≡ content ++ spelled → IsOnlyImage new_content new →
+pub settled_more : (content spelled new_content : List ℕ) (r : Record Definition) (old new : List ℕ → Type 0) → IsSettled content old → Encodes r spelled → new_content ≡ content ++ spelled → IsOnlyImage new_content new →
     IsSettled new_content new
 settled_more content spelled new_content r old new settled spells is only =
     (settled.0 ++ r ∷ [], record { are_records = subst (λ (t : List ℕ). AreRecords t (settled.0 ++ r ∷ [])) (sym is) (one_more content settled.0 r spelled settled.1.are_records spells); only = only })
@@ -160,16 +160,22 @@ settled_same content new_content old new settled same =
 -- ---- replacing
 
 -- The tape holds the records whose encodings were written.
-pub holds_written : (content bytes : List ℕ) (records : List (Record Definition)) (images : List ℕ → Type 0) → AreRecords bytes records → content ≡ bytes → IsOnlyImage bytes images →
+pub holds_written : (content bytes : List ℕ) (records : List (Record Definition)) (images : List ℕ → Type 0) → AreWritten bytes records → content ≡ bytes → IsOnlyImage bytes images →
     Holds content images records
 holds_written content bytes records images are is only = record {
-  are_records = subst (λ (t : List ℕ). AreRecords t records) (sym is) are;
+  are_written = subst (λ (t : List ℕ). AreWritten t records) (sym is) are;
   only = subst (λ (t : List ℕ). IsOnlyImage t images) (sym is) only;
 }
 
 pub settled_written : (content bytes : List ℕ) (records : List (Record Definition)) (images : List ℕ → Type 0) → AreRecords bytes records → content ≡ bytes → IsOnlyImage bytes images →
     IsSettled content images
-settled_written content bytes records images are is only = (records, holds_written content bytes records images are is only)
+settled_written content bytes records images are is only = (
+  records,
+  record {
+    are_records = subst (λ (t : List ℕ). AreRecords t records) (sym is) are;
+    only = subst (λ (t : List ℕ). IsOnlyImage t images) (sym is) only;
+  },
+)
 
 -- Each image then reads as them.
 pub follows_replaced : (content bytes : List ℕ) (records : List (Record Definition)) (old new : List ℕ → Type 0) → IsSettled content old → AreRecords bytes records → IsOnlyImage bytes new →

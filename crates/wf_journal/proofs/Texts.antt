@@ -1,12 +1,13 @@
 -- Records with definitions, and the same records with canonical texts.
-use Rattle.std.proofs.Common.{◌≡◌, ◌≤◌, length, refl, arith}
+use Rattle.std.proofs.Common.{◌≡◌, ℕ, ◌≤◌, length, refl, arith}
 use Rattle.std.specs.Prelude.{IsSomeAnd}
 use Rattle.wf_def.specs.Definition.{Definition}
-use Rattle.wf_spelling.specs.Canon.{canon, line, most_canon_bytes}
+use Rattle.wf_spelling.specs.Canon.{canon, line}
 use Rattle.wf_canon.specs.Saying.{OneTextOneMap}
-use Rattle.wf_frame.specs.Ending.{IsText}
+use Rattle.wf_frame.specs.Report.{IsText}
 use Rattle.wf_model.specs.Stored.{Record, Tried, Promised, Accepted, Published}
-use Rattle.wf_journal.specs.Record.{texts, definition_of, HasText, IsRecordOf, IsRecord}
+use Rattle.wf_journal.specs.Record.{texts, definition_of, IsRecordOf, IsRecord}
+use Rattle.wf_journal.specs.Spelling.{HasTextWithin}
 use Rattle.wf_journal.specs.Judging.{IsNoText}
 
 -- a canonical text begins with MAP
@@ -14,15 +15,12 @@ not_empty : (d : Definition) → 1 ≤ length (canon d)
 unfolding canon line
 not_empty d = omega arith
 
-canon_is_text : (d : Definition) → HasText d → IsText most_canon_bytes (canon d)
-canon_is_text d has = record { least = not_empty d; within = has.short }
-
--- a record's text is a text
-pub texts_fit : (r : Record Definition) → IsRecord r → IsRecordOf (IsText most_canon_bytes) (texts r)
-texts_fit (Tried round) p = p
-texts_fit (Promised s b) p = p
-texts_fit (Accepted s b d) p = (p.0, p.1, canon_is_text d p.2)
-texts_fit (Published s d) p = (p.0, canon_is_text d p.1)
+-- a record's text is a text, in each version that allows it
+pub texts_fit : (most : ℕ) (r : Record Definition) → IsRecord r → HasTextWithin most r → IsRecordOf (IsText most) (texts r)
+texts_fit most (Tried round) p short = p
+texts_fit most (Promised s b) p short = p
+texts_fit most (Accepted s b d) p short = (p.0, p.1, record { least = not_empty d; within = short })
+texts_fit most (Published s d) p short = (p.0, record { least = not_empty d; within = short })
 
 -- records with equal texts are equal
 pub texts_apart : OneTextOneMap → (q r : Record Definition) → IsRecord q → IsRecord r → texts q ≡ texts r → q ≡ r

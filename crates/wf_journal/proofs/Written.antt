@@ -3,12 +3,13 @@ use Rattle.std.proofs.Common.{◌≡◌, ℕ, List, ◌++◌, ap, ◌∙◌}
 use Rattle.wf_frame.specs.Frame.{frame_of}
 use Rattle.wf_def.specs.Definition.{Definition}
 use Rattle.wf_model.specs.Stored.{Record}
-use Rattle.wf_journal.specs.declared.kind.Kind.{Kind}
+use Rattle.wf_journal.specs.declared.header.Header.{Header}
 use Rattle.wf_journal.specs.Record.{texts}
-use Rattle.wf_journal.specs.Spelling.{kind_of, body, format, text_spelling, spelling}
+use Rattle.wf_journal.specs.Version.{version_written}
+use Rattle.wf_journal.specs.Spelling.{header_of, body, format, text_spelling, spelling}
 
-pub written : (r : Record Definition) (old reserved header new : List ℕ) (kind : Kind) → kind ≡ kind_of (texts r) → reserved ≡ old → header ++ body (texts r) ≡ reserved ++ frame_of format kind (body (texts r)) →
-    new ≡ header ++ body (texts r) → new ≡ old ++ spelling r
+pub written : (r : Record Definition) (old reserved header new : List ℕ) (kind : Header) → kind ≡ header_of version_written (texts r) → reserved ≡ old →
+    header ++ body (texts r) ≡ reserved ++ frame_of format kind (body (texts r)) → new ≡ header ++ body (texts r) → new ≡ old ++ spelling r
 unfolding text_spelling
 written r old reserved header new kind same same_old first second =
-    second ∙ first ∙ ap (λ (t : List ℕ). t ++ frame_of format kind (body (texts r))) same_old ∙ ap (λ (k : Kind). old ++ frame_of format k (body (texts r))) same
+    second ∙ first ∙ ap (λ (t : List ℕ). t ++ frame_of format kind (body (texts r))) same_old ∙ ap (λ (k : Header). old ++ frame_of format k (body (texts r))) same

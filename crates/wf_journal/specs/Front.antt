@@ -2,14 +2,14 @@
 use Rattle.std.specs.Prelude.{◌≡◌, ℕ, ◌<◌, ◌≤◌, List, [], ◌∷◌, ◌++◌, length, take, drop}
 use Rattle.wf_model.specs.Stored.{Record}
 use Rattle.wf_def.specs.Definition.{Definition}
-use Rattle.wf_journal.specs.Spelling.{Spells}
+use Rattle.wf_journal.specs.Spelling.{Encodes}
 use Rattle.wf_journal.specs.Records.{IsTapeOf}
 
 -- the first k bytes, at least one, encode the record
 pub record BeginsWith (bytes : List ℕ) (r : Record Definition) (k : ℕ) : Type 0 where
   pub not_empty : 0 < k
   pub within : k ≤ length bytes
-  pub spells : Spells r (take k bytes)
+  pub encodes : Encodes r (take k bytes)
 
 -- the record at the front of the bytes, n bytes long, is appended to the list
 pub record TakesOne (bytes : List ℕ) (n : ℕ) (old new : List (Record Definition)) : Type 0 where

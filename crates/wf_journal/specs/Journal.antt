@@ -6,7 +6,7 @@ use Rattle.wf_journal.specs.declared.opening.OpenFault.{OpenFault}
 use Rattle.wf_journal.specs.declared.opening.OpenFault.TheVariants.{TapeFailed, BadRecord}
 use Rattle.wf_tape.specs.Tape.{IsOnlyImage, HasRisen}
 use Rattle.wf_journal.specs.Spelling.{Spells}
-use Rattle.wf_journal.specs.Records.{Splits, ReadsAs, AreRecords, IsBad}
+use Rattle.wf_journal.specs.Records.{Splits, ReadsAs, AreRecords, AreWritten, IsBad}
 
 -- the model of a journal: its tape, and whether it is halted
 pub record Journal (T : Type 0) : Type 0 where
@@ -24,14 +24,19 @@ pub record IsContent (bytes content : List ℕ) (images : List ℕ → Type 0) :
   pub same : bytes ≡ content
   pub is_image : images content
 
--- The tape holds exactly these records, and they are its only image.
-pub record Holds (content : List ℕ) (images : List ℕ → Type 0) (records : List (Record Definition)) : Type 0 where
+-- The tape holds exactly these records, in whatever versions, and they are its only image.
+pub record HoldsRecords (content : List ℕ) (images : List ℕ → Type 0) (records : List (Record Definition)) : Type 0 where
   pub are_records : AreRecords content records
+  pub only : IsOnlyImage content images
+
+-- The tape holds exactly these records, each as it is written, and they are its only image.
+pub record Holds (content : List ℕ) (images : List ℕ → Type 0) (records : List (Record Definition)) : Type 0 where
+  pub are_written : AreWritten content records
   pub only : IsOnlyImage content images
 
 -- the tape holds only whole records, all of them synced
 abbrev pub IsSettled : List ℕ → (List ℕ → Type 0) → Type 0
-IsSettled content images = (records : List (Record Definition)) × Holds content images records
+IsSettled content images = (records : List (Record Definition)) × HoldsRecords content images records
 
 -- each new image comes from an old one by the step
 abbrev pub Follows : (List ℕ → List ℕ → Type 0) → (List ℕ → Type 0) → (List ℕ → Type 0) → Type 0

@@ -5,7 +5,8 @@ use Rattle.wf_frame.specs.declared.fault.FrameFault.TheVariants.{Short}
 use Rattle.wf_frame.specs.Layout.{read_body}
 use Rattle.wf_model.specs.Stored.{Record}
 use Rattle.wf_def.specs.Definition.{Definition}
-use Rattle.wf_spelling.specs.Canon.{canon}
+use Rattle.wf_spelling.specs.Canon.{canon, most_canon_bytes}
+use Rattle.wf_journal.specs.declared.header.Header.{Header}
 use Rattle.wf_journal.specs.declared.kind.Kind.{Kind}
 use Rattle.wf_journal.specs.declared.fault.RecordFault.{RecordFault}
 use Rattle.wf_journal.specs.declared.fault.RecordFault.TheVariants.{Torn, Bad, NotCanonical, Memory}
@@ -20,7 +21,7 @@ record_fault fault = Bad
 
 -- the record of this kind with this body, with a text for its definition, if the kind can have the body's length
 unfoldable pub fields_of : Kind → List ℕ → Option (Record (List ℕ))
-fields_of kind bytes = read_body (layout kind) bytes (record_of kind)
+fields_of kind bytes = read_body (layout most_canon_bytes kind) bytes (record_of most_canon_bytes kind)
 
 -- it isn't any record's text
 abbrev pub IsNoText : List ℕ → Type 0
@@ -42,9 +43,9 @@ ReadsBody view (Err Memory) fields = Unit {0}
 ReadsBody view (Err fault) fields = ⊥
 
 -- the frame's error, or else the record of its body, and the length of the whole
-abbrev pub IsJudged : {X : Type 0} → (X → Record Definition) → Result (X × ℕ) RecordFault → Result (Kind × List ℕ) FrameFault → Type 0
+abbrev pub IsJudged : {X : Type 0} → (X → Record Definition) → Result (X × ℕ) RecordFault → Result (Header × List ℕ) FrameFault → Type 0
 IsJudged view result split = MatchResult split
-    (λ frame. ReadsBody (λ x. view x.0) result (fields_of frame.0 frame.1) × IfOk result (λ x. x.1 ≡ header_length + length frame.1))
+    (λ frame. ReadsBody (λ x. view x.0) result (fields_of frame.0.kind frame.1) × IfOk result (λ x. x.1 ≡ header_length + length frame.1))
     (λ fault. result ≡ Err (record_fault fault))
 
 -- errors of the bytes themselves

@@ -1,5 +1,5 @@
 -- The four kinds of record: the byte of each, and the layout of its body.
-use Rattle.std.specs.Prelude.{ℕ, ◌==◌, List, [], ◌∷◌, Option, find}
+use Rattle.std.specs.Prelude.{ℕ, ◌+◌, ◌==◌, List, [], ◌∷◌, Option, find}
 use Rattle.wf_spelling.specs.Canon.{most_canon_bytes}
 use Rattle.wf_frame.specs.Field.{SlotField, RoundField, BallotField}
 use Rattle.wf_frame.specs.Ending.{Nothing, Text}
@@ -20,13 +20,13 @@ all_kinds = Tried ∷ Promised ∷ Accepted ∷ Published ∷ []
 unfoldable pub kind_of_byte : ℕ → Option Kind
 kind_of_byte byte = find (λ kind. byte == kind_byte kind) all_kinds
 
--- the fields of a body, and what it ends with
-abbrev pub layout : Kind → Layout
-layout Tried = record { fields = RoundField ∷ []; ending = Nothing }
-layout Promised = record { fields = SlotField ∷ BallotField ∷ []; ending = Nothing }
-layout Accepted = record { fields = SlotField ∷ BallotField ∷ []; ending = Text most_canon_bytes }
-layout Published = record { fields = SlotField ∷ []; ending = Text most_canon_bytes }
+-- the fields of a body, and what it ends with, where a text has at most so many bytes
+abbrev pub layout : (most : ℕ) → Kind → Layout
+layout most Tried = record { fields = RoundField ∷ []; ending = Nothing }
+layout most Promised = record { fields = SlotField ∷ BallotField ∷ []; ending = Nothing }
+layout most Accepted = record { fields = SlotField ∷ BallotField ∷ []; ending = Text most }
+layout most Published = record { fields = SlotField ∷ []; ending = Text most }
 
 -- the longest body, in bytes: that of a vote for the longest text
 abbrev pub most_body_bytes : ℕ
-most_body_bytes = 32775
+most_body_bytes = 7 + most_canon_bytes

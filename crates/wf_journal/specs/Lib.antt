@@ -8,3 +8,5 @@ pub mod OpenFault
 pub mod Record
 pub mod Records
 pub mod Spelling
+pub mod SpellingLaws
+pub mod Version

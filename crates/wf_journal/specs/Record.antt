@@ -35,7 +35,7 @@ definition_of (model.Published s d) = Some d
 abbrev pub HasDefinition : {V : Type 0} → model.Record V → Type 0
 HasDefinition r = IsSome (definition_of r)
 
--- a map whose canonical text has at most 32,768 bytes
+-- a map whose canonical text is within the limit
 pub record HasText (d : Definition) : Type 0 where
   pub within : IsWithinLimits d
   pub short : length (canon d) ≤ most_canon_bytes

@@ -3,16 +3,16 @@ use Rattle.std.specs.Prelude.{◌≡◌, ℕ, ◌+◌, ◌⊎◌, List, [], ◌�
 use Rattle.wf_model.specs.Stored.{Record}
 use Rattle.wf_def.specs.Definition.{Definition}
 use Rattle.wf_frame.specs.Frame.{IsUnfinished}
-use Rattle.wf_journal.specs.Spelling.{spelling, format, Spells}
+use Rattle.wf_journal.specs.Spelling.{spelling, spellings, format, Encodes}
 
 -- the bytes are the encodings of the records, followed by the rest
 abbrev pub Splits : List ℕ → List (Record Definition) → List ℕ → Type 0
 Splits bytes [] rest = bytes ≡ rest
-Splits bytes (r ∷ records) rest = (spelled : List ℕ) × (after : List ℕ) × Spells r spelled × (bytes ≡ spelled ++ after) × Splits after records rest
+Splits bytes (r ∷ records) rest = (spelled : List ℕ) × (after : List ℕ) × Encodes r spelled × (bytes ≡ spelled ++ after) × Splits after records rest
 
 -- no prefix of the bytes is a record's encoding
 abbrev pub BeginsWithNone : List ℕ → Type 0
-BeginsWithNone bytes = (r : Record Definition) (spelled after : List ℕ) → Spells r spelled → bytes ≡ spelled ++ after → ⊥
+BeginsWithNone bytes = (r : Record Definition) (spelled after : List ℕ) → Encodes r spelled → bytes ≡ spelled ++ after → ⊥
 
 -- these are all the whole records that the bytes begin with
 pub record Reads (bytes : List ℕ) (records : List (Record Definition)) (rest : List ℕ) : Type 0 where
@@ -34,6 +34,11 @@ AreReadOneWay = (bytes : List ℕ) (records others : List (Record Definition)) �
 -- the bytes are exactly the encodings of the records
 abbrev pub AreRecords : List ℕ → List (Record Definition) → Type 0
 AreRecords bytes records = Splits bytes records []
+
+-- the bytes are exactly these records, as they are written
+pub record AreWritten (bytes : List ℕ) (records : List (Record Definition)) : Type 0 where
+  pub are_records : AreRecords bytes records
+  pub spelled : bytes ≡ spellings records
 
 -- the number of bytes of the records
 unfoldable pub length_of : List (Record Definition) → ℕ

@@ -8,15 +8,13 @@ ghost use Rattle.wf_journal.specs.Judging.{record_fault, fields_of, ReadsBody, R
 ghost use Rattle.wf_journal.specs.Front.{BeginsWith};
 
 use crate::fault::RecordFault;
+use crate::header::Header;
 use crate::kind::Kind;
 use crate::record::Record;
 use std::alloc::Global;
 use wf_ballot::{split_ballot, split_round, split_slot};
 use wf_canon::{Canon, CanonFault, MOST_CANON_BYTES};
 use wf_frame::{FrameFault, split_frame};
-
-/// The version of the records that this crate reads and writes.
-pub const VERSION: u8 = 1;
 
 /// The number of bytes before a record's body: its version, its kind and the body's length.
 pub const HEADER_BYTES: usize = wf_frame::HEADER_BYTES;
@@ -37,12 +35,12 @@ pub fn decode(alloc: Global, bytes: &[u8]) -> Result<(Record, usize), RecordFaul
 fn judge(alloc: Global, bytes: &[u8]) -> Result<(Record, usize), RecordFault>
     ensures { IsJudged view result (frame_front format bytes.now) }
 {
-    let (kind, body) = match split_frame::<Kind>(bytes) {
+    let (header, body) = match split_frame::<Header>(bytes) {
         Ok(frame) => frame,
         Err(fault) => return Err(record_fault(fault)),
     };
     let length = body.len();
-    let record = record_of(alloc, kind, body)?;
+    let record = record_of(alloc, header.kind, body)?;
     Ok((record, HEADER_BYTES + length))
 }
 

@@ -1,13 +1,16 @@
 ghost use Rattle.std.specs.Prelude.{◌≡◌, ◌+◌, ◌≤◌, ◌++◌, length, map, vec_len, vec_capacity, OnOk, IfOk};
 ghost use Rattle.wf_journal.specs.Record.{view, texts, HasText, IsRecord};
-ghost use Rattle.wf_journal.specs.Records.{AreRecords};
+ghost use Rattle.wf_journal.specs.Records.{AreWritten};
 ghost use Rattle.wf_journal.specs.Kind.{most_body_bytes};
-ghost use Rattle.wf_journal.specs.Spelling.{kind_of, body, spelling, Spells};
+ghost use Rattle.wf_journal.specs.Version.{version_written};
+ghost use Rattle.wf_journal.specs.Spelling.{kind_of, header_of, body, spelling, Spells};
 ghost use Rattle.wf_spelling.specs.Canon.{canon};
 
 use crate::decoder::HEADER_BYTES;
+use crate::header::Header;
 use crate::kind::Kind;
 use crate::record::Record;
+use crate::version::Version;
 use std::alloc::{AllocError, Global};
 use wf_canon::Canon;
 use wf_frame::{put, put_header};
@@ -23,7 +26,7 @@ pub fn encode(alloc: Global, entry: &Record) -> Result<Vec<u8>, AllocError>
 
 /// The encodings of the records, one after the other.
 pub fn encode_all(alloc: Global, records: &[Record]) -> Result<Vec<u8>, AllocError>
-    ensures { IfOk result (λ bytes. AreRecords bytes.items (map view records.now)) }
+    ensures { IfOk result (λ bytes. AreWritten bytes.items (map view records.now)) }
 {
     let mut bytes = Vec::new(alloc);
     for entry in records {
@@ -39,7 +42,7 @@ fn push(out: &mut Vec<u8>, entry: &Record) -> Result<(), AllocError>
 {
     let length = body_length(entry);
     out.reserve(HEADER_BYTES + length)?;
-    put_header(out, kind_of(entry), length);
+    put_header(out, written_header(entry), length);
     put_body(out, entry);
     Ok(())
 }
@@ -55,6 +58,16 @@ impl Record {
         ensures { result ≡ length (spelling (view self.now)) }
     {
         HEADER_BYTES + body_length(self)
+    }
+}
+
+/// The version and the kind of the record as it is written.
+fn written_header(entry: &Record) -> Header
+    ensures { result ≡ header_of version_written (texts (view entry.now)) }
+{
+    Header {
+        version: Version::written(),
+        kind: kind_of(entry),
     }
 }
 

@@ -7,7 +7,7 @@ ghost use Rattle.wf_journal.specs.Records.{length_of};
 ghost use Rattle.wf_tape.specs.Tape.{IsOnlyImage, IsUnchanged, LeavesNoOther, LeavesOldOr, Elapses, HasCause};
 ghost use Rattle.wf_journal.specs.Front.{HasRead};
 ghost use Rattle.wf_journal.specs.OpenFault.{open_fault};
-ghost use Rattle.wf_journal.specs.Journal.{Holds, AllReadAs, Follows, ReadsSame, IsWhereBad, IsNotBad, IsWhyFailed};
+ghost use Rattle.wf_journal.specs.Journal.{HoldsRecords, AllReadAs, Follows, ReadsSame, IsWhereBad, IsNotBad, IsWhyFailed};
 
 use crate::journal::Journal;
 use crate::opening::OpenFault;
@@ -74,7 +74,7 @@ impl<T: Tape> Found<T> {
     /// tape, unchanged unless the tape itself failed. A tape that won't fail still won't, and doesn't.
     pub fn settle(self) -> Result<Journal<T>, (T, OpenFault)>
         ensures running { IfOk result (λ journal. journal.halted ≡ false) }
-        ensures synced { T.honest → (records : _) → HasRead self.bytes records self.front → IfOk result (λ journal. Holds (T.content journal.tape) (T.images journal.tape) records) }
+        ensures synced { T.honest → (records : _) → HasRead self.bytes records self.front → IfOk result (λ journal. HoldsRecords (T.content journal.tape) (T.images journal.tape) records) }
         ensures reads { T.honest → (records : _) → HasRead self.bytes records self.front → IfOk result (λ journal. AllReadAs (T.images journal.tape) records) }
         ensures images { T.honest → IfOk result (λ journal. Follows ReadsSame (T.images self.tape) (T.images journal.tape)) }
         ensures images_err { T.honest → IfErr result (λ e. Follows ReadsSame (T.images self.tape) (T.images e.0)) }

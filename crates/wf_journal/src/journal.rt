@@ -7,7 +7,7 @@ ghost use Rattle.wf_journal.specs.Records.{IsTapeOf};
 ghost use Rattle.wf_journal.specs.Spelling.{spelling};
 ghost use Rattle.wf_tape.specs.Tape.{IsOnlyImage, IsUnchanged, IsExtended, IsCutShort, LeavesOldOrCut, Elapses, HasCause, HasRisen, IsNotMemory};
 ghost use Rattle.wf_tape.specs.MemoryTape.{with_fuse};
-ghost use Rattle.wf_journal.specs.Journal.{Holds, IsSettled, Follows, ReadsSame, ReadsOneMore, ReadsSameOrOneMore, IsAdded, IsWhereBad, IsWhyFailed};
+ghost use Rattle.wf_journal.specs.Journal.{HoldsRecords, IsSettled, Follows, ReadsSame, ReadsOneMore, ReadsSameOrOneMore, IsAdded, IsWhereBad, IsWhyFailed};
 
 use crate::encoder::encode;
 use crate::found::Found;
@@ -45,7 +45,7 @@ impl<T: Tape> Journal<T> {
     pub fn open(alloc: Global, tape: T) -> Result<(Journal<T>, Vec<Record>), (T, OpenFault)>
         ensures running { IfOk result (λ x. x.0.halted ≡ false) }
         ensures records { T.honest → IfOk result (λ x. (rest : _) × IsTapeOf (T.content tape) (map view x.1.items) rest) }
-        ensures synced { T.honest → IfOk result (λ x. Holds (T.content x.0.tape) (T.images x.0.tape) (map view x.1.items)) }
+        ensures synced { T.honest → IfOk result (λ x. HoldsRecords (T.content x.0.tape) (T.images x.0.tape) (map view x.1.items)) }
         ensures images { T.honest → IfOk result (λ x. Follows ReadsSame (T.images tape) (T.images x.0.tape)) }
         ensures images_err { T.honest → IfErr result (λ e. Follows ReadsSame (T.images tape) (T.images e.0)) }
         ensures time { T.honest → IfOk result (λ x. Elapses (T.moment tape) (T.moment x.0.tape) (T.left_since tape) (T.left_since x.0.tape)) }

@@ -1,6 +1,4 @@
-use crate::decoder::{BODY_BYTES, VERSION};
-use wf_canon::MOST_CANON_BYTES;
-use wf_frame::{FrameKind, has_text_behind};
+use wf_frame::has_text_behind;
 
 /// The kinds of record.
 #[derive(Clone, Copy, Debug, PartialEq, Eq)]
@@ -11,18 +9,29 @@ pub enum Kind {
     Published,
 }
 
-impl FrameKind for Kind {
-    ghost use Rattle.wf_journal.specs.Spelling.{format as format_of_records};
-    ghost use Rattle.wf_journal.specs.FormatLaws.{is_format as records_have_a_format};
+impl Kind {
+    ghost use Rattle.std.specs.Prelude.{◌≡◌, ◌≤◌};
+    ghost use Rattle.wf_frame.specs.Layout.{fits};
+    ghost use Rattle.wf_spelling.specs.Canon.{most_canon_bytes};
+    ghost use Rattle.wf_journal.specs.Kind.{kind_byte, kind_of_byte, layout};
 
-    ghost format = { format_of_records };
-
-    fn reads(version: u8) -> bool {
-        version == VERSION
+    /// The kind's byte.
+    pub fn byte(self) -> u8
+        ensures { result ≡ kind_byte self }
+    {
+        match self {
+            Kind::Tried => 1,
+            Kind::Promised => 2,
+            Kind::Accepted => 3,
+            Kind::Published => 4,
+        }
     }
 
+    /// The kind with this byte; None if there is none.
     #[tactic(auto, unfolding(crate::specs::Kind::kind_of_byte))]
-    fn with(_version: u8, byte: u8) -> Option<Self> {
+    pub fn of_byte(byte: u8) -> Option<Kind>
+        ensures { result ≡ kind_of_byte byte }
+    {
         match byte {
             1 => Some(Kind::Tried),
             2 => Some(Kind::Promised),
@@ -32,31 +41,16 @@ impl FrameKind for Kind {
         }
     }
 
-    fn version(self) -> u8 {
-        VERSION
-    }
-
-    fn byte(self) -> u8 {
-        match self {
-            Kind::Tried => 1,
-            Kind::Promised => 2,
-            Kind::Accepted => 3,
-            Kind::Published => 4,
-        }
-    }
-
-    fn longest() -> usize {
-        BODY_BYTES
-    }
-
-    fn can_have(self, length: usize) -> bool {
+    /// Whether a body of this kind can have that many bytes, where a text has at most `most`.
+    pub fn can_have(self, most: usize, length: usize) -> bool
+        requires { most ≤ most_canon_bytes }
+        ensures { result ≡ fits (layout most self) length }
+    {
         match self {
             Kind::Tried => length == 4,
             Kind::Promised => length == 7,
-            Kind::Accepted => has_text_behind(MOST_CANON_BYTES, 7, length),
-            Kind::Published => has_text_behind(MOST_CANON_BYTES, 2, length),
+            Kind::Accepted => has_text_behind(most, 7, length),
+            Kind::Published => has_text_behind(most, 2, length),
         }
     }
-
-    ghost is_format = { records_have_a_format };
 }

@@ -4,6 +4,9 @@
 //! records of bytes are the longest list of whole records that the bytes begin with (`specs/Records.antt`). A `Journal` is its tape,
 //! and whether it is halted.
 //!
+//! Records are written in the second version. Those of the first, whose texts are shorter, are read as the same records, and a tape
+//! may hold both (`specs/Version.antt`): no encoding begins another, whatever their versions.
+//!
 //! Promises, of an honest tape (wf_tape): a journal opens with the records of the content, and then the only image is their bytes.
 //! After a record is added, the only image is the bytes from before followed by the record's. Whatever a call returns, each image
 //! reads as the records from before, or with the new one. After the records are rewritten, the only image is the bytes of the new
@@ -17,6 +20,7 @@ mod decoder;
 mod encoder;
 mod fault;
 mod found;
+mod header;
 mod journal;
 mod kind;
 mod law;
@@ -24,6 +28,7 @@ mod opening;
 mod reading;
 mod record;
 mod rewriting;
+mod version;
 
 pub use found::Found;
 pub use journal::Journal;

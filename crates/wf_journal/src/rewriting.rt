@@ -13,7 +13,8 @@ use std::alloc::Global;
 use wf_tape::{Tape, TapeFault};
 
 impl<T: Tape> Journal<T> {
-    /// Replaces all records by these, in one call of the tape: after Ok it holds exactly them, synced. After a failure of the tape
+    /// Replaces all records by these, in one call of the tape: after Ok it holds exactly them, synced, each as it is written, whatever
+    /// version it was read in. After a failure of the tape
     /// the journal is halted until it is opened again, since the tape holds the records from before or these. A crash at each
     /// moment inside the call leaves one of the two as well. A tape that won't fail still won't, and doesn't.
     #[tactic(auto, using(crate::proofs::Settling::holds_written, crate::proofs::Settling::follows_replaced, crate::proofs::Settling::follows_failed, crate::proofs::Settling::follows_unchanged, crate::proofs::Settling::failed_content, crate::proofs::Settling::failed_images, crate::proofs::Settling::unchanged_images, crate::proofs::Settling::settled_written, crate::proofs::Settling::settled_same))]

@@ -24,20 +24,20 @@ const CAPS_HELP: &str =
     "caps answers GetCapabilities; it does not support GetMap, which draw answers.
 A service exception is an answer: the status is 0.
 
-Limits: a mapfile has at most 65,536 bytes
+Limits: a mapfile has at most 131,072 bytes
 Errors (status 1): map fault M1 to M12, read fault";
 
 const DRAW_HELP: &str =
     "draw answers as a server that has published this map alone, as sequence 1: GetMap gets a pixmap (PPM, P6).
 A service exception is an answer: the status is 0.
 
-Limits: a mapfile has at most 65,536 bytes, a picture 1,024 by 1,024 pixels
+Limits: a mapfile has at most 131,072 bytes, a picture 1,024 by 1,024 pixels
 Errors (status 1): map fault M1 to M12, read fault";
 
 const CANON_HELP: &str =
     "The canonical text is the one spelling of a map that nodes compare and store.
 
-Limits: a mapfile has at most 65,536 bytes, a canonical text 32,768
+Limits: a mapfile has at most 131,072 bytes, a canonical text 65,536
 Errors (status 1): map fault M1 to M12, canon fault K1 and K3, read fault";
 
 const RUN_HELP: &str = "The first line is nodes N; each later line is an order or a question.

@@ -1,12 +1,14 @@
 -- The lines of one more record, and the listing of bytes as a whole.
 use Rattle.std.proofs.Common.{◌≡◌, ◌∙◌, ◌+◌, ◌<◌, ◌≤◌, ◌-◌, ℕ, List, [], ◌∷◌, ◌++◌, Bool, true, false, cond, ltb, length, map, take, drop, get_or, refl, sym, ap, subst, append_assoc, arith, inl, inr}
+use Rattle.std.proofs.Math.Seq.{drop-append_seam}
 use Rattle.std.proofs.lemmas.Bool.{ltb-true, ltb-false}
-use Rattle.std.proofs.lemmas.List.{append-nil, append_cancel_left, map-append, nil_from_length, take_more, take-append-drop}
+use Rattle.std.proofs.lemmas.List.{append-nil, map-append, nil_from_length, take_more, take-append-drop}
 use Rattle.std.specs.Prelude.{Result, Ok, Err, OnOk}
 use Rattle.wf_def.specs.Definition.{Definition}
 use Rattle.wf_model.specs.Stored.{Record}
 use Rattle.wf_journal.specs.Records.{AreReadOneWay, IsCleanOrTorn, IsTorn, Splits, length_of}
 use Rattle.wf_journal.specs.Spelling.{spelling}
+use Rattle.wf_journal.specs.SpellingLaws.{length_of_encoding}
 use Rattle.wf_listing.specs.declared.rest.Rest.{Rest}
 use Rattle.wf_listing.specs.declared.rest.Rest.TheVariants as rests
 use Rattle.wf_listing.proofs.Splits.{length_splits}
@@ -124,8 +126,9 @@ listed bytes records is_bad found end count rest before lines text (Err error) e
 same_left : (bytes : List ℕ) (records : List (Record Definition)) (left other : List ℕ) → Splits bytes records left → Splits bytes records other → left ≡ other
 same_left bytes [] left other a b = sym a ∙ b
 same_left bytes (r ∷ records) left other a b =
-    let same_spelled : a.0 ≡ b.0 = a.2.spelled ∙ sym b.2.spelled in
-    let same_after : a.1 ≡ b.1 = append_cancel_left a.0 a.1 b.1 (sym a.3 ∙ b.3 ∙ ap (λ (t : List ℕ). t ++ b.1) (sym same_spelled)) in
+    let same_length : length a.0 ≡ length b.0 = length_of_encoding r a.0 a.2 ∙ sym (length_of_encoding r b.0 b.2) in
+    let same_after : a.1 ≡ b.1 =
+    sym (drop-append_seam a.0 a.1) ∙ ap (drop (length a.0)) (sym a.3 ∙ b.3) ∙ ap (λ (n : ℕ). drop n (b.0 ++ b.1)) same_length ∙ drop-append_seam b.0 b.1 in
     same_left a.1 records left other a.4 (subst (λ (t : List ℕ). Splits t records other) (sym same_after) b.4)
 
 -- nothing, a torn record and bad bytes exclude one another

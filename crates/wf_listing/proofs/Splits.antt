@@ -8,6 +8,7 @@ use Rattle.wf_journal.specs.Journal.{IsBadAt}
 use Rattle.wf_journal.specs.Record.{texts}
 use Rattle.wf_journal.specs.Records.{AreReadOneWay, AreRecords, BeginsWithNone, IsTapeOf, ReadsAs, Splits, length_of}
 use Rattle.wf_journal.specs.Spelling.{spelling, text_spelling}
+use Rattle.wf_journal.specs.SpellingLaws.{length_of_encoding}
 use Rattle.wf_listing.specs.Listing.{AreFound}
 
 -- the records of bytes are as long as the bytes without the rest
@@ -15,7 +16,7 @@ pub length_splits : (bytes : List ℕ) (records : List (Record Definition)) (res
 unfolding length_of
 length_splits bytes [] rest splits = omega (arith, ap length splits)
 length_splits bytes (r ∷ records) rest splits =
-    omega (arith, ap length splits.3, length-append splits.0 splits.1, ap length splits.2.spelled, length_splits splits.1 records rest splits.4)
+    omega (arith, ap length splits.3, length-append splits.0 splits.1, length_of_encoding r splits.0 splits.2, length_splits splits.1 records rest splits.4)
 
 -- the prefix of bytes before the rest
 record IsFront (bytes : List ℕ) (records : List (Record Definition)) (rest : List ℕ) : Type 0 where
@@ -39,7 +40,7 @@ unfolding text_spelling frame
 some_bytes r = omega arith
 
 none_begins_nothing : BeginsWithNone []
-none_begins_nothing r spelled after spells e = absurd (omega (arith, some_bytes r, ap length spells.spelled, ap length e, length-append spelled after))
+none_begins_nothing r spelled after spells e = absurd (omega (arith, some_bytes r, length_of_encoding r spelled spells, ap length e, length-append spelled after))
 
 -- bad bytes aren't empty, so they begin within the bytes
 pub bad_within : (bytes : List ℕ) (offset : ℕ) → IsBadAt bytes offset → offset < length bytes

@@ -1,8 +1,8 @@
 -- written so far: the records before this one
 use Rattle.std.proofs.Common.{map, take}
 use Rattle.wf_journal.specs.Record.{view}
-use Rattle.wf_journal.specs.Records.{AreRecords}
+use Rattle.wf_journal.specs.Records.{AreWritten}
 use Rattle.wf_journal.proofs.encoder.encode_all.Given as goal
 
 abbrev pub invariant-loop-entry : goal.invariant-loop-entry
-invariant-loop-entry l = AreRecords l.bytes.items (map view (take l.entry-index l.records))
+invariant-loop-entry l = AreWritten l.bytes.items (map view (take l.entry-index l.records))

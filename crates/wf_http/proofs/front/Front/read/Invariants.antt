@@ -1,6 +1,7 @@
 use Rattle.std.proofs.Common.{◌≡◌, ◌≤◌, ◌-◌, length}
 use Rattle.std.specs.Io.KnownBytes.{Consumes}
 use Rattle.arrayvec.specs.ArrayVec.{array_vec_len}
+use Rattle.wf_http.specs.Head.{most_head_bytes}
 use Rattle.wf_http.specs.Request.{IsUnfinished}
 use Rattle.wf_http.proofs.front.Front.read.Given as goal
 
@@ -9,10 +10,10 @@ abbrev pub invariant-loop-bytes : goal.invariant-loop-bytes
 invariant-loop-bytes g l = record {
   taken : Consumes (g.S.Source.left l.fn.source) (g.S.Source.left l.source) l.bytes.items;
   unfinished : IsUnfinished l.bytes.items;
-  within : length l.bytes.items ≤ 8192;
+  within : length l.bytes.items ≤ most_head_bytes;
   piece : g.S.Source.piece l.source ≡ g.S.Source.piece l.fn.source;
   calm : g.S.Source.failures l.source ≡ g.S.Source.failures l.fn.source;
 }
 
 abbrev pub decreases-loop-bytes : goal.decreases-loop-bytes
-decreases-loop-bytes g l = 8192 - array_vec_len l.bytes
+decreases-loop-bytes g l = most_head_bytes - array_vec_len l.bytes

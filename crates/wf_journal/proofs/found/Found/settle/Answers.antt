@@ -1,6 +1,6 @@
 -- The prefix of the records is kept, and each image reads as it did.
 use Rattle.std.proofs.Common.{refl, sym, ap, subst, ◌∙◌}
-use Rattle.wf_journal.specs.Journal.{Holds, AllReadAs, Follows, ReadsSame}
+use Rattle.wf_journal.specs.Journal.{HoldsRecords, AllReadAs, Follows, ReadsSame}
 use Rattle.wf_journal.proofs.Settling.{holds_found, reads_held, same_found}
 use Rattle.wf_journal.proofs.found.Found.settle.Goals as goal
 
@@ -16,7 +16,7 @@ pub returns-in-Ok-clause-synced : goal.returns-in-Ok-clause-synced
 returns-in-Ok-clause-synced g c = λ honest records read.
     let now = c.in-Ok.ensures.ok honest (sym (c.self.invariant.1 honest).same ∙ sym c.deref.ensures.value) in
     let shown = c.deref.ensures.value ∙ ap (λ f. f.bytes) c.self.view_is in
-    subst (λ tape. Holds (g.T.Tape.content tape) (g.T.Tape.images tape) records) (sym (ap (λ j. j.tape) c.over.ensures))
+    subst (λ tape. HoldsRecords (g.T.Tape.content tape) (g.T.Tape.images tape) records) (sym (ap (λ j. j.tape) c.over.ensures))
     (holds_found c.args.self.bytes c.deref.result.now (g.T.Tape.content c.settle.new.tape) records c.args.self.front c.self.inside.front
     (g.T.Tape.images c.settle.new.tape) read shown (ap (λ f. f.front) c.self.view_is) now (c.in-Ok.ensures.only honest))
 

@@ -1,6 +1,7 @@
 use Rattle.std.proofs.Common.{◌≡◌, ℕ, false, List, sym, ap, subst, ◌∙◌}
 use Rattle.wf_journal.specs.Record.{view}
 use Rattle.wf_journal.specs.Spelling.{Spells}
+use Rattle.wf_journal.specs.SpellingLaws.{written_encodes}
 use Rattle.wf_journal.specs.Journal.{Follows, ReadsOneMore, ReadsSameOrOneMore}
 use Rattle.wf_tape.specs.Tape.{IsExtended}
 use Rattle.wf_journal.proofs.Settling.{same_or_more, same_kept, now_more, settled_more}
@@ -9,7 +10,7 @@ use Rattle.wf_journal.proofs.journal.Journal.add.Goals as goal
 
 pub invariant_of-self : goal.invariant_of-self
 invariant_of-self g c = λ honest running.
-    let spells = subst (λ (t : List ℕ). Spells (view c.args.entry.now) t) (sym c.deref.ensures.value) c.in-Ok.ensures in
+    let spells = written_encodes (view c.args.entry.now) c.deref.result.now (subst (λ (t : List ℕ). Spells (view c.args.entry.now) t) (sym c.deref.ensures.value) c.in-Ok.ensures) in
     settled_more (g.T.Tape.content c.self.inside.tape) c.deref.result.now (g.T.Tape.content c.write.new.tape) (view c.args.entry.now) (g.T.Tape.images c.self.inside.tape) (g.T.Tape.images c.write.new.tape)
     (c.self.invariant honest running) spells (c.in-Ok-write.ensures.ok honest) (c.in-Ok-write.ensures.only honest)
 
@@ -17,7 +18,7 @@ pub returns-in-Ok-write-clause-one_more : goal.returns-in-Ok-write-clause-one_mo
 returns-in-Ok-write-clause-one_more g c = λ honest.
     let same : c.self.inside.tape ≡ c.args.self.now.tape = ap (λ j. j.tape) c.self.view_is in
     let running : c.self.inside.halted ≡ false = ap (λ j. j.halted) c.self.view_is ∙ c.requires in
-    let spells = subst (λ (t : List ℕ). Spells (view c.args.entry.now) t) (sym c.deref.ensures.value) c.in-Ok.ensures in
+    let spells = written_encodes (view c.args.entry.now) c.deref.result.now (subst (λ (t : List ℕ). Spells (view c.args.entry.now) t) (sym c.deref.ensures.value) c.in-Ok.ensures) in
     subst (λ tape. Follows (ReadsOneMore (view c.args.entry.now)) (g.T.Tape.images tape) (g.T.Tape.images c.write.new.tape)) same
     (now_more c.one_text_one_map.ensures (g.T.Tape.content c.self.inside.tape) c.deref.result.now (g.T.Tape.content c.write.new.tape) (view c.args.entry.now) (g.T.Tape.images c.self.inside.tape) (g.T.Tape.images c.write.new.tape)
     (c.self.invariant honest running) spells (c.in-Ok-write.ensures.ok honest) (c.in-Ok-write.ensures.only honest))
@@ -26,7 +27,7 @@ pub returns-in-Ok-write-clause-images : goal.returns-in-Ok-write-clause-images
 returns-in-Ok-write-clause-images g c = λ honest.
     let same : c.self.inside.tape ≡ c.args.self.now.tape = ap (λ j. j.tape) c.self.view_is in
     let running : c.self.inside.halted ≡ false = ap (λ j. j.halted) c.self.view_is ∙ c.requires in
-    let spells = subst (λ (t : List ℕ). Spells (view c.args.entry.now) t) (sym c.deref.ensures.value) c.in-Ok.ensures in
+    let spells = written_encodes (view c.args.entry.now) c.deref.result.now (subst (λ (t : List ℕ). Spells (view c.args.entry.now) t) (sym c.deref.ensures.value) c.in-Ok.ensures) in
     subst (λ tape. Follows (ReadsSameOrOneMore (view c.args.entry.now)) (g.T.Tape.images tape) (g.T.Tape.images c.write.new.tape)) same
     (same_or_more c.one_text_one_map.ensures (g.T.Tape.content c.self.inside.tape) c.deref.result.now (view c.args.entry.now) (g.T.Tape.images c.self.inside.tape) (g.T.Tape.images c.write.new.tape)
     (c.self.invariant honest running) spells (c.in-Ok-write.ensures.images honest (λ e. absurd cc)))
@@ -41,7 +42,7 @@ pub returns-clause-images : goal.returns-clause-images
 returns-clause-images g c = λ honest.
     let same : c.self.inside.tape ≡ c.args.self.now.tape = ap (λ j. j.tape) c.self.view_is in
     let running : c.self.inside.halted ≡ false = ap (λ j. j.halted) c.self.view_is ∙ c.requires in
-    let spells = subst (λ (t : List ℕ). Spells (view c.args.entry.now) t) (sym c.deref.ensures.value) c.in-Ok.ensures in
+    let spells = written_encodes (view c.args.entry.now) c.deref.result.now (subst (λ (t : List ℕ). Spells (view c.args.entry.now) t) (sym c.deref.ensures.value) c.in-Ok.ensures) in
     subst (λ tape. Follows (ReadsSameOrOneMore (view c.args.entry.now)) (g.T.Tape.images tape) (g.T.Tape.images c.write.new.tape)) same
     (same_or_more c.one_text_one_map.ensures (g.T.Tape.content c.self.inside.tape) c.deref.result.now (view c.args.entry.now) (g.T.Tape.images c.self.inside.tape) (g.T.Tape.images c.write.new.tape)
     (c.self.invariant honest running) spells (c.in-Err-Device.ensures.images honest (λ e. absurd (cc (c.in-Err-Device.field-0-is, e)))))
@@ -57,7 +58,7 @@ pub returns-in-Ok-write-clause-inside : goal.returns-in-Ok-write-clause-inside
 returns-in-Ok-write-clause-inside g c = λ honest.
     let same : c.self.inside.tape ≡ c.args.self.now.tape = ap (λ j. j.tape) c.self.view_is in
     let running : c.self.inside.halted ≡ false = ap (λ j. j.halted) c.self.view_is ∙ c.requires in
-    let spells = subst (λ (t : List ℕ). Spells (view c.args.entry.now) t) (sym c.deref.ensures.value) c.in-Ok.ensures in
+    let spells = written_encodes (view c.args.entry.now) c.deref.result.now (subst (λ (t : List ℕ). Spells (view c.args.entry.now) t) (sym c.deref.ensures.value) c.in-Ok.ensures) in
     subst (λ tape. Follows (ReadsSameOrOneMore (view c.args.entry.now)) (g.T.Tape.images tape) (g.T.Tape.left_since c.write.new.tape (g.T.Tape.moment tape))) same
     (inside_added c.one_text_one_map.ensures (g.T.Tape.content c.self.inside.tape) c.deref.result.now (view c.args.entry.now) (g.T.Tape.images c.self.inside.tape)
     (g.T.Tape.left_since c.write.new.tape (g.T.Tape.moment c.self.inside.tape)) (c.self.invariant honest running) spells (c.write.ensures.inside honest))
@@ -66,7 +67,7 @@ pub returns-in-Err-Memory-clause-inside : goal.returns-in-Err-Memory-clause-insi
 returns-in-Err-Memory-clause-inside g c = λ honest.
     let same : c.self.inside.tape ≡ c.args.self.now.tape = ap (λ j. j.tape) c.self.view_is in
     let running : c.self.inside.halted ≡ false = ap (λ j. j.halted) c.self.view_is ∙ c.requires in
-    let spells = subst (λ (t : List ℕ). Spells (view c.args.entry.now) t) (sym c.deref.ensures.value) c.in-Ok.ensures in
+    let spells = written_encodes (view c.args.entry.now) c.deref.result.now (subst (λ (t : List ℕ). Spells (view c.args.entry.now) t) (sym c.deref.ensures.value) c.in-Ok.ensures) in
     subst (λ tape. Follows (ReadsSameOrOneMore (view c.args.entry.now)) (g.T.Tape.images tape) (g.T.Tape.left_since c.write.new.tape (g.T.Tape.moment tape))) same
     (inside_added c.one_text_one_map.ensures (g.T.Tape.content c.self.inside.tape) c.deref.result.now (view c.args.entry.now) (g.T.Tape.images c.self.inside.tape)
     (g.T.Tape.left_since c.write.new.tape (g.T.Tape.moment c.self.inside.tape)) (c.self.invariant honest running) spells (c.write.ensures.inside honest))
@@ -75,7 +76,7 @@ pub returns-clause-inside : goal.returns-clause-inside
 returns-clause-inside g c = λ honest.
     let same : c.self.inside.tape ≡ c.args.self.now.tape = ap (λ j. j.tape) c.self.view_is in
     let running : c.self.inside.halted ≡ false = ap (λ j. j.halted) c.self.view_is ∙ c.requires in
-    let spells = subst (λ (t : List ℕ). Spells (view c.args.entry.now) t) (sym c.deref.ensures.value) c.in-Ok.ensures in
+    let spells = written_encodes (view c.args.entry.now) c.deref.result.now (subst (λ (t : List ℕ). Spells (view c.args.entry.now) t) (sym c.deref.ensures.value) c.in-Ok.ensures) in
     subst (λ tape. Follows (ReadsSameOrOneMore (view c.args.entry.now)) (g.T.Tape.images tape) (g.T.Tape.left_since c.write.new.tape (g.T.Tape.moment tape))) same
     (inside_added c.one_text_one_map.ensures (g.T.Tape.content c.self.inside.tape) c.deref.result.now (view c.args.entry.now) (g.T.Tape.images c.self.inside.tape)
     (g.T.Tape.left_since c.write.new.tape (g.T.Tape.moment c.self.inside.tape)) (c.self.invariant honest running) spells (c.write.ensures.inside honest))
