@@ -17,6 +17,7 @@ use Rattle.wf_paint.specs.Pixmap.{PixmapValue}
 use Rattle.wf_label.specs.Colored.{IsColored, is_between, is_in, bit_at, is_bit, is_in_bits, bit_frame, one_bit, row_bits, character_bits}
 use Rattle.wf_label.specs.Glyph.{glyph}
 use Rattle.wf_label.specs.Ink.{steps, inks, inks_at, inks_bit, inks_steps, has_bit, row_up}
+use Rattle.wf_label.specs.Limit.{cell_height, cell_width, glyph_height, glyph_width}
 use Rattle.wf_label.specs.Placed.{PlacedValue, scale_of}
 use Rattle.wf_label.proofs.ColoredLemmas.{IsColored-none, IsColored-same, IsColored-next}
 use Rattle.wf_def.specs.declared.choice.LabelSize.{LabelSize}
@@ -118,41 +119,41 @@ in_bits-none label f none k m = bit_none f none (bit_at label.scale label.left k
 
 -- ---- a row of a character
 
-pub no_fourth : (row column : ℕ) → 3 ≤ column → has_bit row column ≡ false
+pub no_more_bits : (row column : ℕ) → glyph_width ≤ column → has_bit row column ≡ false
 unfolding has_bit
-no_fourth row column far = grind (arith, nat_tests)
+no_more_bits row column far = grind (arith, nat_tests)
 
 -- the first columns of the row
 abbrev pub row_so_far : ℕ → ℕ → ℕ → ℕ → ℕ → ℕ → Bool
-row_so_far place up row column a b = nat_lt (a % 4) column && row_bits place up row a b
+row_so_far place up row column a b = nat_lt (a % cell_width) column && row_bits place up row a b
 
 pub row_none : (place up row a b : ℕ) → row_so_far place up row 0 a b ≡ false
 row_none place up row a b = grind (arith, nat_tests)
 
-pub split_four : (a : ℕ) → 4 * (a / 4) + a % 4 ≡ a
-split_four a = omega arith
+pub cell_split : (a : ℕ) → cell_width * (a / cell_width) + a % cell_width ≡ a
+cell_split a = omega arith
 
-pub row_bit : (place up row column a b : ℕ) → column < 4 → has_bit row column ≡ true →
-    row_so_far place up row (column + 1) a b ≡ (row_so_far place up row column a b || one_bit (4 * place + column) up a b)
-row_bit place up row column a b inside set = elim (cases_order (a % 4) column) [
+pub row_bit : (place up row column a b : ℕ) → column < cell_width → has_bit row column ≡ true →
+    row_so_far place up row (column + 1) a b ≡ (row_so_far place up row column a b || one_bit (cell_width * place + column) up a b)
+row_bit place up row column a b inside set = elim (cases_order (a % cell_width) column) [
   | inl same ↦
-      let here : has_bit row (a % 4) ≡ true = ap (has_bit row) same ∙ set in
-      let test : (a == 4 * place + column) ≡ (a / 4 == place) = grind (arith, nat_tests) in
+      let here : has_bit row (a % cell_width) ≡ true = ap (has_bit row) same ∙ set in
+      let test : (a == cell_width * place + column) ≡ (a / cell_width == place) = grind (arith, nat_tests) in
       grind (arith, nat_tests)
   | inr apart ↦
-      let test : (a == 4 * place + column) ≡ false = ne_eqb a (4 * place + column) (λ e. omega arith) in
+      let test : (a == cell_width * place + column) ≡ false = ne_eqb a (cell_width * place + column) (λ e. omega arith) in
       grind (arith, nat_tests)
 ]
 
 pub row_gap : (place up row column a b : ℕ) → has_bit row column ≡ false → row_so_far place up row (column + 1) a b ≡ row_so_far place up row column a b
-row_gap place up row column a b clear = elim (cases_order (a % 4) column) [
-  | inl same ↦ let here : has_bit row (a % 4) ≡ false = ap (has_bit row) same ∙ clear in grind (arith, nat_tests)
+row_gap place up row column a b clear = elim (cases_order (a % cell_width) column) [
+  | inl same ↦ let here : has_bit row (a % cell_width) ≡ false = ap (has_bit row) same ∙ clear in grind (arith, nat_tests)
   | inr apart ↦ grind (arith, nat_tests)
 ]
 
-pub row_all : (place up row a b : ℕ) → row_bits place up row a b ≡ row_so_far place up row 3 a b
-row_all place up row a b = elim (cases_order (a % 4) 3) [
-  | inl same ↦ let here : has_bit row (a % 4) ≡ false = no_fourth row (a % 4) (omega arith) in grind (arith, nat_tests)
+pub row_all : (place up row a b : ℕ) → row_bits place up row a b ≡ row_so_far place up row glyph_width a b
+row_all place up row a b = elim (cases_order (a % cell_width) glyph_width) [
+  | inl same ↦ let here : has_bit row (a % cell_width) ≡ false = no_more_bits row (a % cell_width) (omega arith) in grind (arith, nat_tests)
   | inr apart ↦ elim apart [
     | inl less ↦ grind (arith, nat_tests)
     | inr never ↦ absurd (omega arith)
@@ -165,11 +166,11 @@ empty_row : (column : ℕ) → has_bit 0 column ≡ false
 unfolding has_bit
 empty_row column = grind (arith, nat_tests)
 
-row_up-outside : (rows : List ℕ) (up : ℕ) → (nat_le 1 up && nat_le up 5) ≡ false → row_up rows up ≡ 0
+row_up-outside : (rows : List ℕ) (up : ℕ) → (nat_le 1 up && nat_le up glyph_height) ≡ false → row_up rows up ≡ 0
 unfolding row_up
 row_up-outside rows up outside = rw outside refl
 
-pub outside_empty : (c up column : ℕ) → (nat_le 1 up && nat_le up 5) ≡ false → has_bit (row_up (glyph c) up) column ≡ false
+pub outside_empty : (c up column : ℕ) → (nat_le 1 up && nat_le up glyph_height) ≡ false → has_bit (row_up (glyph c) up) column ≡ false
 outside_empty c up column outside = ap (λ (row : ℕ). has_bit row column) (row_up-outside (glyph c) up outside) ∙ empty_row column
 
 -- the first rows of the character
@@ -177,23 +178,23 @@ abbrev pub character_so_far : ℕ → ℕ → ℕ → ℕ → ℕ → Bool
 character_so_far place c up a b = nat_lt b up && character_bits place c a b
 
 pub character_none : (place c a b : ℕ) → character_so_far place c 1 a b ≡ false
-character_none place c a zero = let empty = outside_empty c 0 (a % 4) refl in grind (arith, nat_tests)
+character_none place c a zero = let empty = outside_empty c 0 (a % cell_width) refl in grind (arith, nat_tests)
 character_none place c a (suc b) = grind (arith, nat_tests)
 
 pub character_row : (place c up row a b : ℕ) → row ≡ row_up (glyph c) up → character_so_far place c (up + 1) a b ≡ (character_so_far place c up a b || row_bits place up row a b)
 character_row place c up row a b is = elim (cases_order b up) [
   | inl same ↦
-      let here : has_bit row (a % 4) ≡ has_bit (row_up (glyph c) b) (a % 4) = ap (λ (r : ℕ). has_bit r (a % 4)) (is ∙ ap (row_up (glyph c)) (sym same)) in
+      let here : has_bit row (a % cell_width) ≡ has_bit (row_up (glyph c) b) (a % cell_width) = ap (λ (r : ℕ). has_bit r (a % cell_width)) (is ∙ ap (row_up (glyph c)) (sym same)) in
       grind (arith, nat_tests)
   | inr apart ↦ grind (arith, nat_tests)
 ]
 
-pub character_all : (place c a b : ℕ) → character_bits place c a b ≡ character_so_far place c 6 a b
-character_all place c a b = elim (cases_lt b 6) [
+pub character_all : (place c a b : ℕ) → character_bits place c a b ≡ character_so_far place c cell_height a b
+character_all place c a b = elim (cases_lt b cell_height) [
   | inl low ↦ grind (arith, nat_tests)
   | inr high ↦
-      let outside : (nat_le 1 b && nat_le b 5) ≡ false = grind (arith, nat_tests) in
-      let empty = outside_empty c b (a % 4) outside in
+      let outside : (nat_le 1 b && nat_le b glyph_height) ≡ false = grind (arith, nat_tests) in
+      let empty = outside_empty c b (a % cell_width) outside in
       grind (arith, nat_tests)
 ]
 
@@ -201,15 +202,15 @@ character_all place c a b = elim (cases_lt b 6) [
 
 -- the first characters of the text
 abbrev pub text_so_far : List ℕ → ℕ → ℕ → ℕ → Bool
-text_so_far text n a b = nat_lt (a / 4) n && inks_bit (slice_get text (a / 4)) (a % 4) b
+text_so_far text n a b = nat_lt (a / cell_width) n && inks_bit (slice_get text (a / cell_width)) (a % cell_width) b
 
 pub text_none : (text : List ℕ) (a b : ℕ) → text_so_far text 0 a b ≡ false
 text_none text a b = grind (arith, nat_tests)
 
 pub text_character : (text : List ℕ) (n c a b : ℕ) → slice_get text n ≡ Some c → text_so_far text (n + 1) a b ≡ (text_so_far text n a b || character_bits n c a b)
-text_character text n c a b is = elim (cases_order (a / 4) n) [
+text_character text n c a b is = elim (cases_order (a / cell_width) n) [
   | inl same ↦
-      let here : inks_bit (slice_get text (a / 4)) (a % 4) b ≡ has_bit (row_up (glyph c) b) (a % 4) = rw (same, is) refl in
+      let here : inks_bit (slice_get text (a / cell_width)) (a % cell_width) b ≡ has_bit (row_up (glyph c) b) (a % cell_width) = rw (same, is) refl in
       grind (arith, nat_tests)
   | inr apart ↦ grind (arith, nat_tests)
 ]
@@ -228,44 +229,44 @@ numbered text i place c within here =
 
 -- all characters: the bits that the text inks
 abbrev pub text_bits : List ℕ → ℕ → ℕ → Bool
-text_bits text a b = inks_bit (slice_get text (a / 4)) (a % 4) b
+text_bits text a b = inks_bit (slice_get text (a / cell_width)) (a % cell_width) b
 
 pub text_all : (text : List ℕ) (a b : ℕ) → text_bits text a b ≡ text_so_far text (length text) a b
-text_all text a b = elim (cases_lt (a / 4) (length text)) [
+text_all text a b = elim (cases_lt (a / cell_width) (length text)) [
   | inl inside ↦ grind (arith, nat_tests)
   | inr past ↦
-      let none : inks_bit (slice_get text (a / 4)) (a % 4) b ≡ false = rw (slice_get_past text (a / 4) past) refl in
+      let none : inks_bit (slice_get text (a / cell_width)) (a % cell_width) b ≡ false = rw (slice_get_past text (a / cell_width) past) refl in
       grind (arith, nat_tests)
 ]
 
 -- ---- the label
 
-div_four : (scale far : ℕ) → far / (4 * scale) ≡ far / scale / 4
-div_four scale far = ap (λ (n : ℕ). far / n) (mul_comm 4 scale) ∙ sym (div-div-eq-div-mul far scale 4)
+by_cell : (scale far : ℕ) → far / (cell_width * scale) ≡ far / scale / cell_width
+by_cell scale far = ap (λ (n : ℕ). far / n) (mul_comm cell_width scale) ∙ sym (div-div-eq-div-mul far scale cell_width)
 
-mod_four : (scale far : ℕ) → 0 < scale → far % (4 * scale) / scale ≡ far / scale % 4
-mod_four scale far some =
+in_cell : (scale far : ℕ) → 0 < scale → far % (cell_width * scale) / scale ≡ far / scale % cell_width
+in_cell scale far some =
     let first : scale * (far / scale) + far % scale ≡ far = omega arith in
     let less : far % scale < scale = omega arith in
-    let second : 4 * (far / scale / 4) + far / scale % 4 ≡ far / scale = omega arith in
-    let small : far / scale % 4 < 4 = omega arith in
-    let wide : scale * (4 * (far / scale / 4) + far / scale % 4) ≡ 4 * scale * (far / scale / 4) + scale * (far / scale % 4) = ring scale (far / scale / 4) (far / scale % 4) in
-    let whole : scale * (far / scale) ≡ 4 * scale * (far / scale / 4) + scale * (far / scale % 4) = ap (λ (n : ℕ). scale * n) (sym second) ∙ wide in
-    let rest : scale * (far / scale % 4) + far % scale < 4 * scale = omega (arith, mul-add-lt (far / scale % 4) scale (far % scale) 4 small less, mul_comm scale (far / scale % 4), mul_comm scale 4) in
-    let split : far / scale / 4 * (4 * scale) + (scale * (far / scale % 4) + far % scale) ≡ far = omega (arith, mul_comm (far / scale / 4) (4 * scale)) in
-    let left : far % (4 * scale) ≡ far / scale % 4 * scale + far % scale =
-    ap (λ (n : ℕ). n % (4 * scale)) (sym split) ∙ mod-mul-add (far / scale / 4) (4 * scale) (scale * (far / scale % 4) + far % scale) rest ∙ ap (λ (n : ℕ). n + far % scale) (mul_comm scale (far / scale % 4)) in
-    ap (λ (n : ℕ). n / scale) left ∙ div-mul-add (far / scale % 4) scale (far % scale) less
+    let second : cell_width * (far / scale / cell_width) + far / scale % cell_width ≡ far / scale = omega arith in
+    let small : far / scale % cell_width < cell_width = omega arith in
+    let wide : scale * (cell_width * (far / scale / cell_width) + far / scale % cell_width) ≡ cell_width * scale * (far / scale / cell_width) + scale * (far / scale % cell_width) = ring scale (far / scale / cell_width) (far / scale % cell_width) in
+    let whole : scale * (far / scale) ≡ cell_width * scale * (far / scale / cell_width) + scale * (far / scale % cell_width) = ap (λ (n : ℕ). scale * n) (sym second) ∙ wide in
+    let rest : scale * (far / scale % cell_width) + far % scale < cell_width * scale = omega (arith, mul-add-lt (far / scale % cell_width) scale (far % scale) cell_width small less, mul_comm scale (far / scale % cell_width), mul_comm scale cell_width) in
+    let split : far / scale / cell_width * (cell_width * scale) + (scale * (far / scale % cell_width) + far % scale) ≡ far = omega (arith, mul_comm (far / scale / cell_width) (cell_width * scale)) in
+    let left : far % (cell_width * scale) ≡ far / scale % cell_width * scale + far % scale =
+    ap (λ (n : ℕ). n % (cell_width * scale)) (sym split) ∙ mod-mul-add (far / scale / cell_width) (cell_width * scale) (scale * (far / scale % cell_width) + far % scale) rest ∙ ap (λ (n : ℕ). n + far % scale) (mul_comm scale (far / scale % cell_width)) in
+    ap (λ (n : ℕ). n / scale) left ∙ div-mul-add (far / scale % cell_width) scale (far % scale) less
   where
-    ring : (s q r : ℕ) → s * (4 * q + r) ≡ 4 * s * q + s * r
-    ring s q r = mul-add s (4 * q) r ∙ ap (λ (n : ℕ). n + s * r) (sym (mul_assoc s 4 q) ∙ ap (λ (n : ℕ). n * q) (mul_comm s 4))
+    ring : (s q r : ℕ) → s * (cell_width * q + r) ≡ cell_width * s * q + s * r
+    ring s q r = mul-add s (cell_width * q) r ∙ ap (λ (n : ℕ). n + s * r) (sym (mul_assoc s cell_width q) ∙ ap (λ (n : ℕ). n * q) (mul_comm s cell_width))
 
 inks_bits : (label : PlacedValue) → 0 < label.scale → (x y : Option ℕ) →
     inks_steps label x y ≡ is_bit (text_bits (chars label.text)) (option_map (λ n. n / label.scale) x) (option_map (λ n. n / label.scale) y)
 unfolding inks_at
 inks_bits label some None y = refl
 inks_bits label some (Some right) None = refl
-inks_bits label some (Some right) (Some up) = rw (div_four label.scale right, mod_four label.scale right some) refl
+inks_bits label some (Some right) (Some up) = rw (by_cell label.scale right, in_cell label.scale right some) refl
 
 -- a label inks the pixels in the bits of its text
 pub inks_in_bits : (label : PlacedValue) (k m : ℕ) → 0 < label.scale → inks label (pos k) (pos m) ≡ is_in_bits label (text_bits (chars label.text)) k m

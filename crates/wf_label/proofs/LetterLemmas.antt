@@ -14,42 +14,43 @@ use Rattle.wf_label.specs.Colored.{is_between, is_in, bit_at, is_bit, is_in_bits
 use Rattle.wf_label.specs.Frame.{frame_of, text_height, text_width}
 use Rattle.wf_label.specs.Glyph.{glyph}
 use Rattle.wf_label.specs.Ink.{has_bit, ink_of, inked, inks, inks_bit, row_up}
+use Rattle.wf_label.specs.Limit.{cell_height, cell_width, glyph_height, glyph_width}
 use Rattle.wf_label.specs.Letters.{IsInSetBit, LettersInkTheirSetBits, LettersStayInTheirBox, PixelsOutsideBoxesStay}
 use Rattle.wf_label.specs.Placed.{PlacedValue}
 use Rattle.wf_label.specs.Taken.{is_taken}
-use Rattle.wf_label.proofs.BitLemmas.{in_one_bit, inks_in_bits, no_fourth, outside_empty, split_four, text_bits}
+use Rattle.wf_label.proofs.BitLemmas.{in_one_bit, inks_in_bits, no_more_bits, outside_empty, cell_split, text_bits}
 use Rattle.wf_label.proofs.InkLemmas.{inked-first}
 
 -- ---- one bit of a glyph
 
 -- a bit of a row, by its power of two
-bit_value : (row across : ℕ) → across < 3 → has_bit row across ≡ (row / 2 ^ (2 - across) % 2 == 1)
+bit_value : (row across : ℕ) → across < glyph_width → has_bit row across ≡ (row / 2 ^ (2 - across) % 2 == 1)
 unfolding has_bit
 bit_value row zero inside = refl
 bit_value row (suc zero) inside = refl
 bit_value row (suc (suc zero)) inside = ap (λ n. n % 2 == 1) (sym (div-one row))
 bit_value row (suc (suc (suc n))) inside = absurd (omega arith)
 
-row_up-inside : (rows : List ℕ) (up : ℕ) → 1 ≤ up → up ≤ 5 → row_up rows up ≡ slice_index rows (5 - up)
+row_up-inside : (rows : List ℕ) (up : ℕ) → 1 ≤ up → up ≤ glyph_height → row_up rows up ≡ slice_index rows (glyph_height - up)
 unfolding row_up
 row_up-inside rows up least most =
-    let inside : (nat_le 1 up && nat_le up 5) ≡ true = and_from (nat_le 1 up) (nat_le up 5) (le-leb 1 up least) (le-leb up 5 most) in
+    let inside : (nat_le 1 up && nat_le up glyph_height) ≡ true = and_from (nat_le 1 up) (nat_le up glyph_height) (le-leb 1 up least) (le-leb up glyph_height most) in
     rw inside refl
 
 -- a set bit lies in one of the glyph's five rows
-within_rows : (c up across : ℕ) → has_bit (row_up (glyph c) up) across ≡ true → (1 ≤ up) × (up ≤ 5)
-within_rows c up across set = by_test (nat_le 1 up && nat_le up 5) refl where
-  by_test : (b : Bool) → (nat_le 1 up && nat_le up 5) ≡ b → (1 ≤ up) × (up ≤ 5)
+within_rows : (c up across : ℕ) → has_bit (row_up (glyph c) up) across ≡ true → (1 ≤ up) × (up ≤ glyph_height)
+within_rows c up across set = by_test (nat_le 1 up && nat_le up glyph_height) refl where
+  by_test : (b : Bool) → (nat_le 1 up && nat_le up glyph_height) ≡ b → (1 ≤ up) × (up ≤ glyph_height)
   by_test true inside =
-      let parts = and_parts (nat_le 1 up) (nat_le up 5) inside in
-      (leb-true 1 up parts.0, leb-true up 5 parts.1)
+      let parts = and_parts (nat_le 1 up) (nat_le up glyph_height) inside in
+      (leb-true 1 up parts.0, leb-true up glyph_height parts.1)
   by_test false outside = absurd (true≢false (sym set ∙ outside_empty c up across outside))
 
 -- and in one of its three columns
-within_columns : (row across : ℕ) → has_bit row across ≡ true → across < 3
-within_columns row across set = elim (cases_lt across 3) [
+within_columns : (row across : ℕ) → has_bit row across ≡ true → across < glyph_width
+within_columns row across set = elim (cases_lt across glyph_width) [
   | inl inside ↦ inside
-  | inr far ↦ absurd (true≢false (sym set ∙ no_fourth row across far))
+  | inr far ↦ absurd (true≢false (sym set ∙ no_more_bits row across far))
 ]
 
 -- the index of a character lies within the text
@@ -70,23 +71,23 @@ module _ (label : PlacedValue) (column row : ℕ) (some : 0 < label.scale) where
       rw (wide, high) (and_from (a == a) (b == b) (eq-eqb a a refl) (eq-eqb b b refl)) in
       sym (in_one_bit label a b column row some) ∙ here
 
-  set_bit : (a b : ℕ) (found : Option ℕ) → slice_get (chars label.text) (a / 4) ≡ found → inks_bit found (a % 4) b ≡ true → is_in (bit_frame label a b) column row ≡ true → IsInSetBit label column row
+  set_bit : (a b : ℕ) (found : Option ℕ) → slice_get (chars label.text) (a / cell_width) ≡ found → inks_bit found (a % cell_width) b ≡ true → is_in (bit_frame label a b) column row ≡ true → IsInSetBit label column row
   set_bit a b None is never inside = absurd (true≢false (sym never))
   set_bit a b (Some c) is set inside =
-      let rows = within_rows c b (a % 4) set in
-      let columns : a % 4 < 3 = within_columns (row_up (glyph c) b) (a % 4) set in
-      let line : row_up (glyph c) b ≡ slice_index (glyph c) (5 - b) = row_up-inside (glyph c) b rows.0 rows.1 in
-      let value : (slice_index (glyph c) (5 - b) / 2 ^ (2 - a % 4) % 2 == 1) ≡ true =
-      sym (bit_value (slice_index (glyph c) (5 - b)) (a % 4) columns) ∙ ap (λ (r : ℕ). has_bit r (a % 4)) (sym line) ∙ set in
-      let across : 4 * (a / 4) + a % 4 ≡ a = split_four a in
-      let up : 5 - (5 - b) ≡ b = omega (arith, rows.1) in
+      let rows = within_rows c b (a % cell_width) set in
+      let columns : a % cell_width < glyph_width = within_columns (row_up (glyph c) b) (a % cell_width) set in
+      let line : row_up (glyph c) b ≡ slice_index (glyph c) (glyph_height - b) = row_up-inside (glyph c) b rows.0 rows.1 in
+      let value : (slice_index (glyph c) (glyph_height - b) / 2 ^ (2 - a % cell_width) % 2 == 1) ≡ true =
+      sym (bit_value (slice_index (glyph c) (glyph_height - b)) (a % cell_width) columns) ∙ ap (λ (r : ℕ). has_bit r (a % cell_width)) (sym line) ∙ set in
+      let across : cell_width * (a / cell_width) + a % cell_width ≡ a = cell_split a in
+      let up : glyph_height - (glyph_height - b) ≡ b = omega (arith, rows.1) in
       record {
-        place = a / 4;
+        place = a / cell_width;
         character = c;
         stands = is;
-        line = 5 - b;
+        line = glyph_height - b;
         high = omega (arith, rows.0);
-        across = a % 4;
+        across = a % cell_width;
         wide = columns;
         set = eqb-true _ 1 value;
         inside = rw (across, up) inside;
@@ -98,17 +99,17 @@ module _ (label : PlacedValue) (column row : ℕ) (some : 0 < label.scale) where
     by_bits : (x y : Option ℕ) → bit_at label.scale label.left column ≡ x → bit_at label.scale label.bottom row ≡ y → is_bit (text_bits (chars label.text)) x y ≡ true → IsInSetBit label column row
     by_bits None y wide high never = absurd (true≢false (sym never))
     by_bits (Some a) None wide high never = absurd (true≢false (sym never))
-    by_bits (Some a) (Some b) wide high set = set_bit a b (slice_get (chars label.text) (a / 4)) refl set (in_its_bit a b wide high)
+    by_bits (Some a) (Some b) wide high set = set_bit a b (slice_get (chars label.text) (a / cell_width)) refl set (in_its_bit a b wide high)
 
   module _ (bit : IsInSetBit label column row) where
     -- the text sets this bit
-    bit_set : text_bits (chars label.text) (4 * bit.place + bit.across) (5 - bit.line) ≡ true
+    bit_set : text_bits (chars label.text) (cell_width * bit.place + bit.across) (glyph_height - bit.line) ≡ true
     bit_set =
-        let place : (4 * bit.place + bit.across) / 4 ≡ bit.place = omega (arith, bit.wide) in
-        let across : (4 * bit.place + bit.across) % 4 ≡ bit.across = omega (arith, bit.wide) in
-        let line : 5 - (5 - bit.line) ≡ bit.line = omega (arith, bit.high) in
-        let row_is : row_up (glyph bit.character) (5 - bit.line) ≡ slice_index (glyph bit.character) bit.line =
-        row_up-inside (glyph bit.character) (5 - bit.line) (omega (arith, bit.high)) (omega arith) ∙ ap (slice_index (glyph bit.character)) line in
+        let place : (cell_width * bit.place + bit.across) / cell_width ≡ bit.place = omega (arith, bit.wide) in
+        let across : (cell_width * bit.place + bit.across) % cell_width ≡ bit.across = omega (arith, bit.wide) in
+        let line : glyph_height - (glyph_height - bit.line) ≡ bit.line = omega (arith, bit.high) in
+        let row_is : row_up (glyph bit.character) (glyph_height - bit.line) ≡ slice_index (glyph bit.character) bit.line =
+        row_up-inside (glyph bit.character) (glyph_height - bit.line) (omega (arith, bit.high)) (omega arith) ∙ ap (slice_index (glyph bit.character)) line in
         let value : has_bit (slice_index (glyph bit.character) bit.line) bit.across ≡ true =
         bit_value (slice_index (glyph bit.character) bit.line) bit.across bit.wide ∙ eq-eqb _ 1 bit.set in
         rw (place, across, bit.stands) (ap (λ (r : ℕ). has_bit r bit.across) row_is ∙ value)
@@ -116,14 +117,14 @@ module _ (label : PlacedValue) (column row : ℕ) (some : 0 < label.scale) where
     bit_inks : inks label (pos column) (pos row) ≡ true
     unfolding is_in_bits
     bit_inks = inks_in_bits label column row some
-        ∙ by_bits (bit_at label.scale label.left column) (bit_at label.scale label.bottom row) (in_one_bit label (4 * bit.place + bit.across) (5 - bit.line) column row some ∙ bit.inside) where
-          by_bits : (x y : Option ℕ) → is_bit (one_bit (4 * bit.place + bit.across) (5 - bit.line)) x y ≡ true → is_bit (text_bits (chars label.text)) x y ≡ true
+        ∙ by_bits (bit_at label.scale label.left column) (bit_at label.scale label.bottom row) (in_one_bit label (cell_width * bit.place + bit.across) (glyph_height - bit.line) column row some ∙ bit.inside) where
+          by_bits : (x y : Option ℕ) → is_bit (one_bit (cell_width * bit.place + bit.across) (glyph_height - bit.line)) x y ≡ true → is_bit (text_bits (chars label.text)) x y ≡ true
           by_bits None y never = absurd (true≢false (sym never))
           by_bits (Some a) None never = absurd (true≢false (sym never))
           by_bits (Some a) (Some b) one =
-              let parts = and_parts (a == 4 * bit.place + bit.across) (b == 5 - bit.line) one in
-              let across : a ≡ 4 * bit.place + bit.across = eqb-true a (4 * bit.place + bit.across) parts.0 in
-              let up : b ≡ 5 - bit.line = eqb-true b (5 - bit.line) parts.1 in
+              let parts = and_parts (a == cell_width * bit.place + bit.across) (b == glyph_height - bit.line) one in
+              let across : a ≡ cell_width * bit.place + bit.across = eqb-true a (cell_width * bit.place + bit.across) parts.0 in
+              let up : b ≡ glyph_height - bit.line = eqb-true b (glyph_height - bit.line) parts.1 in
               rw (across, up) bit_set
 
 pub letters_ink_their_set_bits : LettersInkTheirSetBits
@@ -143,18 +144,18 @@ bits_fit scale bit bits within = omega (arith, mul-le-mul_left {m = bit + 1} {n 
 set_bit_in_box : (label : PlacedValue) (column row : ℕ) → IsInSetBit label column row → is_in (frame_of label) column row ≡ true
 unfolding is_in bit_frame frame_of text_width text_height
 set_bit_in_box label column row bit =
-    let a : ℕ = 4 * bit.place + bit.across in
-    let b : ℕ = 5 - bit.line in
+    let a : ℕ = cell_width * bit.place + bit.across in
+    let b : ℕ = glyph_height - bit.line in
     let size : ℕ = length (chars label.text) in
     let place : bit.place < size = within_text (chars label.text) bit.place bit.character bit.stands in
     let parts = and_parts
     (is_between (plus label.left (pos (label.scale * a))) (plus (plus label.left (pos (label.scale * a))) (pos label.scale)) column)
     (is_between (plus label.bottom (pos (label.scale * b))) (plus (plus label.bottom (pos (label.scale * b))) (pos label.scale)) row) bit.inside in
-    let wide : label.scale * a + label.scale ≤ 4 * label.scale * size = omega (arith, bits_fit label.scale a (4 * size) (omega (arith, bit.wide, place))) in
-    let high : label.scale * b + label.scale ≤ 6 * label.scale = omega (arith, bits_fit label.scale b 6 (omega arith)) in
+    let wide : label.scale * a + label.scale ≤ cell_width * label.scale * size = omega (arith, bits_fit label.scale a (cell_width * size) (omega (arith, bit.wide, place))) in
+    let high : label.scale * b + label.scale ≤ cell_height * label.scale = omega (arith, bits_fit label.scale b cell_height (omega arith)) in
     and_from _ _
-    (in_wider_span label.left (label.scale * a) label.scale (4 * label.scale * size) column wide parts.0)
-    (in_wider_span label.bottom (label.scale * b) label.scale (6 * label.scale) row high parts.1)
+    (in_wider_span label.left (label.scale * a) label.scale (cell_width * label.scale * size) column wide parts.0)
+    (in_wider_span label.bottom (label.scale * b) label.scale (cell_height * label.scale) row high parts.1)
 
 pub letters_stay_in_their_box : LettersStayInTheirBox
 letters_stay_in_their_box label column row some inked_here = set_bit_in_box label column row (letter_bit label column row some inked_here)

@@ -15,6 +15,7 @@ use Rattle.wf_def.specs.Attribute.{attribute, attribute_values}
 use Rattle.wf_def.specs.Limit.{most_text_bytes}
 use Rattle.wf_def.specs.Text.{IsText, is_text}
 use Rattle.wf_label.specs.Frame.{text_width}
+use Rattle.wf_label.specs.Limit.{cell_width}
 
 -- ---- what a text is
 
@@ -148,6 +149,6 @@ pub short_width : (scale : ℕ) (text : List ℕ) → scale ≤ 5 → IsUtf8 tex
 unfolding text_width
 short_width scale text most is short =
     let few = chars_few text is in
-    let wide : 4 * scale ≤ 20 = omega arith in
-    let many : length (chars text) ≤ 1_000 = omega arith in
+    let wide : cell_width * scale ≤ 20 = omega arith in
+    let many : length (chars text) ≤ most_text_bytes = omega arith in
     mul-le-mul wide many

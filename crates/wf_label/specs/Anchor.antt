@@ -4,6 +4,7 @@ use Rattle.std.specs.Int.{int_min, int_max}
 use Rattle.std.specs.List.{fold}
 use Rattle.wf_def.specs.declared.point.Point.{Point}
 use Rattle.wf_paint.specs.Exact.{plus, quotient}
+use Rattle.wf_paint.specs.Limit.{pixel_side}
 use Rattle.wf_paint.specs.Near.{IsNear}
 use Rattle.wf_paint.specs.View.{ViewValue, place_of}
 use Rattle.wf_label.specs.declared.anchor.Anchor.{Anchor}
@@ -40,9 +41,9 @@ bounds_of view p rest = record {
 unfoldable pub middle : ℤ → ℤ → ℤ
 middle low high = quotient (plus low high) (pos 2)
 
--- the pixel that holds a position on an axis: a pixel is 16 sixteenths
+-- the pixel that holds a position on an axis
 unfoldable pub pixel_of : ℤ → ℤ
-pixel_of place = quotient place (pos 16)
+pixel_of place = quotient place (pos pixel_side)
 
 -- the pixel in the middle of a box
 abbrev pub middle_of : Bounds → Anchor

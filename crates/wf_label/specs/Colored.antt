@@ -6,6 +6,7 @@ use Rattle.wf_paint.specs.Exact.{plus, is_less}
 use Rattle.wf_paint.specs.Pixmap.{PixmapValue, pixel_at, column_of, row_of}
 use Rattle.wf_label.specs.Glyph.{glyph}
 use Rattle.wf_label.specs.Ink.{steps, has_bit, row_up}
+use Rattle.wf_label.specs.Limit.{cell_width}
 use Rattle.wf_label.specs.Placed.{PlacedValue}
 use Rattle.wf_label.specs.declared.frame.Frame.{Frame}
 
@@ -63,10 +64,10 @@ bit_frame label across up = record {
 abbrev pub one_bit : ℕ → ℕ → ℕ → ℕ → Bool
 one_bit across up k m = k == across && m == up
 
--- the bits of one row of a character: four columns a cell
+-- the bits of one row of a character
 abbrev pub row_bits : ℕ → ℕ → ℕ → ℕ → ℕ → Bool
-row_bits place up row k m = m == up && (k / 4 == place && has_bit row (k % 4))
+row_bits place up row k m = m == up && (k / cell_width == place && has_bit row (k % cell_width))
 
 -- the bits of a character
 abbrev pub character_bits : ℕ → ℕ → ℕ → ℕ → Bool
-character_bits place c k m = k / 4 == place && has_bit (row_up (glyph c) m) (k % 4)
+character_bits place c k m = k / cell_width == place && has_bit (row_up (glyph c) m) (k % cell_width)

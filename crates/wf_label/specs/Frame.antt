@@ -3,16 +3,17 @@ use Rattle.std.specs.Prelude.{ℕ, ◌*◌, ◌^◌, ◌≤◌, ◌&&◌, Bool, 
 use Rattle.std.specs.Str.{chars}
 use Rattle.wf_paint.specs.Exact.{plus, difference, is_less}
 use Rattle.wf_paint.specs.View.{ViewValue}
+use Rattle.wf_label.specs.Limit.{cell_height, cell_width}
 use Rattle.wf_label.specs.Placed.{PlacedValue}
 use Rattle.wf_label.specs.declared.frame.Frame.{Frame}
 
--- how wide a text is: each character has a cell 4 bits wide
+-- how wide a text is: each character has a cell
 unfoldable pub text_width : ℕ → List ℕ → ℕ
-text_width scale text = 4 * scale * length (chars text)
+text_width scale text = cell_width * scale * length (chars text)
 
--- how high it is: a cell is 6 bits high
+-- how high it is: as high as a cell
 unfoldable pub text_height : ℕ → ℕ
-text_height scale = 6 * scale
+text_height scale = cell_height * scale
 
 -- the box of a label
 unfoldable pub frame_of : PlacedValue → Frame

@@ -7,11 +7,12 @@ use Rattle.wf_def.specs.declared.color.Color.{Color}
 use Rattle.wf_paint.specs.Exact.{difference, is_less}
 use Rattle.wf_paint.specs.Pixmap.{PixmapValue, pixel_at, column_of, row_of}
 use Rattle.wf_label.specs.Glyph.{glyph}
+use Rattle.wf_label.specs.Limit.{cell_width, glyph_height}
 use Rattle.wf_label.specs.Placed.{PlacedValue}
 
 -- ---- one letter
 
--- three of a cell's four columns hold the three bits of a row, the highest first
+-- the first columns of a cell hold the bits of a row, the highest first
 unfoldable pub has_bit : ℕ → ℕ → Bool
 has_bit row column =
     if column == 0 then row / 4 % 2 == 1 else
@@ -19,9 +20,9 @@ has_bit row column =
     if column == 2 then row % 2 == 1 else
     false
 
--- five of a cell's six rows hold a glyph's rows; counted upward they are rows 1 to 5 of the cell
+-- all rows of a cell but the lowest hold a glyph's rows; rows of a cell are counted upward, from 0
 unfoldable pub row_up : List ℕ → ℕ → ℕ
-row_up rows up = if nat_le 1 up && nat_le up 5 then slice_index rows (5 - up) else 0
+row_up rows up = if nat_le 1 up && nat_le up glyph_height then slice_index rows (glyph_height - up) else 0
 
 -- the character inks the bit of its cell in this column, and this many rows up; after the end of the text there is none
 abbrev pub inks_bit : Option ℕ → ℕ → ℕ → Bool
@@ -31,10 +32,10 @@ inks_bit (Some c) column up = has_bit (row_up (glyph c) up) column
 -- ---- one label
 
 -- the text inks the pixel that lies `right` columns to the right of its first and `up` rows above: each bit is a square of the
--- scale's size, each cell 4 bits wide
+-- scale's size
 unfoldable pub inks_at : ℕ → List ℕ → ℕ → ℕ → Bool
 inks_at scale text right up =
-    inks_bit (slice_get (chars text) (right / (4 * scale))) (right % (4 * scale) / scale) (up / scale)
+    inks_bit (slice_get (chars text) (right / (cell_width * scale))) (right % (cell_width * scale) / scale) (up / scale)
 
 -- how far a pixel lies from a first one, where it doesn't lie before it
 unfoldable pub steps : ℤ → ℤ → Option ℕ

@@ -7,22 +7,23 @@ use Rattle.wf_label.specs.Colored.{bit_frame, is_in}
 use Rattle.wf_label.specs.Frame.{frame_of}
 use Rattle.wf_label.specs.Glyph.{glyph}
 use Rattle.wf_label.specs.Ink.{IsInked, inks}
+use Rattle.wf_label.specs.Limit.{cell_width, glyph_height, glyph_width}
 use Rattle.wf_label.specs.Placed.{PlacedValue}
 use Rattle.wf_label.specs.Taken.{is_taken}
 
 -- The pixel lies in the square of a set bit: of the character at this index of the text (`place`), in this one of its glyph's
--- five rows, counted from the top (`line`), at this one of the row's three bits, counted from the left (`across`). A character's
--- cell is 4 bits wide and 6 high; the glyph leaves the cell's last column and lowest row free.
+-- rows, counted from the top (`line`), at this one of the row's bits, counted from the left (`across`). The glyph leaves the last
+-- column and the lowest row of the character's cell free.
 pub record IsInSetBit (label : PlacedValue) (column row : ℕ) : Type 0 where
   pub place : ℕ
   pub character : ℕ
   pub stands : slice_get (chars label.text) place ≡ Some character
   pub line : ℕ
-  pub high : line < 5
+  pub high : line < glyph_height
   pub across : ℕ
-  pub wide : across < 3
-  pub set : slice_index (glyph character) line / 2 ^ (2 - across) % 2 ≡ 1
-  pub inside : is_in (bit_frame label (4 * place + across) (5 - line)) column row ≡ true
+  pub wide : across < glyph_width
+  pub set : slice_index (glyph character) line / 2 ^ (glyph_width - 1 - across) % 2 ≡ 1
+  pub inside : is_in (bit_frame label (cell_width * place + across) (glyph_height - line)) column row ≡ true
 
 -- a label of positive scale inks exactly the pixels in the squares of its set bits
 abbrev pub LettersInkTheirSetBits : Type 0

@@ -1,3 +1,4 @@
+pub mod Limit
 pub mod Glyph
 pub mod Placed
 pub mod Frame

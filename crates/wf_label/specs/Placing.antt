@@ -35,10 +35,14 @@ EachListHasOnePlacedSet = (view : ViewValue) (labels : List PlacedValue) → Has
 abbrev pub EachListHasOnePlacing : Type 0
 EachListHasOnePlacing = (view : ViewValue) (labels placed others : List PlacedValue) → IsPlacing view labels placed → IsPlacing view labels others → others ≡ placed
 
+-- the label joins those placed before it, if it may be placed
+abbrev pub joined : ViewValue → List PlacedValue → PlacedValue → List PlacedValue
+joined view before label = if stands view before label then before ++ label ∷ [] else before
+
 -- That list, as a function: each label joins those before it that joined.
 abbrev pub placed_after : ViewValue → List PlacedValue → List PlacedValue → List PlacedValue
 placed_after view before [] = before
-placed_after view before (label ∷ rest) = placed_after view (if stands view before label then before ++ label ∷ [] else before) rest
+placed_after view before (label ∷ rest) = placed_after view (joined view before label) rest
 
 unfoldable pub placed_of : ViewValue → List PlacedValue → List PlacedValue
 placed_of view labels = placed_after view [] labels

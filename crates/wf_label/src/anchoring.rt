@@ -8,6 +8,7 @@ use crate::anchor::Anchor;
 use crate::bounds::Bounds;
 use wf_def::feature::Part;
 use wf_def::point::Point;
+use wf_paint::limits::PIXEL_SIDE;
 use wf_paint::place::Place;
 use wf_paint::view::View;
 
@@ -47,7 +48,8 @@ fn bounds_of(view: &View, first: &Point, rest: &[Point]) -> Bounds
 
 /// The box around one position.
 fn about(place: Place) -> Bounds
-    ensures value { result ≡ record { left = place.x; right = place.x; bottom = place.y; top = place.y } }
+    ensures value { result
+        ≡ record { left = place.x; right = place.x; bottom = place.y; top = place.y } }
     ensures within { IsBounds result }
 {
     Bounds {
@@ -118,12 +120,12 @@ fn middle(low: i64, high: i64) -> i64
     (low + high).div_euclid(2)
 }
 
-/// The pixel that holds a position on one axis: a pixel is 16 sixteenths.
+/// The pixel that holds a position on one axis.
 #[tactic(auto, unfolding(crate::specs::Anchor::pixel_of, wf_paint::specs::Exact::quotient))]
 fn pixel_of(place: i64) -> i64
     requires { IsNear place }
     ensures value { result ≡ pixel_of place }
     ensures within { IsNear result }
 {
-    place.div_euclid(16)
+    place.div_euclid(PIXEL_SIDE)
 }

@@ -32,7 +32,8 @@ pub fn candidates<'a>(
     view: &View,
 ) -> Result<Vec<Placed<'a>>, AllocError>
     requires { All (λ i. i < length map.now.layers) layers.now }
-    ensures { IfOk result (λ labels. placed_values labels.items ≡ candidates map.now layers.now view.now) }
+    ensures { IfOk result
+        (λ labels. placed_values labels.items ≡ candidates map.now layers.now view.now) }
 {
     let walked = walk(alloc, map, layers, view)?;
     let mut labels = Vec::new(alloc);
@@ -49,7 +50,8 @@ fn push_priority<'a>(
     walked: &[Candidate<'a>],
     priority: u8,
 ) -> Result<(), AllocError>
-    ensures { OnOk result (placed_values labels.new.items ≡ placed_values labels.old.items ++ chosen priority (candidate_values walked.now)) }
+    ensures { OnOk result (placed_values labels.new.items
+        ≡ placed_values labels.old.items ++ chosen priority (candidate_values walked.now)) }
 {
     for candidate in walked {
         if candidate.priority == priority {
@@ -68,7 +70,8 @@ fn walk<'a>(
     view: &View,
 ) -> Result<Vec<Candidate<'a>>, AllocError>
     requires { All (λ i. i < length map.now.layers) layers.now }
-    ensures { IfOk result (λ walked. candidate_values walked.items ≡ walk map.now layers.now view.now) }
+    ensures { IfOk result
+        (λ walked. candidate_values walked.items ≡ walk map.now layers.now view.now) }
 {
     let mut walked = Vec::new(alloc);
     for place in (0..layers.len()).rev() {
@@ -85,7 +88,8 @@ fn push_layer<'a>(
     view: &View,
     layer: &'a Layer,
 ) -> Result<(), AllocError>
-    ensures { OnOk result (candidate_values walked.new.items ≡ candidate_values walked.old.items ++ layer_candidates view.now layer.now) }
+    ensures { OnOk result (candidate_values walked.new.items
+        ≡ candidate_values walked.old.items ++ layer_candidates view.now layer.now) }
 {
     for feature in layer.features() {
         match candidate_of(view, layer, feature) {

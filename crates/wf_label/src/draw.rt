@@ -9,6 +9,7 @@ use crate::fill::fill;
 use crate::frame::Frame;
 use crate::glyph::glyph;
 use crate::ink::{has_bit, row_up};
+use crate::limits::{CELL_HEIGHT, CELL_WIDTH, GLYPH_WIDTH};
 use crate::overlap::plus;
 use crate::placed::Placed;
 use crate::scale::scale_of;
@@ -26,7 +27,8 @@ pub fn draw_labels(pixmap: &mut Pixmap, labels: &[Placed])
 
 /// Gives the pixels that the label's letters ink its colour.
 fn draw_label(pixmap: &mut Pixmap, label: &Placed)
-    ensures { IsColored (λ column row. inks (placed_value label.now) (pos column) (pos row)) label.now.color pixmap.old pixmap.new }
+    ensures { IsColored (λ column row. inks (placed_value label.now) (pos column) (pos row))
+        label.now.color pixmap.old pixmap.new }
 {
     for (place, character) in label.text.chars().enumerate() {
         draw_character(pixmap, label, place, character);
@@ -35,21 +37,24 @@ fn draw_label(pixmap: &mut Pixmap, label: &Placed)
 
 /// Draws one character of the label, at this index of its text.
 fn draw_character(pixmap: &mut Pixmap, label: &Placed, place: usize, character: char)
-    ensures { IsColored (is_in_bits (placed_value label.now) (character_bits place character)) label.now.color pixmap.old pixmap.new }
+    ensures { IsColored (is_in_bits (placed_value label.now) (character_bits place character))
+        label.now.color pixmap.old pixmap.new }
 {
     let rows = glyph(character);
-    for up in 1..6 {
+    for up in 1..CELL_HEIGHT {
         draw_row(pixmap, label, place, up, row_up(rows, up));
     }
 }
 
 /// Draws one row of a character, `up` rows of bits up in its cell.
 fn draw_row(pixmap: &mut Pixmap, label: &Placed, place: usize, up: u8, row: u8)
-    ensures { IsColored (is_in_bits (placed_value label.now) (row_bits place up row)) label.now.color pixmap.old pixmap.new }
+    ensures { IsColored (is_in_bits (placed_value label.now) (row_bits place up row))
+        label.now.color pixmap.old pixmap.new }
 {
-    for column in 0..3 {
+    for column in 0..GLYPH_WIDTH {
         if has_bit(row, column) {
-            draw_bit(pixmap, label, 4 * place as u128 + u128::from(column), up);
+            let across = CELL_WIDTH as u128 * place as u128 + u128::from(column);
+            draw_bit(pixmap, label, across, up);
         }
     }
 }
@@ -57,7 +62,8 @@ fn draw_row(pixmap: &mut Pixmap, label: &Placed, place: usize, up: u8, row: u8)
 /// Draws one bit, which is `across` bits to the right in the label's box and `up` bits up.
 fn draw_bit(pixmap: &mut Pixmap, label: &Placed, across: u128, up: u8)
     requires { across ≤ 2 ^ 70 }
-    ensures { IsColored (is_in_bits (placed_value label.now) (one_bit across up)) label.now.color pixmap.old pixmap.new }
+    ensures { IsColored (is_in_bits (placed_value label.now) (one_bit across up))
+        label.now.color pixmap.old pixmap.new }
 {
     fill(pixmap, &bit_frame(label, across, up), label.color);
 }

@@ -4,6 +4,8 @@ ghost use Rattle.std.specs.List.{find};
 ghost use Rattle.std.specs.Option.{option_copied};
 ghost use Rattle.wf_label.specs.Glyph.{glyph, glyph_entry, rows};
 
+use crate::limits::GLYPH_HEIGHT;
+
 /// The characters that have a glyph, each with five octal digits: the rows from the top, of each row the highest bit on the left.
 const GLYPHS: [(char, u16); 39] = [
     ('A', 0o25755),
@@ -53,7 +55,7 @@ const FILLED: u16 = 0o77777;
 /// The five rows of a character's glyph from the top, each three bits, the highest on the left. `a` to `z` look as `A` to `Z`; a
 /// character without a glyph is filled. It allocates nothing.
 #[tactic(auto, unfolding(crate::specs::Glyph::glyph))]
-pub fn glyph(c: char) -> [u8; 5]
+pub fn glyph(c: char) -> [u8; GLYPH_HEIGHT]
     ensures { result ≡ glyph c }
 {
     match glyph_entry(c.to_ascii_uppercase()) {
@@ -80,7 +82,7 @@ fn entry_among(glyphs: &[(char, u16)], c: char) -> Option<&(char, u16)>
 
 /// The rows that five octal digits stand for.
 #[tactic(auto, unfolding(crate::specs::Glyph::rows))]
-fn rows(digits: u16) -> [u8; 5]
+fn rows(digits: u16) -> [u8; GLYPH_HEIGHT]
     ensures { result ≡ rows digits }
 {
     [

@@ -31,6 +31,7 @@ pub mod frame;
 pub mod glyph;
 mod ink;
 pub mod law;
+pub mod limits;
 mod overlap;
 pub mod placed;
 pub mod placement;

@@ -1,10 +1,10 @@
 //! The labels that are placed.
-ghost use Rattle.std.specs.Prelude.{◌≡◌, ◌<◌, ◌++◌, ◌∷◌, [], true, length, IfOk, OnOk, if◌then◌else◌};
+ghost use Rattle.std.specs.Prelude.{◌≡◌, ◌<◌, ◌++◌, ◌∷◌, [], true, length, IfOk, OnOk};
 ghost use Rattle.std.specs.List.{All, list_any};
 ghost use Rattle.wf_label.specs.Frame.{overlap, frame_of};
 ghost use Rattle.wf_label.specs.Label.{candidates};
 ghost use Rattle.wf_label.specs.Placed.{placed_value, placed_values};
-ghost use Rattle.wf_label.specs.Placing.{IsPlacing, stands};
+ghost use Rattle.wf_label.specs.Placing.{IsPlacing, joined, stands};
 ghost use Rattle.wf_label.specs.Taken.{IsShown, IsSolid, IsTaken};
 
 use crate::candidates::candidates;
@@ -26,7 +26,8 @@ pub fn place<'a>(
     view: &View,
 ) -> Result<Vec<Placed<'a>>, AllocError>
     requires { All (λ i. i < length map.now.layers) layers.now }
-    ensures { IfOk result (λ placed. IsPlacing view.now (candidates map.now layers.now view.now) (placed_values placed.items)) }
+    ensures { IfOk result (λ placed.
+        IsPlacing view.now (candidates map.now layers.now view.now) (placed_values placed.items)) }
 {
     let labels = candidates(alloc, map, layers, view)?;
     placed_among(alloc, &labels, view)
@@ -46,7 +47,8 @@ fn placed_among<'a>(
     view: &View,
 ) -> Result<Vec<Placed<'a>>, AllocError>
     requires { All (λ label. 0 < length label.text) (placed_values labels.now) }
-    ensures { IfOk result (λ placed. IsPlacing view.now (placed_values labels.now) (placed_values placed.items)) }
+    ensures { IfOk result
+        (λ placed. IsPlacing view.now (placed_values labels.now) (placed_values placed.items)) }
 {
     let mut placing = none_placed(alloc, view)?;
     for label in labels {
@@ -76,10 +78,12 @@ fn place_label<'a>(
     label: &Placed<'a>,
 ) -> Result<(), AllocError>
     requires text { 0 < length label.now.text.now }
-    requires taken { IsTaken view.now (placed_values placing.old.placed.items) placing.old.marks.items }
+    requires taken { IsTaken view.now
+        (placed_values placing.old.placed.items) placing.old.marks.items }
     ensures placed { OnOk result (placed_values placing.new.placed.items
-        ≡ (if stands view.now (placed_values placing.old.placed.items) (placed_value label.now) then placed_values placing.old.placed.items ++ placed_value label.now ∷ [] else placed_values placing.old.placed.items)) }
-    ensures taken { OnOk result (IsTaken view.now (placed_values placing.new.placed.items) placing.new.marks.items) }
+        ≡ joined view.now (placed_values placing.old.placed.items) (placed_value label.now)) }
+    ensures taken { OnOk result
+        (IsTaken view.now (placed_values placing.new.placed.items) placing.new.marks.items) }
 {
     if stands(placing, view, label) {
         add(placing, view, label)?;
@@ -90,9 +94,12 @@ fn place_label<'a>(
 /// Places the label.
 fn add<'a>(placing: &mut Placing<'a>, view: &View, label: &Placed<'a>) -> Result<(), AllocError>
     requires shown { IsShown view.now (placed_value label.now) }
-    requires taken { IsTaken view.now (placed_values placing.old.placed.items) placing.old.marks.items }
-    ensures placed { OnOk result (placed_values placing.new.placed.items ≡ placed_values placing.old.placed.items ++ placed_value label.now ∷ []) }
-    ensures taken { OnOk result (IsTaken view.now (placed_values placing.new.placed.items) placing.new.marks.items) }
+    requires taken { IsTaken view.now
+        (placed_values placing.old.placed.items) placing.old.marks.items }
+    ensures placed { OnOk result (placed_values placing.new.placed.items
+        ≡ placed_values placing.old.placed.items ++ placed_value label.now ∷ []) }
+    ensures taken { OnOk result
+        (IsTaken view.now (placed_values placing.new.placed.items) placing.new.marks.items) }
 {
     placing.placed.push(*label)?;
     mark(&mut placing.marks, view, &frame_of(label));
@@ -103,8 +110,10 @@ fn add<'a>(placing: &mut Placing<'a>, view: &View, label: &Placed<'a>) -> Result
 #[tactic(auto, unfolding(crate::specs::Placing::stands, crate::specs::Frame::meets))]
 fn stands(placing: &Placing, view: &View, label: &Placed) -> bool
     requires text { 0 < length label.now.text.now }
-    requires taken { IsTaken view.now (placed_values placing.now.placed.items) placing.now.marks.items }
-    ensures value { result ≡ stands view.now (placed_values placing.now.placed.items) (placed_value label.now) }
+    requires taken { IsTaken view.now
+        (placed_values placing.now.placed.items) placing.now.marks.items }
+    ensures value { result
+        ≡ stands view.now (placed_values placing.now.placed.items) (placed_value label.now) }
     ensures shown { result ≡ true → IsShown view.now (placed_value label.now) }
 {
     let frame = frame_of(label);
@@ -115,8 +124,10 @@ fn stands(placing: &Placing, view: &View, label: &Placed) -> bool
 /// Whether the box has a pixel in common with the box of one of the labels placed so far.
 fn meets_any(placing: &Placing, view: &View, frame: &Frame) -> bool
     requires solid { IsSolid frame.now }
-    requires taken { IsTaken view.now (placed_values placing.now.placed.items) placing.now.marks.items }
-    ensures { result ≡ list_any (λ other. overlap frame.now (frame_of other)) (placed_values placing.now.placed.items) }
+    requires taken { IsTaken view.now
+        (placed_values placing.now.placed.items) placing.now.marks.items }
+    ensures { result ≡ list_any
+        (λ other. overlap frame.now (frame_of other)) (placed_values placing.now.placed.items) }
 {
     meets_marked(&placing.marks, view, frame)
 }

@@ -44,8 +44,9 @@ fn block_of(view: &View, frame: &Frame) -> Block
 /// byte isn't 0.
 pub(crate) fn mark(marks: &mut [u8], view: &View, frame: &Frame)
     requires { length marks.old ≡ view.now.width * view.now.height }
-    ensures { (column row : ℕ) → column < view.now.width → row < view.now.height →
-        is_marked marks.new (row * view.now.width + column) ≡ (is_in frame.now column row || is_marked marks.old (row * view.now.width + column)) }
+    ensures { (column row : ℕ) → column < view.now.width →
+        row < view.now.height → is_marked marks.new (row * view.now.width + column)
+        ≡ (is_in frame.now column row || is_marked marks.old (row * view.now.width + column)) }
 {
     let width = view.width() as usize;
     let block = block_of(view, frame);
@@ -57,7 +58,8 @@ pub(crate) fn mark(marks: &mut [u8], view: &View, frame: &Frame)
 /// Marks the indices from `start` to before `end`.
 fn mark_run(marks: &mut [u8], start: usize, end: usize)
     requires { end ≤ length marks.old }
-    ensures { (place : ℕ) → is_marked marks.new place ≡ ((nat_le start place && nat_lt place end) || is_marked marks.old place) }
+    ensures { (place : ℕ) → is_marked marks.new place
+        ≡ ((nat_le start place && nat_lt place end) || is_marked marks.old place) }
 {
     for place in start..end.max(start) {
         marks[place] = 1;
@@ -67,7 +69,8 @@ fn mark_run(marks: &mut [u8], start: usize, end: usize)
 /// Whether a marked pixel of the view lies in the box.
 pub(crate) fn meets_marked(marks: &[u8], view: &View, frame: &Frame) -> bool
     requires { length marks.now ≡ view.now.width * view.now.height }
-    ensures free { result ≡ false → (column row : ℕ) → column < view.now.width → row < view.now.height → is_in frame.now column row ≡ true →
+    ensures free { result ≡ false → (column row : ℕ) →
+        column < view.now.width → row < view.now.height → is_in frame.now column row ≡ true →
         is_marked marks.now (row * view.now.width + column) ≡ false }
     ensures met { result ≡ true → IsMet view.now frame.now marks.now }
 {
@@ -85,7 +88,8 @@ pub(crate) fn meets_marked(marks: &[u8], view: &View, frame: &Frame) -> bool
 /// can do many at once.
 fn greatest(marks: &[u8], start: usize, end: usize) -> u8
     requires { end ≤ length marks.now }
-    ensures none { result ≡ 0 → (place : ℕ) → start ≤ place → place < end → is_marked marks.now place ≡ false }
+    ensures none { result ≡ 0 →
+        (place : ℕ) → start ≤ place → place < end → is_marked marks.now place ≡ false }
     ensures some { 0 < result → IsMarkedWithin marks.now start end }
 {
     let mut most = 0;

@@ -6,6 +6,7 @@ ghost use Rattle.wf_label.specs.Frame.{text_width, text_height};
 ghost use Rattle.wf_label.specs.Label.{text_of};
 ghost use Rattle.wf_label.specs.Placed.{scale_of};
 
+use crate::limits::{CELL_HEIGHT, CELL_WIDTH};
 use crate::scale::scale_of;
 use wf_def::choice::LabelSize;
 use wf_def::feature::Feature;
@@ -46,7 +47,7 @@ pub(crate) fn text_width(size: LabelSize, text: &str) -> u128
     ensures value { result ≡ text_width (scale_of size) text.now }
     ensures most { result ≤ 2 ^ 80 }
 {
-    4 * u128::from(scale_of(size)) * character_count(text) as u128
+    CELL_WIDTH as u128 * u128::from(scale_of(size)) * character_count(text) as u128
 }
 
 /// The same of a text that a map holds, which is short.
@@ -63,5 +64,5 @@ pub(crate) fn short_width(size: LabelSize, text: &str) -> u32
 pub(crate) fn text_height(size: LabelSize) -> u32
     ensures { result ≡ text_height (scale_of size) }
 {
-    6 * u32::from(scale_of(size))
+    CELL_HEIGHT as u32 * u32::from(scale_of(size))
 }

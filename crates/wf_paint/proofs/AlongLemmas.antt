@@ -13,6 +13,7 @@ use Rattle.wf_def.specs.declared.color.Color.{Color}
 use Rattle.wf_paint.specs.Canvas.{CanvasValue}
 use Rattle.wf_paint.specs.Shown.{IsColored}
 use Rattle.wf_paint.specs.declared.segment.Segment.{Segment}
+use Rattle.wf_paint.specs.Limit.{half_side, pixel_side}
 use Rattle.wf_paint.proofs.ColoredLemmas.{IsColored-none, IsColored-either, IsColored-alike}
 use Rattle.wf_paint.proofs.LevelLemmas.{opposed}
 
@@ -26,10 +27,10 @@ times_sum a b c =
     omega (arith, ints)
 
 -- sixteen times one factor is sixteen times the other
-pub sixteen : (u e : ℤ) → (pos 16 *ℤ u) *ℤ e ≡ (pos 16 *ℤ e) *ℤ u
+pub sixteen : (u e : ℤ) → (pos pixel_side *ℤ u) *ℤ e ≡ (pos pixel_side *ℤ e) *ℤ u
 sixteen u e =
-    let left = product_is (pos 16) u in
-    let right = product_is (pos 16) e in
+    let left = product_is (pos pixel_side) u in
+    let right = product_is (pos pixel_side) e in
     let a = ap (λ (n : ℕ). n * up e) left.0 in
     let b = ap (λ (n : ℕ). n * down e) left.0 in
     let c = ap (λ (n : ℕ). n * up e) left.1 in
@@ -42,12 +43,12 @@ sixteen u e =
 
 -- ---- the deviation changes by one step from column to column
 
-split : (u x : ℤ) → (pos 16 *ℤ u +ℤ pos 8) -ℤ x ≡ pos 16 *ℤ u +ℤ ((pos 16 *ℤ pos 0 +ℤ pos 8) -ℤ x)
+split : (u x : ℤ) → (pos pixel_side *ℤ u +ℤ pos half_side) -ℤ x ≡ pos pixel_side *ℤ u +ℤ ((pos pixel_side *ℤ pos 0 +ℤ pos half_side) -ℤ x)
 split u x = omega (arith, ints)
 
-stepped : (u x e : ℤ) → ((pos 16 *ℤ u +ℤ pos 8) -ℤ x) *ℤ e ≡ (pos 16 *ℤ e) *ℤ u +ℤ ((pos 16 *ℤ pos 0 +ℤ pos 8) -ℤ x) *ℤ e
-stepped u x e = ap (λ (z : ℤ). z *ℤ e) (split u x) ∙ times_sum (pos 16 *ℤ u) ((pos 16 *ℤ pos 0 +ℤ pos 8) -ℤ x) e
-    ∙ ap (λ (z : ℤ). z +ℤ ((pos 16 *ℤ pos 0 +ℤ pos 8) -ℤ x) *ℤ e) (sixteen u e)
+stepped : (u x e : ℤ) → ((pos pixel_side *ℤ u +ℤ pos half_side) -ℤ x) *ℤ e ≡ (pos pixel_side *ℤ e) *ℤ u +ℤ ((pos pixel_side *ℤ pos 0 +ℤ pos half_side) -ℤ x) *ℤ e
+stepped u x e = ap (λ (z : ℤ). z *ℤ e) (split u x) ∙ times_sum (pos pixel_side *ℤ u) ((pos pixel_side *ℤ pos 0 +ℤ pos half_side) -ℤ x) e
+    ∙ ap (λ (z : ℤ). z +ℤ ((pos pixel_side *ℤ pos 0 +ℤ pos half_side) -ℤ x) *ℤ e) (sixteen u e)
 
 taken_off : (p z t w q : ℤ) → z ≡ t +ℤ w → q ≡ neg_ℤ t → p -ℤ z ≡ (p -ℤ w) +ℤ q
 taken_off p z t w q whole turned = omega (arith, ints)
@@ -56,38 +57,38 @@ added : (z t w p : ℤ) → z ≡ t +ℤ w → z -ℤ p ≡ (w -ℤ p) +ℤ t
 added z t w p whole = omega (arith, ints)
 
 pub deviation_across : (u : ℕ) (row : ℤ) (a b : PlaceValue) →
-    deviation (centre (pos u) row) a b ≡ level (deviation (centre (pos 0) row) a b) (opposite (product (pos 16) (rise a b))) (pos u)
+    deviation (centre (pos u) row) a b ≡ level (deviation (centre (pos 0) row) a b) (opposite (product (pos pixel_side) (rise a b))) (pos u)
 unfolding deviation run rise level plus difference product opposite
 deviation_across u row a b =
-    taken_off _ _ (pos 16 *ℤ (b.y -ℤ a.y) *ℤ pos u) (((pos 16 *ℤ pos 0 +ℤ pos 8) -ℤ a.x) *ℤ (b.y -ℤ a.y)) _ (stepped (pos u) a.x (b.y -ℤ a.y)) (opposed (pos 16 *ℤ (b.y -ℤ a.y)) u)
+    taken_off _ _ (pos pixel_side *ℤ (b.y -ℤ a.y) *ℤ pos u) (((pos pixel_side *ℤ pos 0 +ℤ pos half_side) -ℤ a.x) *ℤ (b.y -ℤ a.y)) _ (stepped (pos u) a.x (b.y -ℤ a.y)) (opposed (pos pixel_side *ℤ (b.y -ℤ a.y)) u)
 
 pub deviation_upward : (u : ℕ) (row : ℤ) (a b : PlaceValue) →
-    deviation (turned (centre (pos u) row)) a b ≡ level (deviation (turned (centre (pos 0) row)) a b) (product (pos 16) (run a b)) (pos u)
+    deviation (turned (centre (pos u) row)) a b ≡ level (deviation (turned (centre (pos 0) row)) a b) (product (pos pixel_side) (run a b)) (pos u)
 unfolding deviation run rise level plus difference product opposite
 deviation_upward u row a b =
-    added _ (pos 16 *ℤ (b.x -ℤ a.x) *ℤ pos u) (((pos 16 *ℤ pos 0 +ℤ pos 8) -ℤ a.y) *ℤ (b.x -ℤ a.x)) _ (stepped (pos u) a.y (b.x -ℤ a.x))
+    added _ (pos pixel_side *ℤ (b.x -ℤ a.x) *ℤ pos u) (((pos pixel_side *ℤ pos 0 +ℤ pos half_side) -ℤ a.y) *ℤ (b.x -ℤ a.x)) _ (stepped (pos u) a.y (b.x -ℤ a.x))
 
 -- ---- the deviations of a picture's pixels change by one step from column to column, and by another from row to row
 
-rise_back : (a b : PlaceValue) → opposite (product (pos 16) (rise a b)) ≡ product (pos 16) (rise b a)
+rise_back : (a b : PlaceValue) → opposite (product (pos pixel_side) (rise a b)) ≡ product (pos pixel_side) (rise b a)
 unfolding rise difference product opposite
 rise_back a b = omega (arith, ints)
 
 pub across_levels : (u v : ℕ) (a b : PlaceValue) →
-    level (level (deviation (centre (pos 0) (pos 0)) a b) (product (pos 16) (run a b)) (pos v)) (product (pos 16) (rise b a)) (pos u)
+    level (level (deviation (centre (pos 0) (pos 0)) a b) (product (pos pixel_side) (run a b)) (pos v)) (product (pos pixel_side) (rise b a)) (pos u)
     ≡ deviation (centre (pos u) (pos v)) a b
 across_levels u v a b =
     sym (deviation_across u (pos v) a b
-    ∙ ap (λ (z : ℤ). level z (opposite (product (pos 16) (rise a b))) (pos u)) (deviation_upward v (pos 0) a b)
-    ∙ ap (λ (z : ℤ). level (level (deviation (centre (pos 0) (pos 0)) a b) (product (pos 16) (run a b)) (pos v)) z (pos u)) (rise_back a b))
+    ∙ ap (λ (z : ℤ). level z (opposite (product (pos pixel_side) (rise a b))) (pos u)) (deviation_upward v (pos 0) a b)
+    ∙ ap (λ (z : ℤ). level (level (deviation (centre (pos 0) (pos 0)) a b) (product (pos pixel_side) (run a b)) (pos v)) z (pos u)) (rise_back a b))
 
 pub upward_levels : (u v : ℕ) (a b : PlaceValue) →
-    level (level (deviation (turned (centre (pos 0) (pos 0))) a b) (product (pos 16) (rise b a)) (pos v)) (product (pos 16) (run a b)) (pos u)
+    level (level (deviation (turned (centre (pos 0) (pos 0))) a b) (product (pos pixel_side) (rise b a)) (pos v)) (product (pos pixel_side) (run a b)) (pos u)
     ≡ deviation (turned (centre (pos u) (pos v))) a b
 upward_levels u v a b =
     sym (deviation_upward u (pos v) a b
-    ∙ ap (λ (z : ℤ). level z (product (pos 16) (run a b)) (pos u)) (deviation_across v (pos 0) a b)
-    ∙ ap (λ (z : ℤ). level (level (deviation (centre (pos 0) (pos 0)) a b) z (pos v)) (product (pos 16) (run a b)) (pos u)) (rise_back a b))
+    ∙ ap (λ (z : ℤ). level z (product (pos pixel_side) (run a b)) (pos u)) (deviation_across v (pos 0) a b)
+    ∙ ap (λ (z : ℤ). level (level (deviation (centre (pos 0) (pos 0)) a b) z (pos v)) (product (pos pixel_side) (run a b)) (pos u)) (rise_back a b))
 
 pub band_level : (width : ℕ) (c a b : PlaceValue) → is_in_band width c a b ≡ is_in_margin (margin width a b) (deviation c a b)
 unfolding is_in_band is_in_margin

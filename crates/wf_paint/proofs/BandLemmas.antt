@@ -8,6 +8,7 @@ use Rattle.wf_paint.specs.Exact.{plus, difference, product, opposite, is_less}
 use Rattle.wf_paint.specs.Level.{is_in_margin}
 use Rattle.wf_paint.specs.Place.{PlaceValue}
 use Rattle.wf_paint.specs.Coverage.{run, rise, deviation, margin, is_along, is_in_band, is_across}
+use Rattle.wf_paint.specs.Limit.{half_side}
 use Rattle.wf_paint.proofs.AlongLemmas.{times_sum, across_left, across_along, band_level}
 
 pub less_lowered : (z low half y : ℤ) → is_less z (difference low half) ≡ true → is_less y low ≡ false → is_less z (difference y half) ≡ true
@@ -69,9 +70,9 @@ deviation_weighed c a b along =
     ∙ ap (λ (z : ℤ). rise a c *ℤ pos (nat_abs (run a c) + nat_abs (run c b)) -ℤ pos (nat_abs (run a c)) *ℤ z) (rise_split c a b)
     ∙ weighed (rise a c) (rise b c) (nat_abs (run a c)) (nat_abs (run c b))
 
-margin_counted : (width : ℕ) (c a b : PlaceValue) → is_along c a b ≡ true → margin width a b ≡ pos (8 * width * (nat_abs (run a c) + nat_abs (run c b)))
+margin_counted : (width : ℕ) (c a b : PlaceValue) → is_along c a b ≡ true → margin width a b ≡ pos (half_side * width * (nat_abs (run a c) + nat_abs (run c b)))
 unfolding margin product
-margin_counted width c a b along = ap (λ (z : ℤ). pos (8 * width) *ℤ z) (run_counted c a b along) ∙ pos-*ℤ-pos (8 * width) (nat_abs (run a c) + nat_abs (run c b))
+margin_counted width c a b along = ap (λ (z : ℤ). pos (half_side * width) *ℤ z) (run_counted c a b along) ∙ pos-*ℤ-pos (half_side * width) (nat_abs (run a c) + nat_abs (run c b))
 
 -- ---- half the width beyond both ends
 
@@ -130,11 +131,11 @@ out_above r x y (pos i) (pos j) first second =
 -- ---- the line
 
 band_weighed : (width : ℕ) (c a b : PlaceValue) → is_along c a b ≡ true →
-    is_in_band width c a b ≡ is_in_margin (pos (8 * width * (nat_abs (run a c) + nat_abs (run c b)))) (rise a c *ℤ pos (nat_abs (run c b)) +ℤ rise b c *ℤ pos (nat_abs (run a c)))
+    is_in_band width c a b ≡ is_in_margin (pos (half_side * width * (nat_abs (run a c) + nat_abs (run c b)))) (rise a c *ℤ pos (nat_abs (run c b)) +ℤ rise b c *ℤ pos (nat_abs (run a c)))
 band_weighed width c a b along =
     band_level width c a b
     ∙ ap (λ (z : ℤ). is_in_margin z (deviation c a b)) (margin_counted width c a b along)
-    ∙ ap (is_in_margin (pos (8 * width * (nat_abs (run a c) + nat_abs (run c b))))) (deviation_weighed c a b along)
+    ∙ ap (is_in_margin (pos (half_side * width * (nat_abs (run a c) + nat_abs (run c b))))) (deviation_weighed c a b along)
 
 between_ends : (width : ℕ) (c a b : PlaceValue) → (is_along c a b ≡ true → is_in_band width c a b ≡ false) → is_across width c a b ≡ false
 between_ends width c a b none = by_case (cases_Bool (is_along c a b)) where
@@ -142,22 +143,22 @@ between_ends width c a b none = by_case (cases_Bool (is_along c a b)) where
   by_case (inl along) = across_along width c a b along ∙ none along
   by_case (inr left) = across_left width c a b left
 
-low_rise : (width : ℕ) (c a : PlaceValue) → is_less c.y (difference a.y (pos (8 * width))) ≡ true → rise a c <ℤ neg_ℤ (pos (8 * width))
+low_rise : (width : ℕ) (c a : PlaceValue) → is_less c.y (difference a.y (pos (half_side * width))) ≡ true → rise a c <ℤ neg_ℤ (pos (half_side * width))
 unfolding is_less rise difference
 low_rise width c a below = omega (arith, ints)
 
-high_rise : (width : ℕ) (c a : PlaceValue) → is_less c.y (plus a.y (pos (8 * width))) ≡ false → pos (8 * width) ≤ℤ rise a c
+high_rise : (width : ℕ) (c a : PlaceValue) → is_less c.y (plus a.y (pos (half_side * width))) ≡ false → pos (half_side * width) ≤ℤ rise a c
 unfolding is_less rise difference plus
 high_rise width c a above = omega (arith, ints)
 
 -- a position half the width or more below both ends isn't covered
-pub beyond_below : (width : ℕ) (c a b : PlaceValue) → is_less c.y (difference a.y (pos (8 * width))) ≡ true → is_less c.y (difference b.y (pos (8 * width))) ≡ true →
+pub beyond_below : (width : ℕ) (c a b : PlaceValue) → is_less c.y (difference a.y (pos (half_side * width))) ≡ true → is_less c.y (difference b.y (pos (half_side * width))) ≡ true →
     is_across width c a b ≡ false
 beyond_below width c a b first second = between_ends width c a b (λ along. band_weighed width c a b along
-    ∙ out_below (8 * width) (nat_abs (run a c)) (nat_abs (run c b)) (rise a c) (rise b c) (low_rise width c a first) (low_rise width c b second))
+    ∙ out_below (half_side * width) (nat_abs (run a c)) (nat_abs (run c b)) (rise a c) (rise b c) (low_rise width c a first) (low_rise width c b second))
 
 -- nor is one half the width or more above both
-pub beyond_above : (width : ℕ) (c a b : PlaceValue) → is_less c.y (plus a.y (pos (8 * width))) ≡ false → is_less c.y (plus b.y (pos (8 * width))) ≡ false →
+pub beyond_above : (width : ℕ) (c a b : PlaceValue) → is_less c.y (plus a.y (pos (half_side * width))) ≡ false → is_less c.y (plus b.y (pos (half_side * width))) ≡ false →
     is_across width c a b ≡ false
 beyond_above width c a b first second = between_ends width c a b (λ along. band_weighed width c a b along
-    ∙ out_above (8 * width) (nat_abs (run a c)) (nat_abs (run c b)) (rise a c) (rise b c) (high_rise width c a first) (high_rise width c b second))
+    ∙ out_above (half_side * width) (nat_abs (run a c)) (nat_abs (run c b)) (rise a c) (rise b c) (high_rise width c a first) (high_rise width c b second))

@@ -9,7 +9,8 @@ use borrow.Author.Differences.{sum_is_lem, neg_is}
 use Rattle.wf_def.specs.Extent.{ExtentValue}
 use Rattle.wf_def.specs.Limit.{most_millionths}
 use Rattle.wf_paint.specs.Exact.{plus, difference, product}
-use Rattle.wf_paint.specs.Grid.{is_on_line, is_cell, has_level, is_box, fits, width_of, most_level, tile_pixels, IsGridCell}
+use Rattle.wf_paint.specs.Grid.{is_on_line, is_cell, has_level, is_box, fits, width_of, IsGridCell}
+use Rattle.wf_paint.specs.Limit.{most_level, tile_pixels}
 use Rattle.wf_paint.specs.declared.cell.GridCell.{GridCell}
 use Rattle.wf_paint.proofs.QuotientLemmas.{nearest_line}
 

@@ -10,6 +10,7 @@ use Rattle.wf_paint.specs.Exact.{plus, difference, product, is_less}
 use Rattle.wf_paint.specs.Place.{PlaceValue, middle, centre}
 use Rattle.wf_paint.specs.Coverage.{run, rise, is_left_of, is_beside, meets, crosses, is_inside}
 use Rattle.wf_paint.specs.declared.segment.Segment.{Segment}
+use Rattle.wf_paint.specs.Limit.{half_side, pixel_side}
 
 and_false : (b : Bool) → (b && false) ≡ false
 and_false true = refl
@@ -53,26 +54,26 @@ sum_less a b c = grind (arith, ints)
 
 -- a positive number of steps further: the product is that many products more
 less_steps : (start shift rise bound : ℤ) (u : ℕ) → pos 1 ≤ℤ rise →
-    is_less (product (difference (plus (product (pos 16) (pos u)) shift) start) rise) bound
-    ≡ is_less (product (product (pos 16) rise) (pos u)) (difference bound (product (difference shift start) rise))
+    is_less (product (difference (plus (product (pos pixel_side) (pos u)) shift) start) rise) bound
+    ≡ is_less (product (product (pos pixel_side) rise) (pos u)) (difference bound (product (difference shift start) rise))
 unfolding product difference plus is_less
 less_steps start shift (pos r) bound u some =
-    let apart : (pos 16 *ℤ pos u +ℤ shift) -ℤ start ≡ pos 16 *ℤ pos u +ℤ (shift -ℤ start) = omega (arith, ints) in
-    let turned : 16 * u * r ≡ 16 * r * u = omega arith in
+    let apart : (pos pixel_side *ℤ pos u +ℤ shift) -ℤ start ≡ pos pixel_side *ℤ pos u +ℤ (shift -ℤ start) = omega (arith, ints) in
+    let turned : pixel_side * u * r ≡ pixel_side * r * u = omega arith in
     ap (λ (z : ℤ). is_less (z *ℤ pos r) bound) apart
-    ∙ ap (λ (z : ℤ). is_less z bound) (sum_times (pos 16 *ℤ pos u) (shift -ℤ start) r)
-    ∙ sum_less (pos 16 *ℤ pos u *ℤ pos r) ((shift -ℤ start) *ℤ pos r) bound
+    ∙ ap (λ (z : ℤ). is_less z bound) (sum_times (pos pixel_side *ℤ pos u) (shift -ℤ start) r)
+    ∙ sum_less (pos pixel_side *ℤ pos u *ℤ pos r) ((shift -ℤ start) *ℤ pos r) bound
     ∙ ap (λ (n : ℕ). is_less (pos n) (bound -ℤ (shift -ℤ start) *ℤ pos r)) turned
 less_steps start shift (negsuc r) bound u some = absurd (omega (arith, ints))
 
 -- the columns left of it are those with few enough steps of its rise
 pub left_steps : (level : ℤ) (u : ℕ) (low high : PlaceValue) → pos 1 ≤ℤ difference high.y low.y →
     is_left_of (record { x = middle (pos u); y = level }) low high
-    ≡ is_less (product (product (pos 16) (difference high.y low.y)) (pos u)) (difference (product (difference level low.y) (difference high.x low.x)) (product (difference (pos 8) low.x) (difference high.y low.y)))
+    ≡ is_less (product (product (pos pixel_side) (difference high.y low.y)) (pos u)) (difference (product (difference level low.y) (difference high.x low.x)) (product (difference (pos half_side) low.x) (difference high.y low.y)))
 unfolding is_left_of run rise
-left_steps level u low high some = less_steps low.x (pos 8) (difference high.y low.y) (product (difference level low.y) (difference high.x low.x)) u some
+left_steps level u low high some = less_steps low.x (pos half_side) (difference high.y low.y) (product (difference level low.y) (difference high.x low.x)) u some
 
-pub rise_steps : (rise : ℤ) → pos 1 ≤ℤ rise → pos 1 ≤ℤ product (pos 16) rise
+pub rise_steps : (rise : ℤ) → pos 1 ≤ℤ rise → pos 1 ≤ℤ product (pos pixel_side) rise
 unfolding product
 rise_steps rise up = omega (arith, ints)
 

@@ -10,6 +10,7 @@ use Rattle.wf_paint.specs.Coverage.{run, rise, is_left_of, is_beside, meets, cro
 use Rattle.wf_paint.specs.Segments.{path_from, path, ring}
 use Rattle.wf_paint.specs.Square.{square_start, is_in_span, is_in_square}
 use Rattle.wf_paint.specs.declared.segment.Segment.{Segment}
+use Rattle.wf_paint.specs.Limit.{half_side, pixel_side}
 use Rattle.wf_paint.proofs.QuotientLemmas.{quotient_only}
 
 -- ---- numbers
@@ -80,7 +81,7 @@ deviation_moved s t c a b =
 
 margin_moved : (s t : ℤ) (width : ℕ) (a b : PlaceValue) → margin width (moved s t a) (moved s t b) ≡ margin width a b
 unfolding margin
-margin_moved s t width a b = ap (product (pos (8 * width))) (run_moved s t a b)
+margin_moved s t width a b = ap (product (pos (half_side * width))) (run_moved s t a b)
 
 band_moved : (s t : ℤ) (width : ℕ) (c a b : PlaceValue) → is_in_band width (moved s t c) (moved s t a) (moved s t b) ≡ is_in_band width c a b
 unfolding is_in_band
@@ -179,7 +180,7 @@ on_any_alike width c d xs ys same = any_of_tests (is_on width c) xs ∙ ap (list
 
 -- a pixel has sixteen sixteenths
 unfoldable pub sixteenths : ℤ → ℤ
-sixteenths pixels = product (pos 16) pixels
+sixteenths pixels = product (pos pixel_side) pixels
 
 middle_moved : (pixel m : ℤ) → middle pixel ≡ difference (middle (plus pixel m)) (sixteenths m)
 unfolding plus difference product sixteenths
@@ -188,15 +189,15 @@ middle_moved pixel m = omega (arith, ints)
 pub centre_moved : (column row m n : ℤ) → centre column row ≡ moved (sixteenths m) (sixteenths n) (centre (plus column m) (plus row n))
 centre_moved column row m n i = record { x = middle_moved column m i; y = middle_moved row n i }
 
-quotient_bounds : (z : ℤ) → ((int_div_euclid z (pos 16) *ℤ pos 16) ≤ℤ z) × (z <ℤ (int_div_euclid z (pos 16) *ℤ pos 16 +ℤ pos 16))
+quotient_bounds : (z : ℤ) → ((int_div_euclid z (pos pixel_side) *ℤ pos pixel_side) ≤ℤ z) × (z <ℤ (int_div_euclid z (pos pixel_side) *ℤ pos pixel_side +ℤ pos pixel_side))
 quotient_bounds (pos a) = (omega (arith, ints), omega (arith, ints))
 quotient_bounds (negsuc a) = (omega (arith, ints), omega (arith, ints))
 
-quotient_moved : (z m : ℤ) → quotient (difference z (sixteenths m)) (pos 16) ≡ difference (quotient z (pos 16)) m
+quotient_moved : (z m : ℤ) → quotient (difference z (sixteenths m)) (pos pixel_side) ≡ difference (quotient z (pos pixel_side)) m
 unfolding quotient difference product sixteenths
 quotient_moved z m =
     let bounds = quotient_bounds z in
-    quotient_only (z -ℤ (pos 16 *ℤ m)) (int_div_euclid z (pos 16) -ℤ m) 16 (omega arith) (omega (arith, ints)) (omega (arith, ints))
+    quotient_only (z -ℤ (pos pixel_side *ℤ m)) (int_div_euclid z (pos pixel_side) -ℤ m) 16 (omega arith) (omega (arith, ints)) (omega (arith, ints))
 
 start_moved : (a q m h : ℤ) → is_less a (difference (difference q m) h) ≡ is_less (plus a m) (difference q h)
 unfolding is_less difference plus
@@ -209,8 +210,8 @@ end_moved a q m h w = grind (arith, ints)
 span_moved : (size : ℕ) (z m column : ℤ) → is_in_span size (difference z (sixteenths m)) column ≡ is_in_span size z (plus column m)
 unfolding is_in_span square_start
 span_moved size z m column =
-    let start = start_moved column (quotient z (pos 16)) m (pos (size / 2)) in
-    let end = end_moved column (quotient z (pos 16)) m (pos (size / 2)) (pos size) in
+    let start = start_moved column (quotient z (pos pixel_side)) m (pos (size / 2)) in
+    let end = end_moved column (quotient z (pos pixel_side)) m (pos (size / 2)) (pos size) in
     rw (quotient_moved z m) cc
 
 pub square_moved : (size : ℕ) (p : PlaceValue) (m n column row : ℤ) →

@@ -17,6 +17,7 @@ use Rattle.wf_paint.specs.declared.levels.Levels.{Levels}
 use Rattle.wf_paint.specs.declared.quotient.Quotient.{Quotient}
 use Rattle.wf_paint.specs.declared.span.Span.{Span}
 use Rattle.wf_paint.specs.declared.stepped.Stepped.{Stepped}
+use Rattle.wf_paint.specs.Limit.{half_side, pixel_side}
 use Rattle.wf_paint.proofs.AlongLemmas.{times_sum, sixteen}
 use Rattle.wf_paint.proofs.ColoredLemmas.{IsColored-either, IsColored-alike}
 use Rattle.wf_paint.proofs.LevelLemmas.{opposed, level_still, rising_span}
@@ -50,7 +51,7 @@ sum_carried d r s t v w whole is rests = carried ((v +ℤ w) *ℤ pos d) (whole 
 
 -- ---- levels
 
-pub row_product : (row : ℕ) (up : ℤ) → product (pos (16 * row)) up ≡ product (product (pos 16) up) (pos row)
+pub row_product : (row : ℕ) (up : ℤ) → product (pos (pixel_side * row)) up ≡ product (product (pos pixel_side) up) (pos row)
 unfolding product
 row_product row up = sixteen (pos row) up
 
@@ -64,13 +65,13 @@ level_next start change row =
     let more : change *ℤ pos (row + 1) ≡ change *ℤ pos row +ℤ change = omega (arith, ints) in
     omega (arith, ints)
 
-sixteen_opposed : (z : ℤ) → pos 16 *ℤ neg_ℤ z ≡ neg_ℤ (pos 16 *ℤ z)
+sixteen_opposed : (z : ℤ) → pos pixel_side *ℤ neg_ℤ z ≡ neg_ℤ (pos pixel_side *ℤ z)
 sixteen_opposed z = omega (arith, ints)
 
-mirrored_product : (z w : ℤ) (u : ℕ) → w ≡ opposite z → product (product (pos 16) w) (pos u) ≡ opposite (product (product (pos 16) z) (pos u))
+mirrored_product : (z w : ℤ) (u : ℕ) → w ≡ opposite z → product (product (pos pixel_side) w) (pos u) ≡ opposite (product (product (pos pixel_side) z) (pos u))
 unfolding product opposite
 mirrored_product z w u is =
-    ap (λ (y : ℤ). (pos 16 *ℤ y) *ℤ pos u) is ∙ ap (λ (y : ℤ). y *ℤ pos u) (sixteen_opposed z) ∙ opposed (pos 16 *ℤ z) u
+    ap (λ (y : ℤ). (pos pixel_side *ℤ y) *ℤ pos u) is ∙ ap (λ (y : ℤ). y *ℤ pos u) (sixteen_opposed z) ∙ opposed (pos pixel_side *ℤ z) u
 
 mirrored_sum : (o p q a b c : ℤ) → a ≡ difference (opposite o) (pos 1) → b ≡ opposite p → c ≡ opposite q →
     plus (plus a b) c ≡ difference (opposite (plus (plus o p) q)) (pos 1)
@@ -81,7 +82,7 @@ pub mirrored_level : (l m : Levels) (u v : ℕ) → m.origin ≡ difference (opp
     level_at m u v ≡ difference (opposite (level_at l u v)) (pos 1)
 unfolding level_at row_level level
 mirrored_level l m u v origin across up =
-    mirrored_sum l.origin (product (product (pos 16) l.up) (pos v)) (product (product (pos 16) l.across) (pos u)) m.origin _ _
+    mirrored_sum l.origin (product (product (pos pixel_side) l.up) (pos v)) (product (product (pos pixel_side) l.across) (pos u)) m.origin _ _
     origin (mirrored_product l.up m.up v up) (mirrored_product l.across m.across u across)
 
 swapped : (a b : Bool) → (a && b) ≡ (b && a)
@@ -129,17 +130,17 @@ edge_begins bound start change here step row q is value rest within = record {
   within = omega arith;
 }
 
-pub edge_stepped : (l : Levels) (bound : ℤ) (row : ℕ) (s : Stepped) → IsStepped l bound row s → IsEdge bound l.origin (product (pos 16) l.up) s.step row s.now
+pub edge_stepped : (l : Levels) (bound : ℤ) (row : ℕ) (s : Stepped) → IsStepped l bound row s → IsEdge bound l.origin (product (pos pixel_side) l.up) s.step row s.now
 edge_stepped l bound row s is = record { ends = is.begins; within = omega (arith, is.near) }
 
 pub end_begins : (l : Levels) (bound here : ℤ) (row step : ℕ) (q : Quotient) → here ≡ row_level l row →
-    number_of step q ≡ difference (difference bound here) (pos 1) → q.rest < step → IsEnd bound l.origin (product (pos 16) l.up) step row q
+    number_of step q ≡ difference (difference bound here) (pos 1) → q.rest < step → IsEnd bound l.origin (product (pos pixel_side) l.up) step row q
 unfolding row_level
 end_begins l bound here row step q is value rest = record { value = one_more (number_of step q) bound here value ∙ ap (difference bound) is; rest = rest }
 
-pub stepped_begins : (l : Levels) (bound here : ℤ) (row step : ℕ) (now change : Quotient) → pos step ≡ product (pos 16) l.across → step ≤ 2 ^ 60 →
+pub stepped_begins : (l : Levels) (bound here : ℤ) (row step : ℕ) (now change : Quotient) → pos step ≡ product (pos pixel_side) l.across → step ≤ 2 ^ 60 →
     here ≡ row_level l row → number_of step now ≡ difference (difference bound here) (pos 1) → now.rest < step → nat_abs now.whole ≤ 2 ^ 50 →
-    number_of step change ≡ opposite (product (pos 16) l.up) → change.rest < step → nat_abs change.whole ≤ 2 ^ 50 →
+    number_of step change ≡ opposite (product (pos pixel_side) l.up) → change.rest < step → nat_abs change.whole ≤ 2 ^ 50 →
     IsStepped l bound row (record { now = now; change = change; step = step })
 stepped_begins l bound here row step now change across most is value rest near moves further slow = record {
   across = across;
@@ -179,14 +180,14 @@ edge_counts bound start change s step row most n q edge same counts u below =
     ∙ ap (is_less (product (pos step) (pos u))) (sym edge.value)
     ∙ counts step u edge.rest below
 
-pub rising_row : (l : Levels) (margin : ℤ) (step row most : ℕ) (low high : Quotient) (span : Span) → pos step ≡ product (pos 16) l.across →
-    IsEnd (opposite margin) l.origin (product (pos 16) l.up) step row low → IsEnd margin l.origin (product (pos 16) l.up) step row high →
+pub rising_row : (l : Levels) (margin : ℤ) (step row most : ℕ) (low high : Quotient) (span : Span) → pos step ≡ product (pos pixel_side) l.across →
+    IsEnd (opposite margin) l.origin (product (pos pixel_side) l.up) step row low → IsEnd margin l.origin (product (pos pixel_side) l.up) step row high →
     Counts low most span.from → Counts high most span.to → span.to ≤ most → IsSpanOf (λ u. is_in_margin margin (level_at l u row)) most span
 unfolding level_at row_level
 rising_row l margin step row most low high span same lower upper from to within =
-    rising_span (level l.origin (product (pos 16) l.up) (pos row)) (product (pos 16) l.across) margin most span within
-    (edge_counts (opposite margin) l.origin (product (pos 16) l.up) (product (pos 16) l.across) step row most span.from low lower same from)
-    (edge_counts margin l.origin (product (pos 16) l.up) (product (pos 16) l.across) step row most span.to high upper same to)
+    rising_span (level l.origin (product (pos pixel_side) l.up) (pos row)) (product (pos pixel_side) l.across) margin most span within
+    (edge_counts (opposite margin) l.origin (product (pos pixel_side) l.up) (product (pos pixel_side) l.across) step row most span.from low lower same from)
+    (edge_counts margin l.origin (product (pos pixel_side) l.up) (product (pos pixel_side) l.across) step row most span.to high upper same to)
 
 -- a number counts as far as the number after its whole part
 counted : (q : Quotient) (n : ℕ) → pos n ≡ plus q.whole (pos 1) → (divisor u : ℕ) → q.rest < divisor →
@@ -219,12 +220,12 @@ further_sum d r v w whole is =
     rearranged (whole *ℤ pos d) (v *ℤ pos d) (w *ℤ pos d) (pos r) (ap (λ (z : ℤ). z *ℤ pos d) is ∙ times_sum v w (pos d))
 
 -- twice the margin is the change of the level over as many columns as the line is wide
-pub even_margin : (w step : ℕ) (a m : ℤ) → pos 1 ≤ℤ a → m ≡ product (pos (8 * w)) a → pos step ≡ product (pos 16) a → product (pos w) (pos step) ≡ plus m m
+pub even_margin : (w step : ℕ) (a m : ℤ) → pos 1 ≤ℤ a → m ≡ product (pos (half_side * w)) a → pos step ≡ product (pos pixel_side) a → product (pos w) (pos step) ≡ plus m m
 unfolding product plus
 even_margin w step (pos n) m rising margin same =
-    let stepped : step ≡ 16 * n = omega (arith, ints, pos-*ℤ-pos 16 n) in
-    let whole : w * (16 * n) ≡ 16 * (w * n) = sym (mul_assoc w 16 n) ∙ ap (λ (k : ℕ). k * n) (mul_comm w 16) ∙ mul_assoc 16 w n in
-    let half : m ≡ pos (8 * (w * n)) = margin ∙ pos-*ℤ-pos (8 * w) n ∙ ap pos (mul_assoc 8 w n) in
+    let stepped : step ≡ pixel_side * n = omega (arith, ints, pos-*ℤ-pos pixel_side n) in
+    let whole : w * (pixel_side * n) ≡ pixel_side * (w * n) = sym (mul_assoc w 16 n) ∙ ap (λ (k : ℕ). k * n) (mul_comm w 16) ∙ mul_assoc 16 w n in
+    let half : m ≡ pos (8 * (w * n)) = margin ∙ pos-*ℤ-pos (half_side * w) n ∙ ap pos (mul_assoc 8 w n) in
     pos-*ℤ-pos w step ∙ ap (λ (k : ℕ). pos (w * k)) stepped ∙ ap pos whole ∙ omega (arith, ints)
 even_margin w step (negsuc n) m rising margin same = absurd (omega (arith, ints))
 
@@ -309,20 +310,20 @@ row_between bound start (negsuc c) step first row last width columns p q r after
     (end_order bound start (negsuc c) step row last q r here end (level_falls start c row last before))
 
 -- the same where the multiples below both borders are counted
-pub counted_row : (l : Levels) (step start lower upper : ℤ) (row most : ℕ) (span : Span) → span.to ≤ most → step ≡ product (pos 16) l.across → start ≡ row_level l row →
+pub counted_row : (l : Levels) (step start lower upper : ℤ) (row most : ℕ) (span : Span) → span.to ≤ most → step ≡ product (pos pixel_side) l.across → start ≡ row_level l row →
     lower ≡ difference (opposite l.margin) start → upper ≡ difference l.margin start →
     ((u : ℕ) → u < most → is_less (product step (pos u)) lower ≡ nat_lt u span.from) →
     ((u : ℕ) → u < most → is_less (product step (pos u)) upper ≡ nat_lt u span.to) →
     IsSpanOf (λ u. is_in_margin l.margin (level_at l u row)) most span
 unfolding level_at
 counted_row l step start lower upper row most span within same here low high from to =
-    let stepped : (u : ℕ) (bound : ℤ) → is_less (product (product (pos 16) l.across) (pos u)) bound ≡ is_less (product step (pos u)) bound =
+    let stepped : (u : ℕ) (bound : ℤ) → is_less (product (product (pos pixel_side) l.across) (pos u)) bound ≡ is_less (product step (pos u)) bound =
     λ u bound. ap (λ (z : ℤ). is_less (product z (pos u)) bound) (sym same) in
-    rising_span (row_level l row) (product (pos 16) l.across) l.margin most span within
+    rising_span (row_level l row) (product (pos pixel_side) l.across) l.margin most span within
     (λ u below. stepped u _ ∙ ap (is_less (product step (pos u))) (sym (low ∙ ap (difference (opposite l.margin)) here)) ∙ from u below)
     (λ u below. stepped u _ ∙ ap (is_less (product step (pos u))) (sym (high ∙ ap (difference l.margin) here)) ∙ to u below)
 
-still_at : (z : ℤ) (u : ℕ) → level z (product (pos 16) (pos 0)) (pos u) ≡ z
+still_at : (z : ℤ) (u : ℕ) → level z (product (pos pixel_side) (pos 0)) (pos u) ≡ z
 unfolding product
 still_at z u = level_still z (pos u)
 
@@ -332,7 +333,7 @@ pub level_row : (l : Levels) (margin : ℤ) (row most : ℕ) (span : Span) → l
 unfolding level_at
 level_row l margin row most span still whole = record {
   within = whole.within;
-  passed = λ u below. ap (is_in_margin margin) (ap (λ (z : ℤ). level (row_level l row) (product (pos 16) z) (pos u)) still ∙ still_at (row_level l row) u) ∙ whole.passed u below;
+  passed = λ u below. ap (is_in_margin margin) (ap (λ (z : ℤ). level (row_level l row) (product (pos pixel_side) z) (pos u)) still ∙ still_at (row_level l row) u) ∙ whole.passed u below;
 }
 
 -- ---- rows of a strip
@@ -368,25 +369,25 @@ end_beyond m start change step row low gap high is twice sum rest = record {
 }
 
 -- the pixels between the two ends, where both lie among the columns, are the row's part of the strip
-pub wide_row : (l : Levels) (step row count wide from : ℕ) (rows columns : Span) (low gap high : Quotient) → pos step ≡ product (pos 16) l.across → columns.to ≤ wide →
-    rows.from ≤ row → row < rows.to → IsEnd (opposite l.margin) l.origin (product (pos 16) l.up) step row low → number_of step gap ≡ plus l.margin l.margin →
+pub wide_row : (l : Levels) (step row count wide from : ℕ) (rows columns : Span) (low gap high : Quotient) → pos step ≡ product (pos pixel_side) l.across → columns.to ≤ wide →
+    rows.from ≤ row → row < rows.to → IsEnd (opposite l.margin) l.origin (product (pos pixel_side) l.up) step row low → number_of step gap ≡ plus l.margin l.margin →
     number_of step high ≡ plus (number_of step low) (number_of step gap) → high.rest < step → pos from ≡ plus low.whole (pos 1) → pos (from + count) ≡ plus high.whole (pos 1) →
     columns.from ≤ from → from + count ≤ columns.to → IsSpanOf (λ u. is_in_strip l rows columns u row) wide (record { from = from; to = from + count })
 wide_row l step row count wide from rows columns low gap high same within after before is twice sum rest begins ends first last =
     let part = part_inside columns low high from (from + count) begins ends first last in
     rw part.value (strip_row l rows columns part.within wide row within after before
-    (rising_row l l.margin step row columns.to low high part.within same is (end_beyond l.margin l.origin (product (pos 16) l.up) step row low gap high is twice sum rest)
+    (rising_row l l.margin step row columns.to low high part.within same is (end_beyond l.margin l.origin (product (pos pixel_side) l.up) step row low gap high is twice sum rest)
     part.from part.to part.to_within))
 
 -- where all of them are in the columns, they are the row's part of the strip
-pub whole_row : (l : Levels) (step row width wide from : ℕ) (rows columns : Span) (q : Quotient) → pos 1 ≤ℤ l.across → l.margin ≡ product (pos (8 * width)) l.across →
-    pos step ≡ product (pos 16) l.across → columns.to ≤ wide → rows.from ≤ row → row < rows.to →
-    IsEnd (opposite l.margin) l.origin (product (pos 16) l.up) step row q → IsBetween columns width q → pos from ≡ plus q.whole (pos 1) →
+pub whole_row : (l : Levels) (step row width wide from : ℕ) (rows columns : Span) (q : Quotient) → pos 1 ≤ℤ l.across → l.margin ≡ product (pos (half_side * width)) l.across →
+    pos step ≡ product (pos pixel_side) l.across → columns.to ≤ wide → rows.from ≤ row → row < rows.to →
+    IsEnd (opposite l.margin) l.origin (product (pos pixel_side) l.up) step row q → IsBetween columns width q → pos from ≡ plus q.whole (pos 1) →
     IsSpanOf (λ u. is_in_strip l rows columns u row) wide (record { from = from; to = from + width })
 unfolding plus
 whole_row l step row width wide from rows columns q rising even same within after before is between begins =
-    let high : IsEnd l.margin l.origin (product (pos 16) l.up) step row (upper_end q width) =
-    end_further l.margin l.origin (product (pos 16) l.up) (product (pos width) (pos step)) step row q (upper_end q width) is (further_end step width q)
+    let high : IsEnd l.margin l.origin (product (pos pixel_side) l.up) step row (upper_end q width) =
+    end_further l.margin l.origin (product (pos pixel_side) l.up) (product (pos width) (pos step)) step row q (upper_end q width) is (further_end step width q)
     (even_margin width step l.across l.margin rising even same) refl in
     let part = part_inside columns q (upper_end q width) from (from + width) begins (omega (arith, ints)) (omega (arith, ints, between.from)) (omega (arith, ints, between.to)) in
     rw part.value (strip_row l rows columns part.within wide row within after before

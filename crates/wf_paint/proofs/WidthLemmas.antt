@@ -10,6 +10,7 @@ use Rattle.wf_paint.specs.Level.{is_in_margin}
 use Rattle.wf_paint.specs.Place.{PlaceValue, turned}
 use Rattle.wf_paint.specs.Coverage.{run, deviation, margin, is_along, is_in_band, is_across, is_on_flat, is_steep, is_on, is_on_any}
 use Rattle.wf_paint.specs.declared.segment.Segment.{Segment}
+use Rattle.wf_paint.specs.Limit.{half_side}
 use Rattle.wf_paint.proofs.AlongLemmas.{band_level, flat_back, flat_forth, on_steep, on_flat}
 
 -- ---- margins
@@ -42,14 +43,14 @@ no_margin z m inside =
 
 -- the margin grows with the width, whatever it is multiplied by
 pub times_wider : (z along : ℤ) (narrow wide : ℕ) → narrow ≤ wide →
-    is_in_margin (product (pos (8 * narrow)) along) z ≡ true → is_in_margin (product (pos (8 * wide)) along) z ≡ true
+    is_in_margin (product (pos (half_side * narrow)) along) z ≡ true → is_in_margin (product (pos (half_side * wide)) along) z ≡ true
 unfolding product
 times_wider z (pos n) narrow wide wider inside =
-    let more : 8 * narrow * n ≤ 8 * wide * n = mul-le-mul (omega arith) (omega arith) in
-    subst (λ (m : ℤ). is_in_margin m z ≡ true) (sym (pos-*ℤ-pos (8 * wide) n))
-    (margin_wider z (8 * narrow * n) (8 * wide * n) more (subst (λ (m : ℤ). is_in_margin m z ≡ true) (pos-*ℤ-pos (8 * narrow) n) inside))
+    let more : half_side * narrow * n ≤ half_side * wide * n = mul-le-mul (omega arith) (omega arith) in
+    subst (λ (m : ℤ). is_in_margin m z ≡ true) (sym (pos-*ℤ-pos (half_side * wide) n))
+    (margin_wider z (half_side * narrow * n) (half_side * wide * n) more (subst (λ (m : ℤ). is_in_margin m z ≡ true) (pos-*ℤ-pos (half_side * narrow) n) inside))
 times_wider z (negsuc n) narrow wide wider inside =
-    absurd (no_margin z (8 * narrow * suc n) (subst (λ (m : ℤ). is_in_margin m z ≡ true) (pos-*ℤ-negsuc (8 * narrow) n) inside))
+    absurd (no_margin z (half_side * narrow * suc n) (subst (λ (m : ℤ). is_in_margin m z ≡ true) (pos-*ℤ-negsuc (half_side * narrow) n) inside))
 
 -- ---- lines
 

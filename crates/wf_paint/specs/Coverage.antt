@@ -2,6 +2,7 @@
 use Rattle.std.specs.Prelude.{ℕ, ◌*◌, ◌%◌, ◌==◌, ◌&&◌, ◌||◌, Bool, not, nat_lt, List, ℤ, pos, nat_abs, if◌then◌else◌}
 use Rattle.std.specs.List.{count_by, list_any}
 use Rattle.wf_paint.specs.Exact.{difference, product, opposite, is_less}
+use Rattle.wf_paint.specs.Limit.{half_side}
 use Rattle.wf_paint.specs.Place.{PlaceValue, turned}
 use Rattle.wf_paint.specs.declared.segment.Segment.{Segment}
 
@@ -42,7 +43,7 @@ deviation c a b = difference (product (rise a c) (run a b)) (product (run a c) (
 
 -- half the width in sixteenths of a pixel, times the line's x length
 unfoldable pub margin : ℕ → PlaceValue → PlaceValue → ℤ
-margin width a b = product (pos (8 * width)) (run a b)
+margin width a b = product (pos (half_side * width)) (run a b)
 
 -- the position's x is between those of the ends, both included
 unfoldable pub is_along : PlaceValue → PlaceValue → PlaceValue → Bool

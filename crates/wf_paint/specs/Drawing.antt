@@ -5,14 +5,15 @@ use Rattle.wf_def.specs.Extent.{ExtentValue}
 use Rattle.wf_def.specs.declared.color.Color.{Color}
 use Rattle.wf_paint.specs.Exact.{plus, product, quotient}
 use Rattle.wf_paint.specs.Grid.{width_of}
+use Rattle.wf_paint.specs.Limit.{most_pixels, pixel_side, shared_tiles, tile_pixels}
 use Rattle.wf_paint.specs.Operation.{operations, color_at}
 use Rattle.wf_paint.specs.Tile.{tile_view}
-use Rattle.wf_paint.specs.View.{AxisValue, ViewValue, most_pixels}
+use Rattle.wf_paint.specs.View.{AxisValue, ViewValue}
 use Rattle.wf_paint.specs.declared.cell.GridCell.{GridCell}
 
 -- the axis of the whole grid: pixels count from the extent's corner; those below it are negative
 abbrev pub grid_axis : ℤ → ℕ → ℕ → AxisValue
-grid_axis origin width cells = record { origin = origin; scale = 4_096 * cells; span = width; shift = pos 0 }
+grid_axis origin width cells = record { origin = origin; scale = pixel_side * tile_pixels * cells; span = width; shift = pos 0 }
 
 abbrev pub grid_view : ExtentValue → ℕ → ViewValue
 grid_view e z = record {
@@ -29,7 +30,7 @@ drawing map layers z background column row = color_at (operations map layers (gr
 
 -- the position in the drawing of the first pixel of a cell's view
 abbrev pub first_pixel : ℤ → ℤ
-first_pixel k = product (quotient k (pos 4)) (pos most_pixels)
+first_pixel k = product (quotient k (pos shared_tiles)) (pos most_pixels)
 
 -- in every cell's view, each pixel has the colour that it has in the one drawing
 abbrev pub IsPartOfTheDrawing : Type 0

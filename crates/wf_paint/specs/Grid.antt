@@ -3,19 +3,8 @@
 use Rattle.std.specs.Prelude.{◌≡◌, true, ℕ, ◌*◌, ◌^◌, ◌≤◌, ◌&&◌, ◌==◌, Bool, nat_le, ℤ, pos, nat_abs}
 use Rattle.wf_def.specs.Extent.{ExtentValue}
 use Rattle.wf_paint.specs.Exact.{plus, difference, product}
+use Rattle.wf_paint.specs.Limit.{least_cell, most_level, tile_pixels}
 use Rattle.wf_paint.specs.declared.cell.GridCell.{GridCell}
-
--- the highest level
-abbrev pub most_level : ℕ
-most_level = 20
-
--- the width and height of a tile, in pixels
-abbrev pub tile_pixels : ℕ
-tile_pixels = 256
-
--- the least width of a cell, in millionths
-abbrev pub least_cell : ℕ
-least_cell = 1_000
 
 -- the extent's width in millionths, which scales the grid on both axes
 unfoldable pub width_of : ExtentValue → ℕ

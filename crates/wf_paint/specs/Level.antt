@@ -1,6 +1,7 @@
 -- Levels: numbers that change by a constant step from each pixel to the next.
 use Rattle.std.specs.Prelude.{ℕ, ◌&&◌, Bool, not, ℤ, pos}
 use Rattle.wf_paint.specs.Exact.{plus, product, opposite, is_less}
+use Rattle.wf_paint.specs.Limit.{pixel_side}
 use Rattle.wf_paint.specs.declared.levels.Levels.{Levels}
 
 -- the level at a pixel, counted from 0
@@ -13,8 +14,8 @@ is_in_margin margin z = not (is_less z (opposite margin)) && is_less z margin
 
 -- the level in the first column of a row
 unfoldable pub row_level : Levels → ℕ → ℤ
-row_level l row = level l.origin (product (pos 16) l.up) (pos row)
+row_level l row = level l.origin (product (pos pixel_side) l.up) (pos row)
 
 -- the level in a column of a row
 unfoldable pub level_at : Levels → ℕ → ℕ → ℤ
-level_at l column row = level (row_level l row) (product (pos 16) l.across) (pos column)
+level_at l column row = level (row_level l row) (product (pos pixel_side) l.across) (pos column)

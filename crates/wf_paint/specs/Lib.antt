@@ -1,3 +1,4 @@
+pub mod Limit
 pub mod Exact
 pub mod Near
 pub mod Place

@@ -2,6 +2,7 @@
 use Rattle.std.specs.Prelude.{ℤ, pos}
 use Rattle.wf_paint.specs.Near.{IsNear}
 use Rattle.wf_paint.specs.Exact.{plus, product}
+use Rattle.wf_paint.specs.Limit.{half_side, pixel_side}
 
 -- sixteenths of a pixel from the left and from the bottom of a view
 pub record PlaceValue : Type 0 where
@@ -14,7 +15,7 @@ pub record IsPlace (p : PlaceValue) : Type 0 where
 
 -- the centre of a pixel, on one axis
 abbrev pub middle : ℤ → ℤ
-middle pixel = plus (product (pos 16) pixel) (pos 8)
+middle pixel = plus (product (pos pixel_side) pixel) (pos half_side)
 
 -- the centre of the pixel in a column and a row; rows count from the bottom
 abbrev pub centre : ℤ → ℤ → PlaceValue

@@ -1,11 +1,12 @@
 -- Squares of pixels about a position.
 use Rattle.std.specs.Prelude.{ℕ, ◌/◌, ◌&&◌, Bool, not, ℤ, pos}
 use Rattle.wf_paint.specs.Exact.{plus, difference, quotient, is_less}
+use Rattle.wf_paint.specs.Limit.{pixel_side}
 use Rattle.wf_paint.specs.Place.{PlaceValue}
 
 -- the first column of a square of `size` pixels about the position
 unfoldable pub square_start : ℕ → ℤ → ℤ
-square_start size place = difference (quotient place (pos 16)) (pos (size / 2))
+square_start size place = difference (quotient place (pos pixel_side)) (pos (size / 2))
 
 -- the column belongs to the square
 unfoldable pub is_in_span : ℕ → ℤ → ℤ → Bool

@@ -2,6 +2,7 @@
 use Rattle.std.specs.Prelude.{◌≡◌, ℕ, ◌^◌, ◌<◌, ◌≤◌, ◌&&◌, Bool, nat_lt, ℤ, pos, nat_abs, ◌≤ℤ◌}
 use Rattle.wf_paint.specs.Exact.{plus, difference, product, opposite, is_less}
 use Rattle.wf_paint.specs.Level.{level, level_at, is_in_margin}
+use Rattle.wf_paint.specs.Limit.{pixel_side}
 use Rattle.wf_paint.specs.Quotient.{number_of}
 use Rattle.wf_paint.specs.Span.{is_within, shared}
 use Rattle.wf_paint.specs.declared.levels.Levels.{Levels}
@@ -30,11 +31,11 @@ pub record IsEnd (bound start change : ℤ) (step row : ℕ) (q : Quotient) : Ty
 
 -- the quotient is that of this row, and its change leads to those of the next ones
 pub record IsStepped (l : Levels) (bound : ℤ) (row : ℕ) (s : Stepped) : Type 0 where
-  pub across : pos s.step ≡ product (pos 16) l.across
+  pub across : pos s.step ≡ product (pos pixel_side) l.across
   pub most : s.step ≤ 2 ^ 60
-  pub begins : IsEnd bound l.origin (product (pos 16) l.up) s.step row s.now
+  pub begins : IsEnd bound l.origin (product (pos pixel_side) l.up) s.step row s.now
   pub near : nat_abs s.now.whole ≤ 2 ^ 50
-  pub moves : number_of s.step s.change ≡ opposite (product (pos 16) l.up)
+  pub moves : number_of s.step s.change ≡ opposite (product (pos pixel_side) l.up)
   pub rest : s.change.rest < s.step
   pub slow : nat_abs s.change.whole ≤ 2 ^ 50
 
@@ -48,4 +49,4 @@ pub record IsBetween (columns : Span) (width : ℕ) (q : Quotient) : Type 0 wher
 -- the same in each row
 pub record StaysBetween (l : Levels) (step width : ℕ) (rows columns : Span) : Type 0 where
   pub each : (row : ℕ) → rows.from ≤ row → row < rows.to → (q : Quotient) →
-      IsEnd (opposite l.margin) l.origin (product (pos 16) l.up) step row q → IsBetween columns width q
+      IsEnd (opposite l.margin) l.origin (product (pos pixel_side) l.up) step row q → IsBetween columns width q

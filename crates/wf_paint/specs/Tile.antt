@@ -3,13 +3,14 @@ use Rattle.std.specs.Prelude.{◌≡◌, ℕ, ◌*◌, ◌^◌, Some, None, true
 use Rattle.std.specs.Int.{int_rem_euclid}
 use Rattle.wf_def.specs.Extent.{ExtentValue}
 use Rattle.wf_paint.specs.Exact.{difference, product, quotient}
-use Rattle.wf_paint.specs.Grid.{width_of, fits, tile_pixels}
-use Rattle.wf_paint.specs.View.{AxisValue, ViewValue, most_pixels}
+use Rattle.wf_paint.specs.Grid.{width_of, fits}
+use Rattle.wf_paint.specs.Limit.{most_pixels, pixel_side, shared_tiles, tile_pixels}
+use Rattle.wf_paint.specs.View.{AxisValue, ViewValue}
 use Rattle.wf_paint.specs.declared.cell.GridCell.{GridCell}
 
--- the box's side over `pixels` pixels, 16 sixteenths each
+-- the box's side over `pixels` pixels
 abbrev pub box_axis : ℤ → ℤ → ℕ → AxisValue
-box_axis low high pixels = record { origin = low; scale = 16 * pixels; span = nat_abs (difference high low); shift = pos 0 }
+box_axis low high pixels = record { origin = low; scale = pixel_side * pixels; span = nat_abs (difference high low); shift = pos 0 }
 
 abbrev pub box_view : ExtentValue → ℕ → ℕ → ViewValue
 box_view box width height = record {
@@ -20,17 +21,17 @@ box_view box width height = record {
   corner = None;
 }
 
--- Tiles are drawn four by four. A cell is width / cells of the extent wide and takes 256 pixels; the view starts at the first of
--- the four cells that this one is among.
+-- Tiles are drawn four by four. A cell is width / cells of the extent wide and takes the pixels of a tile; the view starts at the
+-- first of the four cells that this one is among.
 unfoldable pub tile_shift : ℤ → ℤ
-tile_shift k = product (quotient k (pos 4)) (pos 16_384)
+tile_shift k = product (quotient k (pos shared_tiles)) (pos (pixel_side * most_pixels))
 
 -- the cell's offset among its four, in pixels
 unfoldable pub tile_start : ℤ → ℕ
-tile_start k = nat_abs (int_rem_euclid k (pos 4)) * tile_pixels
+tile_start k = nat_abs (int_rem_euclid k (pos shared_tiles)) * tile_pixels
 
 abbrev pub tile_axis : ℤ → ℕ → ℕ → ℤ → AxisValue
-tile_axis origin width cells k = record { origin = origin; scale = 4_096 * cells; span = width; shift = tile_shift k }
+tile_axis origin width cells k = record { origin = origin; scale = pixel_side * tile_pixels * cells; span = width; shift = tile_shift k }
 
 abbrev pub tile_view : ExtentValue → GridCell → ViewValue
 tile_view e cell = record {

@@ -4,6 +4,7 @@ use Rattle.wf_def.specs.Limit.{most_millionths}
 use Rattle.wf_def.specs.Micro.{IsMicro}
 use Rattle.wf_def.specs.declared.point.Point.{Point}
 use Rattle.wf_paint.specs.Exact.{difference, product, quotient}
+use Rattle.wf_paint.specs.Limit.{most_pixels}
 use Rattle.wf_paint.specs.Place.{PlaceValue}
 use Rattle.wf_paint.specs.declared.corner.Corner.{Corner}
 
@@ -33,10 +34,6 @@ pub record ViewValue : Type 0 where
 -- the position of a point
 abbrev pub place_of : ViewValue → Point → PlaceValue
 place_of view p = record { x = position view.x p.x; y = position view.y p.y }
-
--- the greatest width and height of a view, in pixels
-abbrev pub most_pixels : ℕ
-most_pixels = 1_024
 
 -- the most sixteenths of a pixel that a millionth takes
 abbrev pub most_scale : ℕ

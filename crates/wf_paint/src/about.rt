@@ -26,7 +26,8 @@ pub(crate) fn draw_about(canvas: &mut Canvas, size: u8, place: Place, color: Opt
 
 /// Paints the square in the colour.
 fn draw_square(canvas: &mut Canvas, size: u8, place: Place, color: Color)
-    ensures { IsColored (λ column row. is_in_square size place (pos column) (pos row)) color canvas.old canvas.new }
+    ensures { IsColored
+        (λ column row. is_in_square size place (pos column) (pos row)) color canvas.old canvas.new }
 {
     let columns = span_about(size, place.x(), canvas.width());
     let rows = span_about(size, place.y(), canvas.height());
@@ -37,7 +38,8 @@ fn draw_square(canvas: &mut Canvas, size: u8, place: Place, color: Color)
 fn draw_box(canvas: &mut Canvas, columns: Span, rows: Span, color: Color)
     requires columns { columns.to ≤ canvas.old.width }
     requires rows { rows.to ≤ canvas.old.height }
-    ensures { IsColored (λ column row. is_within columns column && is_within rows row) color canvas.old canvas.new }
+    ensures { IsColored
+        (λ column row. is_within columns column && is_within rows row) color canvas.old canvas.new }
 {
     for row in rows.from..rows.to {
         canvas.cover(row, columns.from, columns.to, color);

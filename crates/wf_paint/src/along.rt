@@ -2,6 +2,7 @@
 ghost use Rattle.std.specs.Prelude.{◌≡◌, ℕ, ◌*◌, ◌≤◌, ◌<◌, ◌^◌, false, pos, nat_abs};
 ghost use Rattle.wf_paint.specs.Near.{IsNear, IsReach, IsArea};
 ghost use Rattle.wf_paint.specs.Exact.{plus, difference, product, is_less};
+ghost use Rattle.wf_paint.specs.Limit.{half_side};
 ghost use Rattle.wf_paint.specs.Level.{level_at};
 ghost use Rattle.wf_paint.specs.Place.{centre, turned};
 ghost use Rattle.wf_paint.specs.Coverage.{deviation, margin, is_along, is_across, is_on_flat, is_on, is_on_any};
@@ -14,6 +15,7 @@ use crate::coverage::{deviation, is_steep, margin, rise, run};
 use crate::exact::is_less;
 use crate::level::centres_between;
 use crate::levels::Levels;
+use crate::limits::HALF_SIDE;
 use crate::place::Place;
 use crate::segment::Segment;
 use crate::span::Span;
@@ -33,7 +35,8 @@ pub(crate) fn draw_along(canvas: &mut Canvas, width: u8, segments: &[Segment], c
 
 /// Paints a line along each segment.
 fn draw_segments(canvas: &mut Canvas, width: u8, segments: &[Segment], color: Color)
-    ensures { IsColored (λ column row. is_on_any width (centre (pos column) (pos row)) segments.now) color canvas.old canvas.new }
+    ensures { IsColored (λ column row.
+        is_on_any width (centre (pos column) (pos row)) segments.now) color canvas.old canvas.new }
 {
     for segment in segments {
         draw_segment(canvas, width, segment, color);
@@ -42,7 +45,8 @@ fn draw_segments(canvas: &mut Canvas, width: u8, segments: &[Segment], color: Co
 
 /// Paints the line along the segment.
 fn draw_segment(canvas: &mut Canvas, width: u8, segment: &Segment, color: Color)
-    ensures { IsColored (λ column row. is_on width (centre (pos column) (pos row)) segment.now) color canvas.old canvas.new }
+    ensures { IsColored (λ column row.
+        is_on width (centre (pos column) (pos row)) segment.now) color canvas.old canvas.new }
 {
     let (from, to) = (segment.from, segment.to);
     if is_steep(from, to) {
@@ -54,7 +58,8 @@ fn draw_segment(canvas: &mut Canvas, width: u8, segment: &Segment, color: Color)
 
 /// Paints the line between two positions, in either order. It isn't longer along y than along x.
 fn draw_flat(canvas: &mut Canvas, width: u8, from: Place, to: Place, color: Color)
-    ensures { IsColored (λ column row. is_on_flat width (centre (pos column) (pos row)) from to) color canvas.old canvas.new }
+    ensures { IsColored (λ column row.
+        is_on_flat width (centre (pos column) (pos row)) from to) color canvas.old canvas.new }
 {
     if is_less(to.x(), from.x()) {
         draw_rightward(canvas, width, to, from, color);
@@ -65,7 +70,8 @@ fn draw_flat(canvas: &mut Canvas, width: u8, from: Place, to: Place, color: Colo
 
 /// Paints the line from `left` to `right`.
 fn draw_rightward(canvas: &mut Canvas, width: u8, left: Place, right: Place, color: Color)
-    ensures { IsColored (λ column row. is_across width (centre (pos column) (pos row)) left right) color canvas.old canvas.new }
+    ensures { IsColored (λ column row.
+        is_across width (centre (pos column) (pos row)) left right) color canvas.old canvas.new }
 {
     let columns = span_along(left, right, canvas.width());
     let rows = rows_near(width, left, right, canvas.height());
@@ -80,7 +86,8 @@ fn deviations(width: u8, left: Place, right: Place) -> Levels
     ensures up { IsReach result.up }
     ensures margin { result.margin ≡ margin width left right }
     ensures margin_within { IsArea result.margin }
-    ensures value { (u v : ℕ) → level_at result u v ≡ deviation (centre (pos u) (pos v)) left right }
+    ensures value { (u v : ℕ) →
+        level_at result u v ≡ deviation (centre (pos u) (pos v)) left right }
 {
     Levels {
         origin: deviation(Place::centre(0, 0), left, right),
@@ -101,8 +108,10 @@ fn span_along(left: Place, right: Place, most: u32) -> Span
 /// Rows, of the first `most`, outside which the line from `left` to `right` covers nothing. With the axes exchanged, columns.
 fn rows_near(width: u8, left: Place, right: Place, most: u32) -> Span
     ensures within { result.to ≤ most }
-    ensures below { (u v : ℕ) → v < most → v < result.from → is_across width (centre (pos u) (pos v)) left right ≡ false }
-    ensures above { (u v : ℕ) → v < most → result.to ≤ v → is_across width (centre (pos u) (pos v)) left right ≡ false }
+    ensures below { (u v : ℕ) →
+        v < most → v < result.from → is_across width (centre (pos u) (pos v)) left right ≡ false }
+    ensures above { (u v : ℕ) →
+        v < most → result.to ≤ v → is_across width (centre (pos u) (pos v)) left right ≡ false }
 {
     let bottom = lower_border(width, lesser(left.y(), right.y()));
     let top = upper_border(width, greater(left.y(), right.y()));
@@ -140,24 +149,25 @@ fn greater(a: i64, b: i64) -> i64
 #[tactic(auto, unfolding(crate::specs::Exact::difference))]
 fn lower_border(width: u8, place: i64) -> i64
     requires { IsNear place }
-    ensures { result ≡ difference place (pos (8 * width)) }
+    ensures { result ≡ difference place (pos (half_side * width)) }
 {
-    place - 8 * i64::from(width)
+    place - HALF_SIDE * i64::from(width)
 }
 
 /// The position half the width of a line above this one.
 #[tactic(auto, unfolding(crate::specs::Exact::plus))]
 fn upper_border(width: u8, place: i64) -> i64
     requires { IsNear place }
-    ensures { result ≡ plus place (pos (8 * width)) }
+    ensures { result ≡ plus place (pos (half_side * width)) }
 {
-    place + 8 * i64::from(width)
+    place + HALF_SIDE * i64::from(width)
 }
 
 /// Paints the line between two positions, in either order. It is longer along y than along x; the positions have their axes
 /// exchanged.
 fn draw_steep(canvas: &mut Canvas, width: u8, from: Place, to: Place, color: Color)
-    ensures { IsColored (λ column row. is_on_flat width (turned (centre (pos column) (pos row))) from to) color canvas.old canvas.new }
+    ensures { IsColored (λ column row. is_on_flat width
+        (turned (centre (pos column) (pos row))) from to) color canvas.old canvas.new }
 {
     if is_less(to.x(), from.x()) {
         draw_upward(canvas, width, to, from, color);
@@ -168,7 +178,8 @@ fn draw_steep(canvas: &mut Canvas, width: u8, from: Place, to: Place, color: Col
 
 /// Paints the line from `low` up to `high`; the positions have their axes exchanged.
 fn draw_upward(canvas: &mut Canvas, width: u8, low: Place, high: Place, color: Color)
-    ensures { IsColored (λ column row. is_across width (turned (centre (pos column) (pos row))) low high) color canvas.old canvas.new }
+    ensures { IsColored (λ column row. is_across width
+        (turned (centre (pos column) (pos row))) low high) color canvas.old canvas.new }
 {
     let rows = span_along(low, high, canvas.height());
     let columns = rows_near(width, low, high, canvas.width());
@@ -188,9 +199,10 @@ fn turned_deviations(width: u8, low: Place, high: Place) -> Levels
     ensures across { IsReach result.across }
     ensures up { IsReach result.up }
     ensures margin { result.margin ≡ margin width low high }
-    ensures even { result.margin ≡ product (pos (8 * width)) result.across }
+    ensures even { result.margin ≡ product (pos (half_side * width)) result.across }
     ensures margin_within { IsArea result.margin }
-    ensures value { (u v : ℕ) → level_at result u v ≡ deviation (turned (centre (pos u) (pos v))) low high }
+    ensures value { (u v : ℕ) →
+        level_at result u v ≡ deviation (turned (centre (pos u) (pos v))) low high }
 {
     Levels {
         origin: deviation(Place::centre(0, 0).turned(), low, high),

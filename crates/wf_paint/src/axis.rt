@@ -24,18 +24,22 @@ impl Model for Axis {
 
     ghost Value = { AxisValue };
 
-    ghost view = { λ a. record { origin = a.origin; scale = a.scale; span = a.span; shift = a.shift } };
+    ghost view = { λ a.
+        record { origin = a.origin; scale = a.scale; span = a.span; shift = a.shift } };
 
-    ghost invariant = { λ a. IsAxis (record { origin = a.origin; scale = a.scale; span = a.span; shift = a.shift }) };
+    ghost invariant = { λ a.
+        IsAxis (record { origin = a.origin; scale = a.scale; span = a.span; shift = a.shift }) };
 
-    ghost inverse = { λ v. record { origin = v.origin; scale = v.scale; span = v.span; shift = v.shift } };
+    ghost inverse = { λ v.
+        record { origin = v.origin; scale = v.scale; span = v.span; shift = v.shift } };
 }
 
 impl Axis {
     /// The axis with these numbers.
     pub(crate) fn new(origin: Micro, scale: u64, span: u64, shift: i64) -> Self
         requires { IsAxis (record { origin = origin; scale = scale; span = span; shift = shift }) }
-        ensures value { result ≡ record { origin = origin; scale = scale; span = span; shift = shift } }
+        ensures value { result
+            ≡ record { origin = origin; scale = scale; span = span; shift = shift } }
         ensures within { IsAxis result }
     {
         Axis {

@@ -2,7 +2,7 @@
 //! is free, so one test passes over all painted pixels of a word.
 ghost use Rattle.std.specs.Prelude.{◌≡◌, ◌≤◌, ◌<◌, ◌*◌, ◌+◌, ◌/◌, ◌-◌, ◌^◌, ℕ, true, false, length, slice_index, nat_lt, IfOk};
 ghost use Rattle.std.specs.Int.{bit_at};
-ghost use Rattle.wf_paint.specs.View.{most_pixels};
+ghost use Rattle.wf_paint.specs.Limit.{most_pixels};
 ghost use Rattle.wf_paint.specs.Cells.{IsCells, HasFreeBit, IsRangePainted, IsWritten, AreWritten, IsFilled, is_free};
 ghost use Rattle.wf_paint.specs.Canvas.{IsCanvas, IsBlank, IsFull, HasFree, IsAlike, IsFinished};
 ghost use Rattle.wf_paint.specs.Shown.{IsColored, is_in_run};
@@ -29,9 +29,21 @@ impl Model for Canvas {
 
     ghost Value = { CanvasValue };
 
-    ghost view = { λ c. record { width = c.width; height = c.height; bytes = c.bytes.items; free = c.free.items; known = c.known } };
+    ghost view = { λ c. record {
+      width = c.width;
+      height = c.height;
+      bytes = c.bytes.items;
+      free = c.free.items;
+      known = c.known;
+    } };
 
-    ghost invariant = { λ c. IsCanvas (record { width = c.width; height = c.height; bytes = c.bytes.items; free = c.free.items; known = c.known }) };
+    ghost invariant = { λ c. IsCanvas (record {
+      width = c.width;
+      height = c.height;
+      bytes = c.bytes.items;
+      free = c.free.items;
+      known = c.known;
+    }) };
 }
 
 impl Canvas {
@@ -170,7 +182,8 @@ fn cover_range(bytes: &mut Vec<u8>, free: &mut Vec<u64>, start: u32, end: u32, c
     requires cells { IsCells free.old.items bytes.old.items }
     requires order { start < end }
     requires within { end ≤ 64 * length free.old.items }
-    ensures { IsRangePainted start end color free.old.items bytes.old.items free.new.items bytes.new.items }
+    ensures { IsRangePainted
+        start end color free.old.items bytes.old.items free.new.items bytes.new.items }
 {
     if end - start <= 64 {
         cover_window(bytes, free, start, end, color);
@@ -186,7 +199,8 @@ fn cover_window(bytes: &mut Vec<u8>, free: &mut Vec<u64>, start: u32, end: u32, 
     requires order { start < end }
     requires most { end ≤ start + 64 }
     requires within { end ≤ 64 * length free.old.items }
-    ensures { IsRangePainted start end color free.old.items bytes.old.items free.new.items bytes.new.items }
+    ensures { IsRangePainted
+        start end color free.old.items bytes.old.items free.new.items bytes.new.items }
 {
     if !is_window_painted(free, start, end) {
         paint_range(bytes, free, start, end, color);
@@ -222,7 +236,8 @@ fn paint_range(bytes: &mut Vec<u8>, free: &mut Vec<u64>, start: u32, end: u32, c
     requires cells { IsCells free.old.items bytes.old.items }
     requires order { start ≤ end }
     requires within { end ≤ 64 * length free.old.items }
-    ensures { IsRangePainted start end color free.old.items bytes.old.items free.new.items bytes.new.items }
+    ensures { IsRangePainted
+        start end color free.old.items bytes.old.items free.new.items bytes.new.items }
 {
     let mut here = start;
     while here < end {
@@ -238,7 +253,8 @@ fn paint_word(bytes: &mut Vec<u8>, free: &mut Vec<u64>, from: u32, to: u32, colo
     requires order { from < to }
     requires one { to ≤ 64 * (from / 64 + 1) }
     requires within { to ≤ 64 * length free.old.items }
-    ensures { IsRangePainted from to color free.old.items bytes.old.items free.new.items bytes.new.items }
+    ensures { IsRangePainted
+        from to color free.old.items bytes.old.items free.new.items bytes.new.items }
 {
     let word = from / 64;
     let mask = ones(from % 64, to - 64 * word);
@@ -297,7 +313,8 @@ fn first_free(free: &Vec<u64>, known: u32) -> u32
 /// Writes the background to the free pixels.
 fn fill_free(bytes: &mut Vec<u8>, free: &Vec<u64>, background: Color)
     requires { IsCells free.now.items bytes.old.items }
-    ensures { IsFilled (64 * length free.now.items) background free.now.items bytes.old.items bytes.new.items }
+    ensures { IsFilled
+        (64 * length free.now.items) background free.now.items bytes.old.items bytes.new.items }
 {
     let end = free.len() as u32;
     for word in 0..end {

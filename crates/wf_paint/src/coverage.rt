@@ -6,6 +6,7 @@ ghost use Rattle.wf_paint.specs.Coverage.{run, rise, is_left_of, is_beside, meet
 ghost use Rattle.wf_paint.specs.Operation.{covers, operation_value};
 
 use crate::exact::{area_difference, difference, is_less, is_less_area, opposite, product};
+use crate::limits::HALF_SIDE;
 use crate::operation::{Operation, Pixel, Shape};
 use crate::place::Place;
 use crate::segment::Segment;
@@ -102,7 +103,7 @@ pub(crate) fn margin(width: u8, left: Place, right: Place) -> i128
     ensures value { result ≡ margin width left right }
     ensures within { IsArea result }
 {
-    product(8 * i64::from(width), run(left, right))
+    product(HALF_SIDE * i64::from(width), run(left, right))
 }
 
 /// Whether the position's x is between those of the ends, both included.

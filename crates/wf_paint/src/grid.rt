@@ -4,21 +4,14 @@ ghost use Rattle.wf_def.specs.Extent.{IsExtent};
 ghost use Rattle.wf_def.specs.Limit.{most_millionths};
 ghost use Rattle.wf_def.specs.Micro.{IsMicro};
 ghost use Rattle.wf_paint.specs.Exact.{plus, difference, product, quotient};
-ghost use Rattle.wf_paint.specs.Grid.{width_of, is_on_line, is_cell, has_level, is_box, fits, most_level, tile_pixels, IsGridCell};
+ghost use Rattle.wf_paint.specs.Grid.{width_of, is_on_line, is_cell, has_level, is_box, fits, IsGridCell};
+ghost use Rattle.wf_paint.specs.Limit.{most_level, tile_pixels};
 ghost use Rattle.wf_paint.specs.declared.cell.GridCell.{GridCell as Cell};
 
 use crate::axis::distance;
 use crate::cell::GridCell;
+use crate::limits::{LEAST_CELL, MOST_LEVEL, TILE_PIXELS};
 use wf_def::extent::Extent;
-
-/// The highest level of the grid.
-const MOST_LEVEL: u32 = 20;
-
-/// The width and height of a tile, in pixels.
-const TILE_PIXELS: u32 = 256;
-
-/// The least width of a cell, in millionths.
-const LEAST_CELL: u64 = 1_000;
 
 impl GridCell {
     /// The cell of the extent's grid whose tile is the picture of this box at this size. A tile has 256 by 256 pixels; each side
@@ -44,9 +37,11 @@ fn is_tile(width: u32, height: u32) -> bool
 
 /// The cell that the box is, on any level.
 fn cell_among(extent: Extent, bbox: Extent) -> Option<GridCell>
-    ensures found { IfSome result (λ cell. is_box extent bbox (2 ^ cell.z) cell.col cell.row ≡ true) }
+    ensures found { IfSome result
+        (λ cell. is_box extent bbox (2 ^ cell.z) cell.col cell.row ≡ true) }
     ensures near { IfSome result (λ cell. IsGridCell cell) }
-    ensures none { IfNone result ((z : ℕ) → z ≤ most_level → (col row : ℤ) → is_box extent bbox (2 ^ z) col row ≡ false) }
+    ensures none { IfNone result
+        ((z : ℕ) → z ≤ most_level → (col row : ℤ) → is_box extent bbox (2 ^ z) col row ≡ false) }
 {
     for z in 0..MOST_LEVEL + 1 {
         if let Some((col, row)) = box_at(extent, bbox, cells_at(z)) {
@@ -91,9 +86,11 @@ fn column_of(extent: Extent, bbox: Extent, cells: u64) -> Option<i64>
     requires least { 1 ≤ cells }
     requires most { cells ≤ 2 ^ 20 }
     requires level { has_level (width_of extent) cells ≡ true }
-    ensures found { IfSome result (λ k. is_cell extent.minx (width_of extent) cells k bbox.minx bbox.maxx ≡ true) }
+    ensures found { IfSome result
+        (λ k. is_cell extent.minx (width_of extent) cells k bbox.minx bbox.maxx ≡ true) }
     ensures within { IfSome result (λ k. nat_abs k ≤ 2 ^ 39) }
-    ensures none { IfNone result ((k : ℤ) → is_cell extent.minx (width_of extent) cells k bbox.minx bbox.maxx ≡ false) }
+    ensures none { IfNone result
+        ((k : ℤ) → is_cell extent.minx (width_of extent) cells k bbox.minx bbox.maxx ≡ false) }
 {
     let (low, high) = (bbox.minx().millionths(), bbox.maxx().millionths());
     cell_of(
@@ -110,9 +107,11 @@ fn row_of(extent: Extent, bbox: Extent, cells: u64) -> Option<i64>
     requires least { 1 ≤ cells }
     requires most { cells ≤ 2 ^ 20 }
     requires level { has_level (width_of extent) cells ≡ true }
-    ensures found { IfSome result (λ k. is_cell extent.miny (width_of extent) cells k bbox.miny bbox.maxy ≡ true) }
+    ensures found { IfSome result
+        (λ k. is_cell extent.miny (width_of extent) cells k bbox.miny bbox.maxy ≡ true) }
     ensures within { IfSome result (λ k. nat_abs k ≤ 2 ^ 39) }
-    ensures none { IfNone result ((k : ℤ) → is_cell extent.miny (width_of extent) cells k bbox.miny bbox.maxy ≡ false) }
+    ensures none { IfNone result
+        ((k : ℤ) → is_cell extent.miny (width_of extent) cells k bbox.miny bbox.maxy ≡ false) }
 {
     let (low, high) = (bbox.miny().millionths(), bbox.maxy().millionths());
     cell_of(
@@ -244,7 +243,8 @@ fn nearest(number: i128, width: u64) -> i64
     requires most { nat_abs number ≤ 2 ^ 38 * width }
     requires some { 1 ≤ width }
     requires width_most { width ≤ 2 * most_millionths }
-    ensures only { (k : ℤ) → 4 * nat_abs (difference number (product k (pos width))) ≤ width → k ≡ result }
+    ensures only { (k : ℤ) →
+        4 * nat_abs (difference number (product k (pos width))) ≤ width → k ≡ result }
     ensures within { nat_abs result ≤ 2 ^ 39 }
 {
     whole(doubled(number, width), 2 * width)

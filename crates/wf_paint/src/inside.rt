@@ -9,10 +9,11 @@ ghost use Rattle.wf_paint.specs.Coverage.{is_left_of, is_beside, crosses, is_ins
 ghost use Rattle.wf_paint.specs.Operation.{in_color, FillOf};
 ghost use Rattle.wf_paint.specs.Marks.{IsClear, IsMarked};
 ghost use Rattle.wf_paint.specs.Shown.{IsShown, IsColored};
-ghost use Rattle.wf_paint.specs.View.{most_pixels};
+ghost use Rattle.wf_paint.specs.Limit.{half_side, most_pixels, pixel_side};
 
 use crate::canvas::Canvas;
 use crate::exact::{area_difference, difference, is_less, product};
+use crate::limits::{HALF_SIDE, PIXEL_SIDE};
 use crate::place::Place;
 use crate::segment::Segment;
 use crate::steps::{centres_below, steps_below};
@@ -44,7 +45,8 @@ fn fill(
     edges: &[Segment],
     color: Color,
 ) -> Result<(), AllocError>
-    ensures { OnOk result (IsColored (λ column row. is_inside (centre (pos column) (pos row)) edges.now) color canvas.old canvas.new) }
+    ensures { OnOk result (IsColored (λ column row.
+        is_inside (centre (pos column) (pos row)) edges.now) color canvas.old canvas.new) }
 {
     let height = canvas.height();
     let start = centres_below(lowest(edges), height);
@@ -100,7 +102,8 @@ fn fill_row(
     requires row { row < canvas.old.height }
     requires size { length odd.old.items ≡ canvas.old.width + 1 }
     requires clear { IsClear odd.old.items }
-    ensures filled { OnOk result (IsColored (λ column r. (r == row) && is_inside (centre (pos column) (pos row)) edges.now) color canvas.old canvas.new) }
+    ensures filled { OnOk result (IsColored (λ column r. (r == row)
+        && is_inside (centre (pos column) (pos row)) edges.now) color canvas.old canvas.new) }
     ensures size { OnOk result (length odd.new.items ≡ length odd.old.items) }
     ensures clear { OnOk result (IsClear odd.new.items) }
 {
@@ -118,7 +121,8 @@ fn sort_reaches(reaches: &mut Vec<u32>, odd: &mut Vec<u8>) -> Result<(), AllocEr
     requires clear { IsClear odd.old.items }
     ensures within { OnOk result (All (λ reach. reach < length odd.old.items) reaches.new.items) }
     ensures sorted { OnOk result (IsNonDecreasing reaches.new.items) }
-    ensures parity { OnOk result ((u : ℕ) → count_by (nat_lt u) reaches.new.items % 2 ≡ count_by (nat_lt u) reaches.old.items % 2) }
+    ensures parity { OnOk result ((u : ℕ) →
+        count_by (nat_lt u) reaches.new.items % 2 ≡ count_by (nat_lt u) reaches.old.items % 2) }
     ensures size { OnOk result (length odd.new.items ≡ length odd.old.items) }
     ensures clear { OnOk result (IsClear odd.new.items) }
 {
@@ -151,7 +155,8 @@ fn take_marked(reaches: &mut Vec<u32>, odd: &mut Vec<u8>) -> Result<(), AllocErr
     requires marked { IsMarked reaches.old.items odd.old.items }
     ensures within { OnOk result (All (λ reach. reach < length odd.old.items) reaches.new.items) }
     ensures sorted { OnOk result (IsNonDecreasing reaches.new.items) }
-    ensures parity { OnOk result ((u : ℕ) → count_by (nat_lt u) reaches.new.items % 2 ≡ count_by (nat_lt u) reaches.old.items % 2) }
+    ensures parity { OnOk result ((u : ℕ) →
+        count_by (nat_lt u) reaches.new.items % 2 ≡ count_by (nat_lt u) reaches.old.items % 2) }
     ensures size { OnOk result (length odd.new.items ≡ length odd.old.items) }
     ensures clear { OnOk result (IsClear odd.new.items) }
 {
@@ -174,7 +179,8 @@ fn find_reaches(
     reaches: &mut Vec<u32>,
 ) -> Result<(), AllocError>
     ensures within { OnOk result (All (λ reach. reach ≤ width) reaches.new.items) }
-    ensures count { OnOk result ((u : ℕ) → u < width → count_by (nat_lt u) reaches.new.items ≡ count_by (crosses (centre (pos u) (pos row))) edges.now) }
+    ensures count { OnOk result ((u : ℕ) → u < width → count_by (nat_lt u) reaches.new.items
+        ≡ count_by (crosses (centre (pos u) (pos row))) edges.now) }
 {
     reaches.clear();
     let level = Place::centre(0, row).y();
@@ -191,7 +197,8 @@ fn find_reaches(
 fn reach(level: i64, width: u32, edge: &Segment) -> u32
     requires { IsNear level }
     ensures within { result ≤ width }
-    ensures crossed { (u : ℕ) → u < width → crosses (record { x = middle (pos u); y = level }) edge.now ≡ nat_lt u result }
+    ensures crossed { (u : ℕ) →
+        u < width → crosses (record { x = middle (pos u); y = level }) edge.now ≡ nat_lt u result }
 {
     let (from, to) = (edge.from, edge.to);
     if is_between(level, from, to) {
@@ -216,25 +223,30 @@ fn reach_of_rising(level: i64, width: u32, low: Place, high: Place) -> u32
     requires near { IsNear level }
     requires rising { is_beside (record { x = pos 0; y = level }) low high ≡ true }
     ensures within { result ≤ width }
-    ensures left { (u : ℕ) → u < width → is_left_of (record { x = middle (pos u); y = level }) low high ≡ nat_lt u result }
+    ensures left { (u : ℕ) → u < width →
+        is_left_of (record { x = middle (pos u); y = level }) low high ≡ nat_lt u result }
 {
     steps_below(step(low, high), bound(level, low, high), width)
 }
 
 /// The change of the compared products from one column to the next.
 fn step(low: Place, high: Place) -> i128
-    ensures { result ≡ product (pos 16) (difference high.y low.y) }
+    ensures { result ≡ product (pos pixel_side) (difference high.y low.y) }
 {
-    product(16, difference(high.y(), low.y()))
+    product(PIXEL_SIDE, difference(high.y(), low.y()))
 }
 
 /// How far the first column at this level lies left of the edge, as a difference of the compared products.
 fn bound(level: i64, low: Place, high: Place) -> i128
     requires { IsNear level }
-    ensures { result ≡ difference (product (difference level low.y) (difference high.x low.x)) (product (difference (pos 8) low.x) (difference high.y low.y)) }
+    ensures { result ≡ difference (product (difference level low.y) (difference high.x low.x))
+        (product (difference (pos half_side) low.x) (difference high.y low.y)) }
 {
     let risen = product(difference(level, low.y()), difference(high.x(), low.x()));
-    let start = product(difference(8, low.x()), difference(high.y(), low.y()));
+    let start = product(
+        difference(HALF_SIDE, low.x()),
+        difference(high.y(), low.y()),
+    );
     area_difference(risen, start)
 }
 
@@ -243,7 +255,8 @@ fn cover_between(canvas: &mut Canvas, row: u32, reaches: &[u32], color: Color)
     requires row { row < canvas.old.height }
     requires within { All (λ reach. reach ≤ canvas.old.width) reaches.now }
     requires sorted { IsNonDecreasing reaches.now }
-    ensures { IsColored (λ column r. (r == row) && (count_by (nat_lt column) reaches.now % 2 == 1)) color canvas.old canvas.new }
+    ensures { IsColored (λ column r.
+        (r == row) && (count_by (nat_lt column) reaches.now % 2 == 1)) color canvas.old canvas.new }
 {
     let mut is_covered = reaches.len() % 2 == 1;
     let mut from = 0;

@@ -35,7 +35,8 @@ fn is_in_margin(margin: i128, level: i128) -> bool
 pub(crate) fn centres_between(low: i64, high: i64, most: u32) -> Span
     requires low { IsNear low }
     requires high { IsNear high }
-    ensures { IsSpanOf (λ u. not (is_less (middle (pos u)) low) && not (is_less high (middle (pos u)))) most result }
+    ensures { IsSpanOf (λ u.
+        not (is_less (middle (pos u)) low) && not (is_less high (middle (pos u)))) most result }
 {
     Span {
         from: centres_below(low, most),

@@ -35,6 +35,7 @@ mod inside;
 pub mod law;
 mod level;
 mod levels;
+pub mod limits;
 pub mod operation;
 pub mod painter;
 pub mod pixmap;

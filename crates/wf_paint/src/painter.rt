@@ -38,7 +38,8 @@ pub fn paint(
     background: Color,
 ) -> Result<Pixmap, AllocError>
     requires { All (λ i. i < length map.now.layers) layers.now }
-    ensures { IfOk result (λ p. IsPicture view.now.width view.now.height (color_at (operations map.now layers.now view.now) background) p) }
+    ensures { IfOk result (λ p. IsPicture view.now.width view.now.height
+        (color_at (operations map.now layers.now view.now) background) p) }
 {
     let mut canvas = Canvas::blank(alloc, view.width(), view.height())?;
     draw_layers(alloc, &mut canvas, map, layers, view)?;
@@ -71,7 +72,8 @@ fn draw_layers(
 /// Whether the layer at this index of the list is listed again later.
 fn is_named_again(layers: &[usize], place: usize) -> bool
     requires { place < length layers.now }
-    ensures { Decides result (Contains (drop (place + 1) layers.now) (slice_index layers.now place)) }
+    ensures { Decides result
+        (Contains (drop (place + 1) layers.now) (slice_index layers.now place)) }
 {
     layers[place + 1..].contains(&layers[place])
 }
@@ -105,7 +107,8 @@ fn draw_feature(
     layer: &Layer,
     feature: &Feature,
 ) -> Result<(), AllocError>
-    ensures { OnOk result (IsShown (feature_operations view.now layer.now feature.now) canvas.old canvas.new) }
+    ensures { OnOk result
+        (IsShown (feature_operations view.now layer.now feature.now) canvas.old canvas.new) }
 {
     match layer.class_of(feature) {
         Some(index) => draw_class(
@@ -130,7 +133,8 @@ fn draw_class(
     parts: &[Part],
     class: &Class,
 ) -> Result<(), AllocError>
-    ensures { OnOk result (IsShown (class_operations view.now kind parts.now (Some class.now)) canvas.old canvas.new) }
+    ensures { OnOk result (IsShown
+        (class_operations view.now kind parts.now (Some class.now)) canvas.old canvas.new) }
 {
     match kind {
         LayerKind::Points => {
@@ -157,7 +161,8 @@ fn draw_polygons(
     edges: &[Segment],
     styles: &[Style],
 ) -> Result<(), AllocError>
-    ensures { OnOk result (IsShown (flat_map (filled_and_outlined edges.now) styles.now) canvas.old canvas.new) }
+    ensures { OnOk result
+        (IsShown (flat_map (filled_and_outlined edges.now) styles.now) canvas.old canvas.new) }
 {
     let mut filled = false;
     let mut widest = 0;
@@ -223,7 +228,8 @@ fn draw_lines(canvas: &mut Canvas, segments: &[Segment], styles: &[Style])
 
 /// Paints squares about the points by the styles from the last to the first, until the canvas is full.
 fn draw_markers(canvas: &mut Canvas, view: &View, parts: &[Part], styles: &[Style])
-    ensures { IsShown (flat_map (λ style. squares view.now style parts.now) styles.now) canvas.old canvas.new }
+    ensures { IsShown
+        (flat_map (λ style. squares view.now style parts.now) styles.now) canvas.old canvas.new }
 {
     for index in (0..styles.len()).rev() {
         if canvas.is_full() {

@@ -21,7 +21,8 @@ impl Model for Pixmap {
 
     ghost view = { λ p. record { width = p.width; height = p.height; bytes = p.bytes.items } };
 
-    ghost invariant = { λ p. IsPixmap (record { width = p.width; height = p.height; bytes = p.bytes.items }) };
+    ghost invariant = { λ p.
+        IsPixmap (record { width = p.width; height = p.height; bytes = p.bytes.items }) };
 }
 
 impl Pixmap {
@@ -73,7 +74,10 @@ impl Pixmap {
     #[tactic(auto, unfolding(crate::specs::Pixmap::column_of, crate::specs::Pixmap::row_of))]
     pub fn pixel(&self, index: u32) -> Pixel
         requires { index < self.now.width * self.now.height }
-        ensures { result ≡ record { column = column_of self.now.width index; row = row_of self.now.width self.now.height index } }
+        ensures { result ≡ record {
+          column = column_of self.now.width index;
+          row = row_of self.now.width self.now.height index;
+        } }
     {
         Pixel {
             column: index % self.width,

@@ -3,6 +3,7 @@ ghost use Rattle.std.specs.Prelude.{◌≡◌, ◌<◌, ◌^◌, pos};
 ghost use Rattle.wf_paint.specs.Near.{IsNear};
 ghost use Rattle.wf_paint.specs.Place.{IsPlace, middle, centre, turned};
 
+use crate::limits::{HALF_SIDE, PIXEL_SIDE};
 use std::marker::Model;
 
 /// A position in a view, in sixteenths of a pixel from its left side and its bottom. It may lie outside the view.
@@ -77,5 +78,5 @@ fn middle(pixel: u32) -> i64
     ensures value { result ≡ middle (pos pixel) }
     ensures within { IsNear result }
 {
-    16 * i64::from(pixel) + 8
+    PIXEL_SIDE * i64::from(pixel) + HALF_SIDE
 }

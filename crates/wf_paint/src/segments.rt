@@ -36,7 +36,8 @@ pub(crate) fn rings(alloc: Global, view: &View, parts: &[Part]) -> Result<Vec<Se
 
 /// Appends the segments from each point to the next.
 fn push_path(segments: &mut Vec<Segment>, view: &View, points: &[Point]) -> Result<(), AllocError>
-    ensures { OnOk result (segments.new.items ≡ segments.old.items ++ path (places view.now points.now)) }
+    ensures { OnOk result
+        (segments.new.items ≡ segments.old.items ++ path (places view.now points.now)) }
 {
     if let [first, rest @ ..] = points {
         push_way(segments, view, view.place(first), rest)?;
@@ -51,7 +52,8 @@ fn push_way(
     start: Place,
     points: &[Point],
 ) -> Result<(), AllocError>
-    ensures { OnOk result (segments.new.items ≡ segments.old.items ++ path_from start (places view.now points.now)) }
+    ensures { OnOk result
+        (segments.new.items ≡ segments.old.items ++ path_from start (places view.now points.now)) }
 {
     push_from(segments, view, start, points)?;
     Ok(())
@@ -59,7 +61,8 @@ fn push_way(
 
 /// Appends the segments from each point to the next, and from the last back to the first.
 fn push_ring(segments: &mut Vec<Segment>, view: &View, points: &[Point]) -> Result<(), AllocError>
-    ensures { OnOk result (segments.new.items ≡ segments.old.items ++ ring (places view.now points.now)) }
+    ensures { OnOk result
+        (segments.new.items ≡ segments.old.items ++ ring (places view.now points.now)) }
 {
     if let [first, rest @ ..] = points {
         let first = view.place(first);
@@ -80,7 +83,9 @@ fn push_from(
     start: Place,
     points: &[Point],
 ) -> Result<Place, AllocError>
-    ensures { IfOk result (λ last. (further : List PlaceValue) → segments.new.items ++ path_from last further ≡ segments.old.items ++ path_from start (places view.now points.now ++ further)) }
+    ensures { IfOk result
+        (λ last. (further : List PlaceValue) → segments.new.items ++ path_from last further
+        ≡ segments.old.items ++ path_from start (places view.now points.now ++ further)) }
 {
     let mut last = start;
     for point in points {

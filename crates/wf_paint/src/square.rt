@@ -5,6 +5,7 @@ ghost use Rattle.wf_paint.specs.Exact.{plus};
 ghost use Rattle.wf_paint.specs.Square.{square_start, is_in_span, is_in_square};
 
 use crate::exact::is_less;
+use crate::limits::PIXEL_SIDE;
 use crate::operation::Pixel;
 use crate::place::Place;
 
@@ -15,7 +16,7 @@ pub(crate) fn square_start(size: u8, place: i64) -> i64
     ensures value { result ≡ square_start size place }
     ensures within { nat_abs result ≤ 2 ^ 54 }
 {
-    place.div_euclid(16) - i64::from(size / 2)
+    place.div_euclid(PIXEL_SIDE) - i64::from(size / 2)
 }
 
 /// The column after the last.

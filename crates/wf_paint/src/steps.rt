@@ -6,6 +6,7 @@ ghost use Rattle.wf_paint.specs.Exact.{plus, product, quotient, is_less};
 ghost use Rattle.wf_paint.specs.Place.{middle};
 ghost use Rattle.wf_paint.specs.Quotient.{number_of};
 
+use crate::limits::{HALF_SIDE, PIXEL_SIDE};
 use crate::quotient::Quotient;
 
 /// How far from 0 the whole part of a quotient may lie. The sum of a thousand, one for each row, is still far from what 64 bits hold.
@@ -16,7 +17,11 @@ pub(crate) fn centres_below(place: i64, most: u32) -> u32
     ensures within { result ≤ most }
     ensures below { (u : ℕ) → u < most → is_less (middle (pos u)) place ≡ nat_lt u result }
 {
-    steps_below(16, i128::from(place) - 8, most)
+    steps_below(
+        PIXEL_SIDE as i128,
+        i128::from(place) - HALF_SIDE as i128,
+        most,
+    )
 }
 
 /// The number of u in 0..most with step * u < bound.
@@ -143,7 +148,8 @@ fn falls_short(rest: u64, divisor: u64) -> bool
 #[tactic(auto, using(crate::proofs::StripLemmas::further_sum), unfolding(crate::specs::Quotient::number_of))]
 pub(crate) fn further(number: Quotient, times: u8) -> Quotient
     requires { nat_abs number.whole ≤ 2 ^ 61 }
-    ensures value { (divisor : ℕ) → number_of divisor result ≡ plus (number_of divisor number) (product (pos times) (pos divisor)) }
+    ensures value { (divisor : ℕ) → number_of divisor result
+        ≡ plus (number_of divisor number) (product (pos times) (pos divisor)) }
     ensures rest { result.rest ≡ number.rest }
     ensures within { nat_abs result.whole ≤ 2 ^ 62 }
 {
@@ -158,7 +164,8 @@ pub(crate) fn further(number: Quotient, times: u8) -> Quotient
 pub(crate) fn multiples_up_to(number: Quotient, most: u32) -> u32
     requires { nat_abs number.whole ≤ 2 ^ 62 }
     ensures within { result ≤ most }
-    ensures below { (divisor u : ℕ) → number.rest < divisor → u < most → is_less (product (pos divisor) (pos u)) (plus (number_of divisor number) (pos 1)) ≡ nat_lt u result }
+    ensures below { (divisor u : ℕ) → number.rest < divisor → u < most → is_less (product
+        (pos divisor) (pos u)) (plus (number_of divisor number) (pos 1)) ≡ nat_lt u result }
 {
     integers_below(number.whole + 1, most)
 }

@@ -8,12 +8,13 @@ ghost use Rattle.wf_paint.specs.Level.{level_at, row_level, is_in_margin};
 ghost use Rattle.wf_paint.specs.Shown.{IsColored};
 ghost use Rattle.wf_paint.specs.Span.{IsSpanOf, shared};
 ghost use Rattle.wf_paint.specs.Strip.{is_in_strip, IsPart, IsBetween, IsStepped, StaysBetween};
-ghost use Rattle.wf_paint.specs.View.{most_pixels};
+ghost use Rattle.wf_paint.specs.Limit.{half_side, most_pixels, pixel_side};
 
 use crate::canvas::Canvas;
 use crate::exact::{opposite, product};
 use crate::level::level_within;
 use crate::levels::Levels;
+use crate::limits::PIXEL_SIDE;
 use crate::quotient::Quotient;
 use crate::span::Span;
 use crate::stepped::Stepped;
@@ -60,7 +61,7 @@ pub(crate) fn draw_upright(
     requires across { IsReach levels.across }
     requires up { IsReach levels.up }
     requires margin { IsArea levels.margin }
-    requires even { levels.margin ≡ product (pos (8 * width)) levels.across }
+    requires even { levels.margin ≡ product (pos (half_side * width)) levels.across }
     requires rows { rows.to ≤ canvas.old.height }
     requires columns { columns.to ≤ canvas.old.width }
     ensures { IsColored (is_in_strip levels rows columns) color canvas.old canvas.new }
@@ -87,7 +88,7 @@ fn draw_even(
     requires rising { pos 1 ≤ℤ levels.across }
     requires up { IsReach levels.up }
     requires margin { IsArea levels.margin }
-    requires even { levels.margin ≡ product (pos (8 * width)) levels.across }
+    requires even { levels.margin ≡ product (pos (half_side * width)) levels.across }
     requires order { rows.from < rows.to }
     requires rows { rows.to ≤ canvas.old.height }
     requires most_rows { rows.to ≤ most_pixels }
@@ -115,7 +116,7 @@ fn end_in(levels: Levels, bound: i128, row: u32) -> Option<Stepped>
     ensures { IfSome result (IsStepped levels bound row) }
 {
     let step = step(levels.across);
-    let Some(change) = quotient(opposite(product(16, levels.up)), step) else {
+    let Some(change) = quotient(opposite(product(PIXEL_SIDE, levels.up)), step) else {
         return None;
     };
     let Some(now) = quotient(room(bound, row_level(levels, row)), step) else {
@@ -162,7 +163,7 @@ fn draw_whole(
     color: Color,
 )
     requires rising { pos 1 ≤ℤ levels.across }
-    requires even { levels.margin ≡ product (pos (8 * width)) levels.across }
+    requires even { levels.margin ≡ product (pos (half_side * width)) levels.across }
     requires order { rows.from < rows.to }
     requires rows { rows.to ≤ canvas.old.height }
     requires most_rows { rows.to ≤ most_pixels }
@@ -189,7 +190,7 @@ fn draw_cut(
     color: Color,
 )
     requires rising { pos 1 ≤ℤ levels.across }
-    requires even { levels.margin ≡ product (pos (8 * width)) levels.across }
+    requires even { levels.margin ≡ product (pos (half_side * width)) levels.across }
     requires order { rows.from < rows.to }
     requires rows { rows.to ≤ canvas.old.height }
     requires most_rows { rows.to ≤ most_pixels }
@@ -235,7 +236,8 @@ fn mirrored(levels: Levels) -> Levels
     ensures across { result.across ≡ opposite levels.across }
     ensures up { IsReach result.up }
     ensures margin { result.margin ≡ levels.margin }
-    ensures value { (u v : ℕ) → level_at result u v ≡ difference (opposite (level_at levels u v)) (pos 1) }
+    ensures value { (u v : ℕ) →
+        level_at result u v ≡ difference (opposite (level_at levels u v)) (pos 1) }
 {
     Levels {
         origin: -levels.origin - 1,
@@ -369,7 +371,7 @@ fn draw_some(canvas: &mut Canvas, levels: Levels, rows: Span, columns: Span, col
 {
     let step = step(levels.across);
     let start = row_level(levels, rows.from);
-    let Some(change) = quotient(opposite(product(16, levels.up)), step) else {
+    let Some(change) = quotient(opposite(product(PIXEL_SIDE, levels.up)), step) else {
         return draw_far(canvas, levels, rows, columns, color);
     };
     let Some(mut low) = quotient(room(opposite(levels.margin), start), step) else {
@@ -430,11 +432,11 @@ fn rising_within(levels: Levels, row: u32, most: u32) -> Span
 fn step(across: i64) -> u64
     requires reach { IsReach across }
     requires rising { pos 1 ≤ℤ across }
-    ensures value { pos result ≡ product (pos 16) across }
+    ensures value { pos result ≡ product (pos pixel_side) across }
     ensures least { 1 ≤ result }
     ensures most { result ≤ 2 ^ 60 }
 {
-    16 * across.unsigned_abs()
+    PIXEL_SIDE as u64 * across.unsigned_abs()
 }
 
 /// The level in the first column of a row.
@@ -451,10 +453,10 @@ fn row_level(levels: Levels, row: u32) -> i128
 /// A number of pixels in sixteenths of a pixel.
 fn sixteenths(pixels: u32) -> i64
     requires { pixels ≤ most_pixels }
-    ensures value { result ≡ pos (16 * pixels) }
+    ensures value { result ≡ pos (pixel_side * pixels) }
     ensures within { IsReach result }
 {
-    16 * i64::from(pixels)
+    PIXEL_SIDE * i64::from(pixels)
 }
 
 /// The greatest number that, added to the level, is below the bound.

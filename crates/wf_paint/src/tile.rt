@@ -1,21 +1,26 @@
 //! The view of a request: that of a tile of the grid, or of the box itself.
 ghost use Rattle.std.specs.Prelude.{◌≡◌, ◌≤◌, ◌*◌, ◌^◌, ◌+ℤ◌, ◌≤ℤ◌, Some, None, pos, true, nat_abs};
 ghost use Rattle.wf_def.specs.Limit.{most_millionths};
-ghost use Rattle.wf_paint.specs.View.{most_pixels, most_shift, IsAxis};
-ghost use Rattle.wf_paint.specs.Grid.{width_of, has_level, least_cell, IsGridCell};
+ghost use Rattle.wf_paint.specs.Limit.{least_cell, most_pixels};
+ghost use Rattle.wf_paint.specs.View.{most_shift, IsAxis};
+ghost use Rattle.wf_paint.specs.Grid.{width_of, has_level, IsGridCell};
 ghost use Rattle.wf_paint.specs.Tile.{box_axis, box_view, tile_shift, tile_start, tile_axis, tile_view, IsViewOf};
 
 use crate::axis::{Axis, distance};
 use crate::cell::GridCell;
 use crate::corner::Corner;
 use crate::grid::{cells_at, width_of};
+use crate::limits::{MOST_PIXELS, PIXEL_SIDE, SHARED_TILES, TILE_PIXELS};
 use crate::view::View;
 use wf_def::extent::Extent;
 use wf_def::map::MapDef;
 use wf_def::micro::Micro;
 
-/// The width and height of the view that sixteen tiles share, in pixels.
-const MOST_PIXELS: u32 = 1_024;
+/// The side of a tile, in sixteenths of a pixel.
+const TILE_SIDE: u64 = PIXEL_SIDE as u64 * TILE_PIXELS as u64;
+
+/// The side of a view that tiles share, in sixteenths of a pixel.
+const SHARED_SIDE: i64 = PIXEL_SIDE * MOST_PIXELS as i64;
 
 impl View {
     /// The view of a picture of this box at this size. If box and size are those of a tile of the map's grid, it is the view that
@@ -61,7 +66,7 @@ fn box_axis(low: Micro, high: Micro, pixels: u32) -> Axis
     ensures within { IsAxis result }
 {
     let span = distance(low.millionths(), high.millionths()).unsigned_abs();
-    Axis::new(low, 16 * u64::from(pixels), span, 0)
+    Axis::new(low, PIXEL_SIDE as u64 * u64::from(pixels), span, 0)
 }
 
 /// The view that the cell's tile is cut out of.
@@ -91,7 +96,7 @@ fn tile_axis(origin: Micro, width: u64, cells: u64, k: i64) -> Axis
     ensures within { IsAxis result }
 {
     let _ = origin.millionths();
-    Axis::new(origin, 4_096 * cells, width, tile_shift(k))
+    Axis::new(origin, TILE_SIDE * cells, width, tile_shift(k))
 }
 
 /// The distance from the grid's first cell to the group of four that this cell is in, in sixteenths of a pixel.
@@ -101,7 +106,7 @@ fn tile_shift(k: i64) -> i64
     ensures value { result ≡ tile_shift k }
     ensures within { nat_abs result ≤ most_shift }
 {
-    k.div_euclid(4) * 16_384
+    k.div_euclid(SHARED_TILES as i64) * SHARED_SIDE
 }
 
 /// The cell's offset in its group of four, in pixels.
@@ -109,5 +114,5 @@ fn tile_shift(k: i64) -> i64
 fn tile_start(k: i64) -> u32
     ensures { result ≡ tile_start k }
 {
-    k.rem_euclid(4).unsigned_abs() as u32 * 256
+    k.rem_euclid(SHARED_TILES as i64).unsigned_abs() as u32 * TILE_PIXELS
 }

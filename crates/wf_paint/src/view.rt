@@ -1,6 +1,7 @@
 //! Views: the part of the map that a picture shows, and the picture's size.
 ghost use Rattle.std.specs.Prelude.{◌≡◌, ◌≤◌};
-ghost use Rattle.wf_paint.specs.View.{place_of, most_pixels, IsAxis, IsView};
+ghost use Rattle.wf_paint.specs.Limit.{most_pixels};
+ghost use Rattle.wf_paint.specs.View.{place_of, IsAxis, IsView};
 
 use crate::axis::Axis;
 use crate::corner::Corner;
@@ -23,11 +24,14 @@ impl Model for View {
 
     ghost Value = { ViewValue };
 
-    ghost view = { λ v. record { width = v.width; height = v.height; x = v.x; y = v.y; corner = v.corner } };
+    ghost view = { λ v.
+        record { width = v.width; height = v.height; x = v.x; y = v.y; corner = v.corner } };
 
-    ghost invariant = { λ v. IsView (record { width = v.width; height = v.height; x = v.x; y = v.y; corner = v.corner }) };
+    ghost invariant = { λ v. IsView
+        (record { width = v.width; height = v.height; x = v.x; y = v.y; corner = v.corner }) };
 
-    ghost inverse = { λ v. record { width = v.width; height = v.height; x = v.x; y = v.y; corner = v.corner } };
+    ghost inverse = { λ v.
+        record { width = v.width; height = v.height; x = v.x; y = v.y; corner = v.corner } };
 }
 
 impl View {
@@ -39,7 +43,8 @@ impl View {
         requires height_most { height ≤ most_pixels }
         requires x { IsAxis x }
         requires y { IsAxis y }
-        ensures { result ≡ record { width = width; height = height; x = x; y = y; corner = corner } }
+        ensures { result
+            ≡ record { width = width; height = height; x = x; y = y; corner = corner } }
     {
         View {
             width,

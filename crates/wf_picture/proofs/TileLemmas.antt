@@ -1,5 +1,5 @@
 -- Tiles are parts of one picture: nothing that is painted or placed depends on where a view is cut.
-use Rattle.std.proofs.Common.{◌≡◌, ℕ, zero, suc, ◌^◌, Bool, List, [], ◌∷◌, ◌++◌, reverse, slice_get, Option, Some, None, ℤ, pos, if◌then◌else◌, refl, sym, ap, ap₂, ◌∙◌}
+use Rattle.std.proofs.Common.{◌≡◌, ℕ, zero, suc, ◌^◌, Bool, List, [], ◌∷◌, ◌++◌, ◌*◌, reverse, slice_get, Option, Some, None, ℤ, pos, if◌then◌else◌, refl, sym, ap, ap₂, ◌∙◌}
 use Rattle.std.specs.List.{filter_map, flat_map}
 use Rattle.wf_def.specs.Definition.{Definition, LayerDefinition, FeatureDefinition}
 use Rattle.wf_def.specs.Limit.{most_priority}
@@ -8,16 +8,16 @@ use Rattle.wf_def.specs.declared.point.Point.{Point}
 use Rattle.wf_paint.specs.Drawing.{IsPartOfTheDrawing, drawing, first_pixel}
 use Rattle.wf_paint.specs.Exact.{plus, quotient, product}
 use Rattle.wf_paint.specs.Operation.{operations, color_at}
-use Rattle.wf_paint.specs.Grid.{tile_pixels}
+use Rattle.wf_paint.specs.Limit.{most_pixels, pixel_side, shared_tiles, tile_pixels}
 use Rattle.wf_paint.specs.Tile.{tile_view, tile_shift}
-use Rattle.wf_paint.specs.View.{ViewValue, most_pixels}
+use Rattle.wf_paint.specs.View.{ViewValue}
 use Rattle.wf_paint.specs.declared.cell.GridCell.{GridCell}
 use Rattle.wf_paint.specs.declared.corner.Corner.{Corner}
 use Rattle.wf_label.specs.Anchor.{anchor_of}
 use Rattle.wf_label.specs.Ink.{inked}
 use Rattle.wf_label.specs.Label.{labelled as label_at, label_of, text_of, feature_label, layer_labels, entry_labels, labels_of, labels_up_to, candidates}
 use Rattle.wf_label.specs.Placed.{PlacedValue}
-use Rattle.wf_label.specs.Placing.{stands, placed_after, placed_of}
+use Rattle.wf_label.specs.Placing.{stands, joined, placed_after, placed_of}
 use Rattle.wf_label.specs.Frame.{is_whole_in}
 use Rattle.wf_picture.specs.Image.{image}
 use Rattle.wf_picture.specs.Picture.{placed, labelled, crop, picture}
@@ -65,7 +65,7 @@ module _ (v : ViewValue) (c d : Option Corner) where
   after_cut before [] = refl
   after_cut before (label ∷ rest) =
       ap (λ (stays : Bool). placed_after (cut v c) (if stays then before ++ label ∷ [] else before) rest) (stands_cut before label)
-      ∙ after_cut (if stands (cut v d) before label then before ++ label ∷ [] else before) rest
+      ∙ after_cut (joined (cut v d) before label) rest
 
   placed_cut : (map : Definition) (layers : List ℕ) → placed map layers (cut v c) ≡ placed map layers (cut v d)
   unfolding placed placed_of candidates
@@ -76,9 +76,9 @@ module _ (v : ViewValue) (c d : Option Corner) where
 -- ---- two tiles of one view
 
 module _ (map : Definition) (layers : List ℕ) (background : Color) (cell other : GridCell) (share : ShareAView cell other) where
-  shift_same : (k m : ℤ) → quotient k (pos 4) ≡ quotient m (pos 4) → tile_shift k ≡ tile_shift m
+  shift_same : (k m : ℤ) → quotient k (pos shared_tiles) ≡ quotient m (pos shared_tiles) → tile_shift k ≡ tile_shift m
   unfolding tile_shift
-  shift_same k m same = ap (λ (q : ℤ). product q (pos 16_384)) same
+  shift_same k m same = ap (λ (q : ℤ). product q (pos (pixel_side * most_pixels))) same
 
   -- their views differ in the corner alone
   view_same : tile_view map.extent cell ≡ cut (tile_view map.extent other) (tile_view map.extent cell).corner
@@ -94,7 +94,7 @@ module _ (map : Definition) (layers : List ℕ) (background : Color) (cell other
       ap (placed map layers) view_same
       ∙ placed_cut (tile_view map.extent other) (tile_view map.extent cell).corner (tile_view map.extent other).corner map layers
 
-  first_same : (k m : ℤ) → quotient k (pos 4) ≡ quotient m (pos 4) → first_pixel k ≡ first_pixel m
+  first_same : (k m : ℤ) → quotient k (pos shared_tiles) ≡ quotient m (pos shared_tiles) → first_pixel k ≡ first_pixel m
   first_same k m same = ap (λ (q : ℤ). product q (pos most_pixels)) same
 
   -- and paint the same part of the drawing

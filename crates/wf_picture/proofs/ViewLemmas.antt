@@ -4,7 +4,8 @@ use Rattle.std.specs.Bool.{Decides}
 use Rattle.std.proofs.lemmas.Bool.Decides.{Decides-eqb, Decides-int_eq, nat_tests}
 use Rattle.std.proofs.lemmas.Int.{ints}
 use Rattle.wf_def.specs.Extent.{ExtentValue}
-use Rattle.wf_paint.specs.Grid.{fits, tile_pixels}
+use Rattle.wf_paint.specs.Grid.{fits}
+use Rattle.wf_paint.specs.Limit.{tile_pixels}
 use Rattle.wf_paint.specs.Tile.{IsViewOf, tile_start}
 use Rattle.wf_paint.specs.View.{AxisValue, ViewValue}
 use Rattle.wf_paint.specs.declared.cell.GridCell.{GridCell}

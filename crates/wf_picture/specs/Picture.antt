@@ -6,6 +6,7 @@ use Rattle.wf_def.specs.Extent.{ExtentValue}
 use Rattle.wf_def.specs.declared.color.Color.{Color}
 use Rattle.wf_paint.specs.Exact.{plus}
 use Rattle.wf_paint.specs.Operation.{operations, color_at}
+use Rattle.wf_paint.specs.Pixmap.{PixmapValue, IsPicture}
 use Rattle.wf_paint.specs.Tile.{IsViewOf}
 use Rattle.wf_paint.specs.View.{ViewValue}
 use Rattle.wf_paint.specs.declared.corner.Corner.{Corner}
@@ -26,6 +27,11 @@ placed map layers view = placed_of view (candidates map layers view)
 unfoldable pub labelled : Definition → List ℕ → ViewValue → Color → ℤ → ℤ → Color
 labelled map layers view background column row =
     inked (placed map layers view) (color_at (operations map layers view) background column row) column row
+
+-- the pixmap is the picture of the whole view
+abbrev pub IsWholePicture : Definition → List ℕ → ViewValue → Color → PixmapValue → Type 0
+IsWholePicture map layers view background pixmap =
+    IsPicture view.width view.height (labelled map layers view background) pixmap
 
 -- the pixel of the view that is the lower left one of the picture
 abbrev pub corner_of : ViewValue → Corner
@@ -53,6 +59,12 @@ pub record IsImageOf (map : Definition) (request : RequestValue) (bytes : List �
   pub view : ViewValue
   pub is : IsViewFor map.extent request view
   pub file : bytes ≡ image request.size.width request.size.height (picture map request.layers view request.background)
+
+-- of whichever map and request of this size the pixmap is the picture of the view, the bytes are the request's image
+abbrev pub IsCutOut : PixmapValue → ViewValue → Size → List ℕ → Type 0
+IsCutOut pixmap view size bytes = (map : Definition) (request : RequestValue) → request.size ≡ size →
+    IsViewFor map.extent request view →
+    IsWholePicture map request.layers view request.background pixmap → IsImageOf map request bytes
 
 -- a request has one view at most
 abbrev pub EachRequestHasOneView : Type 0

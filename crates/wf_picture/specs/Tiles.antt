@@ -3,7 +3,8 @@ use Rattle.std.specs.Prelude.{◌≡◌, ℕ, true, List, pos}
 use Rattle.wf_def.specs.Definition.{Definition}
 use Rattle.wf_def.specs.declared.color.Color.{Color}
 use Rattle.wf_paint.specs.Exact.{quotient}
-use Rattle.wf_paint.specs.Grid.{fits, tile_pixels}
+use Rattle.wf_paint.specs.Grid.{fits}
+use Rattle.wf_paint.specs.Limit.{shared_tiles, tile_pixels}
 use Rattle.wf_paint.specs.Tile.{tile_start, tile_view}
 use Rattle.wf_paint.specs.declared.cell.GridCell.{GridCell}
 use Rattle.wf_paint.specs.declared.corner.Corner.{Corner}
@@ -14,8 +15,8 @@ use Rattle.wf_picture.specs.Request.{RequestValue}
 -- two cells of one level are among the same four columns and the same four rows
 pub record ShareAView (cell other : GridCell) : Type 0 where
   pub level : cell.z ≡ other.z
-  pub columns : quotient cell.col (pos 4) ≡ quotient other.col (pos 4)
-  pub rows : quotient cell.row (pos 4) ≡ quotient other.row (pos 4)
+  pub columns : quotient cell.col (pos shared_tiles) ≡ quotient other.col (pos shared_tiles)
+  pub rows : quotient cell.row (pos shared_tiles) ≡ quotient other.row (pos shared_tiles)
 
 -- then one picture is drawn for both
 abbrev pub SharedViewsHaveOnePicture : Type 0

@@ -21,7 +21,8 @@ pub(crate) fn image(
 ) -> Result<Vec<u8>, AllocError>
     requires columns { corner.column + width ≤ pixmap.now.width }
     requires rows { corner.row + height ≤ pixmap.now.height }
-    ensures { IfOk result (λ file. (whole : ℤ → ℤ → Pixel) → IsPicture pixmap.now.width pixmap.now.height whole pixmap.now → file.items ≡ image width height (crop corner whole)) }
+    ensures { IfOk result (λ file. (whole : ℤ → ℤ → Pixel) → IsPicture pixmap.now.width
+        pixmap.now.height whole pixmap.now → file.items ≡ image width height (crop corner whole)) }
 {
     let mut file = Vec::with_capacity(alloc, file_size(pixmap, width, height))?;
     push_header(&mut file, width, height)?;
@@ -75,7 +76,9 @@ fn push_rows(
 ) -> Result<(), AllocError>
     requires columns { corner.column + width ≤ pixmap.now.width }
     requires rows { corner.row + height ≤ pixmap.now.height }
-    ensures { OnOk result ((whole : ℤ → ℤ → Pixel) → IsPicture pixmap.now.width pixmap.now.height whole pixmap.now → file.new.items ≡ file.old.items ++ pixel_bytes width height (crop corner whole)) }
+    ensures { OnOk result
+        ((whole : ℤ → ℤ → Pixel) → IsPicture pixmap.now.width pixmap.now.height whole pixmap.now →
+        file.new.items ≡ file.old.items ++ pixel_bytes width height (crop corner whole)) }
 {
     for row in (0..height).rev() {
         push_row(file, pixmap, corner, width, row)?;
@@ -93,7 +96,9 @@ fn push_row(
 ) -> Result<(), AllocError>
     requires columns { corner.column + width ≤ pixmap.now.width }
     requires row { corner.row + row < pixmap.now.height }
-    ensures { OnOk result ((whole : ℤ → ℤ → Pixel) → IsPicture pixmap.now.width pixmap.now.height whole pixmap.now → file.new.items ≡ file.old.items ++ row_bytes width (crop corner whole) row) }
+    ensures { OnOk result
+        ((whole : ℤ → ℤ → Pixel) → IsPicture pixmap.now.width pixmap.now.height whole pixmap.now →
+        file.new.items ≡ file.old.items ++ row_bytes width (crop corner whole) row) }
 {
     let first = first_of(pixmap, corner, row);
     file.extend_from_slice(pixels_from(pixmap, first, width))?;
@@ -104,7 +109,8 @@ fn push_row(
 fn first_of(pixmap: &Pixmap, corner: Corner, row: u32) -> usize
     requires column { corner.column ≤ pixmap.now.width }
     requires row { corner.row + row < pixmap.now.height }
-    ensures { result ≡ (pixmap.now.height - 1 - (corner.row + row)) * pixmap.now.width + corner.column }
+    ensures { result
+        ≡ (pixmap.now.height - 1 - (corner.row + row)) * pixmap.now.width + corner.column }
 {
     let above = pixmap.height() - 1 - (corner.row + row);
     above as usize * pixmap.width() as usize + corner.column as usize

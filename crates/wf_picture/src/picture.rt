@@ -1,10 +1,7 @@
 //! Pictures of a map.
 ghost use Rattle.std.specs.Prelude.{◌≡◌, ◌<◌, length, IfOk};
 ghost use Rattle.std.specs.List.{All};
-ghost use Rattle.wf_def.specs.Definition.{Definition};
-ghost use Rattle.wf_paint.specs.Pixmap.{IsPicture};
-ghost use Rattle.wf_picture.specs.Picture.{corner_of, labelled, IsImageOf, IsViewFor, LiesIn};
-ghost use Rattle.wf_picture.specs.Request.{RequestValue};
+ghost use Rattle.wf_picture.specs.Picture.{corner_of, IsCutOut, IsImageOf, IsWholePicture, IsViewFor, LiesIn};
 
 use crate::image::image;
 use crate::request::PictureRequest;
@@ -53,7 +50,7 @@ pub fn labelled(
     background: Color,
 ) -> Result<Pixmap, AllocError>
     requires { All (λ i. i < length map.now.layers) layers.now }
-    ensures { IfOk result (λ p. IsPicture view.now.width view.now.height (labelled map.now layers.now view.now background) p) }
+    ensures { IfOk result (λ p. IsWholePicture map.now layers.now view.now background p) }
 {
     there_is_one_placed_set();
     let labels = place(alloc, map, layers, view)?;
@@ -68,8 +65,7 @@ pub fn cut(alloc: Global, pixmap: &Pixmap, view: &View, size: Size) -> Result<Ve
     requires within { LiesIn size view.now }
     requires wide { pixmap.now.width ≡ view.now.width }
     requires high { pixmap.now.height ≡ view.now.height }
-    ensures { IfOk result (λ file. (map : Definition) (request : RequestValue) → request.size ≡ size → IsViewFor map.extent request view.now
-        → IsPicture view.now.width view.now.height (labelled map request.layers view.now request.background) pixmap.now → IsImageOf map request file.items) }
+    ensures { IfOk result (λ file. IsCutOut pixmap.now view.now size file.items) }
 {
     image(alloc, pixmap, corner_of(view), size.width, size.height)
 }

@@ -23,9 +23,19 @@ impl Model for PictureRequest {
 
     ghost Value = { RequestValue };
 
-    ghost view = { λ r. record { layers = r.layers.items; bbox = r.bbox; size = r.size; background = r.background } };
+    ghost view = { λ r. record {
+      layers = r.layers.items;
+      bbox = r.bbox;
+      size = r.size;
+      background = r.background;
+    } };
 
-    ghost invariant = { λ r. IsRequest (record { layers = r.layers.items; bbox = r.bbox; size = r.size; background = r.background }) };
+    ghost invariant = { λ r. IsRequest (record {
+      layers = r.layers.items;
+      bbox = r.bbox;
+      size = r.size;
+      background = r.background;
+    }) };
 }
 
 impl PictureRequest {
@@ -33,7 +43,8 @@ impl PictureRequest {
     pub fn new(layers: Vec<usize>, bbox: Extent, size: Size, background: Color) -> Self
         requires size { IsSize size }
         requires bbox { IsLargeEnough bbox }
-        ensures { result ≡ record { layers = layers.items; bbox = bbox; size = size; background = background } }
+        ensures { result
+            ≡ record { layers = layers.items; bbox = bbox; size = size; background = background } }
     {
         PictureRequest {
             layers,

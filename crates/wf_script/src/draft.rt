@@ -29,7 +29,8 @@ pub(crate) struct Draft {
 
 impl Draft {
     pub(crate) fn new(alloc: Global, nodes: u8) -> Draft
-        ensures { state result.nodes result.maps.named.items result.orders.items ≡ nothing_said nodes }
+        ensures { state result.nodes result.maps.named.items result.orders.items
+            ≡ nothing_said nodes }
     {
         Draft {
             nodes,
@@ -45,9 +46,13 @@ impl Draft {
         alloc: Global,
         lines: &mut Lines<'_>,
     ) -> Result<(), ScriptFault>
-        ensures value { Tells (λ _. state self.new.nodes self.new.maps.named.items self.new.orders.items) result (on_from None (state self.old.nodes self.old.maps.named.items self.old.orders.items) lines.old) }
+        ensures value { Tells
+            (λ _. state self.new.nodes self.new.maps.named.items self.new.orders.items) result
+            (on_from None
+            (state self.old.nodes self.old.maps.named.items self.old.orders.items) lines.old) }
         ensures at { IfErr result (IsAtLine (total lines.old)) }
-        ensures orders { length self.new.orders.items + length lines.new.left ≤ length self.old.orders.items + length lines.old.left }
+        ensures orders { length self.new.orders.items + length lines.new.left
+            ≤ length self.old.orders.items + length lines.old.left }
     {
         while let Some(line) = lines.next() {
             let number = lines.number();
@@ -61,7 +66,12 @@ impl Draft {
     /// Reads the line that was returned last; where a map begins there, the lines of the map too.
     #[tactic(auto, unfolding(crate::specs::Text::line_on, crate::specs::Text::line_says, crate::specs::Text::said, crate::specs::Text::said_by, crate::specs::Text::map_on))]
     fn take_line(&mut self, alloc: Global, line: &[u8], lines: &mut Lines<'_>) -> Result<(), Wrong>
-        ensures value { GoesOn lines.old.number result (line_on None (state self.old.nodes self.old.maps.named.items self.old.orders.items) line.now lines.old) (on_from None (state self.new.nodes self.new.maps.named.items self.new.orders.items) lines.new) }
+        ensures value { GoesOn lines.old.number result
+            (line_on None
+            (state self.old.nodes self.old.maps.named.items self.old.orders.items)
+            line.now lines.old)
+            (on_from None
+            (state self.new.nodes self.new.maps.named.items self.new.orders.items) lines.new) }
         ensures total { total lines.new ≡ total lines.old }
         ensures left { length lines.new.left ≤ length lines.old.left }
         ensures orders { length self.new.orders.items ≤ length self.old.orders.items + 1 }
@@ -87,7 +97,10 @@ impl Draft {
         number: usize,
     ) -> Result<(), Wrong>
         ensures maps { self.new.maps ≡ self.old.maps }
-        ensures value { Gives (λ _. state self.new.nodes self.new.maps.named.items self.new.orders.items) result (with_order number (state self.old.nodes self.old.maps.named.items self.old.orders.items) verb words.old) }
+        ensures value { Gives
+            (λ _. state self.new.nodes self.new.maps.named.items self.new.orders.items) result
+            (with_order number
+            (state self.old.nodes self.old.maps.named.items self.old.orders.items) verb words.old) }
         ensures orders { length self.new.orders.items ≤ length self.old.orders.items + 1 }
     {
         let order = read_order(alloc, &self.maps, verb, words)?;
@@ -98,7 +111,10 @@ impl Draft {
     #[tactic(auto, unfolding(crate::specs::Text::added))]
     fn add(&mut self, number: usize, order: Order) -> Result<(), Wrong>
         ensures maps { self.new.maps ≡ self.old.maps }
-        ensures value { Gives (λ _. state self.new.nodes self.new.maps.named.items self.new.orders.items) result (added number (state self.old.nodes self.old.maps.named.items self.old.orders.items) (view order)) }
+        ensures value { Gives
+            (λ _. state self.new.nodes self.new.maps.named.items self.new.orders.items) result
+            (added number
+            (state self.old.nodes self.old.maps.named.items self.old.orders.items) (view order)) }
         ensures orders { length self.new.orders.items ≤ length self.old.orders.items + 1 }
     {
         if !self.may_follow(&order) {
@@ -115,7 +131,8 @@ impl Draft {
     /// May the order follow those so far? A fuse is of a node of the farm, and comes once, before any event.
     #[tactic(auto, using(crate::proofs::Listing::all_numbered))]
     fn may_follow(&self, order: &Order) -> bool
-        ensures { result ≡ may_follow self.now.nodes (map numbered self.now.orders.items) (view order.now) }
+        ensures { result
+            ≡ may_follow self.now.nodes (map numbered self.now.orders.items) (view order.now) }
     {
         match order {
             Order::Fuse(node, _, _, _) => {
@@ -133,7 +150,12 @@ impl Draft {
         words: &mut Words<'_>,
         lines: &mut Lines<'_>,
     ) -> Result<(), Wrong>
-        ensures value { GoesOn lines.old.number result (map_on (state self.old.nodes self.old.maps.named.items self.old.orders.items) words.old lines.old) (on_from None (state self.new.nodes self.new.maps.named.items self.new.orders.items) lines.new) }
+        ensures value { GoesOn lines.old.number result
+            (map_on
+            (state self.old.nodes self.old.maps.named.items self.old.orders.items)
+            words.old lines.old)
+            (on_from None
+            (state self.new.nodes self.new.maps.named.items self.new.orders.items) lines.new) }
         ensures total { total lines.new ≡ total lines.old }
         ensures left { length lines.new.left ≤ length lines.old.left }
         ensures orders { self.new.orders ≡ self.old.orders }
@@ -148,7 +170,8 @@ impl Draft {
     /// The name of a map that begins: the last word of its line, which no map has yet.
     #[tactic(auto, unfolding(crate::specs::Text::a_new_name, crate::specs::Text::new_name))]
     fn new_name<'a>(&self, words: &mut Words<'a>) -> Result<&'a str, Wrong>
-        ensures { Gives (λ name. name.now) result (a_new_name (map name self.now.maps.named.items) words.old) }
+        ensures { Gives (λ name. name.now) result
+            (a_new_name (map name self.now.maps.named.items) words.old) }
     {
         let name = words.text()?;
         words.end()?;
@@ -161,7 +184,10 @@ impl Draft {
     /// Adds the map of this name and text, where there is room.
     #[tactic(auto, unfolding(crate::specs::Text::closed))]
     fn close(&mut self, alloc: Global, name: &str, text: &[u8]) -> Result<(), Wrong>
-        ensures value { Gives (λ _. state self.new.nodes self.new.maps.named.items self.new.orders.items) result (closed name.now text.now (state self.old.nodes self.old.maps.named.items self.old.orders.items)) }
+        ensures value { Gives
+            (λ _. state self.new.nodes self.new.maps.named.items self.new.orders.items) result
+            (closed name.now text.now
+            (state self.old.nodes self.old.maps.named.items self.old.orders.items)) }
         ensures orders { self.new.orders ≡ self.old.orders }
     {
         if self.maps.is_full() {

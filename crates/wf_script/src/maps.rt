@@ -61,8 +61,10 @@ impl Maps {
     /// Adds a map after the others.
     pub(crate) fn add(&mut self, alloc: Global, name: &str, canon: Canon) -> Result<(), AllocError>
         requires { length self.old.named.items < most_maps }
-        ensures names { OnOk result (map name_of self.new.named.items ≡ map name_of self.old.named.items ++ name.now ∷ []) }
-        ensures maps { OnOk result (map definition self.new.named.items ≡ map definition self.old.named.items ++ canon ∷ []) }
+        ensures names { OnOk result
+            (map name_of self.new.named.items ≡ map name_of self.old.named.items ++ name.now ∷ []) }
+        ensures maps { OnOk result (map definition self.new.named.items
+            ≡ map definition self.old.named.items ++ canon ∷ []) }
     {
         match String::from_str(alloc, name) {
             Ok(name) => {
@@ -96,7 +98,9 @@ impl Maps {
 
     /// The name of the first map with this definition.
     pub(crate) fn name_of(&self, meant: &MapDef) -> Option<&str>
-        ensures { option_copied result ≡ option_and_then (slice_get (map name_of self.now.named.items)) (place_with (map definition self.now.named.items) meant.now) }
+        ensures { option_copied result
+            ≡ option_and_then (slice_get (map name_of self.now.named.items))
+            (place_with (map definition self.now.named.items) meant.now) }
     {
         name_of(&self.named, meant)
     }
@@ -111,7 +115,8 @@ fn number_of(maps: &[Named], name: &str) -> Option<usize>
 
 /// The name of the first map with this definition.
 fn name_of<'m>(maps: &'m [Named], meant: &MapDef) -> Option<&'m str>
-    ensures { option_copied result ≡ option_map name_of (option_and_then (slice_get maps.now) (position (λ named. definition_eq (definition named) meant.now) maps.now)) }
+    ensures { option_copied result ≡ option_map name_of (option_and_then (slice_get maps.now)
+        (position (λ named. definition_eq (definition named) meant.now) maps.now)) }
 {
     match maps.get(number_with(maps, meant)?) {
         Some(named) => Some(named.name.as_str()),

@@ -104,7 +104,8 @@ pub(crate) fn read_order(
 /// The order that a verb and the words after it make.
 #[tactic(auto, unfolding(crate::specs::Orders::order_by))]
 fn order_by(alloc: Global, maps: &Maps, verb: Verb, words: &mut Words<'_>) -> Result<Order, Wrong>
-    ensures { Gives (λ o. (view o, words.new)) result (order_by (map name maps.now.named.items) verb words.old) }
+    ensures { Gives (λ o. (view o, words.new)) result
+        (order_by (map name maps.now.named.items) verb words.old) }
 {
     match verb {
         // A map is no order.
@@ -131,7 +132,8 @@ fn order_by(alloc: Global, maps: &Maps, verb: Verb, words: &mut Words<'_>) -> Re
 /// A node and a step of it, as `propose I NAME`.
 #[tactic(auto, unfolding(crate::specs::Orders::step_order))]
 fn step_order(maps: &Maps, verb: Verb, words: &mut Words<'_>) -> Result<Order, Wrong>
-    ensures { Gives (λ o. (view o, words.new)) result (step_order (map name maps.now.named.items) verb words.old) }
+    ensures { Gives (λ o. (view o, words.new)) result
+        (step_order (map name maps.now.named.items) verb words.old) }
 {
     let node = words.number()?;
     let step = step_by(maps, verb, words)?;
@@ -201,7 +203,8 @@ fn pump(alloc: Global, words: &mut Words<'_>) -> Result<Order, Wrong>
 /// `torn I before E` or `torn I after E`.
 #[tactic(auto, unfolding(crate::specs::Orders::torn_order))]
 fn torn(maps: &Maps, words: &mut Words<'_>) -> Result<Order, Wrong>
-    ensures { Gives (λ o. (view o, words.new)) result (torn_order (map name maps.now.named.items) words.old) }
+    ensures { Gives (λ o. (view o, words.new)) result
+        (torn_order (map name maps.now.named.items) words.old) }
 {
     let node = words.number()?;
     let side = torn_side(words)?;
@@ -223,7 +226,8 @@ fn torn_side(words: &mut Words<'_>) -> Result<Side, Wrong>
 /// A step of a node whose number has been read.
 #[tactic(auto, unfolding(crate::specs::Orders::a_step))]
 fn step_after(maps: &Maps, words: &mut Words<'_>) -> Result<Step, Wrong>
-    ensures { Gives (λ step. (step, words.new)) result (a_step (map name maps.now.named.items) words.old) }
+    ensures { Gives (λ step. (step, words.new)) result
+        (a_step (map name maps.now.named.items) words.old) }
 {
     match Verb::of(words.text()?) {
         Some(verb) => step_by(maps, verb, words),
@@ -234,7 +238,8 @@ fn step_after(maps: &Maps, words: &mut Words<'_>) -> Result<Step, Wrong>
 /// The step that a verb and the words after it make.
 #[tactic(auto, unfolding(crate::specs::Orders::step_by))]
 fn step_by(maps: &Maps, verb: Verb, words: &mut Words<'_>) -> Result<Step, Wrong>
-    ensures { Gives (λ step. (step, words.new)) result (step_by (map name maps.now.named.items) verb words.old) }
+    ensures { Gives (λ step. (step, words.new)) result
+        (step_by (map name maps.now.named.items) verb words.old) }
 {
     match verb {
         Verb::Propose => {

@@ -79,7 +79,8 @@ impl Script {
         ensures value { Tells (λ s. s) result (script_of bytes.now) }
         ensures bytes { OnOk result (length bytes.now ≤ most_script_bytes) }
         ensures lines { OnOk result (line_feeds bytes.now ≤ most_lines) }
-        ensures over { IfSome (over_limit bytes.now) (λ line. result ≡ Err (ScriptFault.OverLimit line)) }
+        ensures over { IfSome
+            (over_limit bytes.now) (λ line. result ≡ Err (ScriptFault.OverLimit line)) }
         ensures at { IfErr result (IsAtLine (length (lines bytes.now))) }
     {
         if let Some(line) = line_over(bytes) {

@@ -18,10 +18,11 @@ use Rattle.wf_def.specs.Extent.{ExtentValue}
 use Rattle.wf_def.specs.declared.color.Color.{Color}
 use Rattle.wf_learner.specs.History.{map_at}
 use Rattle.wf_model.specs.Stored.{definition_at}
-use Rattle.wf_paint.specs.Grid.{fits, tile_pixels}
+use Rattle.wf_paint.specs.Grid.{fits}
+use Rattle.wf_paint.specs.Limit.{most_pixels, tile_pixels}
 use Rattle.wf_paint.specs.Pixmap.{PixmapValue, IsPicture}
 use Rattle.wf_paint.specs.Tile.{tile_view}
-use Rattle.wf_paint.specs.View.{ViewValue, most_pixels}
+use Rattle.wf_paint.specs.View.{ViewValue}
 use Rattle.wf_paint.specs.declared.cell.GridCell.{GridCell}
 use Rattle.wf_picture.specs.Picture.{labelled, IsViewFor, LiesIn}
 use Rattle.wf_picture.specs.Request.{RequestValue}

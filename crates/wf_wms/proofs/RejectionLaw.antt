@@ -7,7 +7,8 @@ use Rattle.wf_def.specs.Definition.{Definition}
 use Rattle.wf_picture.specs.Request.{RequestValue}
 use Rattle.wf_wms.specs.Answer.{AnswerValue, IsAnswerOf, IsAnswerOn, IsMapAnswer, check_sequence, check_service, first_failing, metadata_answer, metadata_fault, operation_of, rejection, rejection_or_metadata}
 use Rattle.wf_wms.specs.Digits.{number_of_digits}
-use Rattle.wf_wms.specs.MapRequest.{◌>>=◌, check_layers, check_version, entries, layers_in, listed_names, map_request, map_sequence, most_entries, named_layers, passed_or, picture_in, request_in, sequence_in, styled_layers}
+use Rattle.wf_wms.specs.Limit.{most_entries}
+use Rattle.wf_wms.specs.MapRequest.{◌>>=◌, check_layers, check_version, entries, layers_in, listed_names, map_request, map_sequence, named_layers, passed_or, picture_in, request_in, sequence_in, styled_layers}
 use Rattle.wf_wms.specs.Query.{pairs_of, parameter}
 use Rattle.wf_wms.specs.Rejection.{IsRejectedByText, TextsAreRejectedAlike, check_digits, check_names, from_sequence, map_text, metadata_text, operation_text, passed}
 use Rattle.wf_wms.specs.UpdateSequence.{sequence_rule, standing_of}

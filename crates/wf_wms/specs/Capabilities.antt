@@ -5,7 +5,9 @@ use Rattle.wf_def.specs.Definition.{Definition, LayerDefinition}
 use Rattle.wf_def.specs.Extent.{ExtentValue}
 use Rattle.wf_def.specs.declared.choice.Projection.{Projection}
 use Rattle.wf_def.specs.declared.choice.Projection.TheVariants.{Epsg4326, Epsg3857}
+use Rattle.wf_paint.specs.Limit.{most_pixels}
 use Rattle.wf_text.specs.NumberText.{number_text}
+use Rattle.wf_wms.specs.Limit.{most_entries}
 use Rattle.wf_wms.specs.Xml.{escape, line}
 
 unfoldable pub start_tag : List ℕ → List ℕ
@@ -22,6 +24,10 @@ element name text = start_tag name ++ escape text ++ end_tag name
 unfoldable pub online_resource : List ℕ → List ℕ
 online_resource address = codes "<OnlineResource xlink:type=\"simple\" xlink:href=\"" ++ escape address ++ codes "\"/>"
 
+-- an element that holds a number
+unfoldable pub limit : List ℕ → ℕ → List ℕ
+limit name number = line (start_tag name ++ decimal number ++ end_tag name)
+
 -- the service's description (7.2.4.2 and 7.2.4.3): LayerLimit in layers, MaxWidth and MaxHeight in pixels
 unfoldable pub service : Definition → List ℕ
 service d =
@@ -30,9 +36,9 @@ service d =
     ++ line (element (codes "Title") d.title)
     ++ line (element (codes "Abstract") d.abstract_text)
     ++ line (online_resource d.address)
-    ++ line (codes "<LayerLimit>64</LayerLimit>")
-    ++ line (codes "<MaxWidth>1024</MaxWidth>")
-    ++ line (codes "<MaxHeight>1024</MaxHeight>")
+    ++ limit (codes "LayerLimit") most_entries
+    ++ limit (codes "MaxWidth") most_pixels
+    ++ limit (codes "MaxHeight") most_pixels
     ++ line (codes "</Service>")
 
 -- one operation, the media type of its answer, and its address (7.2.4.4)

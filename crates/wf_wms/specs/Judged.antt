@@ -1,10 +1,10 @@
 -- The checks of a query before a picture is drawn. The result is the answer, or a request for a picture whose answer is the
 -- query's.
-use Rattle.std.specs.Prelude.{◌≡◌, ◌≤◌, ◌<◌, List, length, Some}
-use Rattle.std.specs.List.{All}
+use Rattle.std.specs.Prelude.{◌≡◌, ◌≤◌, List, length, Some}
 use Rattle.wf_def.specs.Definition.{Definition}
 use Rattle.wf_learner.specs.History.{map_at}
 use Rattle.wf_wms.specs.Answer.{AnswerValue, IsPictureOf}
+use Rattle.wf_wms.specs.MapRequest.{AreLayersOf}
 use Rattle.wf_wms.specs.declared.asked.Asked.{Asked}
 use Rattle.wf_wms.specs.declared.asked.Judged.{Judged}
 use Rattle.wf_wms.specs.declared.asked.Judged.TheVariants.{Ready, Picture}
@@ -14,7 +14,7 @@ pub record IsAskedOf (history : List Definition) (asked : Asked) : Type 0 where
   pub within : asked.sequence ≤ length history
   pub map : Definition
   pub is_published : map_at history asked.sequence ≡ Some map
-  pub layers : All (λ place. place < length map.layers) asked.request.layers
+  pub layers : AreLayersOf map asked.request.layers
 
 -- the answer is the requested picture
 abbrev pub IsPictureFor : List Definition → Asked → AnswerValue → Type 0

@@ -1,19 +1,19 @@
 -- Kept pictures: the picture of each cache entry, and the tiles that are cut out of it.
-use Rattle.std.specs.Prelude.{◌≡◌, ◌≤◌, ◌<◌, ℕ, List, ◌++◌, length, Some, pos, Contains}
-use Rattle.std.specs.List.{All}
+use Rattle.std.specs.Prelude.{◌≡◌, ◌≤◌, ℕ, List, ◌++◌, length, Some, pos, Contains}
 use Rattle.lru.specs.LruCache.{LruCache}
 use Rattle.wf_def.specs.Definition.{Definition}
 use Rattle.wf_def.specs.declared.color.Color.{Color}
 use Rattle.wf_learner.specs.History.{map_at}
 use Rattle.wf_paint.specs.Exact.{quotient}
-use Rattle.wf_paint.specs.Grid.{tile_pixels}
+use Rattle.wf_paint.specs.Limit.{most_pixels, shared_tiles, tile_pixels}
 use Rattle.wf_paint.specs.Pixmap.{PixmapValue, IsPicture}
 use Rattle.wf_paint.specs.Tile.{tile_view}
-use Rattle.wf_paint.specs.View.{ViewValue, most_pixels}
+use Rattle.wf_paint.specs.View.{ViewValue}
 use Rattle.wf_paint.specs.declared.cell.GridCell.{GridCell}
 use Rattle.wf_picture.specs.Picture.{labelled, IsImageOf, IsViewFor, LiesIn}
 use Rattle.wf_picture.specs.Request.{RequestValue}
 use Rattle.wf_picture.specs.declared.size.Size.{Size}
+use Rattle.wf_wms.specs.MapRequest.{AreLayersOf}
 use Rattle.wf_wms.specs.declared.key.Key.{Key}
 
 -- the size of a tile
@@ -31,8 +31,8 @@ background_of key = record { r = key.red; g = key.green; b = key.blue }
 -- the cell is in the key's four columns and four rows of its level
 pub record IsCellOf (key : Key) (cell : GridCell) : Type 0 where
   pub level : cell.z ≡ key.level
-  pub column : quotient cell.col (pos 4) ≡ key.column
-  pub row : quotient cell.row (pos 4) ≡ key.row
+  pub column : quotient cell.col (pos shared_tiles) ≡ key.column
+  pub row : quotient cell.row (pos shared_tiles) ≡ key.row
 
 -- The pixmap is the key's picture: the labelled picture, of the map that the history has at the key's sequence, with the key's
 -- layers and background, out of which the tile of each of the key's cells is cut.
@@ -62,7 +62,7 @@ pub record IsTileAt (history : List Definition) (key : Key) (view : ViewValue) :
   pub within : key.sequence ≤ length history
   pub map : Definition
   pub is_published : map_at history key.sequence ≡ Some map
-  pub layers : All (λ place. place < length map.layers) key.layers.items
+  pub layers : AreLayersOf map key.layers.items
   pub cell : GridCell
   pub is_cell : IsCellOf key cell
   pub is_view : view ≡ tile_view map.extent cell

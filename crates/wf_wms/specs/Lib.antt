@@ -5,6 +5,7 @@ pub mod Digits
 pub mod Exception
 pub mod Judged
 pub mod Kept
+pub mod Limit
 pub mod MapRequest
 pub mod Query
 pub mod Rejection

@@ -2,9 +2,9 @@
 --
 -- Each parameter is checked by a function of its value: it gives a part of the request, or the exception. `map_request` puts the
 -- checks in order; the first exception is the answer.
-use Rattle.std.specs.Prelude.{ℕ, ◌+◌, ◌==◌, ◌&&◌, Bool, true, false, not, nat_le, nat_lt, List, [], ◌∷◌, length, bytes_eq, codes, filter_map, position, is_none, Option, Some, None, ok_or, Result, Ok, Err, ℤ, pos, ◌+ℤ◌, int_le, ⊤, if◌then◌else◌}
+use Rattle.std.specs.Prelude.{ℕ, ◌+◌, ◌<◌, ◌==◌, ◌&&◌, Bool, true, false, not, nat_le, nat_lt, List, [], ◌∷◌, length, bytes_eq, codes, filter_map, position, is_none, Option, Some, None, ok_or, Result, Ok, Err, ℤ, pos, ◌+ℤ◌, int_le, ⊤, if◌then◌else◌}
 use Rattle.std.specs.Char.{is_ascii_digit}
-use Rattle.std.specs.List.{list_all, slice_split}
+use Rattle.std.specs.List.{All, list_all, slice_split}
 use Rattle.wf_def.specs.declared.choice.Projection.{Projection}
 use Rattle.wf_def.specs.declared.choice.Projection.TheVariants.{Epsg4326, Epsg3857}
 use Rattle.wf_def.specs.declared.fault.NumberFault.{NumberFault}
@@ -12,10 +12,12 @@ use Rattle.wf_def.specs.Definition.{Definition}
 use Rattle.wf_def.specs.Extent.{ExtentValue}
 use Rattle.wf_def.specs.Limits.{layer_names}
 use Rattle.wf_def.specs.Number.{number}
+use Rattle.wf_paint.specs.Limit.{least_cell, most_pixels}
 use Rattle.wf_picture.specs.Request.{RequestValue}
 use Rattle.wf_picture.specs.declared.size.Size.{Size}
 use Rattle.wf_wms.specs.Background.{background_in}
 use Rattle.wf_wms.specs.Digits.{number_of_digits}
+use Rattle.wf_wms.specs.Limit.{most_entries}
 use Rattle.wf_wms.specs.Query.{parameter}
 use Rattle.wf_wms.specs.declared.axes.Axes.{Axes}
 use Rattle.wf_wms.specs.declared.axes.Axes.TheVariants.{EastFirst, NorthFirst}
@@ -61,15 +63,15 @@ abbrev pub check_format : Option (List ℕ) → Result ⊤ Exception
 check_format None = Err (exception.MissingParameter parameters.Format)
 check_format (Some format) = passed_or exception.InvalidFormat (bytes_eq format (codes "image/x-portable-pixmap"))
 
--- the most layers of a request, as in the service metadata (LayerLimit)
-abbrev pub most_entries : ℕ
-most_entries = 64
-
 -- the index in the map of the layer of this name
 unfoldable pub layer_of : Definition → List ℕ → Option ℕ
 layer_of d name = position (bytes_eq name) (layer_names d.layers)
 
--- checks LAYERS: at most 64 names, each of a layer of the map; a name may occur twice (7.3.3.3)
+-- the indices are those of layers of the map
+abbrev pub AreLayersOf : Definition → List ℕ → Type 0
+AreLayersOf d places = All (λ place. place < length d.layers) places
+
+-- checks LAYERS: no more names than a request may have, each of a layer of the map; a name may occur twice (7.3.3.3)
 unfoldable pub check_layers : Definition → List (List ℕ) → Result ⊤ Exception
 check_layers d names = do
   _ ← passed_or (exception.BadValue parameters.Layers) (nat_le (length names) most_entries)
@@ -111,13 +113,9 @@ abbrev pub box_along : Axes → ℤ → ℤ → ℤ → ℤ → ExtentValue
 box_along EastFirst a b c d = record { minx = a; miny = b; maxx = c; maxy = d }
 box_along NorthFirst a b c d = record { minx = b; miny = a; maxx = d; maxy = c }
 
--- the least side of a box, in millionths
-abbrev pub least_side : ℕ
-least_side = 1_000
-
--- the side is long enough; so the minimum is below the maximum
+-- the side is long enough, as that of the narrowest cell of the grid; so the minimum is below the maximum
 abbrev pub is_side : ℤ → ℤ → Bool
-is_side low high = int_le (low +ℤ pos least_side) high
+is_side low high = int_le (low +ℤ pos least_cell) high
 
 abbrev pub large_enough : ExtentValue → Result ExtentValue Exception
 large_enough box = if is_side box.minx box.maxx && is_side box.miny box.maxy then Ok box else Err (exception.BadValue parameters.Bbox)
@@ -136,11 +134,7 @@ abbrev pub box_in : Axes → Option (List ℕ) → Result ExtentValue Exception
 box_in axes None = Err (exception.MissingParameter parameters.Bbox)
 box_in axes (Some text) = box_of axes (four_of (entries text))
 
--- the greatest width and height of a picture in pixels, as in the service metadata (MaxWidth, MaxHeight)
-abbrev pub most_pixels : ℕ
-most_pixels = 1_024
-
--- the text is decimal digits, of a number from 1 to 1,024
+-- the text is decimal digits, of a number from 1 to the greatest width and height, as in the service metadata (MaxWidth, MaxHeight)
 abbrev pub is_size : List ℕ → Bool
 is_size text = list_all is_ascii_digit text && (nat_le 1 (number_of_digits text) && nat_le (number_of_digits text) most_pixels)
 

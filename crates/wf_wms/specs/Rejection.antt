@@ -5,7 +5,8 @@ use Rattle.std.specs.Char.{is_ascii_digit}
 use Rattle.std.specs.List.{list_all}
 use Rattle.wf_def.specs.Definition.{Definition}
 use Rattle.wf_wms.specs.Answer.{AnswerValue, IsAnswerOf, check_service, operation_of, rejection}
-use Rattle.wf_wms.specs.MapRequest.{◌>>=◌, check_version, entries, listed_names, most_entries, passed_or}
+use Rattle.wf_wms.specs.Limit.{most_entries}
+use Rattle.wf_wms.specs.MapRequest.{◌>>=◌, check_version, entries, listed_names, passed_or}
 use Rattle.wf_wms.specs.Query.{pairs_of, parameter}
 use Rattle.wf_wms.specs.declared.exception.Exception.{Exception}
 use Rattle.wf_wms.specs.declared.exception.Exception.TheVariants as exception

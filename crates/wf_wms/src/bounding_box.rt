@@ -9,9 +9,7 @@ use crate::entries::four_entries;
 use crate::exception::{Exception, Parameter};
 use wf_def::extent::Extent;
 use wf_def::micro::Micro;
-
-/// The least side of a box, in millionths of a unit.
-const LEAST_SIDE: i64 = 1000;
+use wf_paint::limits::LEAST_CELL;
 
 /// The box that BBOX gives along these axes, in the axis order of the map's EXTENT.
 pub(crate) fn bounding_box(axes: Axes, value: Option<&str>) -> Result<Extent, Exception>
@@ -27,7 +25,8 @@ pub(crate) fn bounding_box(axes: Axes, value: Option<&str>) -> Result<Extent, Ex
 /// The box of four numbers.
 #[tactic(auto, unfolding(crate::specs::MapRequest::box_of))]
 fn box_of(axes: Axes, four: Option<(&str, &str, &str, &str)>) -> Result<Extent, Exception>
-    ensures value { result ≡ box_of axes (option_map (λ four. (four.0.now, four.1.now, four.2.now, four.3.now)) four.entry) }
+    ensures value { result ≡ box_of axes
+        (option_map (λ four. (four.0.now, four.1.now, four.2.now, four.3.now)) four.entry) }
     ensures within { IfOk result IsLargeEnough }
 {
     let Some((a, b, c, d)) = four else {
@@ -52,7 +51,8 @@ fn coordinate(text: &str) -> Result<Micro, Exception>
 
 /// The box with these sides, if they are long enough.
 fn large_enough(minx: Micro, miny: Micro, maxx: Micro, maxy: Micro) -> Result<Extent, Exception>
-    ensures value { result ≡ large_enough (record { minx = minx; miny = miny; maxx = maxx; maxy = maxy }) }
+    ensures value { result
+        ≡ large_enough (record { minx = minx; miny = miny; maxx = maxx; maxy = maxy }) }
     ensures within { IfOk result IsLargeEnough }
 {
     if is_side(minx, maxx) && is_side(miny, maxy) {
@@ -62,9 +62,9 @@ fn large_enough(minx: Micro, miny: Micro, maxx: Micro, maxy: Micro) -> Result<Ex
     }
 }
 
-/// Whether the side is long enough; so the minimum is below the maximum.
+/// Whether the side is long enough, as that of the narrowest cell of the grid; so the minimum is below the maximum.
 fn is_side(low: Micro, high: Micro) -> bool
     ensures { result ≡ is_side low high }
 {
-    low.millionths() + LEAST_SIDE <= high.millionths()
+    low.millionths() + LEAST_CELL as i64 <= high.millionths()
 }

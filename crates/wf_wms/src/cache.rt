@@ -3,6 +3,7 @@ ghost use Rattle.std.specs.Prelude.{◌≡◌, ◌≤◌, ◌<◌, List, pos, If
 ghost use Rattle.std.specs.Map.{lookup};
 ghost use Rattle.wf_def.specs.Definition.{Definition};
 ghost use Rattle.wf_paint.specs.Exact.{quotient};
+ghost use Rattle.wf_paint.specs.Limit.{shared_tiles};
 ghost use Rattle.wf_wms.specs.Kept.{most_kept, background_of, AllKept, IsCellOf, IsKept, IsTileAt, IsTileOf};
 
 use crate::asked::Asked;
@@ -15,6 +16,7 @@ use std::num::NonZeroUsize;
 use wf_def::color::Color;
 use wf_learner::History;
 use wf_paint::cell::GridCell;
+use wf_paint::limits::{SHARED_TILES, TILE_PIXELS};
 use wf_paint::pixmap::Pixmap;
 use wf_paint::view::View;
 use wf_picture::law::tiles_are_crops_of_one_picture;
@@ -23,8 +25,8 @@ use wf_picture::size::Size;
 
 /// The size of a tile.
 const TILE: Size = Size {
-    width: 256,
-    height: 256,
+    width: TILE_PIXELS,
+    height: TILE_PIXELS,
 };
 
 /// A cache of pictures: each has 1,024 by 1,024 pixels of a map's grid, and sixteen tiles are cut out of it. When it is full, the
@@ -67,7 +69,8 @@ impl Cache {
     ) -> Result<Vec<u8>, AllocError>
         requires kept { AllKept history.now.definitions self.old }
         requires tile { IsTileAt history.now.definitions key view.now }
-        ensures file { IfOk result (λ file. IsTileOf history.now.definitions key view.now file.items) }
+        ensures file { IfOk result
+            (λ file. IsTileOf history.now.definitions key view.now file.items) }
         ensures kept { AllKept history.now.definitions self.new }
         ensures capacity { self.new.cap ≡ self.old.cap }
     {
@@ -88,7 +91,8 @@ impl Cache {
     ) -> Result<Vec<u8>, AllocError>
         requires kept { AllKept history.now.definitions self.old }
         requires tile { IsTileAt history.now.definitions key view.now }
-        ensures file { IfOk result (λ file. IsTileOf history.now.definitions key view.now file.items) }
+        ensures file { IfOk result
+            (λ file. IsTileOf history.now.definitions key view.now file.items) }
         ensures kept { AllKept history.now.definitions self.new }
         ensures capacity { self.new.cap ≡ self.old.cap }
     {
@@ -102,7 +106,8 @@ impl Cache {
 
     /// Makes the key's picture, if it is kept, the most recently used.
     fn touch(&mut self, key: &Key)
-        ensures kept { (history : List Definition) → AllKept history self.old → AllKept history self.new }
+        ensures kept { (history : List Definition) →
+            AllKept history self.old → AllKept history self.new }
         ensures capacity { self.new.cap ≡ self.old.cap }
     {
         let _ = self.kept.promote(key);
@@ -110,14 +115,16 @@ impl Cache {
 
     /// The key's picture, if it is kept.
     fn find(&self, key: &Key) -> Option<&Pixmap>
-        ensures { IfSome result (λ pixmap. (history : List Definition) → AllKept history self.now → IsKept history key.now pixmap.now) }
+        ensures { IfSome result (λ pixmap. (history : List Definition) →
+            AllKept history self.now → IsKept history key.now pixmap.now) }
     {
         self.kept.peek(key)
     }
 
     /// Keeps a picture; if an allocation fails, the cache is unchanged.
     fn keep(&mut self, key: Key, pixmap: Pixmap)
-        ensures kept { (history : List Definition) → AllKept history self.old → IsKept history key pixmap → AllKept history self.new }
+        ensures kept { (history : List Definition) →
+            AllKept history self.old → IsKept history key pixmap → AllKept history self.new }
         ensures capacity { self.new.cap ≡ self.old.cap }
     {
         let _ = self.kept.put(key, pixmap);
@@ -141,8 +148,8 @@ impl Key {
             green: background.g,
             blue: background.b,
             level: cell.z,
-            column: quarter(cell.col),
-            row: quarter(cell.row),
+            column: group_of(cell.col),
+            row: group_of(cell.row),
         }
     }
 
@@ -158,10 +165,10 @@ impl Key {
     }
 }
 
-/// A quarter, rounded down.
+/// The index of the group of cells that share a view, on one axis, from that of one of its cells.
 #[tactic(auto, unfolding(wf_paint::specs::Exact::quotient))]
-fn quarter(k: i64) -> i64
-    ensures { result ≡ quotient k (pos 4) }
+fn group_of(k: i64) -> i64
+    ensures { result ≡ quotient k (pos shared_tiles) }
 {
-    k.div_euclid(4)
+    k.div_euclid(SHARED_TILES as i64)
 }

@@ -1,7 +1,8 @@
 //! The service metadata document, block by block. Each call appends its whole block and returns Ok unless allocation fails.
 ghost use Rattle.std.specs.Prelude.{◌≡◌, ◌++◌, OnOk, IfOk, flat_map};
-ghost use Rattle.wf_wms.specs.Capabilities.{start_tag, end_tag, element, online_resource, service, operation, requests, crs_lines, side, box_line, box_lines, layer_line, layers, opening, capabilities};
+ghost use Rattle.wf_wms.specs.Capabilities.{start_tag, end_tag, element, limit, online_resource, service, operation, requests, crs_lines, side, box_line, box_lines, layer_line, layers, opening, capabilities};
 
+use crate::limits::MOST_ENTRIES;
 use crate::xml::{write_decimal, write_escaped, write_text};
 use std::alloc::{AllocError, Global};
 use wf_def::choice::Projection;
@@ -10,6 +11,7 @@ use wf_def::layer::Layer;
 use wf_def::map::MapDef;
 use wf_def::micro::Micro;
 use wf_def::text::Text;
+use wf_paint::limits::MOST_PIXELS;
 use wf_text::number_text::write_number;
 
 #[tactic(auto, unfolding(crate::specs::Capabilities::start_tag))]
@@ -51,6 +53,17 @@ fn write_online_resource(address: &Text, document: &mut Vec<u8>) -> Result<(), A
     Ok(())
 }
 
+// A line with an element that holds a number.
+fn write_limit(name: &str, number: usize, document: &mut Vec<u8>) -> Result<(), AllocError>
+    ensures { OnOk result (document.new.items ≡ document.old.items ++ limit name.now number) }
+{
+    write_start_tag(name, document)?;
+    write_decimal(number, document)?;
+    write_end_tag(name, document)?;
+    write_text("\n", document)?;
+    Ok(())
+}
+
 // The service's description (OGC 06-042, 7.2.4.2 and 7.2.4.3).
 fn write_service(map: &MapDef, document: &mut Vec<u8>) -> Result<(), AllocError>
     ensures { OnOk result (document.new.items ≡ document.old.items ++ service map.now) }
@@ -61,11 +74,11 @@ fn write_service(map: &MapDef, document: &mut Vec<u8>) -> Result<(), AllocError>
     write_element("Abstract", map.abstract_text(), document)?;
     write_text("\n", document)?;
     write_online_resource(map.address(), document)?;
-    write_text(
-        "\n<LayerLimit>64</LayerLimit>\n<MaxWidth>1024</MaxWidth>\n",
-        document,
-    )?;
-    write_text("<MaxHeight>1024</MaxHeight>\n</Service>\n", document)?;
+    write_text("\n", document)?;
+    write_limit("LayerLimit", MOST_ENTRIES, document)?;
+    write_limit("MaxWidth", MOST_PIXELS as usize, document)?;
+    write_limit("MaxHeight", MOST_PIXELS as usize, document)?;
+    write_text("</Service>\n", document)?;
     Ok(())
 }
 
@@ -76,7 +89,8 @@ fn write_operation(
     address: &Text,
     document: &mut Vec<u8>,
 ) -> Result<(), AllocError>
-    ensures { OnOk result (document.new.items ≡ document.old.items ++ operation name.now format.now address.now) }
+    ensures { OnOk result
+        (document.new.items ≡ document.old.items ++ operation name.now format.now address.now) }
 {
     write_start_tag(name, document)?;
     write_text("\n<Format>", document)?;
@@ -133,7 +147,8 @@ fn write_box_line(
     maxy: Micro,
     document: &mut Vec<u8>,
 ) -> Result<(), AllocError>
-    ensures { OnOk result (document.new.items ≡ document.old.items ++ box_line crs.now minx miny maxx maxy) }
+    ensures { OnOk result
+        (document.new.items ≡ document.old.items ++ box_line crs.now minx miny maxx maxy) }
 {
     write_text("<BoundingBox CRS=\"", document)?;
     write_text(crs, document)?;
@@ -172,7 +187,8 @@ const WORLD: &str = "<EX_GeographicBoundingBox><westBoundLongitude>-180</westBou
 
 // A layer: its name, its title and its one style (OGC 06-042, 7.2.4.6).
 fn write_layer_line(name: &Text, layer: &Layer, document: &mut Vec<u8>) -> Result<(), AllocError>
-    ensures { OnOk result (document.new.items ≡ document.old.items ++ layer_line (name.now, layer.now)) }
+    ensures { OnOk result
+        (document.new.items ≡ document.old.items ++ layer_line (name.now, layer.now)) }
 {
     write_text("<Layer queryable=\"0\">", document)?;
     write_element("Name", name, document)?;
@@ -186,7 +202,8 @@ const ONE_STYLE: &str = "<Style><Name>default</Name><Title>default</Title></Styl
 // A line for each layer, in order.
 #[tactic(auto, using(crate::proofs::LayerLines::one_line_more))]
 fn write_layer_lines(map: &MapDef, document: &mut Vec<u8>) -> Result<(), AllocError>
-    ensures { OnOk result (document.new.items ≡ document.old.items ++ flat_map layer_line map.now.layers) }
+    ensures { OnOk result
+        (document.new.items ≡ document.old.items ++ flat_map layer_line map.now.layers) }
 {
     for i in 0..map.layer_count() {
         let (name, layer) = map.layer(i);

@@ -4,7 +4,8 @@ ghost use Rattle.wf_wms.specs.MapRequest.{entries, four_of};
 
 /// The first entry, and the list of the others if there is a comma.
 fn cut(text: &str) -> Option<(&str, &str)>
-    ensures { MatchOption result (entries text.now ≡ text.now ∷ []) (λ cut. entries text.now ≡ cut.0.now ∷ entries cut.1.now) }
+    ensures { MatchOption result (entries text.now ≡ text.now ∷ [])
+        (λ cut. entries text.now ≡ cut.0.now ∷ entries cut.1.now) }
 {
     text.split_once(',')
 }
@@ -19,7 +20,8 @@ pub(crate) fn count_entries(text: &str) -> usize
 
 /// The entries, if there are four.
 pub(crate) fn four_entries(text: &str) -> Option<(&str, &str, &str, &str)>
-    ensures { option_map (λ four. (four.0.now, four.1.now, four.2.now, four.3.now)) result ≡ four_of (entries text.now) }
+    ensures { option_map (λ four. (four.0.now, four.1.now, four.2.now, four.3.now)) result
+        ≡ four_of (entries text.now) }
 {
     let (first, rest) = cut(text)?;
     let (second, rest) = cut(rest)?;

@@ -26,7 +26,8 @@ pub(crate) fn judged<M: Maps>(
     query: &[u8],
 ) -> Result<Judged, AllocError>
     requires { seq ≤ length (M.definitions maps.now) }
-    ensures { IfOk result (λ judged. IsJudged (M.definitions maps.now) (IsAnswerOf seq (M.definitions maps.now) query.now) judged) }
+    ensures { IfOk result (λ judged. IsJudged
+        (M.definitions maps.now) (IsAnswerOf seq (M.definitions maps.now) query.now) judged) }
 {
     let query = Query::read(alloc, query)?;
     match operation(query.parameter("REQUEST")) {
@@ -47,7 +48,8 @@ fn map_judged<M: Maps>(
     query: &Query,
 ) -> Result<Judged, AllocError>
     requires { seq ≤ length (M.definitions maps.now) }
-    ensures { IfOk result (λ judged. IsJudged (M.definitions maps.now) (IsAnswerOn (Ok Map) seq (M.definitions maps.now) query.now) judged) }
+    ensures { IfOk result (λ judged. IsJudged (M.definitions maps.now)
+        (IsAnswerOn (Ok Map) seq (M.definitions maps.now) query.now) judged) }
 {
     match map_sequence(query, seq) {
         Err(exception) => Ok(Judged::Ready(Answer::rejection(alloc, exception)?)),
@@ -63,7 +65,9 @@ fn picture_judged<M: Maps>(
     query: &Query,
 ) -> Result<Judged, AllocError>
     requires { sequence ≤ length (M.definitions maps.now) }
-    ensures { IfOk result (λ judged. (map : Definition) → map_at (M.definitions maps.now) sequence ≡ Some map → IsJudged (M.definitions maps.now) (IsMapAnswer map (picture_in map query.now)) judged) }
+    ensures { IfOk result
+        (λ judged. (map : Definition) → map_at (M.definitions maps.now) sequence ≡ Some map →
+        IsJudged (M.definitions maps.now) (IsMapAnswer map (picture_in map query.now)) judged) }
 {
     let map = maps.published_map(sequence);
     match map_request(alloc, map, query)? {

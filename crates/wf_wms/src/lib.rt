@@ -42,6 +42,7 @@ mod key;
 mod kind;
 pub mod law;
 mod layers;
+pub mod limits;
 mod map_request;
 mod map_sequence;
 mod maps;

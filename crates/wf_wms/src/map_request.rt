@@ -1,7 +1,7 @@
 //! The GetMap request (OGC 06-042, 7.3.2 and 7.3.3): the parameters after MAPSEQ.
-ghost use Rattle.std.specs.Prelude.{◌≡◌, ◌<◌, All, IfOk, length, ok_or, option_map};
+ghost use Rattle.std.specs.Prelude.{◌≡◌, IfOk, ok_or, option_map};
 ghost use Rattle.std.specs.Result.{result_map_both};
-ghost use Rattle.wf_wms.specs.MapRequest.{entries, layers_in, listed_names, picture_in, request_in, styled_layers};
+ghost use Rattle.wf_wms.specs.MapRequest.{AreLayersOf, entries, layers_in, listed_names, picture_in, request_in, styled_layers};
 
 use crate::background::background;
 use crate::bounding_box::bounding_box;
@@ -25,7 +25,8 @@ pub(crate) fn map_request(
     query: &Query,
 ) -> Result<Result<PictureRequest, Exception>, AllocError>
     ensures value { IfOk result (λ asked. asked ≡ picture_in map.now query.now) }
-    ensures within { IfOk result (λ asked. IfOk asked (λ request. All (λ place. place < length map.now.layers) request.layers)) }
+    ensures within { IfOk result
+        (λ asked. IfOk asked (λ request. AreLayersOf map.now request.layers)) }
 {
     match layers(alloc, map, query)? {
         Ok(layers) => Ok(request_of(layers, map.projection(), query)),
@@ -40,8 +41,10 @@ fn layers(
     map: &MapDef,
     query: &Query,
 ) -> Result<Result<Vec<usize>, Exception>, AllocError>
-    ensures value { IfOk result (λ asked. result_map_both (λ layers. layers.items) (λ e. e) asked ≡ layers_in map.now query.now) }
-    ensures within { IfOk result (λ asked. IfOk asked (λ layers. All (λ place. place < length map.now.layers) layers.items)) }
+    ensures value { IfOk result (λ asked. result_map_both (λ layers. layers.items) (λ e. e) asked
+        ≡ layers_in map.now query.now) }
+    ensures within { IfOk result
+        (λ asked. IfOk asked (λ layers. AreLayersOf map.now layers.items)) }
 {
     match listed_names(query) {
         Ok(names) => styled_layers(alloc, map, names, query.parameter("STYLES")),
@@ -59,7 +62,9 @@ fn listed_names(query: &Query) -> Result<&str, Exception>
 }
 
 fn layer_list(value: Option<&str>) -> Result<&str, Exception>
-    ensures { result_map_both (λ names. names.now) (λ e. e) result ≡ ok_or (option_map (λ text. text.now) value.entry) (Exception.MissingParameter Parameter.Layers) }
+    ensures { result_map_both (λ names. names.now) (λ e. e) result
+        ≡ ok_or (option_map (λ text. text.now) value.entry)
+        (Exception.MissingParameter Parameter.Layers) }
 {
     value.ok_or(Exception::MissingParameter(Parameter::Layers))
 }
@@ -72,8 +77,10 @@ fn styled_layers(
     names: &str,
     styles: Option<&str>,
 ) -> Result<Result<Vec<usize>, Exception>, AllocError>
-    ensures value { IfOk result (λ asked. result_map_both (λ layers. layers.items) (λ e. e) asked ≡ styled_layers map.now (entries names.now) (option_map (λ text. text.now) styles.entry)) }
-    ensures within { IfOk result (λ asked. IfOk asked (λ layers. All (λ place. place < length map.now.layers) layers.items)) }
+    ensures value { IfOk result (λ asked. result_map_both (λ layers. layers.items) (λ e. e) asked
+        ≡ styled_layers map.now (entries names.now) (option_map (λ text. text.now) styles.entry)) }
+    ensures within { IfOk result
+        (λ asked. IfOk asked (λ layers. AreLayersOf map.now layers.items)) }
 {
     match named_layers(alloc, map, names)? {
         Ok(layers) => match check_styles(layers.len(), styles) {

@@ -20,7 +20,8 @@ pub struct Query {
 impl Model for Query {
     ghost Value = { List (List ℕ × List ℕ) };
 
-    ghost view = { λ query. map (λ pair. (string_bytes pair.0, string_bytes pair.1)) query.pairs.items };
+    ghost view = { λ query.
+        map (λ pair. (string_bytes pair.0, string_bytes pair.1)) query.pairs.items };
 }
 
 impl Query {

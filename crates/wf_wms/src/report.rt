@@ -50,7 +50,8 @@ impl Exception {
 
 // Appends text about a parameter, then its name.
 fn write_named(words: &str, parameter: Parameter, document: &mut Vec<u8>) -> Result<(), AllocError>
-    ensures { OnOk result (document.new.items ≡ document.old.items ++ (words.now ++ name_of parameter)) }
+    ensures { OnOk result
+        (document.new.items ≡ document.old.items ++ (words.now ++ name_of parameter)) }
 {
     write_text(words, document)?;
     write_text(parameter.name(), document)
@@ -58,7 +59,8 @@ fn write_named(words: &str, parameter: Parameter, document: &mut Vec<u8>) -> Res
 
 // Appends "layer 2 is not defined", or the same for a style.
 fn write_not_defined(thing: &str, entry: usize, document: &mut Vec<u8>) -> Result<(), AllocError>
-    ensures { OnOk result (document.new.items ≡ document.old.items ++ (thing.now ++ (decimal entry ++ codes " is not defined"))) }
+    ensures { OnOk result (document.new.items
+        ≡ document.old.items ++ (thing.now ++ (decimal entry ++ codes " is not defined"))) }
 {
     write_text(thing, document)?;
     write_decimal(entry, document)?;
@@ -89,7 +91,8 @@ fn write_words(exception: Exception, document: &mut Vec<u8>) -> Result<(), Alloc
 
 // Appends the attribute with the exception's code, if it has one.
 fn write_code(exception: Exception, document: &mut Vec<u8>) -> Result<(), AllocError>
-    ensures { OnOk result (document.new.items ≡ document.old.items ++ code_attribute (code_of exception)) }
+    ensures { OnOk result
+        (document.new.items ≡ document.old.items ++ code_attribute (code_of exception)) }
 {
     if let Some(code) = exception.code() {
         write_text(" code=\"", document)?;

@@ -40,7 +40,8 @@ pub fn answer_cached(
 ) -> Result<Answer, AllocError>
     requires seq { seq ≤ length history.now.definitions }
     requires kept { AllKept history.now.definitions cache.old }
-    ensures answer { IfOk result (λ answer. IsAnswerOf seq history.now.definitions query.now answer) }
+    ensures answer { IfOk result
+        (λ answer. IsAnswerOf seq history.now.definitions query.now answer) }
     ensures kept { AllKept history.now.definitions cache.new }
     ensures capacity { cache.new.cap ≡ cache.old.cap }
 {

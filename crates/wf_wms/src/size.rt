@@ -1,15 +1,14 @@
 //! The parameters WIDTH and HEIGHT (OGC 06-042, 7.3.3.8).
 ghost use Rattle.std.specs.Prelude.{◌≡◌, ◌≤◌, IfOk, option_map};
+ghost use Rattle.wf_paint.specs.Limit.{most_pixels};
 ghost use Rattle.wf_picture.specs.Request.{IsSize};
-ghost use Rattle.wf_wms.specs.MapRequest.{most_pixels, picture_size, size_in};
+ghost use Rattle.wf_wms.specs.MapRequest.{picture_size, size_in};
 
 use crate::digits::{is_all_digits, number_of};
 use crate::exception::{Exception, Parameter};
 use crate::query::Query;
+use wf_paint::limits::MOST_PIXELS;
 use wf_picture::size::Size;
-
-/// The greatest width and height of a picture, in pixels.
-const MOST_PIXELS: u64 = 1024;
 
 /// The size that WIDTH and HEIGHT give.
 #[tactic(auto, unfolding(crate::specs::MapRequest::picture_size))]
@@ -35,7 +34,7 @@ fn size(name: Parameter, value: Option<&str>) -> Result<u32, Exception>
         return Err(Exception::BadValue(name));
     }
     let number = number_of(text);
-    if number < 1 || number > MOST_PIXELS {
+    if number < 1 || number > u64::from(MOST_PIXELS) {
         return Err(Exception::BadValue(name));
     }
     Ok(number as u32)

@@ -1,6 +1,7 @@
 use Rattle.std.proofs.Common.{◌≡◌, ℕ, ◌+◌, List, ap, ◌∙◌, arith}
 use Rattle.wf_label.specs.Colored.{character_bits, row_bits}
 use Rattle.wf_label.specs.Ink.{row_up}
+use Rattle.wf_label.specs.Limit.{cell_height}
 use Rattle.wf_label.specs.Placed.{placed_value}
 use Rattle.wf_label.proofs.BitLemmas.{character_so_far, character_none, character_row, character_all, bits_none, bits_same, bits_next}
 use Rattle.wf_label.proofs.draw.draw_character.Goals as goal
@@ -22,6 +23,6 @@ pub returns : goal.returns
 returns c =
     let p = c.args.pixmap.now in
     let so_far = character_so_far c.args.place c.args.character in
-    let end : c.loop-up.up ≡ 6 = omega arith in
-    bits_same (placed_value c.args.label.now) c.args.label.now.color p c.loop-up.pixmap p (so_far 6) (character_bits c.args.place c.args.character) (character_all c.args.place c.args.character)
+    let end : c.loop-up.up ≡ cell_height = omega arith in
+    bits_same (placed_value c.args.label.now) c.args.label.now.color p c.loop-up.pixmap p (so_far cell_height) (character_bits c.args.place c.args.character) (character_all c.args.place c.args.character)
     (rw end at c.loop-up.invariant)

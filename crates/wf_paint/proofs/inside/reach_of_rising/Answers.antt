@@ -1,6 +1,7 @@
 use Rattle.std.proofs.Common.{◌≡◌, nat_lt, pos, FitsSigned, to_z-of_z, ◌∙◌, rules}
 use Rattle.std.specs.Int.{w128}
 use Rattle.wf_paint.specs.Exact.{difference, product, is_less}
+use Rattle.wf_paint.specs.Limit.{half_side}
 use Rattle.wf_paint.proofs.InsideLemmas.{beside_rises, rise_steps, left_steps}
 use Rattle.wf_paint.proofs.inside.reach_of_rising.Goals as goal
 
@@ -17,5 +18,5 @@ returns-clause-left c = λ u within.
     let level_fits = c.ranges.level in
     let up = beside_rises (record { x = pos 0; y = c.args.level }) c.args.low c.args.high c.requires.rising in
     let counted : is_less (product c.step.result (pos u)) c.bound.result ≡ nat_lt u c.steps_below.result = simp to_z-of_z at (c.steps_below.ensures.below u within) in
-    let bound : c.bound.result ≡ difference (product (difference c.args.level c.args.low.y) (difference c.args.high.x c.args.low.x)) (product (difference (pos 8) c.args.low.x) (difference c.args.high.y c.args.low.y)) = simp to_z-of_z at c.bound.ensures in
+    let bound : c.bound.result ≡ difference (product (difference c.args.level c.args.low.y) (difference c.args.high.x c.args.low.x)) (product (difference (pos half_side) c.args.low.x) (difference c.args.high.y c.args.low.y)) = simp to_z-of_z at c.bound.ensures in
     left_steps c.args.level u c.args.low c.args.high up ∙ rw (← c.step.ensures, ← bound) counted

@@ -4,6 +4,7 @@ use Rattle.wf_paint.specs.Exact.{opposite, product, difference}
 use Rattle.wf_paint.specs.Level.{row_level}
 use Rattle.wf_paint.specs.Quotient.{number_of}
 use Rattle.wf_paint.specs.Strip.{is_in_strip}
+use Rattle.wf_paint.specs.Limit.{pixel_side}
 use Rattle.wf_paint.proofs.SpanLemmas.{rows_start, rows_end, rows_more}
 use Rattle.wf_paint.proofs.StripLemmas.{edge_begins, edge_moves, rising_row, strip_row, strip_before, strip_after}
 use Rattle.wf_paint.proofs.strip.draw_some.Goals as goal
@@ -25,9 +26,9 @@ loop-row-init c =
       rows_start (is_in_strip levels c.args.rows c.args.columns) c.args.rows.from c.args.color c.args.canvas.now
           (λ column row wide high before. strip_before levels c.args.rows c.args.columns column row before),
       (
-        edge_begins (opposite levels.margin) levels.origin (product (pos 16) levels.up) c.row_level-start.result c.step-step.result c.args.rows.from c.in-Some-quotient.low
+        edge_begins (opposite levels.margin) levels.origin (product (pos pixel_side) levels.up) c.row_level-start.result c.step-step.result c.args.rows.from c.in-Some-quotient.low
             c.row_level-start.ensures.value (rw lower at (low ∙ low_room)) c.in-Some-quotient.ensures.rest c.in-Some-quotient.ensures.within,
-        edge_begins levels.margin levels.origin (product (pos 16) levels.up) c.row_level-start.result c.step-step.result c.args.rows.from c.in-Some-quotient-2.high
+        edge_begins levels.margin levels.origin (product (pos pixel_side) levels.up) c.row_level-start.result c.step-step.result c.args.rows.from c.in-Some-quotient-2.high
             c.row_level-start.ensures.value (high ∙ high_room) c.in-Some-quotient-2.ensures.rest c.in-Some-quotient-2.ensures.within,
       ),
     )
@@ -40,11 +41,11 @@ loop-row-preserved c =
     let products : FitsSigned w128 c.product.result = search rules in
     let opposites : FitsSigned w128 c.opposite.result = search rules in
     let acrosses : FitsSigned w64 levels.across = search rules in
-    let step : pos c.step-step.result ≡ product (pos 16) levels.across = simp to_z-of_z at c.step-step.ensures.value in
-    let product_value : c.product.result ≡ product (pos 16) levels.up = simp to_z-of_z at c.product.ensures.value in
+    let step : pos c.step-step.result ≡ product (pos pixel_side) levels.across = simp to_z-of_z at c.step-step.ensures.value in
+    let product_value : c.product.result ≡ product (pos pixel_side) levels.up = simp to_z-of_z at c.product.ensures.value in
     let opposite_value : c.opposite.result ≡ opposite c.product.result = simp to_z-of_z at c.opposite.ensures.value in
     let moved : number_of c.step-step.result c.in-Some.change ≡ c.opposite.result = simp to_z-of_z at c.in-Some.ensures.value in
-    let change : number_of c.step-step.result c.in-Some.change ≡ opposite (product (pos 16) levels.up) = moved ∙ opposite_value ∙ ap opposite product_value in (
+    let change : number_of c.step-step.result c.in-Some.change ≡ opposite (product (pos pixel_side) levels.up) = moved ∙ opposite_value ∙ ap opposite product_value in (
       rows_more (is_in_strip levels c.args.rows c.args.columns) c.loop-row.row c.part-span.result c.args.color
           c.args.canvas.now c.loop-row.canvas c.cover.new.self c.loop-row.invariant.0
           (rw c.part-span.ensures.part.value (strip_row levels c.args.rows c.args.columns _ c.args.canvas.now.width c.loop-row.row
@@ -53,9 +54,9 @@ loop-row-preserved c =
           c.part-span.ensures.part.from c.part-span.ensures.part.to c.part-span.ensures.part.to_within)))
           c.cover.ensures,
       (
-        edge_moves (opposite levels.margin) levels.origin (product (pos 16) levels.up) c.step-step.result c.loop-row.row c.loop-row.low c.in-Some.change c.sum-low.result
+        edge_moves (opposite levels.margin) levels.origin (product (pos pixel_side) levels.up) c.step-step.result c.loop-row.row c.loop-row.low c.in-Some.change c.sum-low.result
             edges.0 change c.sum-low.ensures.value c.sum-low.ensures.rest c.sum-low.ensures.within,
-        edge_moves levels.margin levels.origin (product (pos 16) levels.up) c.step-step.result c.loop-row.row c.loop-row.high c.in-Some.change c.sum-high.result
+        edge_moves levels.margin levels.origin (product (pos pixel_side) levels.up) c.step-step.result c.loop-row.row c.loop-row.high c.in-Some.change c.sum-high.result
             edges.1 change c.sum-high.ensures.value c.sum-high.ensures.rest c.sum-high.ensures.within,
       ),
     )

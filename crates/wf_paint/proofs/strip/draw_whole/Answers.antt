@@ -2,6 +2,7 @@ use Rattle.std.proofs.Common.{◌+◌, pos, arith}
 use Rattle.std.proofs.lemmas.Int.{ints}
 use Rattle.wf_paint.specs.Exact.{opposite, product, plus}
 use Rattle.wf_paint.specs.Strip.{is_in_strip, IsBetween}
+use Rattle.wf_paint.specs.Limit.{pixel_side}
 use Rattle.wf_paint.proofs.SpanLemmas.{rows_start, rows_end, rows_more}
 use Rattle.wf_paint.proofs.StripLemmas.{edge_stepped, edge_moves, whole_row, strip_before, strip_after}
 use Rattle.wf_paint.proofs.strip.draw_whole.Goals as goal
@@ -39,7 +40,7 @@ loop-row-preserved c =
           (rw c.from.ensures (whole_row levels c.args.low.step c.loop-row.row c.args.width c.args.canvas.now.width c.count.result c.args.rows c.args.columns c.loop-row.end
           c.requires.rising c.requires.even low.across c.requires.columns (omega arith) (omega arith) edge.ends between (omega (arith, ints))))
           c.cover_few.ensures,
-      edge_moves (opposite levels.margin) levels.origin (product (pos 16) levels.up) c.args.low.step c.loop-row.row c.loop-row.end c.args.low.change c.sum-end.result
+      edge_moves (opposite levels.margin) levels.origin (product (pos pixel_side) levels.up) c.args.low.step c.loop-row.row c.loop-row.end c.args.low.change c.sum-end.result
           edge low.moves c.sum-end.ensures.value c.sum-end.ensures.rest c.sum-end.ensures.within,
     )
 

@@ -2,6 +2,7 @@ use Rattle.std.proofs.Common.{◌+◌, pos, nat_abs, arith}
 use Rattle.std.proofs.lemmas.Int.{ints}
 use Rattle.wf_paint.specs.Exact.{opposite, product, plus}
 use Rattle.wf_paint.specs.Strip.{is_in_strip, IsBetween}
+use Rattle.wf_paint.specs.Limit.{pixel_side}
 use Rattle.wf_paint.proofs.SpanLemmas.{rows_start, rows_end, rows_more}
 use Rattle.wf_paint.proofs.StripLemmas.{edge_stepped, edge_moves, wide_row, strip_before, strip_after}
 use Rattle.wf_paint.proofs.strip.draw_wide.Goals as goal
@@ -50,7 +51,7 @@ loop-row-preserved c =
           low.across c.requires.columns (omega arith) (omega arith) edge.ends c.requires.gap c.sum-high.ensures.value c.sum-high.ensures.rest
           (omega (arith, ints)) (omega (arith, ints)) (omega (arith, ints, between.from)) (omega (arith, ints, c.sum-high.ensures.most, between.to)))
           c.cover_few.ensures,
-      edge_moves (opposite levels.margin) levels.origin (product (pos 16) levels.up) c.args.low.step c.loop-row.row c.loop-row.end c.args.low.change c.sum-end.result
+      edge_moves (opposite levels.margin) levels.origin (product (pos pixel_side) levels.up) c.args.low.step c.loop-row.row c.loop-row.end c.args.low.change c.sum-end.result
           edge low.moves c.sum-end.ensures.value c.sum-end.ensures.rest c.sum-end.ensures.within,
     )
 

@@ -2,6 +2,7 @@ use Rattle.std.proofs.Common.{◌≡◌, pos, FitsSigned, w64, to_z-of_z, rules,
 use Rattle.std.specs.Int.{w128}
 use Rattle.wf_paint.specs.Exact.{opposite, product, difference}
 use Rattle.wf_paint.specs.Quotient.{number_of}
+use Rattle.wf_paint.specs.Limit.{pixel_side}
 use Rattle.wf_paint.proofs.StripLemmas.{stepped_begins}
 use Rattle.wf_paint.proofs.strip.end_in.Goals as goal
 
@@ -15,8 +16,8 @@ returns c =
     let products : FitsSigned w128 c.product.result = search rules in
     let starts : FitsSigned w128 c.row_level.result = search rules in
     let rooms : FitsSigned w128 c.room.result = search rules in
-    let step : pos c.step-step.result ≡ product (pos 16) levels.across = simp to_z-of_z at c.step-step.ensures.value in
-    let product_value : c.product.result ≡ product (pos 16) levels.up = simp to_z-of_z at c.product.ensures.value in
+    let step : pos c.step-step.result ≡ product (pos pixel_side) levels.across = simp to_z-of_z at c.step-step.ensures.value in
+    let product_value : c.product.result ≡ product (pos pixel_side) levels.up = simp to_z-of_z at c.product.ensures.value in
     let opposite_value : c.opposite.result ≡ opposite c.product.result = simp to_z-of_z at c.opposite.ensures.value in
     let moved : number_of c.step-step.result c.in-Some.change ≡ c.opposite.result = simp to_z-of_z at c.in-Some.ensures.value in
     let room : c.room.result ≡ difference (difference c.args.bound c.row_level.result) (pos 1) = simp to_z-of_z at c.room.ensures.value in

@@ -2,6 +2,7 @@ use Rattle.std.proofs.Common.{◌≡◌, ◌∙◌, ℕ, ◌<◌, pos, nat_lt, F
 use Rattle.std.proofs.lemmas.Int.{ints}
 use Rattle.std.specs.Int.{w128}
 use Rattle.wf_paint.specs.Exact.{opposite, product, difference, is_less}
+use Rattle.wf_paint.specs.Limit.{pixel_side}
 use Rattle.wf_paint.proofs.StripLemmas.{counted_row}
 use Rattle.wf_paint.proofs.strip.rising_within.Goals as goal
 
@@ -15,7 +16,7 @@ returns c =
     let lows : FitsSigned w128 c.gap.result = search rules in
     let highs : FitsSigned w128 c.gap-2.result = search rules in
     let steps : FitsSigned w128 c.from-step.result = search rules in
-    let rises : pos c.step.result ≡ product (pos 16) levels.across = simp to_z-of_z at c.step.ensures.value in
+    let rises : pos c.step.result ≡ product (pos pixel_side) levels.across = simp to_z-of_z at c.step.ensures.value in
     let widened : c.from-step.result ≡ pos c.step.result = omega (arith, ints) in
     let lower : c.opposite.result ≡ opposite levels.margin = simp to_z-of_z at c.opposite.ensures.value in
     let low : c.gap.result ≡ difference c.opposite.result c.row_level-start.result = simp to_z-of_z at c.gap.ensures in

@@ -1,5 +1,5 @@
 use Rattle.std.proofs.Common.{◌≡◌, ◌==◌, ◌&&◌, true, false, rules}
-use Rattle.wf_paint.specs.Grid.{tile_pixels}
+use Rattle.wf_paint.specs.Limit.{tile_pixels}
 use Rattle.wf_paint.proofs.GridLemmas.{fits_size, fits_found, none_fits}
 use Rattle.wf_paint.proofs.cell.GridCell.of.Goals as goal
 
