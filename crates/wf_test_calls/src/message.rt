@@ -2,20 +2,26 @@
 //!
 //! ```text
 //! prepare SLOT BALLOT
-//! promise NODE SLOT BALLOT [BALLOT MAP]    with its vote, if it has one
+//! promise NODE SLOT BALLOT [VOTE ..]    with its votes, that at the slot first; a VOTE is `none`, or BALLOT MAP
 //! accept SLOT BALLOT MAP
 //! accepted NODE SLOT BALLOT
 //! nack NODE SLOT BALLOT PROMISED
 //! chosen SLOT MAP
 //! ask SLOT
 //! ```
+ghost use Rattle.std.specs.Prelude.{◌≡◌, ◌+◌, ◌≤◌, OnOk};
+ghost use Rattle.arrayvec.specs.ArrayVec.{array_vec_len};
+ghost use Rattle.wf_model.specs.Table.{sequences_from};
+ghost use Rattle.wf_model.specs.Working.{window};
+
 use crate::script::Definitions;
 use crate::words;
+use arrayvec::ArrayVec;
 use std::alloc::Global;
-use wf_ballot::Ballot;
+use wf_ballot::{Ballot, Slot};
 use wf_canon::Canon;
-use wf_codec::Message;
-use wf_test_table::{Unanswered, Words};
+use wf_codec::{Message, Report, Votes};
+use wf_test_table::{Answered, Unanswered, Words};
 
 /// The words of a message, and where its definition comes from.
 #[derive(Clone, Copy)]
@@ -40,9 +46,23 @@ impl Spoken<'_> {
         }
     }
 
-    /// The vote that a Promise reports, where words are left.
-    pub fn vote(mut self) -> Result<Option<(Ballot, Canon)>, Unanswered> {
+    /// What a Promise reports from the slot on: the votes that all further words name, and none where no words are left.
+    pub fn report(mut self, slot: Slot) -> Result<Report, Unanswered> {
+        let mut votes = ArrayVec::new();
+        push_votes(&mut self, vote_count(slot), &mut votes)?;
         if self.words.is_empty() {
+            Ok(Report::of(slot, votes))
+        } else {
+            drop(votes);
+            Err(Unanswered::BadWords)
+        }
+    }
+
+    /// The vote that comes next: none where the word says so, or where no word is left.
+    fn vote(&mut self) -> Result<Option<(Ballot, Canon)>, Unanswered> {
+        let mut ahead = self.words;
+        if matches!(ahead.word(), "none" | "") {
+            self.words = ahead;
             return Ok(None);
         }
         let voted = words::ballot(&mut self.words)?;
@@ -53,7 +73,7 @@ impl Spoken<'_> {
     }
 
     /// The definition that comes next.
-    pub fn definition(mut self) -> Result<Canon, Unanswered> {
+    fn definition(&mut self) -> Result<Canon, Unanswered> {
         self.definitions.next(self.alloc, &mut self.words)
     }
 
@@ -67,8 +87,8 @@ impl Spoken<'_> {
         let from = words::node(&mut self.words)?;
         let slot = words::slot(&mut self.words)?;
         let ballot = words::ballot(&mut self.words)?;
-        match self.vote() {
-            Ok(vote) => Ok(Message::Promise(from, slot, ballot, vote)),
+        match self.report(slot) {
+            Ok(report) => Ok(Message::Promise(from, ballot, report)),
             Err(unanswered) => Err(unanswered),
         }
     }
@@ -108,5 +128,31 @@ impl Spoken<'_> {
     fn ask(mut self) -> Result<Message, Unanswered> {
         let slot = words::slot(&mut self.words)?;
         Ok(Message::Ask(slot))
+    }
+}
+
+/// Appends so many votes that the words name. There must be room for them.
+fn push_votes(spoken: &mut Spoken<'_>, count: usize, votes: &mut Votes) -> Answered
+    requires { array_vec_len votes.old + count ≤ 4 }
+    ensures { OnOk result (array_vec_len votes.new ≡ array_vec_len votes.old + count) }
+{
+    if count == 0 {
+        return Ok(());
+    }
+    votes.push(spoken.vote()?);
+    push_votes(spoken, count - 1, votes)
+}
+
+/// How many votes a report from the slot on has: one for it and each of the three after it, as far as there are slots.
+#[tactic(auto, unfolding(wf_model::specs::Table::sequences_from))]
+fn vote_count(slot: Slot) -> usize
+    ensures value { result ≡ sequences_from slot window }
+    ensures few { result ≤ 4 }
+{
+    match slot.number() {
+        4096 => 1,
+        4095 => 2,
+        4094 => 3,
+        _ => 4,
     }
 }

@@ -4,16 +4,16 @@ use crate::script::Maps;
 use crate::telling::write_field;
 use wf_ballot::{Ballot, NodeId, Slot};
 use wf_canon::Canon;
-use wf_codec::Message;
+use wf_codec::{Message, Report};
 use wf_test_table::Answer;
 
 /// Appends the message in words.
 pub fn write_message(message: &Message, maps: Maps<'_>, answer: &mut Answer) {
     match message {
         Message::Prepare(slot, ballot) => write_at("prepare", *slot, *ballot, answer),
-        Message::Promise(node, slot, ballot, vote) => {
-            write_from("promise", *node, *slot, *ballot, answer);
-            write_vote(vote, maps, answer);
+        Message::Promise(node, ballot, report) => {
+            write_from("promise", *node, report.slot(), *ballot, answer);
+            write_votes(report, maps, answer);
         }
         Message::Accept(slot, ballot, canon) => {
             write_at("accept", *slot, *ballot, answer);
@@ -48,14 +48,35 @@ fn write_from(kind: &str, node: NodeId, slot: Slot, ballot: Ballot, answer: &mut
     write_at("", slot, ballot, answer);
 }
 
-/// Appends the vote of a promise, if it has one.
-fn write_vote(vote: &Option<(Ballot, Canon)>, maps: Maps<'_>, answer: &mut Answer) {
-    match vote {
-        None => {}
-        Some((voted, canon)) => {
-            write_field(" voted ", *voted, answer);
+/// Appends the votes that a promise reports. That at its slot is `voted` and its ballot, a later one has its slot before that.
+fn write_votes(report: &Report, maps: Maps<'_>, answer: &mut Answer) {
+    let mut slot = report.slot().number();
+    let mut gap = " ";
+    for vote in report.votes() {
+        if let Some((voted, canon)) = vote {
+            answer.text(gap);
+            write_voted(slot, slot == report.slot().number(), *voted, answer);
             write_definition(canon, maps, answer);
+            gap = gap_after(canon, maps);
         }
+        slot = slot.saturating_add(1);
+    }
+}
+
+fn write_voted(slot: u16, is_first: bool, voted: Ballot, answer: &mut Answer) {
+    answer.text("voted ");
+    if !is_first {
+        write_field("at slot ", slot, answer);
+        answer.text(" ");
+    }
+    answer.value(voted);
+}
+
+/// What parts a definition from what follows it: a line feed where it was written as its text.
+fn gap_after(canon: &Canon, maps: Maps<'_>) -> &'static str {
+    match maps.name_of(canon.text()) {
+        Some(_) => " ",
+        None => "\n",
     }
 }
 

@@ -12,12 +12,12 @@ use wf_tape::{MemoryTape, Tape};
 
 /// The records of a proposal of the map `a` up to the text of the map that is voted for: the round tried, the promise, the vote.
 const BEFORE_VOTE: &[u8] = &[
-    1, 1, 0, 0, 0, 4, 0, 0, 0, 1, 1, 2, 0, 0, 0, 7, 0, 1, 0, 0, 0, 1, 0, 1, 3, 0, 0, 0, 171, 0, 1,
+    2, 1, 0, 0, 0, 4, 0, 0, 0, 1, 2, 2, 0, 0, 0, 7, 0, 1, 0, 0, 0, 1, 0, 2, 3, 0, 0, 0, 171, 0, 1,
     0, 0, 0, 1, 0,
 ];
 
 /// The last record up to the text of the map that is published.
-const BEFORE_PUBLISHED: &[u8] = &[1, 4, 0, 0, 0, 166, 0, 1];
+const BEFORE_PUBLISHED: &[u8] = &[2, 4, 0, 0, 0, 166, 0, 1];
 
 /// The bytes after the records of a proposal of the map `a`, if these are the first.
 fn behind_proposal(bytes: &[u8]) -> Option<&[u8]> {

@@ -8,14 +8,14 @@ use wf_journal::{AddFault, Journal, OpenFault, Record};
 use wf_tape::{FileTape, Tape, TapeFault};
 
 /// The bytes of a Tried record of round 1, and a prefix of one that is torn.
-const TRIED: &[u8] = &[1, 1, 0, 0, 0, 4, 0, 0, 0, 1];
+const TRIED: &[u8] = &[2, 1, 0, 0, 0, 4, 0, 0, 0, 1];
 
 /// The bytes of three Tried records, of rounds 1, 2 and 3.
 const THREE_TRIED: &[u8] = &[
-    1, 1, 0, 0, 0, 4, 0, 0, 0, 1, 1, 1, 0, 0, 0, 4, 0, 0, 0, 2, 1, 1, 0, 0, 0, 4, 0, 0, 0, 3,
+    2, 1, 0, 0, 0, 4, 0, 0, 0, 1, 2, 1, 0, 0, 0, 4, 0, 0, 0, 2, 2, 1, 0, 0, 0, 4, 0, 0, 0, 3,
 ];
 
-pub const TORN: &[u8] = &[1, 1, 0, 0, 0, 4, 0];
+pub const TORN: &[u8] = &[2, 1, 0, 0, 0, 4, 0];
 
 /// An empty folder.
 pub fn new_folder(rt: &(impl Abort + Files + AllocGlobal), folder: &str) {

@@ -1,13 +1,14 @@
 //! A proposer that a script calls. Each answer is committed, and the last line is the state of the proposal.
 //!
 //! ```text
-//! start TRIED PUBLISHED MAP                what to store and to send, where the round TRIED is stored and
-//!                                          PUBLISHED is the last sequence that is published
-//! retry TRIED                              the same, where the round TRIED is stored
-//! promise NODE SLOT BALLOT [BALLOT MAP]    the same, for a Promise of the node, with its vote if it has one
-//! accepted NODE SLOT BALLOT                the same, for an Accepted of the node
-//! nack SLOT BALLOT PROMISED                the same, for a Nack that names the ballot PROMISED
-//! published SLOT MAP                       `done`: the definition is published at the slot
+//! start TRIED PUBLISHED MAP             what to store and to send, where the round TRIED is stored and
+//!                                       PUBLISHED is the last sequence that is published
+//! retry TRIED                           the same, where the round TRIED is stored
+//! promise NODE SLOT BALLOT [VOTE ..]    the same, for a Promise of the node with its votes, that at the slot first;
+//!                                       a VOTE is `none`, or BALLOT MAP
+//! accepted NODE SLOT BALLOT             the same, for an Accepted of the node
+//! nack SLOT BALLOT PROMISED             the same, for a Nack that names the ballot PROMISED
+//! published SLOT MAP                    `done`: the definition is published at the slot
 //! ```
 //!
 //! The answer to a rejected call is `refused: ` and the rejection as it is printed.
@@ -103,10 +104,8 @@ impl Session<'_> {
             words: *call,
             definitions: Definitions::Named(self.maps),
         };
-        let vote = spoken.vote()?;
-        let heard = self
-            .proposer
-            .on_promise(self.alloc, from, slot, ballot, vote);
+        let report = spoken.report(slot)?;
+        let heard = self.proposer.on_promise(self.alloc, from, ballot, report);
         self.give(heard, answer)
     }
 

@@ -10,9 +10,12 @@
 //!                            separate several requests; each is read and answered in the same way: `by N`, `by N failing at K` and
 //!                            so on, `room N`
 //! refuse NODE of NODES [WAY] the same, where the node's tape fails
+//! serve_alone NODE of NODES [WAY]        the same, where the node hears the first message that it sends, and the first of its answers in
+//!                                        turn, before the next request comes
 //! serve_published NODE of NODES [WAY]    the same of a node that has published a map: its mapfile and a byte of 0 come first
 //! serve_cached NODE of NODES [WAY]       the same of one request that comes twice, by a cache of one picture
 //! ```
+use crate::alone;
 use crate::broken::Broken;
 use crate::exchange::{Exchange, tell_hearing};
 use crate::published::serve_published;
@@ -33,6 +36,11 @@ pub(crate) fn serve_one(asked: Asked<'_>, answer: &mut Answer) -> Answered {
 /// `refuse`: what a new node answers whose tape fails.
 pub(crate) fn refuse(asked: Asked<'_>, answer: &mut Answer) -> Answered {
     serve(asked, Broken::new(), answer)
+}
+
+/// `serve_alone`: what a new node answers that hears its own messages.
+pub(crate) fn serve_alone(asked: Asked<'_>, answer: &mut Answer) -> Answered {
+    alone::serve_alone(asked, answer)
 }
 
 /// `serve_published`: what a node answers that has published a map.

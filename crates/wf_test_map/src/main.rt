@@ -8,6 +8,7 @@
 //! The program is proved to be safe and to return, and nothing more: what the cases show is in the table.
 #![tactic(auto)]
 
+mod alone;
 mod broken;
 mod edge;
 mod exchange;

@@ -33,7 +33,8 @@ pub(crate) fn serve_published(
     }
 }
 
-fn open(asked: &mut Asked<'_>) -> Result<Node<MemoryTape>, Unanswered> {
+/// The node of the words, on an empty tape.
+pub(crate) fn open(asked: &mut Asked<'_>) -> Result<Node<MemoryTape>, Unanswered> {
     let member = Member::named(&mut asked.words)?;
     let tape = MemoryTape::new(Vec::new(asked.alloc));
     match Node::open(asked.alloc, tape, member.node(), member.nodes()) {

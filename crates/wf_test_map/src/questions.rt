@@ -21,6 +21,7 @@ fn about_the_edge(question: &str, asked: Asked<'_>, answer: &mut Answer) -> Answ
         "hear" => edge::hear(asked, answer),
         "serve" => edge::serve_one(asked, answer),
         "refuse" => edge::refuse(asked, answer),
+        "serve_alone" => edge::serve_alone(asked, answer),
         "serve_published" => edge::serve_map(asked, answer),
         "serve_cached" => edge::serve_cached(asked, answer),
         _ => wf_test_questions::ask(question, asked, answer),

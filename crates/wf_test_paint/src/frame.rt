@@ -1,7 +1,6 @@
 //! Which part of a map is requested, and in which size.
 ghost use Rattle.std.specs.Prelude.{◌≤◌, ◌<◌, ◌+ℤ◌, ◌≤ℤ◌, pos, length, All, IsTrue};
-ghost use Rattle.wf_paint.specs.Grid.{least_cell};
-ghost use Rattle.wf_paint.specs.View.{most_pixels};
+ghost use Rattle.wf_paint.specs.Limit.{least_cell, most_pixels};
 
 use std::alloc::Global;
 use wf_def::color::Color;

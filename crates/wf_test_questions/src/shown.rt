@@ -3,6 +3,7 @@ use crate::numbers::write_sides;
 use wf_def::choice::{LabelPosition, LabelSize, LayerKind, Projection};
 use wf_def::class::Class;
 use wf_def::color::Color;
+use wf_def::expression::Expression;
 use wf_def::feature::Feature;
 use wf_def::label::Label;
 use wf_def::layer::Layer;
@@ -156,12 +157,24 @@ fn write_label(label: &Label, answer: &mut Answer) {
     write_number(label.buffer.get(), answer);
 }
 
+// Appends a text, or a list as `one of {..}`, and a bar.
+fn write_expression(expression: &Expression, answer: &mut Answer) {
+    match expression {
+        Expression::Equals(text) => write_barred(text, answer),
+        Expression::OneOf(list) => {
+            answer.text("one of {");
+            answer.bytes(list.as_bytes());
+            answer.text("}|");
+        }
+    }
+}
+
 /// Appends a class's name, expression, styles and label, on a line.
 pub(crate) fn write_class(class: &Class, answer: &mut Answer) {
     write_barred(class.name(), answer);
     match class.expression() {
         None => answer.text("-|"),
-        Some(expression) => write_barred(expression, answer),
+        Some(expression) => write_expression(expression, answer),
     }
     for style in class.styles() {
         write_style(style, answer);

@@ -4,18 +4,21 @@ use wf_mapfile::token::{LexFault, LexFaultKind, Token, TokenKind, Tokens};
 use wf_test_table::escape::unescape;
 use wf_test_table::{Answer, Answered, Asked, Runs, Unanswered};
 
-// Appends a word as `offset:word`, a string as `offset"string"`; without its text as `offset:` or `offset"`.
+// Appends a word as `offset:word`, a string as `offset"string"`, a list as `offset{list}`; without its text as `offset:`, `offset"` or
+// `offset{`.
 fn write_token(token: Token<'_>, whole: bool, answer: &mut Answer) {
     answer.count(token.place);
     answer.text(match token.kind {
         TokenKind::Word => ":",
         TokenKind::Quoted => "\"",
+        TokenKind::Braced => "{",
     });
     if whole {
         answer.bytes(token.text);
         answer.text(match token.kind {
             TokenKind::Word => "",
             TokenKind::Quoted => "\"",
+            TokenKind::Braced => "}",
         });
     }
 }

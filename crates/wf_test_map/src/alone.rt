@@ -1,0 +1,83 @@
+//! Requests to a node that hears its own messages, as the only node of a farm does.
+use crate::exchange::Exchange;
+use crate::published::open;
+use crate::serving::tell;
+use std::alloc::Global;
+use std::mem::replace;
+use wf_codec::Message;
+use wf_edge::serve::serve_one;
+use wf_node::{Input, Node, NodeFault};
+use wf_tape::Tape;
+use wf_test_table::{Answer, Answered, Asked, Unanswered};
+
+/// How many messages follow one another from a map on until it is published, each the answer to the one before: Prepare, Promise,
+/// Accept, Accepted and Chosen.
+const MESSAGES: usize = 5;
+
+/// Appends, for each request, what becomes of it, what is written and what is sent, which the node then hears. The node of the words
+/// is on an empty tape.
+pub(crate) fn serve_alone(mut asked: Asked<'_>, answer: &mut Answer) -> Answered {
+    match open(&mut asked) {
+        Ok(mut node) => {
+            let told = serve_each(asked, &mut node, answer);
+            drop(node);
+            told
+        }
+        Err(unanswered) => Err(unanswered),
+    }
+}
+
+fn serve_each<T: Tape>(asked: Asked<'_>, node: &mut Node<T>, answer: &mut Answer) -> Answered {
+    let way = Exchange::read(asked.words)?;
+    for request in asked.input.split(|byte| *byte == 0) {
+        tell_serving(asked.alloc, node, way, request, answer)?;
+    }
+    Ok(())
+}
+
+fn tell_serving<T: Tape>(
+    alloc: Global,
+    node: &mut Node<T>,
+    way: Exchange,
+    request: &[u8],
+    answer: &mut Answer,
+) -> Answered {
+    let mut reader = way.reader(request)?;
+    let mut writer = way.writer(alloc);
+    let served = serve_one(alloc, &mut reader, &mut writer, node);
+    tell(&served, writer.bytes(), answer);
+    drop(writer);
+    drop(reader);
+    hear_own(alloc, node, served.messages)
+}
+
+// The node hears the first of the messages, and the first of its answers in turn.
+fn hear_own<T: Tape>(alloc: Global, node: &mut Node<T>, messages: Vec<Message>) -> Answered {
+    let mut messages = messages;
+    for _ in 0..MESSAGES {
+        match answers_to_first(alloc, node, &messages) {
+            Ok(answers) => drop(replace(&mut messages, answers)),
+            Err(unanswered) => {
+                drop(messages);
+                return Err(unanswered);
+            }
+        }
+    }
+    drop(messages);
+    Ok(())
+}
+
+fn answers_to_first<T: Tape>(
+    alloc: Global,
+    node: &mut Node<T>,
+    messages: &[Message],
+) -> Result<Vec<Message>, Unanswered> {
+    let Some(message) = messages.first() else {
+        return Ok(Vec::new(alloc));
+    };
+    match node.step(alloc, Input::Deliver(message.copy()?)) {
+        Ok(answers) => Ok(answers),
+        Err(NodeFault::Memory) => Err(Unanswered::Memory),
+        Err(_) => Err(Unanswered::BadWords),
+    }
+}
