@@ -1,5 +1,5 @@
 #!/usr/bin/env python3
-"""Times `wfarm canon` on a mapfile of 65,536 bytes, the longest there is, and on files of half and a
+"""Times `wfarm canon` on a mapfile of 131,072 bytes, the longest there is, and on files of half and a
 quarter of that size, and prints the three times with their ratios. Reading and writing take time
 proportional to the file, so each ratio is at most about 2.
 
@@ -11,7 +11,7 @@ import subprocess
 import sys
 import time
 
-LONGEST = 65_536
+LONGEST = 131_072
 RUNS = 30
 HEAD = b'MAP NAME "bench" EXTENT 0 0 4 4 PROJECTION "init=epsg:4326" END LAYER NAME p TYPE LINE\n'
 TAIL = b"END END\n"

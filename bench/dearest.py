@@ -6,7 +6,7 @@ Usage: bench/dearest.py [--program PROGRAM] [--only WORD] [--print-map NAME]
 Each map is published to a farm of one node in memory, whose capabilities and picture are then asked for once: 1,024 by 1,024 pixels,
 its layer named 1 and 64 times. Printed are the milliseconds and bytes of each answer, the most bytes that were resident in the program
 by then, and last the dearest of each kind. A publish is timed until the answer to a /status right after it, since the nodes agree before
-the next connection. Canonical texts are bounded by 32,768 bytes and mapfiles by 65,536, which bounds the points: one of two digits
+the next connection. Canonical texts are bounded by 65,536 bytes and mapfiles by 131,072, which bounds the points: one of two digits
 takes four bytes. It takes half a minute, with nothing else on the machine.
 """
 
@@ -23,7 +23,7 @@ from tiles import ask  # noqa: E402
 from farm import CAPABILITIES, Farm  # noqa: E402
 
 SIDE = 1_024
-MOST_CANONICAL = 32_600
+MOST_CANONICAL = 65_300
 COLOURS = [f"{30 * k} {255 - 30 * k} {k}" for k in range(8)]
 
 
@@ -76,7 +76,7 @@ distinct.draw = random.Random(2)
 
 def grouped(group):
     """Up and down over the whole height, each end at one of six positions next to each other: between groups columns stay free."""
-    ends = [(group + grouped.draw.randrange(6) / 10, 9 * (k % 2)) for k in range(5_140 // 9)]
+    ends = [(group + grouped.draw.randrange(6) / 10, 9 * (k % 2)) for k in range(10_480 // 9)]
     return f"POINTS {' '.join(f'{x} {y}' for x, y in ends)} END\n"
 
 
@@ -117,7 +117,7 @@ def cases():
     yield "polygons over nearly the whole picture", mapfile("POLYGON", styles("COLOR {color}"), big)
     thin = fitting(lambda k: feature([(0, k % 9), (9, k % 9 + 1), (9, k % 9)]), 52)
     yield "thin triangles over the whole width", mapfile("POLYGON", styles("COLOR {color} OUTLINECOLOR {color} WIDTH 2"), thin)
-    spots = [feature([(k % 10, k // 10 % 10) for k in range(7_000)])]
+    spots = [feature([(k % 10, k // 10 % 10) for k in range(15_000)])]
     yield "points of 64 pixels", mapfile("POINT", styles("COLOR {color} SIZE 64"), spots)
     names = fitting(lambda k: feature([(k % 9, k % 7)], f'TEXT "{"N" * 40}"\n'), 84)
     label = "LABEL SIZE GIANT FORCE {} END\n"
@@ -131,7 +131,7 @@ def quotes():
     """A map whose texts are nearly all quotes: the map's title is written twice in its capabilities, its address three times."""
     quote = "'"
     head = "".join(f'"{key}" "{quote * 1_000}"\n' for key in ("wms_title", "wms_abstract", "wms_onlineresource"))
-    layers = "".join(f'LAYER NAME "{quote * 181}{k}" TYPE POINT METADATA wms_title "{quote * 181}" END END\n' for k in range(63))
+    layers = "".join(f'LAYER NAME "{quote * 435}{k}" TYPE POINT METADATA wms_title "{quote * 435}" END END\n' for k in range(63))
     return (f'MAP NAME "dearest" EXTENT 0 0 9 9 PROJECTION "init=epsg:3857" END\nWEB METADATA\n{head}END END\n'
             f"LAYER NAME a TYPE POINT END\n{layers}END\n")
 

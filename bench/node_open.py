@@ -4,8 +4,8 @@ instructions where valgrind is there, and the ratios, each of which is about 2. 
 counted: it is what the same tape takes with a bad first byte.
 
 First on tapes of 1,024, 2,048 and 4,096 published definitions, the longest history. Then on tapes of 512, 1,024 and
-2,048 definitions, before which as many sequences further on get eight promises and a vote each: these are held while
-each definition is published.
+2,048 definitions, before which as many sequences further on get eight promises and a vote each: the votes are held while
+each definition is published, and the one promise is raised.
 
 Usage: bench/node_open.py [PROGRAM]    PROGRAM is the built program of the cases of a farm, which reads a table
 (crates/wf_test_farm/out/wf_test_farm). Status 1 where a ratio is over 3.
@@ -17,6 +17,7 @@ import sys
 
 from tape_open import instructions, seconds
 
+VERSION = 2
 PROMISED, ACCEPTED, PUBLISHED = 2, 3, 4
 PROMISES = 8
 
@@ -40,7 +41,7 @@ class Tape:
     def add(self, kind, slot, fields=b"", with_text=True):
         body = slot.to_bytes(2, "big") + fields
         length = len(body) + with_text * self.text_length
-        head = bytes((1, kind)) + length.to_bytes(4, "big") + body
+        head = bytes((VERSION, kind)) + length.to_bytes(4, "big") + body
         self.lines.append("<. " + "".join("\\x%02x" % it for it in head))
         if with_text:
             self.lines.append("<& a")
@@ -65,7 +66,7 @@ class Tape:
     def unread(self, text):
         """The same, of the tape with a byte before it that begins no record."""
         answer = "> P2: a bad record at 0, %d bytes" % (1 + self.length)
-        return self.asked(text, ["<. \\x02"] + self.lines, answer)
+        return self.asked(text, ["<. \\x00"] + self.lines, answer)
 
     def asked(self, text, lines, answer):
         return "\n".join([text, "", "case a node opens", "ask open 0 of 3", *lines, answer, ""]).encode()

@@ -5,6 +5,7 @@ as many bytes into three members of etcd: all in one run, on loopback and in one
 Usage: bench/publish.py [--program PROGRAM] [--map MAPFILE] [--count N] [--folder FOLDER] [--alone]
 
 Published are N maps, one after the other: the canonical text of a map (maps/large-3857.map, 32 KB), each time with another title.
+Each goes to another node than the one before, so none is a leader's (in_a_row.py has those).
   publish  from its connect to the last byte of an answer to /status, asked for right after it: 202 comes before the nodes have
            agreed, and the next connection is served once all of them have published the map
   writes   the records that this publish left on the three tapes, each appended to a file of its node and synced (fsync), kind
@@ -57,6 +58,14 @@ def texts_of(program, mapfile, count):
     before, _, rest = done.stdout.partition(TITLE)
     behind = rest.partition(b'"')[2]
     return [before + TITLE + b'map %04d"' % number + behind for number in range(1, count + 1)]
+
+
+def disk_of(folder):
+    """The kind of file system that a folder is on, which has to be a disk."""
+    disk = subprocess.run(["stat", "-f", "-c", "%T", folder], capture_output=True, text=True, check=True).stdout.strip()
+    if disk in ("tmpfs", "ramfs"):
+        sys.exit(f"{folder} is in memory ({disk}): name a folder on a disk (--folder)")
+    return disk
 
 
 class Tapes:
@@ -249,13 +258,10 @@ def main():
     if with_etcd and not shutil.which("etcd"):
         sys.exit("etcd isn't installed: install it (etcd-server), or leave it out (--alone)")
     with tempfile.TemporaryDirectory(dir=asked.folder) as made:
-        folder = pathlib.Path(made)
-        disk = subprocess.run(["stat", "-f", "-c", "%T", made], capture_output=True, text=True, check=True).stdout.strip()
-        if disk in ("tmpfs", "ramfs"):
-            sys.exit(f"{made} is in memory ({disk}): name a folder on a disk (--folder)")
+        disk = disk_of(made)
         texts = texts_of(program, asked.map, asked.count)
         print(f"{len(texts)} maps of {len(texts[0]):,} bytes, {disk}, load {os.getloadavg()[0]:.1f} on {os.cpu_count()} processors")
-        return 0 if measure(program, texts, folder, with_etcd) else 1
+        return 0 if measure(program, texts, pathlib.Path(made), with_etcd) else 1
 
 
 if __name__ == "__main__":

@@ -12,17 +12,20 @@ import sys
 import time
 
 NODES = 5
-# A proposal that each node hears: Prepare, a Promise of each, Accept, an Accepted of each, Chosen.
+# A proposal that each node hears: Prepare, a Promise of each, Accept, an Accepted of each, Chosen. The proposer leads then, and its
+# next three need no promises.
 MESSAGES = 2 * NODES + 3
+LED = NODES + 2
 HEAD = ["nodes %d" % NODES, "map a", 'MAP NAME "a" EXTENT 0 0 4 4 PROJECTION "init=epsg:4326" END END', "endmap"]
-ROUND = ["propose 0 a", "pump", "published", "sent", "proposal 0", "definition 4 1"]
+ROUND = ["propose 0 a", "pump", "published", "sent"]
 RUNS = 5
 
 
 def script(lines, deliveries):
     """A script of n lines and deliveries, and the last line that it writes."""
-    rounds = deliveries // (MESSAGES * NODES)
-    more = deliveries - rounds * MESSAGES * NODES
+    rounds, more = 0, deliveries
+    while more >= (needed := NODES * (LED if rounds % 4 else MESSAGES)):
+        rounds, more = rounds + 1, more - needed
     text = HEAD + ROUND * rounds
     if more:
         text.append("deliver 0" + " %d" % (MESSAGES - 1) * more)

@@ -11,6 +11,7 @@ import re
 import shutil
 import socket
 import stat
+import subprocess
 import sys
 import tempfile
 import time
@@ -88,17 +89,19 @@ def publishes(program, text):
         farm.end()
 
 
-def syncs(program, text, count):
-    """How many syncs a run with n publishes makes."""
+def syncs(program, text, count, statuses=0):
+    """How many syncs a run with n publishes makes, after each of which so many requests for /status come."""
     with tempfile.TemporaryDirectory() as folder:
         log, traced, state = (os.path.join(folder, name) for name in ("log", "traced", "state"))
         os.mkdir(state)
         with open(traced, "w") as script:
             script.write('#!/bin/sh\nexec strace -f -e trace=fsync,fdatasync -o %s %s "$@"\n' % (log, program))
         os.chmod(traced, os.stat(traced).st_mode | stat.S_IXUSR)
-        farm = Farm(traced, count, state)
+        farm = Farm(traced, count * (1 + statuses), state, stderr=subprocess.DEVNULL)
         for _ in range(count):
             ask(port_of(farm), "/publish", text)
+            for _ in range(statuses):
+                ask(port_of(farm), "/status")
         farm.end()
         with open(log) as lines:
             return len(re.findall(r"f(?:data)?sync\(", lines.read()))

@@ -20,6 +20,7 @@ import time
 RUNS = 7
 COUNTS = (1024, 2048, 4096)
 TEXT_BYTES = 2048
+VERSION = 2
 PUBLISHED = 4
 
 
@@ -40,7 +41,7 @@ def tape(text, count):
     parts = []
     for slot in range(1, count + 1):
         body = slot.to_bytes(2, "big") + text.replace(b'"0000"', b'"%04d"' % (slot - 1), 1)
-        parts.append(bytes((1, PUBLISHED)) + len(body).to_bytes(4, "big") + body)
+        parts.append(bytes((VERSION, PUBLISHED)) + len(body).to_bytes(4, "big") + body)
     return b"".join(parts)
 
 

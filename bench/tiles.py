@@ -118,12 +118,22 @@ def free_port():
         return it.getsockname()[1]
 
 
-def wait_for(port):
+def wait_until(is_there):
     for _ in range(100):
-        with contextlib.suppress(OSError), socket.create_connection(("127.0.0.1", port), timeout=1):
+        if is_there():
             return
         time.sleep(0.05)
     sys.exit("a server did not start")
+
+
+def listens(port):
+    with contextlib.suppress(OSError), socket.create_connection(("127.0.0.1", port), timeout=1):
+        return True
+    return False
+
+
+def wait_for(port):
+    wait_until(lambda: listens(port))
 
 
 @contextlib.contextmanager
@@ -141,9 +151,11 @@ def mapserver(it, room):
     environment = {**os.environ, "MAPSERVER_CONFIG_FILE": f"{room}/ms.conf"}
     words = ["spawn-fcgi", "-n", "-s", f"{room}/socket", "-F", "1", "--", program]
     quiet = {"stdout": subprocess.DEVNULL, "stderr": subprocess.DEVNULL}
-    running = [subprocess.Popen(words, env=environment, start_new_session=True, **quiet),
-               subprocess.Popen(["lighttpd", "-D", "-f", f"{room}/lighttpd.conf"], **quiet)]
+    running = [subprocess.Popen(words, env=environment, start_new_session=True, **quiet)]
     try:
+        # lighttpd answers 503 for a while where MapServer doesn't listen at its first request.
+        wait_until((room / "socket").exists)
+        running.append(subprocess.Popen(["lighttpd", "-D", "-f", f"{room}/lighttpd.conf"], **quiet))
         wait_for(port)
         yield port, "/wms?map=served&"
     finally:

@@ -114,7 +114,7 @@ def text(features):
 
 
 def message(kind, body):
-    return bytes([1, kind]) + len(body).to_bytes(4, "big") + body
+    return bytes([2, kind]) + len(body).to_bytes(4, "big") + body
 
 
 PREPARE = message(1, bytes.fromhex("0001" "0000000100"))

@@ -47,7 +47,7 @@ ONCE = (
     "edge::a_request_over_a_connection_is_answered",
     "serve::a_start_where_port_or_folder_is_taken_changes_no_tape",
 )
-EDGE = ("hear", "serve", "refuse", "serve_published", "serve_cached")
+EDGE = ("hear", "serve", "refuse", "serve_alone", "serve_published", "serve_cached")
 # their input begins with a mapfile
 PUBLISHED = ("serve_published", "serve_cached")
 UNAVAILABLE = (
@@ -55,6 +55,8 @@ UNAVAILABLE = (
     b"Connection: close\r\n\r\n503\n"
 )
 OUTCOME = re.compile(rb"^(?:(?:sent|cut) \d+, \d+ bytes|read failed|no request|heard [^\n]*)\n", re.MULTILINE)
+# messages behind a response: a line each, and behind it the canonical text of its map, if it has one
+MESSAGES = rb"(?:send [^\n]*\n(?:MAP\n.*?\nEND\n(?=send |\Z))?)*"
 DIFFERENCE = re.compile(rb"line \d+: [^\n]*\n  expected: ([^\n]*)\n  given:    ([^\n]*)\n")
 UNREAD = re.compile(rb"(?:line \d+: [^\n]*\n)+0 cases, 0 differ, \d+ faults of the table\n")
 ESCAPE = re.compile(rb"\\(?:x([0-9A-Fa-f]{2})|(.))")
@@ -150,7 +152,7 @@ def blocks_of(answer):
 
 def is_part(block, whole):
     """Whether a block is this one, but for a response of which a prefix is written."""
-    whole = re.fullmatch(rb"(?:sent|cut) (\d+), \d+ bytes\n(.*?)((?:send [^\n]*\n)*)", whole, re.DOTALL)
+    whole = re.fullmatch(rb"(?:sent|cut) (\d+), \d+ bytes\n(.*?)(%s)" % MESSAGES, whole, re.DOTALL)
     cut = re.match(rb"cut (\d+), (\d+) bytes\n", block)
     if not whole or not cut or cut[1] != whole[1]:
         return False

@@ -11,6 +11,9 @@ order in which a request lists them. A file with more than one kind of geometry 
 --crs 3857 writes metres of the spherical Mercator projection instead. The extent is that of the data unless --extent
 gives one.
 
+Features that are drawn alike and have the same attributes and no label become one shape, which saves bytes and changes
+no picture: lines and points, outlines, and filled polygons that lie apart. --apart leaves each one by itself.
+
 What is written is the map's canonical text: `wfarm canon` gives the same bytes, and MapServer draws it too. A map that
 is over a limit of wfarm isn't written: a line says which limit, how far over, and what to do. The status is then 1.
 
@@ -29,7 +32,7 @@ import urllib.parse
 from decimal import Decimal
 
 # The limits of wfarm (docs/DEFINITIONS.md, "Limits").
-MOST_BYTES = 32_768  # the canonical text
+MOST_BYTES = 65_536  # the canonical text; a mapfile may have twice as many
 MOST_LAYERS = 64
 MOST_CLASSES = 16
 MOST_FEATURES = 2_000
@@ -134,6 +137,7 @@ def arguments():
     parser.add_argument("--extent", nargs=4, type=Decimal, metavar=("MINX", "MINY", "MAXX", "MAXY"), help="in the map's units (that of the data)")
     parser.add_argument("--digits", type=whole(0, 6), default=6, help="digits after the point of a coordinate (6)")
     parser.add_argument("--simplify", type=float, default=0.0, metavar="DISTANCE", help="leave out points nearer than this to the line without them, in the map's units")
+    parser.add_argument("--apart", action="store_true", help="write each feature by itself, also where several could be one shape")
     parser.add_argument("--query", type=pathlib.Path, metavar="FILE", help="where to write the query of a picture of the whole map")
     parser.add_argument("--side", type=whole(1, MOST_PIXELS), default=400, metavar="PIXELS", help="the longer side of that picture (400)")
     parser.add_argument("--layer", action=BeginLayer, dest="layers", metavar="FILE", required=True, help="a GeoJSON file; its layer has the file's name")
@@ -318,16 +322,85 @@ def written_parts(geometry, kind, common, options, warnings):
     return parts
 
 
+# ---- features as one shape
+
+
+class Shape:
+    """Features that are drawn as one. Boxes are those of filled polygons, which mustn't meet: two that overlap would
+    leave a hole where both are."""
+
+    def __init__(self, feature, boxes):
+        self.feature = feature
+        self.boxes = boxes
+
+    def takes(self, boxes):
+        return all(lie_apart(a, b) for a in self.boxes for b in boxes)
+
+    def take(self, kind, feature, boxes):
+        if kind == "point":
+            self.feature.parts[0] += [point for part in feature.parts for point in part]
+        else:
+            self.feature.parts += feature.parts
+        self.boxes += boxes
+
+
+def box_of(parts):
+    """The least and greatest coordinates of the parts."""
+    xs = [float(x) for part in parts for x, _ in part]
+    ys = [float(y) for part in parts for _, y in part]
+    return min(xs), min(ys), max(xs), max(ys)
+
+
+def lie_apart(a, b):
+    return a[2] < b[0] or b[2] < a[0] or a[3] < b[1] or b[3] < a[1]
+
+
+def shade_of(feature, options):
+    """The color of the feature's class, None where that is the layer's."""
+    if not options.class_by or options.class_by not in options.items:
+        return None
+    value = feature.values[options.items.index(options.class_by)]
+    return next((shade for name, shade in options.classes if name == value), None)
+
+
+def merged(kind, features, options):
+    """The features, with those that are drawn alike and have the same attributes as one shape. A feature joins one
+    before it only if no feature of another color stands between them, since the later one is drawn over the earlier."""
+    if options.label is not None:
+        return features
+    shapes, joined, last = [], {}, None
+    for feature in features:
+        shade = shade_of(feature, options)
+        fill, outline = polygon_colors(options, shade) if kind == "polygon" else (None, None)
+        if shade != last:
+            joined, last = {}, shade
+        boxes = [box_of(feature.parts)] if fill is not None else []
+        alike = joined.setdefault(tuple(feature.values), [])
+        shape = next((shape for shape in alike if shape.takes(boxes)), None)
+        if shape is None or (fill is not None and outline is not None):
+            alike.append(Shape(Feature(list(feature.parts), feature.values), boxes))
+            shapes.append(alike[-1])
+        else:
+            shape.take(kind, feature, boxes)
+    return [shape.feature for shape in shapes]
+
+
 # ---- the map
+
+
+def polygon_colors(options, shade):
+    """The colors of a polygon's inside and of its border, either may be None."""
+    fill = shade or options.color
+    if fill is None and options.outline is None:
+        fill = (220, 220, 205)
+    return fill, options.outline or ((110, 110, 100) if options.color is None and shade is None else None)
 
 
 def style_lines(kind, options, shade):
     lines = ["STYLE"]
     fill = shade or options.color
     if kind == "polygon":
-        if fill is None and options.outline is None:
-            fill = (220, 220, 205)
-        outline = options.outline or ((110, 110, 100) if options.color is None and shade is None else None)
+        fill, outline = polygon_colors(options, shade)
         if fill is not None:
             lines.append("COLOR {} {} {}".format(*fill))
         if outline is not None:
@@ -407,7 +480,8 @@ def layers_of(common, warnings):
         found = read_features(options, common, warnings)
         name = plain(options.path.stem, warnings).replace(",", "_")
         for kind, features in found.items():
-            layers.append((name if len(found) == 1 else f"{name}_{kind}", kind, features, options))
+            shapes = features if common.apart else merged(kind, features, options)
+            layers.append((name if len(found) == 1 else f"{name}_{kind}", kind, shapes, options))
     names = [name for name, _, _, _ in layers]
     for name in names:
         if names.count(name) > 1:

@@ -70,7 +70,7 @@ def trickling(peer, _):
 
 def staying(peer, draw):
     """Its answer is read, and the connection stays open."""
-    peer.sendall(draw.choice((b"GET /x HTTP/1.1\r\n\r\n", b"POST /publish HTTP/1.1\r\nContent-Length: 100000\r\n\r\n", b"\x16\x03\x01\r\n\r\n")))
+    peer.sendall(draw.choice((b"GET /x HTTP/1.1\r\n\r\n", b"POST /publish HTTP/1.1\r\nContent-Length: 200000\r\n\r\n", b"\x16\x03\x01\r\n\r\n")))
     drain(peer)
 
 
@@ -88,7 +88,7 @@ def oversized(peer, draw):
         b"GET /" + b"x" * draw.choice((8_193, 1 << 20)) + b" HTTP/1.1\r\n\r\n",
         b"GET /status HTTP/1.1\r\n" + b"a: b\r\n" * draw.choice((33, 2_000)) + b"\r\n",
         b"GET /status HTTP/1.1\r\n" + b"a: " + b"b" * 9_000 + b"\r\n\r\n",
-        b"POST /publish HTTP/1.1\r\nContent-Length: 65537\r\n\r\n" + b" " * 65_537,
+        b"POST /publish HTTP/1.1\r\nContent-Length: 131073\r\n\r\n" + b" " * 131_073,
         b"POST /publish HTTP/1.1\r\nContent-Length: 99999999999999999999\r\n\r\n" + b"MAP " * 50_000)))
     peer.shutdown(socket.SHUT_WR)
     drain(peer)
@@ -109,7 +109,7 @@ def resetting(peer, draw):
 
 def binary(peer, draw):
     """Random bytes, or a request with some in it."""
-    noise = draw.randbytes(draw.choice((1, 100, 5_000, 100_000)))
+    noise = draw.randbytes(draw.choice((1, 100, 5_000, 200_000)))
     peer.sendall(draw.choice((noise, GOOD[:4] + noise[:3_000] + GOOD[4:], b"POST /publish HTTP/1.1\r\nContent-Length: %d\r\n\r\n" % len(noise) + noise)))
     peer.shutdown(socket.SHUT_WR)
     drain(peer)

@@ -40,6 +40,7 @@ from farm import CAPABILITIES, PROGRAM, Farm, serve_words
 
 NODES = 3
 CONNECTIONS = 1_000_000
+VERSION = 2
 PUBLISHED = 4
 MOST_SEQUENCES = 600
 PIXEL = ("/wms?VERSION=1.3.0&REQUEST=GetMap&LAYERS=it&STYLES=&CRS=EPSG:3857&BBOX=0,0,4,4&WIDTH=2&HEIGHT=2"
@@ -240,7 +241,7 @@ def tear(folder, draw):
     found, torn = records(tape)
     if found and not torn:
         kind, body = draw.choice(found)
-        record = bytes((1, kind)) + len(body).to_bytes(4, "big") + body
+        record = bytes((VERSION, kind)) + len(body).to_bytes(4, "big") + body
         with path.open("ab") as rest:
             rest.write(record[:draw.randrange(1, len(record))])
         return 1

@@ -10,6 +10,7 @@ TEXTS = ('""', '"a"', "'T'", '"it\'s"', "END", '"END"', '"a,b"', "/re", '"/re"',
 WORDS = ("MAP", "NAME", "EXTENT", "PROJECTION", "WEB", "METADATA", "LAYER", "TYPE", "CLASSITEM", "LABELITEM", "PROCESSING", "CLASS", "EXPRESSION",
          "STYLE", "COLOR", "OUTLINECOLOR", "WIDTH", "SIZE", "LABEL", "POSITION", "PRIORITY", "FORCE", "BUFFER", "FEATURE", "POINTS", "ITEMS",
          "TEXT", "END", "STATUS", "UNITS", "IMAGECOLOR", "INCLUDE", "SYMBOL", "DATA", "GROUP", "TEMPLATE")
+LISTED = ("", "a", " b", "k l", "'", '"', "#", "/*", "é", "x;y", "[a]")  # what a list may hold, between commas
 KINDS = ("POINT", "LINE", "POLYGON", "point", '"LINE"')
 SIZES = ("TINY", "SMALL", "MEDIUM", "LARGE", "GIANT", "giant")
 POSITIONS = ("UL", "UC", "UR", "CL", "CC", "CR", "LL", "LC", "LR", "cc")
@@ -74,7 +75,7 @@ class Maps:
         """White space, a comment or a text as long as a mapfile may be, or longer."""
         begin = self.draw.randrange(len(text) + 1)
         more = self.draw.choice((b" ", b"\n", b"x", b"# ", b"/*", b"\xc3", b'"' + b"y" * 1_000 + b'" '))
-        return text[:begin] + more * (self.draw.choice((10, 1_000, 65_536, 70_000)) // len(more)) + text[begin:]
+        return text[:begin] + more * (self.draw.choice((10, 1_000, 131_072, 140_000)) // len(more)) + text[begin:]
 
     # The grammar, with an error now and then.
 
@@ -97,6 +98,12 @@ class Maps:
     def text(self):
         return self.draw.choice(TEXTS) if self.errs() else f'"{self.draw.choice(("a", "b", "k", "a b", "x;y", "k,l"))}"'
 
+    def expression(self):
+        """A text, or a list of texts."""
+        if self.draw.random() < 0.5:
+            return self.text()
+        return "{" + ",".join(self.draw.choice(TEXTS if self.errs() else LISTED) for _ in range(self.draw.choice((0, 1, 2, 3, 1_000)))) + ("" if self.errs() else "}")
+
     def item(self, word, make):
         return lambda: f"{self.word(word)} {make()}"
 
@@ -116,7 +123,7 @@ class Maps:
                                               self.item("FORCE", self.chosen(("TRUE", "FALSE"), "ON")), self.item("BUFFER", self.number)), 6))
 
     def a_class(self):
-        return self.block("CLASS", self.some((self.item("NAME", self.text), self.item("EXPRESSION", self.text), self.style, self.style, self.label), 5))
+        return self.block("CLASS", self.some((self.item("NAME", self.text), self.item("EXPRESSION", self.expression), self.style, self.style, self.label), 5))
 
     def points(self):
         count = 1 if self.errs() else self.draw.choice((3, 4, 5, 50))

@@ -49,7 +49,7 @@ def second_start(program, folder, farm):
     """A torn record at the end of a tape is removed where that is opened: a second start must not open it."""
     torn = pathlib.Path(folder) / "node-0.tape"
     with torn.open("ab") as tape:
-        tape.write(b"\x01\x01\x00")
+        tape.write(b"\x02\x01\x00")
     before = tapes(folder)
     yield same("a second start at its port", starts_again(program, folder, farm.port), (1, "", "serve fault\n"))
     yield same("a second start at another port", starts_again(program, folder, 0), (1, "", "serve fault\n"))
@@ -75,8 +75,8 @@ def three_nodes(program, folder):
     yield same("no map", farm.ask("/publish", b'MAP INCLUDE "x" END'), (400, b"M5 4\n"))
     yield same("no such path", farm.ask("/x")[0], 404)
     yield same("a publish by GET", farm.ask("/publish")[0], 405)
-    yield same("a map over the limit", farm.ask("/publish", b" " * 65_537)[0], 413)
-    yield same("one far over it", farm.ask("/publish", b" " * 100_000)[0], 413)
+    yield same("a map over the limit", farm.ask("/publish", b" " * 131_073)[0], 413)
+    yield same("one far over it", farm.ask("/publish", b" " * 200_000)[0], 413)
     large = "/wms?" + QUERY.replace("WIDTH=4&HEIGHT=4", "WIDTH=200&HEIGHT=200")
     for more in (0, 20_000):
         yield same("a picture, %d bytes after the head" % more, len(farm.ask_with_more(large, more).partition(b"\r\n\r\n")[2]), 120_015)
@@ -85,7 +85,7 @@ def three_nodes(program, folder):
     yield same("a client that sends byte by byte is given up", 9 < waited < 12, True)
     for name, request, most in (
         ("a client that was answered and stays", b"GET /status HTTP/1.1\r\n\r\n", 0.5),
-        ("one that was rejected and stays", b"POST /publish HTTP/1.1\r\nContent-Length: 100000\r\n\r\n", 2),
+        ("one that was rejected and stays", b"POST /publish HTTP/1.1\r\nContent-Length: 200000\r\n\r\n", 2),
     ):
         client = farm.keep_open(request)
         before = time.monotonic()

@@ -365,7 +365,7 @@ def try_publishing(page, relay, look, folder, nginx):
     page.publish(folder / "cut.map")
     look.within(8, "an offset in bytes after letters of two bytes", lambda: "line 3" in page.text("answer")
                 and page.run("return document.querySelector('#where mark').textContent") == "x4")
-    (folder / "long.map").write_bytes(b"#" * 70_000)
+    (folder / "long.map").write_bytes(b"#" * 140_000)
     page.publish(folder / "long.map")
     look.within(8, "a file that is too long", lambda: page.text("answer").startswith("The file is too long"))
     (folder / "third.map").write_text(ACROSS % (3, "150 150 230"), encoding="utf-8")

@@ -548,16 +548,16 @@ async function look() {
 // ---- publishing
 
 const MEANINGS = {
-  M1: 'allocation failed', M2: 'it has over 65,536 bytes', M3: "a byte isn't UTF-8",
-  M4: 'a quote or comment is not closed, or a byte may not be there', M5: 'this keyword, block or kind of argument is not expected here',
+  M1: 'allocation failed', M2: 'it has over 131,072 bytes', M3: "a byte isn't UTF-8",
+  M4: 'a quote, list or comment is not closed, or a byte may not be there', M5: 'this keyword, block or kind of argument is not expected here',
   M6: 'the file ends inside MAP', M7: 'a malformed number or colour', M8: 'a value out of its range',
   M9: 'a required keyword or MAP is missing, or a shape has too few points', M10: 'a second keyword, key, or layer of that name',
   M11: 'over a limit of layers, classes, styles, features or points', M12: "something follows MAP's END",
-  K1: 'the canonical text would have over 32,768 bytes', N2: 'this node still proposes another map: try again',
-  N3: 'the last sequence is published', N4: 'this node has no round left',
+  K1: 'the canonical text would have over 65,536 bytes', N2: 'this node still proposes another map: try again',
+  N3: 'the last sequence is published', N4: 'the map needs a new round, and this node has none left',
 };
 const STATUSES = {
-  403: 'Publishing is not allowed from here.', 411: 'The length is missing.', 413: 'The file is too long: a mapfile has at most 65,536 bytes.',
+  403: 'Publishing is not allowed from here.', 411: 'The length is missing.', 413: 'The file is too long: a mapfile has at most 131,072 bytes.',
   503: "An allocation failed, or this node's tape failed.",
 };
 
