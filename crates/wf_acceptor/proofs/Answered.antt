@@ -11,25 +11,12 @@ use Rattle.wf_model.specs.Working.{Working, window}
 use Rattle.wf_model.specs.Table.{Row, says, stores, quiet, is_above, is_refused, nack, on_prepare, prepare_open, promise_to, on_accept, accept_open, vote_for, votes_at, votes_from}
 use Rattle.wf_def.specs.Definition.{Definition}
 use Rattle.wf_codec.specs.Message.{view}
-use Rattle.wf_codec.specs.declared.message.Message.{Message}
-use Rattle.wf_codec.specs.declared.message.Message.TheVariants.{Promise, Accepted, Nack}
-use Rattle.wf_journal.specs.declared.record.Record.TheVariants as record_
-use Rattle.wf_journal.specs.declared.record.Record.TheVariants.{Promised}
+use Rattle.wf_codec.specs.declared.message.Message.TheVariants.{Accepted, Nack}
 use Rattle.wf_acceptor.specs.Acceptor.{Part, ActsFor, votes_of}
-use Rattle.wf_acceptor.specs.Prepared.{nack_of, report_of}
-use Rattle.wf_acceptor.specs.Answer.{Answers, Stores}
+use Rattle.wf_acceptor.specs.Prepared.{nack_of, promising, replying, voting}
+use Rattle.wf_acceptor.specs.Answer.{accept_row, prepare_row, Answers, Stores}
 use Rattle.wf_acceptor.specs.declared.answer.Answer.{Answer}
 use Rattle.wf_acceptor.proofs.Reported.{as_reported}
-
--- the answers of an acceptor that promises, that votes, and that only replies
-abbrev pub promising : Part → ℕ → Ballot → Answer
-promising part s b = record { entry = Some (Promised s b); reply = Some (Promise part.id b (report_of part s)) }
-
-abbrev pub voting : Part → ℕ → Ballot → Definition → Answer
-voting part s b d = record { entry = Some (record_.Accepted s b d); reply = Some (Accepted part.id s b) }
-
-abbrev pub replying : Option Message → Answer
-replying reply = record { entry = None; reply = reply }
 
 nack-as : (part : Part) (s : ℕ) (b : Ballot) → option_to_list (option_map view (nack_of part s b)) ≡ nack part.id s b part.promise
 nack-as part s b =
@@ -37,13 +24,6 @@ nack-as part s b =
       | None ↦ refl
       | Some promise ↦ refl
     ]
-
--- the transitions of a Prepare and of an Accept at a slot
-abbrev pub prepare_row : Part → ℕ → Ballot → Stored Definition → Working Definition → Row Definition
-prepare_row part s b stored working = on_prepare part.id stored working s b
-
-abbrev pub accept_row : Part → ℕ → Ballot → Definition → Stored Definition → Working Definition → Row Definition
-accept_row part s b d stored working = on_accept part.id stored working s b d
 
 -- Above the published definitions the part's promise determines the transition.
 prepare_by_promise : (part : Part) (stored : Stored Definition) (working : Working Definition) (s : ℕ) (b : Ballot) → ActsFor part stored → part.published < s →

@@ -1,9 +1,10 @@
 -- An answer as a transition of the step table.
-use Rattle.std.specs.Prelude.{◌≡◌, option_map, IsSome}
+use Rattle.std.specs.Prelude.{◌≡◌, ℕ, option_map, IsSome}
 use Rattle.std.specs.Option.{option_to_list}
+use Rattle.wf_ballot.specs.Ballot.{Ballot}
 use Rattle.wf_model.specs.Stored.{Stored}
 use Rattle.wf_model.specs.Working.{Working}
-use Rattle.wf_model.specs.Table.{Row}
+use Rattle.wf_model.specs.Table.{Row, on_accept, on_prepare}
 use Rattle.wf_def.specs.Definition.{Definition}
 use Rattle.wf_codec.specs.Message as message
 use Rattle.wf_journal.specs.Record as record_
@@ -17,6 +18,13 @@ row_of answer working = record {
   messages = option_to_list (option_map message.view answer.reply);
   working = working;
 }
+
+-- the transitions of a Prepare and of an Accept at a slot, at a node with this part
+abbrev pub prepare_row : Part → ℕ → Ballot → Stored Definition → Working Definition → Row Definition
+prepare_row part s b stored working = on_prepare part.id stored working s b
+
+abbrev pub accept_row : Part → ℕ → Ballot → Definition → Stored Definition → Working Definition → Row Definition
+accept_row part s b d stored working = on_accept part.id stored working s b d
 
 -- The answer is this transition, whatever else the node's state is.
 abbrev pub Answers : Part → (Stored Definition → Working Definition → Row Definition) → Answer → Type 0

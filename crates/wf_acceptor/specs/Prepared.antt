@@ -1,4 +1,4 @@
--- Used only in this crate's contracts: the Nack with the promise, what a promise reports, and the part after a record is applied.
+-- Used only in this crate's contracts: the answers, what a promise reports, and the acceptor after a record is applied.
 use Rattle.std.specs.Prelude.{ℕ, zero, suc, List, [], ◌∷◌, Option, Some, None, option_map, nat_le, if◌then◌else◌}
 use Rattle.std.specs.Ordering.{nat_cmp}
 use Rattle.std.specs.FinMap.{FinMap, get, insert, remove}
@@ -9,14 +9,15 @@ use Rattle.wf_model.specs.Working.{window}
 use Rattle.wf_def.specs.Definition.{Definition}
 use Rattle.wf_codec.specs.Report.{Report}
 use Rattle.wf_codec.specs.declared.message.Message.{Message}
-use Rattle.wf_codec.specs.declared.message.Message.TheVariants.{Nack}
+use Rattle.wf_codec.specs.declared.message.Message.TheVariants as message
 use Rattle.wf_journal.specs.declared.record.Record.{Record}
 use Rattle.wf_journal.specs.declared.record.Record.TheVariants.{Tried, Promised, Accepted, Published}
-use Rattle.wf_acceptor.specs.Acceptor.{Part}
+use Rattle.wf_acceptor.specs.Acceptor.{Acceptor, Part}
+use Rattle.wf_acceptor.specs.declared.answer.Answer.{Answer}
 
 -- the Nack with the promise, if there is one
 abbrev pub nack_of : Part → ℕ → Ballot → Option Message
-nack_of part s b = option_map (λ promise. Nack part.id s b promise) part.promise
+nack_of part s b = option_map (λ promise. message.Nack part.id s b promise) part.promise
 
 -- the votes at the `count` slots from s on, as far as there are slots
 unfoldable pub reported : FinMap nat_cmp (Ballot × Definition) → ℕ → ℕ → List (Option (Ballot × Definition))
@@ -26,6 +27,20 @@ reported votes s (suc count) = if nat_le s last_sequence then get votes s ∷ re
 -- what a promise from slot s on reports
 abbrev pub report_of : Part → ℕ → Report
 report_of part s = record { slot = s; votes = reported part.votes s window }
+
+-- the answers of an acceptor that promises, that votes, and that only replies
+abbrev pub promising : Part → ℕ → Ballot → Answer
+promising part s b = record { entry = Some (Promised s b); reply = Some (message.Promise part.id b (report_of part s)) }
+
+abbrev pub voting : Part → ℕ → Ballot → Definition → Answer
+voting part s b d = record { entry = Some (Accepted s b d); reply = Some (message.Accepted part.id s b) }
+
+abbrev pub replying : Option Message → Answer
+replying reply = record { entry = None; reply = reply }
+
+-- the acceptor of this part with no prepared record
+abbrev pub unprepared : Part → Acceptor
+unprepared part = record { part = part; prepared = None }
 
 -- the definition of a vote's record, if it is one
 abbrev pub definition_of : Option Record → Option Definition

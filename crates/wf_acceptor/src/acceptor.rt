@@ -70,17 +70,18 @@ impl Acceptor {
     ghost use Rattle.std.specs.FinMap as map;
     ghost use Rattle.wf_model.specs.Stored.{nothing_stored};
     ghost use Rattle.wf_model.specs.Table as table;
-    ghost use Rattle.wf_model.specs.Table.{on_prepare as prepare_row, on_accept as accept_row, votes_at};
+    ghost use Rattle.wf_model.specs.Table.{votes_at};
     ghost use Rattle.std.specs.Option.{option_copied};
     ghost use Rattle.wf_codec.specs.Message.{view_vote};
     ghost use Rattle.wf_journal.specs.Record.{view as record_view};
     ghost use Rattle.wf_acceptor.specs.Acceptor.{votes_of, ActsFor, Applies, IsNext, HasRoomFor};
-    ghost use Rattle.wf_acceptor.specs.Answer.{Answers, Stores};
-    ghost use Rattle.wf_acceptor.specs.Prepared.{nack_of, report_of, with_promise, with_open, with_entry, with_entry_at, with_published};
+    ghost use Rattle.wf_acceptor.specs.Answer.{accept_row, prepare_row, Answers, Stores};
+    ghost use Rattle.wf_acceptor.specs.Prepared.{nack_of, promising, replying, unprepared, voting, with_promise, with_open, with_entry, with_entry_at, with_published};
 
     /// The acceptor of a node that has stored nothing yet.
     pub fn new(alloc: Global, id: NodeId) -> Acceptor
-        ensures value { result ≡ record { part = record { id = id; published = 0; promise = None; votes = map.empty }; prepared = None } }
+        ensures value { result ≡ unprepared
+            (record { id = id; published = 0; promise = None; votes = map.empty }) }
         ensures acts { ActsFor result.part nothing_stored }
     {
         Acceptor {
@@ -131,12 +132,13 @@ impl Acceptor {
     /// the promise. Allocation can fail only for a Promise.
     pub fn on_prepare(&mut self, slot: Slot, ballot: Ballot) -> Result<Answer, AllocError>
         requires { self.old.part.published < slot }
-        ensures row { IfOk result (Answers self.old.part (λ stored working. prepare_row self.old.part.id stored working slot ballot)) }
+        ensures row { IfOk result (Answers self.old.part (prepare_row self.old.part slot ballot)) }
         ensures part { self.new.part ≡ self.old.part }
         ensures room { IfOk result (λ answer. IfSome answer.entry (HasRoomFor self.new)) }
         ensures none_set_aside { OnOk result (self.new.prepared ≡ None) }
         ensures err { OnErr result (self.new ≡ self.old) }
-        ensures memory { OnErr result (Stores self.old.part (λ stored working. prepare_row self.old.part.id stored working slot ballot)) }
+        ensures memory { OnErr result
+            (Stores self.old.part (prepare_row self.old.part slot ballot)) }
     {
         if self.is_above(ballot) {
             return self.promise_to(slot, ballot);
@@ -156,12 +158,14 @@ impl Acceptor {
         canon: Canon,
     ) -> Result<Answer, AllocError>
         requires { self.old.part.published < slot }
-        ensures row { IfOk result (Answers self.old.part (λ stored working. accept_row self.old.part.id stored working slot ballot canon)) }
+        ensures row { IfOk result
+            (Answers self.old.part (accept_row self.old.part slot ballot canon)) }
         ensures part { self.new.part ≡ self.old.part }
         ensures room { IfOk result (λ answer. IfSome answer.entry (HasRoomFor self.new)) }
         ensures set_aside { IfOk result (λ answer. self.new.prepared ≡ answer.entry) }
         ensures err { OnErr result (self.new ≡ self.old) }
-        ensures memory { OnErr result (Stores self.old.part (λ stored working. accept_row self.old.part.id stored working slot ballot canon)) }
+        ensures memory { OnErr result
+            (Stores self.old.part (accept_row self.old.part slot ballot canon)) }
     {
         if self.is_refused(ballot) {
             return Ok(self.refuse(slot, ballot));
@@ -208,7 +212,7 @@ impl Acceptor {
 
     // An answer without a record.
     fn only_reply(&mut self, reply: Option<Message>) -> Answer
-        ensures answer { result ≡ record { entry = None; reply = reply } }
+        ensures answer { result ≡ replying reply }
         ensures after { self.new ≡ record self.old { prepared = None } }
     {
         self.release();
@@ -217,7 +221,7 @@ impl Acceptor {
 
     // A Nack with the promise, if there is one.
     fn refuse(&mut self, slot: Slot, ballot: Ballot) -> Answer
-        ensures answer { result ≡ record { entry = None; reply = nack_of self.old.part slot ballot } }
+        ensures answer { result ≡ replying (nack_of self.old.part slot ballot) }
         ensures after { self.new ≡ record self.old { prepared = None } }
     {
         let nack = self.nack(slot, ballot);
@@ -242,10 +246,7 @@ impl Acceptor {
 
     // Promises the ballot, and reports the votes from the slot on.
     fn promise_to(&mut self, slot: Slot, ballot: Ballot) -> Result<Answer, AllocError>
-        ensures answer { IfOk result (λ answer. answer ≡ record {
-          entry = Some (Record.Promised slot ballot);
-          reply = Some (Message.Promise self.old.part.id ballot (report_of self.old.part slot));
-        }) }
+        ensures answer { IfOk result (λ answer. answer ≡ promising self.old.part slot ballot) }
         ensures ok { OnOk result (self.new ≡ record self.old { prepared = None }) }
         ensures err { OnErr result (self.new ≡ self.old) }
     {
@@ -260,11 +261,9 @@ impl Acceptor {
 
     // Votes for the definition at the ballot.
     fn vote(&mut self, slot: Slot, ballot: Ballot, canon: Canon) -> Result<Answer, AllocError>
-        ensures answer { IfOk result (λ answer. answer ≡ record {
-          entry = Some (Record.Accepted slot ballot canon);
-          reply = Some (Message.Accepted self.old.part.id slot ballot);
-        }) }
-        ensures ok { OnOk result (self.new ≡ record self.old { prepared = Some (Record.Accepted slot ballot canon) }) }
+        ensures answer { IfOk result (λ answer. answer ≡ voting self.old.part slot ballot canon) }
+        ensures ok { OnOk result (self.new ≡
+            record self.old { prepared = Some (Record.Accepted slot ballot canon) }) }
         ensures err { OnErr result (self.new ≡ self.old) }
     {
         let entry = Record::Accepted(slot, ballot, canon);
@@ -283,7 +282,7 @@ impl Acceptor {
 
     // Applies a record; afterwards no record is prepared.
     fn take_in(&mut self, entry: &Record) -> Result<(), AllocError>
-        ensures ok { OnOk result (self.new ≡ record { part = with_entry self.old.part entry.now; prepared = None }) }
+        ensures ok { OnOk result (self.new ≡ unprepared (with_entry self.old.part entry.now)) }
         ensures err { OnErr result (self.new ≡ self.old) }
         ensures room { HasRoomFor self.old entry.now → IsOk result }
     {
@@ -298,7 +297,7 @@ impl Acceptor {
 
     // Raises the promise to the ballot, if that is above it.
     fn raise(&mut self, ballot: Ballot)
-        ensures { self.new ≡ record { part = with_promise self.old.part ballot; prepared = None } }
+        ensures { self.new ≡ unprepared (with_promise self.old.part ballot) }
     {
         self.promise = raised(self.promise, ballot);
         self.prepared = None;
@@ -306,7 +305,8 @@ impl Acceptor {
 
     // Applies a record of a vote at the slot, unless the slot is published.
     fn take_in_at(&mut self, slot: Slot, entry: &Record) -> Result<(), AllocError>
-        ensures ok { OnOk result (self.new ≡ record { part = with_entry_at self.old.part slot entry.now; prepared = None }) }
+        ensures ok { OnOk result
+            (self.new ≡ unprepared (with_entry_at self.old.part slot entry.now)) }
         ensures err { OnErr result (self.new ≡ self.old) }
         ensures room { self.old.prepared ≡ Some entry.now → IsOk result }
     {
@@ -353,7 +353,8 @@ impl Acceptor {
 
     // Sets the slot's vote to that of the prepared record, and raises the promise to its ballot.
     fn take_in_prepared(&mut self)
-        ensures { IfSome self.old.prepared (λ r. self.new ≡ record { part = with_open self.old.part r; prepared = None }) }
+        ensures { IfSome self.old.prepared
+            (λ r. self.new ≡ unprepared (with_open self.old.part r)) }
     {
         if let Some(Record::Accepted(slot, ballot, _)) = &self.prepared {
             let slot = *slot;
@@ -368,7 +369,7 @@ impl Acceptor {
 
     // Removes the slot's vote, since its definition is published. The promise remains.
     fn publish(&mut self, slot: Slot)
-        ensures { self.new ≡ record { part = with_published self.old.part slot; prepared = None } }
+        ensures { self.new ≡ unprepared (with_published self.old.part slot) }
     {
         self.published = Some(slot);
         forget(&mut self.votes, slot);

@@ -17,7 +17,8 @@ use wf_codec::{MOST_VOTES, Report, Votes};
 
 /// The report of the votes from the slot on.
 pub fn report_from(votes: &HashMap<Slot, (Ballot, Canon)>, slot: Slot) -> Result<Report, AllocError>
-    ensures { IfOk result (λ report. report ≡ record { slot = slot; votes = reported (by_slot votes.now) slot window }) }
+    ensures { IfOk result (λ report. report ≡
+        record { slot = slot; votes = reported (by_slot votes.now) slot window }) }
 {
     let mut copies = ArrayVec::new();
     copy_votes(votes, slot, MOST_VOTES, &mut copies)?;
@@ -32,7 +33,8 @@ fn copy_votes(
     copies: &mut Votes,
 ) -> Result<(), AllocError>
     requires { array_vec_len copies.old + count ≤ 4 }
-    ensures { OnOk result (copies.new.items ≡ copies.old.items ++ reported (by_slot votes.now) slot count) }
+    ensures { OnOk result (copies.new.items ≡
+        copies.old.items ++ reported (by_slot votes.now) slot count) }
 {
     if count == 0 {
         return Ok(());

@@ -96,7 +96,8 @@ impl Ballot {
     pub fn from_bytes(bytes: &[u8]) -> Option<Ballot>
         ensures value { IfSome result (λ b. bytes.now ≡ ballot_bytes b) }
         ensures in_range { IfSome result IsBallot }
-        ensures each { (b : BallotValue) → IsBallot b → bytes.now ≡ ballot_bytes b → result ≡ Some b }
+        ensures each { (b : BallotValue) → IsBallot b →
+            bytes.now ≡ ballot_bytes b → result ≡ Some b }
     {
         match bytes {
             [a, b, c, d, node] => {

@@ -1,5 +1,5 @@
 -- The contract of functions that read tokens, relative to the tokens' meaning.
-use Rattle.std.specs.Prelude.{◌≡◌, Bool, true, false, Option, Some, None, Result, Ok, Err, ⊤}
+use Rattle.std.specs.Prelude.{◌≡◌, Bool, true, false, Option, Some, None, Result, Ok, Err, MatchResult, ⊤}
 use Rattle.wf_block.specs.declared.fault.MapFault.{MapFault}
 use Rattle.wf_block.specs.declared.fault.MapFault.TheVariants as faults
 
@@ -12,6 +12,10 @@ is_memory _ = false
 abbrev pub IsNotUtf8 : {X : Type 0} → Result X MapFault → Type 0
 IsNotUtf8 (Err (faults.NotUtf8 place)) = ⊤
 IsNotUtf8 _ = ⊥
+
+-- the test is true, or it is false and the error isn't an allocation failure
+abbrev pub Passes : {X : Type 0} → Bool → Result X MapFault → Type 0
+Passes test result = MatchResult result (λ _. test ≡ true) (λ e. (test ≡ false) × (is_memory e ≡ false))
 
 -- A returned value, mapped by view, is what the tokens mean; an error other than Memory is returned only if they mean nothing.
 abbrev pub Gives : {X Y : Type 0} → (X → Y) → Result X MapFault → Option Y → Type 0

@@ -34,7 +34,8 @@ pub trait Slots {
     /// Reads a keyword's arguments and stores them.
     fn take(&mut self, keyword: Token<'_>, parser: &mut Parser<'_>) -> Result<(), MapFault>
         requires holds { Holds self.old }
-        ensures read { Gives (λ _. (said self.new, parser.new)) result (put (within self.old) (said self.old) keyword.entry.text.now parser.old) }
+        ensures read { Gives (λ _. (said self.new, parser.new)) result
+            (put (within self.old) (said self.old) keyword.entry.text.now parser.old) }
         ensures within { OnOk result (within self.new ≡ within self.old) }
         ensures holds { OnOk result (Holds self.new) };
 }
@@ -43,7 +44,8 @@ pub trait Slots {
 #[tactic(auto, using(crate::proofs::Blocks::fill_step, crate::proofs::Blocks::fill_past))]
 pub fn fill_block<S: Slots>(parser: &mut Parser<'_>, slots: &mut S) -> Result<(), MapFault>
     requires holds { S.Holds slots.old }
-    ensures read { Gives (λ _. (S.said slots.new, parser.new)) result (fill (S.put (S.within slots.old)) (length parser.old) (S.said slots.old) parser.old) }
+    ensures read { Gives (λ _. (S.said slots.new, parser.new)) result
+        (fill (S.put (S.within slots.old)) (length parser.old) (S.said slots.old) parser.old) }
     ensures within { OnOk result (S.within slots.new ≡ S.within slots.old) }
     ensures holds { OnOk result (S.Holds slots.new) }
 {

@@ -23,7 +23,8 @@ impl Parser<'_> {
     /// Reads one of a table's choices.
     #[tactic(auto, unfolding(crate::specs::Grammar::chosen))]
     pub fn chosen<T: Copy>(&mut self, entries: &[(&str, T)]) -> Result<T, MapFault>
-        ensures { Gives (λ value. (value, self.new)) result (chosen (map (λ entry. (entry.0.now, entry.1)) entries.now) self.old) }
+        ensures { Gives (λ value. (value, self.new)) result
+            (chosen (map (λ entry. (entry.0.now, entry.1)) entries.now) self.old) }
     {
         let token = self.argument()?;
         choose(entries, token.text).ok_or(MapFault::UnexpectedWord(token.place))

@@ -59,7 +59,8 @@ impl<'a> Parser<'a> {
 
     /// Takes the first remaining token.
     pub fn next(&mut self) -> Result<Token<'a>, MapFault>
-        ensures { MatchResult result (λ t. self.old ≡ token_value t ∷ self.new) (λ e. (self.old ≡ []) × (is_memory e ≡ false)) }
+        ensures { MatchResult result (λ t. self.old ≡ token_value t ∷ self.new)
+            (λ e. (self.old ≡ []) × (is_memory e ≡ false)) }
     {
         if self.at == self.tokens.len() {
             return Err(self.missing_end());
@@ -76,7 +77,8 @@ impl<'a> Parser<'a> {
 
     /// The first remaining token, without taking it.
     pub fn peek(&self) -> Option<Token<'a>>
-        ensures { MatchOption result (self.now ≡ []) (λ t. self.now ≡ token_value t ∷ drop 1 self.now) }
+        ensures { MatchOption result (self.now ≡ [])
+            (λ t. self.now ≡ token_value t ∷ drop 1 self.now) }
     {
         if self.at == self.tokens.len() {
             return None;

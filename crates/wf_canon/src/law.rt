@@ -12,7 +12,8 @@ use wf_spelling::text::MOST_CANON_BYTES;
 /// The canonical text of a map means that map.
 #[tactic(auto, using(crate::proofs::MeaningLaw::canon_means))]
 pub fn canonical_text_means_its_map()
-    ensures { (d : Definition) → IsWithinLimits d → length (canon d) ≤ most_canon_bytes → Means (canon d) d }
+    ensures { (d : Definition) → IsWithinLimits d → length (canon d) ≤ most_canon_bytes →
+        Means (canon d) d }
 {}
 
 /// The canonical text of a map means that map, however long the text is.

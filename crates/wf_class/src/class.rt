@@ -1,7 +1,7 @@
 //! CLASS: which features it contains, and how they are drawn.
-ghost use Rattle.std.specs.Prelude.{◌≡◌, IfOk, MatchResult, false, length, nat_lt, true};
+ghost use Rattle.std.specs.Prelude.{◌≡◌, IfOk, length, nat_lt};
 ghost use Rattle.wf_class.specs.Class.{begins_list, begins_pattern, class, class_of, class_once, expression, no_class};
-ghost use Rattle.wf_block.specs.Reading.{Gives, is_memory};
+ghost use Rattle.wf_block.specs.Reading.{Gives, Passes};
 ghost use Rattle.wf_def.specs.Limit.{most_styles};
 
 use crate::label::read_label;
@@ -50,7 +50,8 @@ impl ClassOnce {
     /// Reads the arguments of a keyword that comes at most once, and stores them.
     #[tactic(auto, unfolding(crate::specs::Class::class_once))]
     fn take(&mut self, keyword: Token<'_>, parser: &mut Parser<'_>) -> Result<(), MapFault>
-        ensures { Gives (λ _. (self.new, parser.new)) result (class_once self.old keyword.entry.text.now parser.old) }
+        ensures { Gives (λ _. (self.new, parser.new)) result
+            (class_once self.old keyword.entry.text.now parser.old) }
     {
         let word = keyword.text;
         let place = keyword.place;
@@ -69,7 +70,7 @@ impl ClassOnce {
 
 /// Rejects another style if there is no room for it.
 fn room(styles: &Styles) -> Result<(), MapFault>
-    ensures { MatchResult result (λ _. nat_lt (length styles.now) most_styles ≡ true) (λ e. (nat_lt (length styles.now) most_styles ≡ false) × (is_memory e ≡ false)) }
+    ensures { Passes (nat_lt (length styles.now) most_styles) result }
 {
     if styles.is_full() {
         return Err(MapFault::TooMany);

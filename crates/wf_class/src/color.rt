@@ -1,6 +1,6 @@
 //! Colours: three integers, or a string `#rrggbb`.
-ghost use Rattle.std.specs.Prelude.{◌≡◌, ◌<◌, ◌==◌, IfSome, option_copied};
-ghost use Rattle.wf_class.specs.Color.{color, hash_digits, hex_byte, hex_color, hex_digit, rgb_color};
+ghost use Rattle.std.specs.Prelude.{◌≡◌, ◌==◌, option_copied};
+ghost use Rattle.wf_class.specs.Color.{color, hash_digits, rgb_color};
 ghost use Rattle.wf_block.specs.Reading.{Gives};
 ghost use Rattle.wf_token.specs.Token.{token_value};
 
@@ -20,7 +20,7 @@ pub fn read_color(parser: &mut Parser<'_>) -> Result<Color, MapFault>
     match hash_digits(token) {
         Some(digits) => {
             let _ = parser.next()?;
-            hex_color(digits).ok_or(MapFault::BadNumber(token.place))
+            Color::from_hexadecimal(digits).ok_or(MapFault::BadNumber(token.place))
         }
         None => read_rgb_color(parser),
     }
@@ -55,44 +55,4 @@ fn is_hash(byte: u8) -> bool
     ensures { result ≡ (byte == 35) }
 {
     byte == b'#'
-}
-
-/// The colour of six hexadecimal digits.
-#[tactic(auto, unfolding(crate::specs::Color::hex_color))]
-fn hex_color(digits: &[u8]) -> Option<Color>
-    ensures { result ≡ hex_color digits.now }
-{
-    match digits {
-        [r1, r0, g1, g0, b1, b0] => {
-            let r = hex_byte(*r1, *r0)?;
-            let g = hex_byte(*g1, *g0)?;
-            let b = hex_byte(*b1, *b0)?;
-            Some(Color { r, g, b })
-        }
-        _ => None,
-    }
-}
-
-/// The byte of two hexadecimal digits.
-#[tactic(auto, unfolding(crate::specs::Color::hex_byte))]
-fn hex_byte(high: u8, low: u8) -> Option<u8>
-    ensures { result ≡ hex_byte high low }
-{
-    let high = hex_digit(high)?;
-    let low = hex_digit(low)?;
-    Some(16 * high + low)
-}
-
-/// The value of a hexadecimal digit, in either letter case.
-#[tactic(auto, unfolding(crate::specs::Color::hex_digit))]
-fn hex_digit(byte: u8) -> Option<u8>
-    ensures value { result ≡ hex_digit byte }
-    ensures below { IfSome result (λ d. d < 16) }
-{
-    match byte {
-        b'0'..=b'9' => Some(byte - b'0'),
-        b'A'..=b'F' => Some(byte - b'A' + 10),
-        b'a'..=b'f' => Some(byte - b'a' + 10),
-        _ => None,
-    }
 }

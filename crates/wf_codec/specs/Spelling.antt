@@ -1,10 +1,11 @@
 -- The bytes of a message.
-use Rattle.std.specs.Prelude.{◌≡◌, ℕ, ◌==◌, List, ◌++◌}
+use Rattle.std.specs.Prelude.{◌≡◌, ℕ, ◌==◌, List, ◌++◌, Option}
 use Rattle.wf_ballot.specs.Node.{node_bytes}
 use Rattle.wf_ballot.specs.Sequence.{seq_bytes}
-use Rattle.wf_ballot.specs.Ballot.{ballot_bytes}
+use Rattle.wf_ballot.specs.Ballot.{Ballot, ballot_bytes}
 use Rattle.wf_ballot.specs.Frame.{frame}
-use Rattle.wf_frame.specs.Report.{report_bytes}
+use Rattle.wf_frame.specs.Report.{vote_bytes, votes_bytes, report_bytes}
+use Rattle.wf_spelling.specs.Canon.{canon}
 use Rattle.wf_frame.specs.Layout.{Body}
 use Rattle.wf_frame.specs.Frame.{Format}
 use Rattle.wf_frame.specs.Frame as frames
@@ -13,7 +14,7 @@ use Rattle.wf_def.specs.Definition.{Definition}
 use Rattle.wf_codec.specs.declared.kind.Kind.{Kind}
 use Rattle.wf_codec.specs.declared.kind.Kind.TheVariants as kinds
 use Rattle.wf_codec.specs.Kind.{kind_byte, kind_of_byte, layout, most_body_bytes}
-use Rattle.wf_codec.specs.Message.{texts, IsMessage}
+use Rattle.wf_codec.specs.Message.{view_vote, view_votes, vote_with, votes_with, texts, IsMessage}
 
 abbrev pub kind_of : {V : Type 0} → Message V → Kind
 kind_of (Prepare s b) = kinds.Prepare
@@ -41,6 +42,13 @@ message_version = 2
 -- the number of bytes before the body
 abbrev pub header_length : ℕ
 header_length = frames.header_length
+
+-- the bytes of a vote with its mark, or of the mark alone, and of several votes
+abbrev pub written_vote : Option (Ballot × Definition) → List ℕ
+written_vote vote = vote_bytes (vote_with canon (view_vote vote))
+
+abbrev pub written_votes : List (Option (Ballot × Definition)) → List ℕ
+written_votes votes = votes_bytes (votes_with canon (view_votes votes))
 
 -- what the body of a message says, field by field, and what it ends with
 abbrev pub values_of : (m : Message (List ℕ)) → Body (layout (kind_of m))

@@ -121,13 +121,20 @@ fn votes_from(base: u16, votes: &[Option<(Ballot, Canon)>], slot: u16) -> &[Opti
     }
 }
 
+/// There are at most four votes, as their type says. The call does nothing.
+fn at_most_four(votes: &Votes)
+    ensures { array_vec_len votes.now ≤ 4 }
+{
+    let _ = votes.as_slice();
+}
+
 /// For each slot the better of its two votes. The slots of both begin at the same one.
 fn better_votes(best: Votes, votes: Votes) -> Votes
-    ensures { view_votes result.items ≡ better_each (view_votes best.items) (view_votes votes.items) }
+    ensures { view_votes result.items ≡
+        better_each (view_votes best.items) (view_votes votes.items) }
 {
-    // Their contracts say that there are at most four.
-    let _ = best.as_slice();
-    let _ = votes.as_slice();
+    at_most_four(&best);
+    at_most_four(&votes);
     let mut best = best;
     let mut votes = votes;
     let mut better = ArrayVec::new();
@@ -142,7 +149,8 @@ fn better_votes(best: Votes, votes: Votes) -> Votes
 fn put_better(best: &mut Votes, votes: &mut Votes, out: &mut Votes)
     requires best { array_vec_len out.old + array_vec_len best.old ≤ 4 }
     requires votes { array_vec_len out.old + array_vec_len votes.old ≤ 4 }
-    ensures { view_votes out.new.items ≡ view_votes out.old.items ++ better_each (view_votes best.old.items) (view_votes votes.old.items) }
+    ensures { view_votes out.new.items ≡ view_votes out.old.items ++
+        better_each (view_votes best.old.items) (view_votes votes.old.items) }
 {
     match best.pop_at(0) {
         None => put_all(votes, out),
@@ -193,7 +201,8 @@ fn better_vote(
 /// Whether the better of the two is the vote.
 #[tactic(auto, unfolding(wf_model::specs::Working::better))]
 fn is_better(best: &Option<(Ballot, Canon)>, vote: &Option<(Ballot, Canon)>) -> bool
-    ensures { better (view_vote best.now) (view_vote vote.now) ≡ (if result then view_vote vote.now else view_vote best.now) }
+    ensures { better (view_vote best.now) (view_vote vote.now) ≡
+        (if result then view_vote vote.now else view_vote best.now) }
 {
     match best {
         None => true,

@@ -35,7 +35,8 @@ pub fn decode(alloc: Global, bytes: &[u8]) -> Result<(Message, usize), DecodeFau
     // A returned message is at the front, and a message at the front is returned, except that allocation may fail for one with a
     // definition.
     ensures read { IfOk result (λ x. BeginsWith bytes.now (view x.0) x.1) }
-    ensures each { (m : _) (spelled after : _) → Spells m spelled → bytes.now ≡ spelled ++ after → IsReadAs view result m (length spelled) }
+    ensures each { (m : _) (spelled after : _) → Spells m spelled → bytes.now ≡ spelled ++ after →
+        IsReadAs view result m (length spelled) }
 
     // A returned message has at least one byte, and no more than there are.
     ensures count { IfOk result (λ x. (1 ≤ x.1) × (x.1 ≤ length bytes.now)) }
@@ -47,7 +48,8 @@ pub fn decode(alloc: Global, bytes: &[u8]) -> Result<(Message, usize), DecodeFau
     ensures none_yet { IsErrOf result DecodeFault.Short → BeginsWithNone bytes.now }
 
     // The error is that of the first check that fails.
-    ensures first { MatchResult result (λ x. first_fault bytes.now ≡ None) (λ e. HasFault bytes.now e) }
+    ensures first { MatchResult result
+        (λ x. first_fault bytes.now ≡ None) (λ e. HasFault bytes.now e) }
 
     // Allocation fails only for a text that the message contains.
     ensures memory { IsErrOf result DecodeFault.Memory → CarriesText bytes.now }
@@ -174,7 +176,8 @@ fn cut_text(bytes: &[u8]) -> Option<(&[u8], &[u8])>
 /// The bytes after the vote at the front; None if there is none. Its text isn't checked.
 #[tactic(auto, unfolding(wf_frame::specs::Report::front_vote))]
 fn skip_vote(bytes: &[u8]) -> Option<&[u8]>
-    ensures { option_map (λ rest. rest.now) result ≡ option_map (λ x. x.1) (front_vote most_canon_bytes bytes.now) }
+    ensures { option_map (λ rest. rest.now) result ≡
+        option_map (λ x. x.1) (front_vote most_canon_bytes bytes.now) }
 {
     match bytes {
         [0, rest @ ..] => Some(rest),
@@ -218,7 +221,8 @@ fn read_votes(
 ) -> Result<(), DecodeFault>
     requires are_votes { is_some (votes_of most_canon_bytes count bytes.now) ≡ true }
     requires room { array_vec_len votes.old + count ≤ 4 }
-    ensures { (cut : _) → votes_of most_canon_bytes count bytes.now ≡ Some cut → ReadsVotes votes.old.items votes.new.items result cut }
+    ensures { (cut : _) → votes_of most_canon_bytes count bytes.now ≡ Some cut →
+        ReadsVotes votes.old.items votes.new.items result cut }
 {
     if count == 0 {
         return Ok(());
@@ -238,7 +242,8 @@ fn read_votes(
 /// The vote at the front of the bytes, with the definition of its text.
 #[tactic(auto, unfolding(wf_frame::specs::Report::front_vote))]
 fn vote_of(alloc: Global, bytes: &[u8]) -> Result<Option<(Ballot, Canon)>, DecodeFault>
-    ensures { (vote rest : _) → front_vote most_canon_bytes bytes.now ≡ Some (vote, rest) → ReadsVote result vote }
+    ensures { (vote rest : _) → front_vote most_canon_bytes bytes.now ≡ Some (vote, rest) →
+        ReadsVote result vote }
 {
     match bytes {
         [1, rest @ ..] => {

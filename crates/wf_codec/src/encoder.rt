@@ -1,6 +1,6 @@
 ghost use Rattle.std.specs.Prelude.{◌≡◌, ◌+◌, ◌*◌, ◌<◌, ◌≤◌, ◌++◌, length, vec_len, vec_capacity, OnOk, OnErr};
 ghost use Rattle.wf_codec.specs.Message.{view, view_vote, view_votes, vote_with, votes_with, texts, HasText, IsMessage};
-ghost use Rattle.wf_codec.specs.Spelling.{kind_of, body, spelling};
+ghost use Rattle.wf_codec.specs.Spelling.{kind_of, body, spelling, written_vote, written_votes};
 ghost use Rattle.wf_frame.specs.Report.{vote_bytes, votes_bytes, text_bytes, IsVoteOf, AreVotesOf};
 ghost use Rattle.wf_spelling.specs.Canon.{canon, most_canon_bytes};
 
@@ -10,73 +10,69 @@ use crate::message::Message;
 use std::alloc::AllocError;
 use wf_ballot::Ballot;
 use wf_canon::Canon;
-use wf_frame::{put, put_header};
+use wf_frame::{ballot_in_range, node_in_range, put, put_header, slot_in_range};
 
 /// Appends the message's encoding. The only error is allocation failure, if the vector's capacity doesn't suffice; the bytes are
 /// then unchanged.
 pub fn encode(message: &Message, out: &mut Vec<u8>) -> Result<(), AllocError>
     ensures ok { OnOk result (out.new.items ≡ out.old.items ++ spelling (view message.now)) }
     ensures err { OnErr result (out.new.items ≡ out.old.items) }
-    ensures full { OnErr result (vec_capacity out.old < vec_len out.old + length (spelling (view message.now))) }
+    ensures full { OnErr result
+        (vec_capacity out.old < vec_len out.old + length (spelling (view message.now))) }
     ensures is_message { IsMessage (view message.now) }
 {
-    let length = body_length(message);
+    let (kind, length) = shape_of(message);
     out.reserve(HEADER_BYTES + length)?;
-    put_header(out, kind_of(message), length);
+    put_header(out, kind, length);
     put_body(out, message);
     Ok(())
 }
 
-/// The message's kind.
-fn kind_of(message: &Message) -> Kind
-    ensures { result ≡ kind_of (view message.now) }
-{
-    match message {
-        Message::Prepare(..) => Kind::Prepare,
-        Message::Promise(..) => Kind::Promise,
-        Message::Accept(..) => Kind::Accept,
-        Message::Accepted(..) => Kind::Accepted,
-        Message::Nack(..) => Kind::Nack,
-        Message::Chosen(..) => Kind::Chosen,
-        Message::Ask(..) => Kind::Ask,
-    }
-}
-
-/// The number of bytes of the message's body.
+/// The message's kind, and the number of bytes of its body.
 #[tactic(auto, using(crate::proofs::Fields::body_has_length))]
-fn body_length(message: &Message) -> usize
-    ensures value { result ≡ length (body (texts (view message.now))) }
-    ensures most { result ≤ BODY_BYTES }
+fn shape_of(message: &Message) -> (Kind, usize)
+    ensures kind { result.0 ≡ kind_of (view message.now) }
+    ensures length { result.1 ≡ length (body (texts (view message.now))) }
+    ensures most { result.1 ≤ BODY_BYTES }
     ensures is_message { IsMessage (view message.now) }
 {
     match message {
         Message::Prepare(slot, ballot) => {
-            let _ = (slot.seq(), ballot.round());
-            7
+            slot_in_range(*slot);
+            ballot_in_range(*ballot);
+            (Kind::Prepare, 7)
         }
         Message::Promise(node, ballot, report) => {
-            let _ = (node.number(), report.slot(), ballot.round());
-            8 + votes_length(report.votes())
+            node_in_range(*node);
+            slot_in_range(report.slot());
+            ballot_in_range(*ballot);
+            (Kind::Promise, 8 + votes_length(report.votes()))
         }
         Message::Accept(slot, ballot, canon) => {
-            let _ = (slot.seq(), ballot.round());
-            7 + text_length(canon)
+            slot_in_range(*slot);
+            ballot_in_range(*ballot);
+            (Kind::Accept, 7 + text_length(canon))
         }
         Message::Accepted(node, slot, ballot) => {
-            let _ = (node.number(), slot.seq(), ballot.round());
-            8
+            node_in_range(*node);
+            slot_in_range(*slot);
+            ballot_in_range(*ballot);
+            (Kind::Accepted, 8)
         }
         Message::Nack(node, slot, ballot, promised) => {
-            let _ = (node.number(), slot.seq(), ballot.round(), promised.round());
-            13
+            node_in_range(*node);
+            slot_in_range(*slot);
+            ballot_in_range(*ballot);
+            ballot_in_range(*promised);
+            (Kind::Nack, 13)
         }
         Message::Chosen(slot, canon) => {
-            let _ = slot.seq();
-            2 + text_length(canon)
+            slot_in_range(*slot);
+            (Kind::Chosen, 2 + text_length(canon))
         }
         Message::Ask(slot) => {
-            let _ = slot.seq();
-            2
+            slot_in_range(*slot);
+            (Kind::Ask, 2)
         }
     }
 }
@@ -85,7 +81,7 @@ fn body_length(message: &Message) -> usize
 #[tactic(auto, unfolding(wf_frame::specs::Report::votes_bytes))]
 fn votes_length(votes: &[Option<(Ballot, Canon)>]) -> usize
     requires { length votes.now ≤ 4 }
-    ensures value { result ≡ length (votes_bytes (votes_with canon (view_votes votes.now))) }
+    ensures value { result ≡ length (written_votes votes.now) }
     ensures most { result ≤ length votes.now * (10 + most_canon_bytes) }
     ensures are_votes { AreVotesOf HasText (view_votes votes.now) }
 {
@@ -98,14 +94,14 @@ fn votes_length(votes: &[Option<(Ballot, Canon)>]) -> usize
 /// The number of bytes of a vote, with its mark.
 #[tactic(auto, using(crate::proofs::Fields::vote_has_length))]
 fn vote_length(vote: &Option<(Ballot, Canon)>) -> usize
-    ensures value { result ≡ length (vote_bytes (vote_with canon (view_vote vote.now))) }
+    ensures value { result ≡ length (written_vote vote.now) }
     ensures most { result ≤ 10 + most_canon_bytes }
     ensures is_vote { IsVoteOf HasText (view_vote vote.now) }
 {
     match vote {
         None => 1,
         Some((ballot, canon)) => {
-            let _ = ballot.round();
+            ballot_in_range(*ballot);
             10 + text_length(canon)
         }
     }
@@ -164,8 +160,8 @@ fn put_body(out: &mut Vec<u8>, message: &Message)
 /// Appends the votes, for which there is room.
 #[tactic(auto, unfolding(wf_frame::specs::Report::votes_bytes))]
 fn put_votes(out: &mut Vec<u8>, votes: &[Option<(Ballot, Canon)>])
-    requires { vec_len out.old + length (votes_bytes (votes_with canon (view_votes votes.now))) ≤ vec_capacity out.old }
-    ensures { out.new.items ≡ out.old.items ++ votes_bytes (votes_with canon (view_votes votes.now)) }
+    requires { vec_len out.old + length (written_votes votes.now) ≤ vec_capacity out.old }
+    ensures { out.new.items ≡ out.old.items ++ written_votes votes.now }
 {
     if let [vote, rest @ ..] = votes {
         put_vote(out, vote);
@@ -176,9 +172,9 @@ fn put_votes(out: &mut Vec<u8>, votes: &[Option<(Ballot, Canon)>])
 /// Appends a vote with its mark, for which there is room.
 #[tactic(auto, using(crate::proofs::Fields::vote_has_length), unfolding(wf_frame::specs::Report::vote_bytes, wf_frame::specs::Report::text_bytes))]
 fn put_vote(out: &mut Vec<u8>, vote: &Option<(Ballot, Canon)>)
-    requires { vec_len out.old + length (vote_bytes (vote_with canon (view_vote vote.now))) ≤ vec_capacity out.old }
-    ensures items { out.new.items ≡ out.old.items ++ vote_bytes (vote_with canon (view_vote vote.now)) }
-    ensures len { vec_len out.new ≡ vec_len out.old + length (vote_bytes (vote_with canon (view_vote vote.now))) }
+    requires { vec_len out.old + length (written_vote vote.now) ≤ vec_capacity out.old }
+    ensures items { out.new.items ≡ out.old.items ++ written_vote vote.now }
+    ensures len { vec_len out.new ≡ vec_len out.old + length (written_vote vote.now) }
     ensures capacity { vec_capacity out.old ≤ vec_capacity out.new }
 {
     match vote {

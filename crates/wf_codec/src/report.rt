@@ -9,6 +9,7 @@ use std::alloc::AllocError;
 use std::marker::Model;
 use wf_ballot::{Ballot, Slot};
 use wf_canon::Canon;
+use wf_frame::slot_in_range;
 
 /// The most votes that a report has: those at its slot and at the three after it.
 pub const MOST_VOTES: usize = 4;
@@ -57,7 +58,7 @@ impl Report {
         ensures value { result ≡ self.now.slot }
         ensures in_range { IsSlot result }
     {
-        let _ = self.slot.number();
+        slot_in_range(self.slot);
         self.slot
     }
 

@@ -1,6 +1,6 @@
 -- A failed write is the last call of a run.
 use Rattle.std.proofs.Common.{◌≡◌, ℕ, List, ap}
-use Rattle.std.specs.Prelude.{Option, Result, Ok, Err, IfErr}
+use Rattle.std.specs.Prelude.{Result, Ok, Err, IfErr}
 use Rattle.wf_play.specs.Fault as played
 use Rattle.wf_play.specs.declared.fault.PlayFault.{PlayFault}
 use Rattle.wf_play.specs.declared.fault.PlayFault.TheVariants as play
@@ -9,22 +9,23 @@ use Rattle.wf_serve.specs.Listening.{IsEnded}
 use Rattle.wf_serve.specs.declared.fault.ServeFault.{ServeFault}
 use Rattle.wf_serve.specs.declared.fault.ServeFault.TheVariants as serve
 use Rattle.wf_stream.specs.Reading.{EndsByFailing}
+use Rattle.wf_stream.specs.declared.stream.Sink.{Ghosts as Sink}
 use Rattle.wf_commands.specs.Counting.{FailsLast}
 
-module _ {K : Type 0} (written : K → Option (List ℕ)) (failures : K → ℕ) (fails : K → K → Type 0) (old new : K) where
+module _ {K : Type 0} (sinks : Sink K) (old new : K) where
   -- no write has failed
-  pub none_failed : failures new ≡ failures old → FailsLast written failures fails old new
+  pub none_failed : sinks.failures new ≡ sinks.failures old → FailsLast sinks old new
   unfolding FailsLast
   none_failed calm risen = absurd (risen calm)
 
   -- one has, and it was the last call
-  pub one_failed : (bytes : List ℕ) → EndsByFailing written failures fails bytes old new → FailsLast written failures fails old new
+  pub one_failed : (bytes : List ℕ) → EndsByFailing sinks.written sinks.failures sinks.fails bytes old new → FailsLast sinks old new
   unfolding FailsLast
   one_failed bytes ends risen = (bytes, ends)
 
   -- of a script
-  pub play_fails_last : (result : Result (Unit {0}) PlayFault) → played.CountsWrites result (failures old) (failures new) → IfErr result (played.EndsWriting written failures fails old new)
-      → FailsLast written failures fails old new
+  pub play_fails_last : (result : Result (Unit {0}) PlayFault) → played.CountsWrites result (sinks.failures old) (sinks.failures new) → IfErr result (played.EndsWriting sinks old new)
+      → FailsLast sinks old new
   play_fails_last (Ok done) counts ends = none_failed counts
   play_fails_last (Err (play.Script fault)) counts ends = none_failed counts
   play_fails_last (Err play.Read) counts ends = none_failed counts
@@ -32,8 +33,8 @@ module _ {K : Type 0} (written : K → Option (List ℕ)) (failures : K → ℕ)
   play_fails_last (Err play.Wire) counts ends = none_failed counts
 
   -- of the line with a port
-  pub line_fails_last : (port : ℕ) (result : Result (Unit {0}) ServeFault) → counted.CountsWrites result (failures old) (failures new) → IsEnded written failures fails port old new result
-      → FailsLast written failures fails old new
+  pub line_fails_last : (port : ℕ) (result : Result (Unit {0}) ServeFault) → counted.CountsWrites result (sinks.failures old) (sinks.failures new) → IsEnded sinks port old new result
+      → FailsLast sinks old new
   line_fails_last port (Ok done) counts ends = none_failed counts
   line_fails_last port (Err serve.Write) counts ends = one_failed _ ends.2.1
-  line_fails_last port (Err serve.Start) counts ends = none_failed (ap failures ends)
+  line_fails_last port (Err serve.Start) counts ends = none_failed (ap sinks.failures ends)

@@ -1,8 +1,9 @@
 -- A run's count of failed calls, and that a failed write is the last one.
-use Rattle.std.specs.Prelude.{◌≡◌, ◌≢◌, ℕ, List, Option, Result, Ok, Err, false}
+use Rattle.std.specs.Prelude.{◌≡◌, ◌≢◌, ℕ, List, Result, Ok, Err, false}
 use Rattle.wf_block.specs.Reading.{is_memory}
 use Rattle.wf_script.specs.Fault as script
 use Rattle.wf_stream.specs.Reading.{EndsByFailing, Rises}
+use Rattle.wf_stream.specs.declared.stream.Sink.{Ghosts as Sink}
 use Rattle.wf_commands.specs.declared.fault.RunFault.{RunFault}
 use Rattle.wf_commands.specs.declared.fault.RunFault.TheVariants as faults
 
@@ -25,5 +26,5 @@ CountsWrites _ old new = new ≡ old
 
 -- If a write has failed, of any writer, it was the last call, and some bytes were written without a failure before it: no text whose
 -- write failed is written once more.
-unfoldable pub FailsLast : {K : Type 0} → (K → Option (List ℕ)) → (K → ℕ) → (K → K → Type 0) → K → K → Type 0
-FailsLast written failures fails old new = failures new ≢ failures old → (bytes : List ℕ) × EndsByFailing written failures fails bytes old new
+unfoldable pub FailsLast : {K : Type 0} → Sink K → K → K → Type 0
+FailsLast sinks old new = sinks.failures new ≢ sinks.failures old → (bytes : List ℕ) × EndsByFailing sinks.written sinks.failures sinks.fails bytes old new

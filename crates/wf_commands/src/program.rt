@@ -45,9 +45,10 @@ const BAD_COMMAND_LINE: u8 = 2;
 // Serves the nodes of a service.
 fn serve<K: Sink, V: Server>(service: Service<'_>, sink: &mut K, server: &V) -> Result<(), RunFault>
     requires { IsService service }
-    ensures served { IsServing (V.serves server.now service.entry) (K.written sink.old) (K.written sink.new) result }
+    ensures served { IsServing (V.serves server.now service.entry) (K.written sink.old)
+        (K.written sink.new) result }
     ensures writes { CountsWrites result (K.failures sink.old) (K.failures sink.new) }
-    ensures last { FailsLast K.written K.failures K.fails sink.old sink.new }
+    ensures last { FailsLast K.Sink sink.old sink.new }
 {
     match server.serve(service, sink) {
         Ok(()) => Ok(()),
@@ -67,11 +68,12 @@ fn run<I: Source, K: Sink, V: Server + Tapes, C: Carrier>(
     carrier: &mut C,
 ) -> Result<(), RunFault>
     requires { IsInRange line }
-    ensures done { IsDone (V.serves server.now) (V.content server.now) line.entry (I.left source.old) (K.written sink.old) (K.written sink.new) result }
+    ensures done { IsDone (V.serves server.now) (V.content server.now) line.entry
+        (I.left source.old) (K.written sink.old) (K.written sink.new) result }
     ensures most { TakesUpTo (most_read line.entry) (I.left source.old) (I.left source.new) }
     ensures reads { CountsReads result (I.failures source.old) (I.failures source.new) }
     ensures writes { CountsWrites result (K.failures sink.old) (K.failures sink.new) }
-    ensures last { FailsLast K.written K.failures K.fails sink.old sink.new }
+    ensures last { FailsLast K.Sink sink.old sink.new }
 {
     match line {
         Line::Serve(service) => serve(service, sink, server),
@@ -117,10 +119,12 @@ pub fn run_command<I: Source, K: Sink, V: Server + Tapes, C: Carrier>(
     carrier: &mut C,
 ) -> Ending
     requires { IsInRange line }
-    ensures run { IsRunOf (V.serves server.now) (V.content server.now) line.entry (I.left source.old) (I.left source.new) (K.written sink.old) (K.written sink.new)
-        (I.failures source.old) (I.failures source.new) (K.failures sink.old) (K.failures sink.new) result }
+    ensures run { IsRunOf (V.serves server.now) (V.content server.now) line.entry
+        (I.left source.old) (I.left source.new) (K.written sink.old) (K.written sink.new)
+        (I.failures source.old) (I.failures source.new)
+        (K.failures sink.old) (K.failures sink.new) result }
     // A failed write is the last call of the writer.
-    ensures last { FailsLast K.written K.failures K.fails sink.old sink.new }
+    ensures last { FailsLast K.Sink sink.old sink.new }
     ensures low { result.status ≤ 1 }
 {
     ending_of(run(alloc, line, source, sink, server, carrier))
@@ -139,14 +143,19 @@ pub fn run_words<'a, S: AsStr, I: Source, K: Sink, V: Server + Tapes, C: Carrier
     server: &V,
     carrier: &mut C,
 ) -> Result<Ending, Error>
-    ensures run { IfOk result (IsRun (V.serves server.now) (V.content server.now) (map S.text words.entry.now) (I.left source.old) (I.left source.new) (K.written sink.old) (K.written sink.new)
-        (I.failures source.old) (I.failures source.new) (K.failures sink.old) (K.failures sink.new)) }
-    ensures last { FailsLast K.written K.failures K.fails sink.old sink.new }
+    ensures run { IfOk result (IsRun (V.serves server.now) (V.content server.now)
+        (map S.text words.entry.now)
+        (I.left source.old) (I.left source.new) (K.written sink.old) (K.written sink.new)
+        (I.failures source.old) (I.failures source.new)
+        (K.failures sink.old) (K.failures sink.new)) }
+    ensures last { FailsLast K.Sink sink.old sink.new }
     ensures low { IfOk result (λ ending. ending.status ≤ 1) }
     // Words that ask for a line are rejected only if an allocation fails.
-    ensures rejected { IfErr result (λ error. IsWhyRejected (map S.text words.entry.now) (kind_of error)) }
+    ensures rejected { IfErr result
+        (λ error. IsWhyRejected (map S.text words.entry.now) (kind_of error)) }
     // The error's kind is the parser's; by it the program's exit status is known.
-    ensures kind { IfErr result (λ error. IsRejection (map S.text words.entry.now) (kind_of error)) }
+    ensures kind { IfErr result
+        (λ error. IsRejection (map S.text words.entry.now) (kind_of error)) }
     ensures unread { OnErr result (source.new ≡ source.old) }
     ensures unwritten { OnErr result (sink.new ≡ sink.old) }
     ensures unused { OnErr result (carrier.new ≡ carrier.old) }
@@ -192,7 +201,8 @@ pub fn rejection_status(kind: ErrorKind, printed: bool) -> u8
 
 // Prints clap's text for a rejected command line, or help or the version, and returns the exit status.
 fn rejection<R: Print + Eprint>(rt: &R, error: &clap::Error) -> ExitCode
-    ensures { (printed : Bool) × (exit_status result ≡ rejection_status (kind_of error.now) printed) }
+    ensures { (printed : Bool) ×
+        (exit_status result ≡ rejection_status (kind_of error.now) printed) }
 {
     if error.kind() == ErrorKind::OutOfMemory {
         return report(rt, ending_of(Err(RunFault::Map(MapFault::Memory))));

@@ -40,7 +40,8 @@ pub fn limits_are_as_defined()
 
 // Reads the input to its end, or its first `MOST_INPUT_BYTES` bytes.
 fn input<S: Source>(alloc: Global, source: &mut S) -> Result<Vec<u8>, RunFault>
-    ensures first { IfOk result (λ bytes. IfSome (S.left source.old) (λ known. bytes.items ≡ judged known)) }
+    ensures first { IfOk result
+        (λ bytes. IfSome (S.left source.old) (λ known. bytes.items ≡ judged known)) }
     ensures err { IfErr result IsInputFault }
     ensures most { TakesUpTo most_input_bytes (S.left source.old) (S.left source.new) }
     ensures reads { CountsReads result (S.failures source.old) (S.failures source.new) }
@@ -70,7 +71,8 @@ fn map_of(alloc: Global, bytes: &[u8]) -> Result<MapDef, RunFault>
 
 // The map that the input means.
 fn map<S: Source>(alloc: Global, source: &mut S) -> Result<MapDef, RunFault>
-    ensures ok { IfOk result (λ map. IfSome (S.left source.old) (λ known. Means known map) × IsWithinLimits map) }
+    ensures ok { IfOk result
+        (λ map. IfSome (S.left source.old) (λ known. Means known map) × IsWithinLimits map) }
     ensures err { IfErr result (IsReadingFault (S.left source.old)) }
     ensures most { TakesUpTo most_input_bytes (S.left source.old) (S.left source.new) }
     ensures reads { CountsReads result (S.failures source.old) (S.failures source.new) }
@@ -86,9 +88,10 @@ fn map<S: Source>(alloc: Global, source: &mut S) -> Result<MapDef, RunFault>
 
 #[tactic(auto, using(crate::proofs::Last::none_failed, crate::proofs::Last::one_failed))]
 fn write<K: Sink>(sink: &mut K, bytes: &[u8]) -> Result<(), RunFault>
-    ensures written { IsWriting bytes.now (λ _. ⊥) (K.written sink.old) (K.written sink.new) result }
+    ensures written { IsWriting bytes.now (λ _. ⊥) (K.written sink.old) (K.written sink.new)
+        result }
     ensures writes { CountsWrites result (K.failures sink.old) (K.failures sink.new) }
-    ensures last { FailsLast K.written K.failures K.fails sink.old sink.new }
+    ensures last { FailsLast K.Sink sink.old sink.new }
 {
     match write_all(sink, bytes) {
         Ok(()) => Ok(()),
@@ -106,9 +109,10 @@ fn write_answer<K: Sink>(
     query: &[u8],
 ) -> Result<(), RunFault>
     requires { seq ≤ last_sequence }
-    ensures written { IsWriting (description seq map.now query.now).bytes (λ _. ⊥) (K.written sink.old) (K.written sink.new) result }
+    ensures written { IsWriting (description seq map.now query.now).bytes (λ _. ⊥)
+        (K.written sink.old) (K.written sink.new) result }
     ensures writes { CountsWrites result (K.failures sink.old) (K.failures sink.new) }
-    ensures last { FailsLast K.written K.failures K.fails sink.old sink.new }
+    ensures last { FailsLast K.Sink sink.old sink.new }
 {
     match describe(alloc, seq, map, query) {
         Ok(answer) => write(sink, &answer.bytes),
@@ -124,9 +128,10 @@ fn write_preview<K: Sink>(
     sink: &mut K,
     query: &[u8],
 ) -> Result<(), RunFault>
-    ensures written { IsWritingOf (IsPreview query.now map.now) (K.written sink.old) (K.written sink.new) result }
+    ensures written { IsWritingOf (IsPreview query.now map.now) (K.written sink.old)
+        (K.written sink.new) result }
     ensures writes { CountsWrites result (K.failures sink.old) (K.failures sink.new) }
-    ensures last { FailsLast K.written K.failures K.fails sink.old sink.new }
+    ensures last { FailsLast K.Sink sink.old sink.new }
 {
     match preview(alloc, map, query) {
         Ok(drawn) => write(sink, &drawn.bytes),
@@ -137,9 +142,10 @@ fn write_preview<K: Sink>(
 // Writes the canonical text of a map.
 #[tactic(auto, using(crate::proofs::Last::none_failed))]
 fn write_canonical<K: Sink>(alloc: Global, map: &MapDef, sink: &mut K) -> Result<(), RunFault>
-    ensures written { IsWriting (canon map.now) (λ fault. IsCauseOf fault map.now) (K.written sink.old) (K.written sink.new) result }
+    ensures written { IsWriting (canon map.now) (λ fault. IsCauseOf fault map.now)
+        (K.written sink.old) (K.written sink.new) result }
     ensures writes { CountsWrites result (K.failures sink.old) (K.failures sink.new) }
-    ensures last { FailsLast K.written K.failures K.fails sink.old sink.new }
+    ensures last { FailsLast K.Sink sink.old sink.new }
 {
     match Canon::of(alloc, map) {
         Ok(canon) => {
@@ -167,7 +173,7 @@ pub fn run_caps<S: Source, K: Sink>(
     ensures most { TakesUpTo most_input_bytes (S.left source.old) (S.left source.new) }
     ensures reads { CountsReads result (S.failures source.old) (S.failures source.new) }
     ensures writes { CountsWrites result (K.failures sink.old) (K.failures sink.new) }
-    ensures last { FailsLast K.written K.failures K.fails sink.old sink.new }
+    ensures last { FailsLast K.Sink sink.old sink.new }
 {
     match map(alloc, source) {
         Ok(map) => {
@@ -193,7 +199,7 @@ pub fn run_draw<S: Source, K: Sink>(
     ensures most { TakesUpTo most_input_bytes (S.left source.old) (S.left source.new) }
     ensures reads { CountsReads result (S.failures source.old) (S.failures source.new) }
     ensures writes { CountsWrites result (K.failures sink.old) (K.failures sink.new) }
-    ensures last { FailsLast K.written K.failures K.fails sink.old sink.new }
+    ensures last { FailsLast K.Sink sink.old sink.new }
 {
     match map(alloc, source) {
         Ok(map) => {
@@ -217,7 +223,7 @@ pub fn run_canon<S: Source, K: Sink>(
     ensures most { TakesUpTo most_input_bytes (S.left source.old) (S.left source.new) }
     ensures reads { CountsReads result (S.failures source.old) (S.failures source.new) }
     ensures writes { CountsWrites result (K.failures sink.old) (K.failures sink.new) }
-    ensures last { FailsLast K.written K.failures K.fails sink.old sink.new }
+    ensures last { FailsLast K.Sink sink.old sink.new }
 {
     match map(alloc, source) {
         Ok(map) => {
@@ -236,13 +242,14 @@ pub fn run_script<S: Source, K: Sink>(
     source: &mut S,
     sink: &mut K,
 ) -> Result<(), RunFault>
-    ensures outcome { IsPlayed ⊥ (S.left source.old) (K.written sink.old) (K.written sink.new) result }
+    ensures outcome { IsPlayed ⊥ (S.left source.old) (K.written sink.old) (K.written sink.new)
+        result }
     // After Ok the whole input is read.
     ensures end { OnOk result (IsAtEnd (S.left source.new)) }
     ensures most { TakesUpTo (most_script_bytes + 1) (S.left source.old) (S.left source.new) }
     ensures reads { CountsReads result (S.failures source.old) (S.failures source.new) }
     ensures writes { CountsWrites result (K.failures sink.old) (K.failures sink.new) }
-    ensures last { FailsLast K.written K.failures K.fails sink.old sink.new }
+    ensures last { FailsLast K.Sink sink.old sink.new }
 {
     let mut copies = Copies;
     play_script(alloc, &mut copies, source, sink)
@@ -256,12 +263,13 @@ pub fn wire_script<S: Source, K: Sink, C: Carrier>(
     source: &mut S,
     sink: &mut K,
 ) -> Result<(), RunFault>
-    ensures outcome { IsPlayed (Unit {0}) (S.left source.old) (K.written sink.old) (K.written sink.new) result }
+    ensures outcome { IsPlayed (Unit {0}) (S.left source.old) (K.written sink.old)
+        (K.written sink.new) result }
     ensures end { OnOk result (IsAtEnd (S.left source.new)) }
     ensures most { TakesUpTo (most_script_bytes + 1) (S.left source.old) (S.left source.new) }
     ensures reads { CountsReads result (S.failures source.old) (S.failures source.new) }
     ensures writes { CountsWrites result (K.failures sink.old) (K.failures sink.new) }
-    ensures last { FailsLast K.written K.failures K.fails sink.old sink.new }
+    ensures last { FailsLast K.Sink sink.old sink.new }
 {
     play_script(alloc, carrier, source, sink)
 }
@@ -274,13 +282,15 @@ fn play_script<S: Source, K: Sink, C: Carrier>(
     source: &mut S,
     sink: &mut K,
 ) -> Result<(), RunFault>
-    ensures outcome { IsPlayed (Unit {0}) (S.left source.old) (K.written sink.old) (K.written sink.new) result }
-    ensures faithful { C.faithful → IsPlayed ⊥ (S.left source.old) (K.written sink.old) (K.written sink.new) result }
+    ensures outcome { IsPlayed (Unit {0}) (S.left source.old) (K.written sink.old)
+        (K.written sink.new) result }
+    ensures faithful { C.faithful →
+        IsPlayed ⊥ (S.left source.old) (K.written sink.old) (K.written sink.new) result }
     ensures end { OnOk result (IsAtEnd (S.left source.new)) }
     ensures most { TakesUpTo (most_script_bytes + 1) (S.left source.old) (S.left source.new) }
     ensures reads { CountsReads result (S.failures source.old) (S.failures source.new) }
     ensures writes { CountsWrites result (K.failures sink.old) (K.failures sink.new) }
-    ensures last { FailsLast K.written K.failures K.fails sink.old sink.new }
+    ensures last { FailsLast K.Sink sink.old sink.new }
 {
     match wf_play::run_script(alloc, carrier, source, sink) {
         Ok(()) => Ok(()),
@@ -302,11 +312,12 @@ pub fn run_line<S: Source, K: Sink, C: Carrier>(
     requires range { IsInRange line }
     requires input { IsOfInput line }
     // For a mapfile: exactly the command's output for the definition that the input means is written.
-    ensures outcome { IsOutcomeOf line.entry (S.left source.old) (K.written sink.old) (K.written sink.new) result }
+    ensures outcome { IsOutcomeOf line.entry (S.left source.old) (K.written sink.old)
+        (K.written sink.new) result }
     ensures most { TakesUpTo (most_read line.entry) (S.left source.old) (S.left source.new) }
     ensures reads { CountsReads result (S.failures source.old) (S.failures source.new) }
     ensures writes { CountsWrites result (K.failures sink.old) (K.failures sink.new) }
-    ensures last { FailsLast K.written K.failures K.fails sink.old sink.new }
+    ensures last { FailsLast K.Sink sink.old sink.new }
 {
     match line {
         Line::Caps { seq, query } => run_caps(alloc, source, sink, seq, query.as_bytes()),

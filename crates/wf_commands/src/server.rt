@@ -23,9 +23,10 @@ pub trait Server {
     /// Serves the nodes of a service, and writes the line with their port.
     fn serve<K: Sink>(&self, service: Service<'_>, sink: &mut K) -> Result<(), ServeFault>
         requires { IsService service }
-        ensures served { serves self.now service.entry (K.written sink.old) (K.written sink.new) result }
+        ensures served { serves self.now service.entry (K.written sink.old) (K.written sink.new)
+            result }
         ensures writes { CountsWrites result (K.failures sink.old) (K.failures sink.new) }
-        ensures last { FailsLast K.written K.failures K.fails sink.old sink.new };
+        ensures last { FailsLast K.Sink sink.old sink.new };
 }
 
 /// The machine: its sockets, files and clock.

@@ -20,8 +20,10 @@ pub trait Tapes {
     /// Reads the file at a path to its end, and changes nothing. Returns `Failed` if it can't be read or is longer than the longest
     /// tape, `Memory` if an allocation fails.
     fn read(&self, alloc: Global, path: &str) -> Result<Vec<u8>, TapeReadFault>
-        ensures whole { IfOk result (λ bytes. IfSome (content self.now path.now) (λ known. bytes.items ≡ known)) }
-        ensures failed { IsErrOf result TapeReadFault.Failed → IfSome (content self.now path.now) (λ known. most_tape_bytes < length known) };
+        ensures whole { IfOk result
+            (λ bytes. IfSome (content self.now path.now) (λ known. bytes.items ≡ known)) }
+        ensures failed { IsErrOf result TapeReadFault.Failed →
+            IfSome (content self.now path.now) (λ known. most_tape_bytes < length known) };
 }
 
 /// Reads the machine's files, whose content is in no contract. The file is opened to be read and for nothing else.
@@ -44,9 +46,10 @@ pub fn run_tape<K: Sink, V: Tapes>(
     sink: &mut K,
     tapes: &V,
 ) -> Result<(), RunFault>
-    ensures listed { IsListed (V.content tapes.now path.now) (K.written sink.old) (K.written sink.new) result }
+    ensures listed { IsListed (V.content tapes.now path.now) (K.written sink.old)
+        (K.written sink.new) result }
     ensures writes { CountsWrites result (K.failures sink.old) (K.failures sink.new) }
-    ensures last { FailsLast K.written K.failures K.fails sink.old sink.new }
+    ensures last { FailsLast K.Sink sink.old sink.new }
 {
     match tapes.read(alloc, path) {
         Ok(bytes) => {
@@ -63,7 +66,7 @@ pub fn run_tape<K: Sink, V: Tapes>(
 fn write_listing<K: Sink>(alloc: Global, bytes: &[u8], sink: &mut K) -> Result<(), RunFault>
     ensures listed { IsListed (Some bytes.now) (K.written sink.old) (K.written sink.new) result }
     ensures writes { CountsWrites result (K.failures sink.old) (K.failures sink.new) }
-    ensures last { FailsLast K.written K.failures K.fails sink.old sink.new }
+    ensures last { FailsLast K.Sink sink.old sink.new }
 {
     let Ok(text) = list(alloc, bytes) else {
         return Err(RunFault::Tape(TapeReadFault::Memory));

@@ -5,6 +5,7 @@ pub use Rattle.wf_text.specs.NumberText
 pub use Rattle.wf_text.specs.Text
 pub use Rattle.wf_text.specs.ValueList
 pub use Rattle.wf_text.specs.Whole
+pub mod Color
 pub mod Extent
 pub mod Definition
 pub mod Limit

@@ -95,12 +95,16 @@ pub record IsLayerName (name : List ℕ) : Type 0 where
 abbrev pub points_of_feature : FeatureDefinition → ℕ
 points_of_feature f = sum_by length f.parts
 
+-- the number of points of a layer, in all its features
+abbrev pub points_of_layer : LayerDefinition → ℕ
+points_of_layer layer = sum_by points_of_feature layer.features
+
 -- the number of features and of points of a map, in all its layers
 abbrev pub feature_count : List (List ℕ × LayerDefinition) → ℕ
 feature_count layers = sum_by (λ entry. length entry.1.features) layers
 
 abbrev pub point_count : List (List ℕ × LayerDefinition) → ℕ
-point_count layers = sum_by (λ entry. sum_by points_of_feature entry.1.features) layers
+point_count layers = sum_by (λ entry. points_of_layer entry.1) layers
 
 -- the layers' names, in order
 abbrev pub layer_names : List (List ℕ × LayerDefinition) → List (List ℕ)

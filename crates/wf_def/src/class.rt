@@ -8,6 +8,7 @@ use crate::label::Label;
 use crate::limits::MOST_STYLES;
 use crate::members::{Capped, Limited};
 use crate::style::Style;
+use crate::text::know_text;
 use std::alloc::AllocError;
 use std::marker::Model;
 use wf_text::text::Text;
@@ -57,9 +58,10 @@ impl Class {
         styles: Styles,
         label: Option<Label>,
     ) -> Self
-        ensures { result ≡ record { name = name; expression = expression; styles = styles; label = label } }
+        ensures { result ≡ record
+            { name = name; expression = expression; styles = styles; label = label } }
     {
-        let _ = name.as_bytes();
+        know_text(&name);
         know_expression(&expression);
         let _ = styles.as_slice();
         know_label(&label);
@@ -110,9 +112,7 @@ fn know_expression(expression: &Option<Expression>)
 {
     match expression {
         None => {}
-        Some(Expression::Equals(text)) => {
-            let _ = text.as_bytes();
-        }
+        Some(Expression::Equals(text)) => know_text(text),
         Some(Expression::OneOf(list)) => {
             let _ = list.as_bytes();
         }

@@ -2,6 +2,7 @@
 ghost use Rattle.std.specs.Prelude.{◌≡◌, ◌↔◌, ◌<ℤ◌, IsSome, IfSome};
 ghost use Rattle.wf_def.specs.Extent.{IsExtent};
 
+use crate::micro::know_coordinate;
 use std::marker::Model;
 use wf_text::micro::Micro;
 
@@ -31,12 +32,13 @@ impl Extent {
     /// The box with these sides, if the minima are below the maxima.
     pub fn new(minx: Micro, miny: Micro, maxx: Micro, maxy: Micro) -> Option<Self>
         ensures ordered { IsSome result ↔ ((minx <ℤ maxx) × (miny <ℤ maxy)) }
-        ensures value { IfSome result (λ e. e ≡ record { minx = minx; miny = miny; maxx = maxx; maxy = maxy }) }
+        ensures value { IfSome result
+            (λ e. e ≡ record { minx = minx; miny = miny; maxx = maxx; maxy = maxy }) }
     {
-        let _ = minx.millionths();
-        let _ = miny.millionths();
-        let _ = maxx.millionths();
-        let _ = maxy.millionths();
+        know_coordinate(minx);
+        know_coordinate(miny);
+        know_coordinate(maxx);
+        know_coordinate(maxy);
         if minx < maxx && miny < maxy {
             Some(Extent {
                 minx,

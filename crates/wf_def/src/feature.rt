@@ -5,6 +5,7 @@ ghost use Rattle.wf_def.specs.Limits.{IsFeature};
 
 use crate::members::{Limited, Members};
 use crate::point::Point;
+use crate::text::know_text;
 use std::alloc::AllocError;
 use std::marker::Model;
 use wf_text::text::Text;
@@ -50,8 +51,8 @@ impl Feature {
     pub fn new(parts: Parts, items: Text, text: Text) -> Option<Self>
         ensures { result ≡ feature_of parts items text }
     {
-        let _ = items.as_bytes();
-        let _ = text.as_bytes();
+        know_text(&items);
+        know_text(&text);
         if parts.is_empty() {
             return None;
         }

@@ -35,7 +35,8 @@ impl<T: Drop> Held<T> {
     /// Appends a member. After allocation failure the members are as before.
     #[inline]
     pub(crate) fn push(&mut self, alloc: Global, member: T) -> Result<(), AllocError>
-        ensures pushed { OnOk result (held_members self.new ≡ held_members self.old ++ member ∷ []) }
+        ensures pushed { OnOk result
+            (held_members self.new ≡ held_members self.old ++ member ∷ []) }
         ensures unchanged { OnErr result (held_members self.new ≡ held_members self.old) }
     {
         match self {
@@ -47,7 +48,8 @@ impl<T: Drop> Held<T> {
     /// Appends a member to members that are taken out and put back: right for all, meant for those that have no memory of their own.
     #[inline]
     fn push_anew(&mut self, alloc: Global, member: T) -> Result<(), AllocError>
-        ensures pushed { OnOk result (held_members self.new ≡ held_members self.old ++ member ∷ []) }
+        ensures pushed { OnOk result
+            (held_members self.new ≡ held_members self.old ++ member ∷ []) }
         ensures unchanged { OnErr result (held_members self.new ≡ held_members self.old) }
     {
         match replace(self, Held::Nothing) {

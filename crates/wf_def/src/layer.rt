@@ -9,7 +9,7 @@ use crate::class::Class;
 use crate::feature::Feature;
 use crate::limits::{MOST_CLASSES, MOST_ITEMS_BYTES};
 use crate::members::{Capped, Members};
-use crate::text::clone_both;
+use crate::text::{clone_both, know_text};
 use std::alloc::AllocError;
 use std::marker::Model;
 use wf_text::text::Text;
@@ -78,9 +78,9 @@ impl Layer {
     ) -> Option<Self>
         ensures { result ≡ layer_of kind title class_item label_item items classes features }
     {
-        let _ = title.as_bytes();
-        let _ = class_item.as_bytes();
-        let _ = label_item.as_bytes();
+        know_text(&title);
+        know_text(&class_item);
+        know_text(&label_item);
         let _ = classes.as_slice();
         if items.as_bytes().len() > MOST_ITEMS_BYTES {
             return None;

@@ -1,7 +1,7 @@
 //! Map definitions.
-ghost use Rattle.std.specs.Prelude.{◌≡◌, ◌+◌, ◌<◌, ◌≤◌, false, [], ◌∷◌, ◌++◌, length, slice_get, sum_by, Some, IfOk, IfErr, OnOk, OnErr};
+ghost use Rattle.std.specs.Prelude.{◌≡◌, ◌+◌, ◌<◌, ◌≤◌, false, [], ◌∷◌, ◌++◌, length, slice_get, Some, IfOk, IfErr, OnOk, OnErr};
 ghost use Rattle.wf_def.specs.Definition.{Definition, empty_map};
-ghost use Rattle.wf_def.specs.Limits.{IsWithinLimits, IsLayer, IsLayerName, points_of_feature, feature_count, point_count, has_layer, is_repeated};
+ghost use Rattle.wf_def.specs.Limits.{IsWithinLimits, IsLayer, IsLayerName, points_of_layer, feature_count, point_count, has_layer, is_repeated};
 ghost use Rattle.wf_def.specs.Limit.{most_features, most_layers, most_points};
 
 mod equality;
@@ -10,7 +10,7 @@ use crate::choice::Projection;
 use crate::extent::Extent;
 use crate::fault::LayerFault;
 use crate::layer::Layer;
-use crate::text::clone_both;
+use crate::text::{clone_both, know_text};
 use indexmap::IndexMap;
 use std::alloc::{AllocError, Global};
 use std::marker::Model;
@@ -70,12 +70,20 @@ impl MapDef {
         extent: Extent,
         projection: Projection,
     ) -> Self
-        ensures { result ≡ record { name = name; title = title; abstract_text = abstract_text; address = address; extent = extent; projection = projection; layers = [] } }
+        ensures { result ≡ record {
+          name = name;
+          title = title;
+          abstract_text = abstract_text;
+          address = address;
+          extent = extent;
+          projection = projection;
+          layers = [];
+        } }
     {
-        let _ = name.as_bytes();
-        let _ = title.as_bytes();
-        let _ = abstract_text.as_bytes();
-        let _ = address.as_bytes();
+        know_text(&name);
+        know_text(&title);
+        know_text(&abstract_text);
+        know_text(&address);
         let _ = extent.minx();
         MapDef {
             name,
@@ -108,11 +116,13 @@ impl MapDef {
         requires is_name { IsLayerName name }
         requires room { length self.old.layers < most_layers }
         requires features { feature_count self.old.layers + length layer.features ≤ most_features }
-        requires points { point_count self.old.layers + sum_by points_of_feature layer.features ≤ most_points }
-        ensures added { OnOk result (self.new ≡ record self.old { layers = self.old.layers ++ (name, layer) ∷ [] }) }
+        requires points { point_count self.old.layers + points_of_layer layer ≤ most_points }
+        ensures added { OnOk result
+            (self.new ≡ record self.old { layers = self.old.layers ++ (name, layer) ∷ [] }) }
         ensures new_name { OnOk result (has_layer self.old.layers name ≡ false) }
         ensures unchanged { OnErr result (self.new ≡ self.old) }
-        ensures repeated { IfErr result (λ fault. has_layer self.old.layers name ≡ is_repeated fault) }
+        ensures repeated { IfErr result
+            (λ fault. has_layer self.old.layers name ≡ is_repeated fault) }
     {
         let _ = layer.kind();
         if self.layers.contains_key(&name) {
@@ -152,7 +162,7 @@ impl MapDef {
         ensures value { slice_get self.now.layers index ≡ Some (result.0.now, result.1.now) }
         ensures named { IsLayerName result.0.now }
         ensures layer { IsLayer result.1.now }
-        ensures points { sum_by points_of_feature result.1.now.features ≤ most_points }
+        ensures points { points_of_layer result.1.now ≤ most_points }
         ensures within { IsWithinLimits self.now }
     {
         self.layers.get_index(index).unwrap()

@@ -1,6 +1,7 @@
 //! Points.
 
 use crate::members::Limited;
+use crate::micro::know_coordinate;
 use wf_text::micro::Micro;
 
 /// A point in the map's coordinates, in the order of the mapfile: east, then north.
@@ -17,8 +18,8 @@ impl Limited for Point {
     ghost IsWithin = { IsPoint };
 
     fn know(&self) {
-        let _ = self.x.millionths();
-        let _ = self.y.millionths();
+        know_coordinate(self.x);
+        know_coordinate(self.y);
     }
 
     ghost copies = { λ _ _ same. same };

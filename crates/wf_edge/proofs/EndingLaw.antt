@@ -7,40 +7,30 @@ use Rattle.wf_edge.specs.Ending.{IsEnded, IsFaultEnded, EndsUnheard}
 use Rattle.wf_edge.specs.Notice.{response_of}
 use Rattle.wf_http.specs.Request.{Request, IsRequestFault, BeginsWith}
 use Rattle.wf_http.specs.Response.{Response}
-use Rattle.wf_edge.specs.Serving.{Asks, Gives, GivesTo, EndsServed, IsEnding}
+use Rattle.wf_edge.specs.Serving.{Asks, Gives, IsEnding, IsServed}
 use Rattle.wf_http.specs.declared.fault.RequestFault.{RequestFault}
 use Rattle.wf_http.specs.declared.fault.RequestFault.TheVariants as fault
 use Rattle.wf_edge.specs.declared.notice.Notice.{Notice}
 use Rattle.wf_edge.specs.declared.notice.Notice.TheVariants as notice
 use Rattle.wf_edge.specs.declared.outcome.Outcome.{Outcome}
 use Rattle.wf_edge.specs.declared.outcome.Outcome.TheVariants as outcome
-use Rattle.wf_http.specs.declared.resource.Asked.{Asked}
+use Rattle.wf_stream.specs.declared.stream.Sink.{Ghosts as Sink}
+use Rattle.wf_tape.specs.declared.tape.Tape.{Ghosts as Tape}
 
-module _ {K : Type 0} (written : K → Option (List ℕ)) (failures : K → ℕ) (fails : K → K → Type 0) where
+module _ {K : Type 0} (sinks : Sink K) where
   -- ---- where there is no request
 
   pub unheard_ends : (input : Option (List ℕ)) (old new : K) (why : RequestFault) (said : Outcome) → IfSome input (λ bytes. IsRequestFault bytes why)
-      → IsFaultEnded written failures fails why old new said → EndsUnheard written failures fails input old new said
+      → IsFaultEnded sinks why old new said → EndsUnheard sinks input old new said
   unheard_ends input old new why said is ended = record { why = why; is = is; ended = ended }
 
   -- ---- the request
 
-  module _ {T A : Type 0} (honest : Type 0) (content : T → List ℕ) (images : T → List ℕ → Type 0) (failed : T → ℕ) where
-    -- a request was answered by what it asks for, and the response ended
-    pub request_ended : (kind : Asked) (request : Request) (old new : K) (before after : Node T) (answer : Result Response Notice)
-        (sent : Vec Message A) (said : Outcome) → kind ≡ request.asked → GivesTo honest content images failed kind request before answer sent after
-        → IsEnded written failures fails (response_of answer) old new said
-        → EndsServed honest content images failed written failures fails request old new before sent after said
-    request_ended kind request old new before after answer sent said is given ended = record {
-      answer = answer;
-      gives = subst (λ k. GivesTo honest content images failed k request before answer sent after) is given;
-      ended = ended;
-    }
-
+  module _ {T A : Type 0} (tapes : Tape T) where
     said_ending : (input : Option (List ℕ)) (old new : K) (heard : Result Request RequestFault) (before after : Node T) (answer : Result Response Notice)
-        (sent : Vec Message A) (said : Outcome) → IfSome input (λ bytes. Asks bytes heard) → Gives honest content images failed heard before answer sent after
-        → IsEnded written failures fails (response_of answer) old new said
-        → IsEnding honest content images failed written failures fails input old new before sent after said
+        (sent : Vec Message A) (said : Outcome) → IfSome input (λ bytes. Asks bytes heard) → Gives tapes heard before answer sent after
+        → IsEnded sinks (response_of answer) old new said
+        → IsEnding tapes sinks input old new before sent after said
     said_ending input old new heard before after answer sent (outcome.Sent status count) asks given ended = ended
     said_ending input old new heard before after answer sent (outcome.WriteFailed status count) asks given ended = record {
       response = response_of answer;
@@ -54,26 +44,26 @@ module _ {K : Type 0} (written : K → Option (List ℕ)) (failures : K → ℕ)
     -- a request that was read, where the writer was as it is until it was answered
     pub served_ending : (input : Option (List ℕ)) (first old new : K) (request : Request) (before after : Node T) (sent : Vec Message A) (said : Outcome)
         → IfSome input (λ bytes. BeginsWith bytes request) → old ≡ first
-        → EndsServed honest content images failed written failures fails request old new before sent after said
-        → IsEnding honest content images failed written failures fails input first new before sent after said
+        → IsServed tapes sinks request old new before sent after said
+        → IsEnding tapes sinks input first new before sent after said
     served_ending input first old new request before after sent said begins quiet served =
-        subst (λ start. IsEnding honest content images failed written failures fails input start new before sent after said) quiet
-        (said_ending input old new (Ok request) before after served.answer sent said begins served.gives served.ended)
+        subst (λ start. IsEnding tapes sinks input start new before sent after said) quiet
+        (said_ending input old new (Ok request) before after served.answer sent said begins served.gives served.says.ended)
 
     fault_ending : (input : Option (List ℕ)) (old new : K) (why : RequestFault) (node : Node T) (sent : Vec Message A) (said : Outcome)
-        → IfSome input (λ bytes. IsRequestFault bytes why) → sent.items ≡ [] → IsFaultEnded written failures fails why old new said
-        → IsEnding honest content images failed written failures fails input old new node sent node said
+        → IfSome input (λ bytes. IsRequestFault bytes why) → sent.items ≡ [] → IsFaultEnded sinks why old new said
+        → IsEnding tapes sinks input old new node sent node said
     fault_ending input old new (fault.Refused r) node sent said asks quiet ended =
         said_ending input old new (Err (fault.Refused r)) node node (Err (notice.Refused r)) sent said asks (refl, record { same = refl; quiet = quiet }) ended
     fault_ending input old new fault.Memory node sent said asks quiet ended =
         said_ending input old new (Err fault.Memory) node node (Err notice.Unavailable) sent said asks (refl, record { same = refl; quiet = quiet }) ended
     fault_ending input old new fault.NoRequest node sent said asks quiet ended =
-        subst (λ o. IsEnding honest content images failed written failures fails input old new node sent node o) (sym ended.0) ended.1
+        subst (λ o. IsEnding tapes sinks input old new node sent node o) (sym ended.0) ended.1
     fault_ending input old new fault.ReadFailed node sent said asks quiet ended =
-        subst (λ o. IsEnding honest content images failed written failures fails input old new node sent node o) (sym ended.0) ended.1
+        subst (λ o. IsEnding tapes sinks input old new node sent node o) (sym ended.0) ended.1
 
     -- if there is no request, its rejection ended, or the writer is unchanged
     pub unheard_ending : (input : Option (List ℕ)) (old new : K) (node : Node T) (sent : Vec Message A) (said : Outcome)
-        → EndsUnheard written failures fails input old new said → sent.items ≡ []
-        → IsEnding honest content images failed written failures fails input old new node sent node said
+        → EndsUnheard sinks input old new said → sent.items ≡ []
+        → IsEnding tapes sinks input old new node sent node said
     unheard_ending input old new node sent said unheard quiet = fault_ending input old new unheard.why node sent said unheard.is quiet unheard.ended

@@ -1,6 +1,6 @@
 -- From a body to the step Propose, or to the reason why there is none.
-use Rattle.std.proofs.Common.{◌≡◌, ◌≢◌, ◌∙◌, ◌++◌, ℕ, ◌≤◌, ◌<◌, Bool, true, false, cond, ◌&&◌, nat_le, List, length, Vec, IsSome, refl, sym, ap, subst, inl, inr}
-use Rattle.std.specs.Prelude.{Result, Ok, Err, IfOk, IfErr, OnOk, Option, Some, None}
+use Rattle.std.proofs.Common.{◌≡◌, ◌∙◌, ℕ, ◌≤◌, ◌<◌, Bool, true, false, cond, ◌&&◌, nat_le, List, length, Vec, refl, sym, ap, subst, inl, inr}
+use Rattle.std.specs.Prelude.{Result, Ok, Err, Option, Some, None}
 use Rattle.std.specs.Str.{is_utf8}
 use Rattle.std.proofs.lemmas.Bool.{cases_lt, leb-true}
 use Rattle.std.proofs.lemmas.Option.{none-some}
@@ -15,20 +15,14 @@ use Rattle.wf_mapfile.specs.Rejection.{HasError}
 use Rattle.wf_block.specs.Reading.{is_memory, IsNotUtf8}
 use Rattle.wf_block.specs.declared.fault.MapFault.{MapFault}
 use Rattle.wf_block.specs.declared.fault.MapFault.TheVariants as map
-use Rattle.wf_model.specs.Table.{Propose, store}
-use Rattle.wf_node.specs.Fault.{refused_by}
-use Rattle.wf_node.specs.Images.{AllStandFor, EachStandsFor}
-use Rattle.wf_node.specs.Node.{Node, stored_of}
-use Rattle.wf_node.specs.Step.{IsRow, IsSameNode, TakesMemory, row_of, refusal_at}
-use Rattle.wf_node.specs.Storing.{bytes_of}
+use Rattle.wf_node.specs.Node.{Node}
 use Rattle.wf_node.specs.declared.fault.NodeFault.{NodeFault}
-use Rattle.wf_node.specs.declared.fault.NodeFault.TheVariants as node
-use Rattle.wf_tape.specs.Tape.{IsUnchanged, IsExtended, HasRisen}
 use Rattle.wf_http.specs.Response.{Response}
 use Rattle.wf_edge.specs.Page.{accepted_page}
 use Rattle.wf_edge.specs.Publish.{IsMapOf, IsText, IsWhyNoMap, IsProposed, IsPublished, unwritten}
 use Rattle.wf_edge.specs.declared.publish_fault.PublishFault.{PublishFault}
 use Rattle.wf_edge.specs.declared.publish_fault.PublishFault.TheVariants as fault
+use Rattle.wf_tape.specs.declared.tape.Tape.{Ghosts as Tape}
 
 -- ---- the map of the body
 
@@ -106,68 +100,15 @@ is_map body d c means is short = subst (λ x. IsMapOf body x) (sym is) (record {
 pub is_scanned : (body : List ℕ) (c : Definition) → Means body c → canon c ≡ body → length body ≤ most_canon_bytes → IsMapOf body c
 is_scanned body c means text short = record { means = means; short = subst (λ t. length t ≤ most_canon_bytes) (sym text) short }
 
-module _ {T A : Type 0} (honest : Type 0) (content : T → List ℕ) (images : T → List ℕ → Type 0) (failures : T → ℕ) where
-  -- ---- the step
-
-  not_halted : (before : Node T) (result : Result (Vec Message A) NodeFault) → (result ≡ Err node.Halted → before.halted ≡ true) → before.halted ≡ false
-      → result ≢ Err node.Halted
-  not_halted before result halts runs is = let both : true ≡ false = sym (halts is) ∙ runs in cc
-
-  stays : (before after : Node T) (result : Result (Vec Message A) NodeFault) → result ≡ Err node.Halted
-      → IfErr result (λ why. why ≢ node.Memory → why ≢ node.TapeFailed → after ≡ before) → after ≡ before
-  stays before after result is unchanged =
-      let here : node.Halted ≢ node.Memory → node.Halted ≢ node.TapeFailed → after ≡ before =
-      subst (λ r. IfErr r (λ why. why ≢ node.Memory → why ≢ node.TapeFailed → after ≡ before)) is unchanged in
-      here (λ e. cc) (λ e. cc)
-
-  -- what a node promises of its step is the step Propose
-  pub proposed : (before after : Node T) (d : Definition) (result : Result (Vec Message A) NodeFault)
-      → (before.halted ≡ true → result ≡ Err node.Halted)
-      → (result ≡ Err node.Halted → before.halted ≡ true)
-      → (before.halted ≡ false → refused_by result ≡ refusal_at before (Propose d))
-      → IfOk result (λ messages. IsRow before (row_of before (Propose d)) messages.items after)
-      → (honest → OnOk result (AllStandFor (stored_of after) (images after.tape)))
-      → (honest → OnOk result (content after.tape ≡ content before.tape ++ bytes_of (row_of before (Propose d)).entry))
-      → IfErr result (λ why. why ≢ node.Memory → why ≢ node.TapeFailed → after ≡ before)
-      → IfErr result (λ why. IsSameNode before after)
-      → (result ≡ Err node.Memory → after.halted ≡ false)
-      → (honest → result ≡ Err node.Memory → IsUnchanged (content before.tape) (content after.tape) (images before.tape) (images after.tape))
-      → (result ≡ Err node.Memory → TakesMemory before (Propose d))
-      → (result ≡ Err node.TapeFailed → HasRisen (failures before.tape) (failures after.tape))
-      → (result ≡ Err node.TapeFailed → IsSome (row_of before (Propose d)).entry)
-      → (result ≡ Err node.TapeFailed → after.halted ≡ true)
-      → (honest → result ≡ Err node.TapeFailed → IsExtended (content before.tape) (bytes_of (row_of before (Propose d)).entry) (content after.tape))
-      → (honest → result ≡ Err node.TapeFailed → EachStandsFor (stored_of before) (store (stored_of before) (row_of before (Propose d)).entry) (images after.tape))
-      → IsProposed honest content images failures before d result after
-  proposed before after d result halted running refused row on_tape grown unchanged same memory same_tape takes failed writes halts part torn = record {
-    refused = λ is. (halted is, stays before after result (halted is) unchanged);
-    steps = λ is. record {
-      running = not_halted before result running is;
-      refused = refused is;
-      done = row;
-      on_tape = on_tape;
-      grown = grown;
-      unchanged = unchanged;
-      same = same;
-      still_running = memory;
-      same_tape = same_tape;
-      takes = takes;
-      failed = failed;
-      writes = writes;
-      halts = halts;
-      part = part;
-      torn = torn;
-    };
-  }
-
+module _ {T A : Type 0} (tapes : Tape T) where
   -- ---- the result for the body
 
   pub accepted : (body : List ℕ) (before after : Node T) (d : Definition) (last : ℕ) (page : Response) (messages : Vec Message A) → IsMapOf body d
-      → last ≡ length before.parts.history → page ≡ accepted_page last → IsProposed honest content images failures before d (Ok messages) after
-      → IsPublished honest content images failures body before (Ok (page, messages)) after
+      → last ≡ length before.parts.history → page ≡ accepted_page last → IsProposed tapes before d (Ok messages) after
+      → IsPublished tapes body before (Ok (page, messages)) after
   accepted body before after d last page messages means is tells step = (d, means, step, tells ∙ ap (λ n. accepted_page n) is)
 
   pub node_fails : (body : List ℕ) (before after : Node T) (d : Definition) (why : NodeFault) → IsMapOf body d
-      → IsProposed {A = A} honest content images failures before d (Err why) after
-      → IsPublished {A = A} honest content images failures body before (Err (fault.Node why)) after
+      → IsProposed {A = A} tapes before d (Err why) after
+      → IsPublished {A = A} tapes body before (Err (fault.Node why)) after
   node_fails body before after d why means step = (d, means, step)

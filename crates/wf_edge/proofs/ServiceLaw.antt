@@ -26,6 +26,7 @@ use Rattle.wf_http.specs.declared.refusal.Refusal.{Refusal}
 use Rattle.wf_http.specs.declared.refusal.Refusal.TheVariants as refusal
 use Rattle.wf_http.specs.declared.resource.Asked.{Asked}
 use Rattle.wf_http.specs.declared.resource.Asked.TheVariants as asked
+use Rattle.wf_tape.specs.declared.tape.Tape.{Ghosts as Tape}
 
 -- ---- one page
 
@@ -114,30 +115,30 @@ module _ (input query : List ℕ) (service : AsksMapService input query) where
   no_memory : (answer : Result Response Notice) (response : Response) → response ≡ response_of answer → response.status ≢ 503 → answer ≡ Err notice.Unavailable → ⊥
   no_memory answer response is calm given = calm (ap (λ (r : Response). r.status) (is ∙ ap (λ (a : Result Response Notice). response_of a) given))
 
-  module _ {T A : Type 0} (honest : Type 0) (content : T → List ℕ) (images : T → List ℕ → Type 0) (failures : T → ℕ) where
+  module _ {T A : Type 0} (tapes : Tape T) where
     page_heard : (heard : Result Request RequestFault) (before after : Node T) (sent : Vec Message A) (answer : Result Response Notice) (response : Response)
-        → Asks input heard → Gives honest content images failures heard before answer sent after → response ≡ response_of answer → response.status ≢ 503
+        → Asks input heard → Gives tapes heard before answer sent after → response ≡ response_of answer → response.status ≢ 503
         → IsServicePage before.parts.history query response
     page_heard (Ok heard) before after sent answer response asks given is calm =
         let same : service.request.head ≡ heard.head = one_head input service.begins.rest asks.rest service.request.head heard.head service.begins.head asks.head in
         let about : query_of heard.head.target ≡ query = ap (λ (h : Head). query_of h.target) (sym same) ∙ service.of_query in
         let wms : heard.asked ≡ asked.Wms = asked_is asks.rest heard.head heard.asked asks.head asks.asks in
         page_given before.parts.history (query_of heard.head.target) answer response about is calm
-        (subst (λ a. GivesTo honest content images failures a heard before answer sent after) wms given).0
+        (subst (λ a. GivesTo tapes a heard before answer sent after) wms given).0
     page_heard (Err (fault.Refused r)) before after sent answer response asks given is calm = absurd (no_refusal r asks)
     page_heard (Err fault.Memory) before after sent answer response asks given is calm = absurd (no_memory answer response is calm given.0)
     page_heard (Err fault.NoRequest) before after sent answer response asks given is calm = absurd given
     page_heard (Err fault.ReadFailed) before after sent answer response asks given is calm = absurd given
 
-    pub page_responded : (before after : Node T) (sent : Vec Message A) (response : Response) → Responds honest content images failures (Some input) before response sent after
+    pub page_responded : (before after : Node T) (sent : Vec Message A) (response : Response) → Responds tapes (Some input) before response sent after
         → response.status ≢ 503 → IsServicePage before.parts.history query response
     page_responded before after sent response responds calm =
         page_heard responds.heard before after sent responds.answer response responds.asks responds.gives responds.is calm
 
-pub one_response : {T : Type 0} (A : Type 0) (honest : Type 0) (content : T → List ℕ) (images : T → List ℕ → Type 0) (failures : T → ℕ) → EachQueryHasOnePage
-    → EqualRequestsHaveEqualResponses A honest content images failures
-one_response A honest content images failures law input query before after other other_after sent other_sent response another service one first calm second also =
+pub one_response : {T : Type 0} (A : Type 0) (tapes : Tape T) → EachQueryHasOnePage
+    → EqualRequestsHaveEqualResponses A tapes
+one_response A tapes law input query before after other other_after sent other_sent response another service one first calm second also =
     ap (λ (r : Response). response_bytes r)
     (law query before.parts.history other.parts.history response another one
-    (page_responded input query service honest content images failures before after sent response first calm)
-    (page_responded input query service honest content images failures other other_after other_sent another second also))
+    (page_responded input query service tapes before after sent response first calm)
+    (page_responded input query service tapes other other_after other_sent another second also))

@@ -23,6 +23,7 @@ use Rattle.wf_edge.specs.declared.notice.Notice.{Notice}
 use Rattle.wf_edge.specs.declared.notice.Notice.TheVariants as notice
 use Rattle.wf_edge.specs.declared.publish_fault.PublishFault.{PublishFault}
 use Rattle.wf_edge.specs.declared.publish_fault.PublishFault.TheVariants as publish
+use Rattle.wf_tape.specs.declared.tape.Tape.{Ghosts as Tape}
 
 -- no rejection has the status 503
 no_rejection : {P : Type 0} (r : Refusal) → refusal_status r ≡ 503 → P
@@ -48,9 +49,9 @@ node_unavailable node.Nothing is = refl
 status_is : (answer is : Result Response Notice) → answer ≡ is → (response_of answer).status ≡ 503 → (response_of is).status ≡ 503
 status_is answer is same unavailable = sym (ap (λ (a : Result Response Notice). (response_of a).status) same) ∙ unavailable
 
-module _ {T : Type 0} (A : Type 0) (honest : Type 0) (content : T → List ℕ) (images : T → List ℕ → Type 0) (failures : T → ℕ) (input : List ℕ) (before after : Node T) where
+module _ {T : Type 0} (A : Type 0) (tapes : Tape T) (input : List ℕ) (before after : Node T) where
   abbrev Allowed : Type 0
-  Allowed = MayBeUnavailable A honest content images failures input before after
+  Allowed = MayBeUnavailable A tapes input before after
 
   accepted_page_is : (page : Response) (last : ℕ) → page ≡ accepted_page last → page.status ≡ 503 → Allowed
   accepted_page_is page last is unavailable =
@@ -58,7 +59,7 @@ module _ {T : Type 0} (A : Type 0) (honest : Type 0) (content : T → List ℕ) 
 
   -- a publish
   of_publish : (request : Request) (bytes : ℕ) (done : Result (Response × Vec Message A) PublishFault) (answer : Result Response Notice) (sent : Vec Message A)
-      → Publishes input request.body → IsPublished honest content images failures request.body before done after → TellsPublish done answer sent
+      → Publishes input request.body → IsPublished tapes request.body before done after → TellsPublish done answer sent
       → (response_of answer).status ≡ 503 → Allowed
   of_publish request bytes (Ok done) answer sent asks becomes tells unavailable =
       accepted_page_is done.0 _ becomes.3 (status_is answer (Ok done.0) tells.0 unavailable)
@@ -78,7 +79,7 @@ module _ {T : Type 0} (A : Type 0) (honest : Type 0) (content : T → List ℕ) 
 
   -- a request that was read
   of_request : (kind : Asked) (request : Request) (answer : Result Response Notice) (sent : Vec Message A) → request.asked ≡ kind → BeginsWith input request
-      → GivesTo honest content images failures kind request before answer sent after → (response_of answer).status ≡ 503 → Allowed
+      → GivesTo tapes kind request before answer sent after → (response_of answer).status ≡ 503 → Allowed
   of_request asked.Wms request answer sent asks begins given unavailable =
       by_service (query_of request.head.target) (record { request = request; begins = begins; of_service = asks; of_query = refl })
   of_request asked.Status request answer sent asks begins given unavailable =
@@ -89,15 +90,15 @@ module _ {T : Type 0} (A : Type 0) (honest : Type 0) (content : T → List ℕ) 
 
   -- a request, or that there is none
   of_heard : (heard : Result Request RequestFault) (answer : Result Response Notice) (sent : Vec Message A) → Asks input heard
-      → Gives honest content images failures heard before answer sent after → (response_of answer).status ≡ 503 → Allowed
+      → Gives tapes heard before answer sent after → (response_of answer).status ≡ 503 → Allowed
   of_heard (Ok request) answer sent asks given unavailable = of_request request.asked request answer sent refl asks given unavailable
   of_heard (Err (fault.Refused r)) answer sent asks given unavailable = no_rejection r (status_is answer (Err (notice.Refused r)) given.0 unavailable)
   of_heard (Err fault.Memory) answer sent asks given unavailable = by_body asks
   of_heard (Err fault.NoRequest) answer sent asks given unavailable = absurd given
   of_heard (Err fault.ReadFailed) answer sent asks given unavailable = absurd given
 
-pub only_these : {T : Type 0} (A : Type 0) (honest : Type 0) (content : T → List ℕ) (images : T → List ℕ → Type 0) (failures : T → ℕ)
-    → OnlyTheseAreUnavailable A honest content images failures
-only_these A honest content images failures input before after sent response responds unavailable =
-    of_heard A honest content images failures input before after responds.heard responds.answer sent responds.asks responds.gives
+pub only_these : {T : Type 0} (A : Type 0) (tapes : Tape T)
+    → OnlyTheseAreUnavailable A tapes
+only_these A tapes input before after sent response responds unavailable =
+    of_heard A tapes input before after responds.heard responds.answer sent responds.asks responds.gives
     (sym (ap (λ (r : Response). r.status) responds.is) ∙ unavailable)

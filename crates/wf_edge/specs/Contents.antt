@@ -6,4 +6,4 @@ use Rattle.wf_edge.specs.declared.contents.Contents.TheVariants as contents
 -- the bytes of a page
 abbrev pub bytes_of : Contents → List ℕ
 bytes_of (contents.Bytes bytes) = bytes.items
-bytes_of (contents.Line line) = line.bytes.items
+bytes_of (contents.TextLine line) = line.bytes.items

@@ -4,15 +4,16 @@ use Rattle.wf_codec.specs.declared.message.Message.{Message}
 use Rattle.wf_def.specs.Definition.{Definition}
 use Rattle.wf_learner.specs.History.{map_at}
 use Rattle.wf_node.specs.Node.{Node}
-use Rattle.wf_wms.specs.Answer.{AsksForMap, IsAnswerOf, rejection, subject}
+use Rattle.wf_wms.specs.Answer.{AsksForMap, rejection, subject}
 use Rattle.wf_wms.specs.Rejection.{IsRejectedByText}
 use Rattle.wf_wms.specs.declared.exception.Exception.{Exception}
-use Rattle.wf_edge.specs.Page.{IsServicePage}
+use Rattle.wf_edge.specs.Page.{IsLastAnswer, IsServicePage}
 use Rattle.wf_http.specs.Request.{Request, BeginsWith}
 use Rattle.wf_http.specs.Response.{Response, response_bytes}
 use Rattle.wf_edge.specs.Serving.{Responds}
 use Rattle.wf_http.specs.Target.{query_of}
 use Rattle.wf_http.specs.declared.resource.Asked.TheVariants.{Wms}
+use Rattle.wf_tape.specs.declared.tape.Tape.{Ghosts as Tape}
 
 -- the input begins with a request to the map service, of that query
 pub record AsksMapService (input query : List ℕ) : Type 0 where
@@ -30,7 +31,7 @@ pub data AnswerAlike (query : List ℕ) (history other : List Definition) : Type
   are_asked_alike : (m : ℕ) → AsksForMap m (length history) query → AsksForMap m (length other) query → map_at history m ≡ map_at other m
       → AnswerAlike query history other
   is_rejected_by_text : (e : Exception) → IsRejectedByText query e → AnswerAlike query history other
-  reject_alike : (e : Exception) → IsAnswerOf (length history) history query (rejection e) → IsAnswerOf (length other) other query (rejection e)
+  reject_alike : (e : Exception) → IsLastAnswer history query (rejection e) → IsLastAnswer other query (rejection e)
       → AnswerAlike query history other
 
 -- Then it has exactly one page at both.
@@ -38,12 +39,12 @@ abbrev pub EachQueryHasOnePage : Type 0
 EachQueryHasOnePage = (query : List ℕ) (history other : List Definition) (page another : Response) → AnswerAlike query history other →
     IsServicePage history query page → IsServicePage other query another → another ≡ page
 
-module _ {T : Type 0} (A : Type 0) (honest : Type 0) (content : T → List ℕ) (images : T → List ℕ → Type 0) (failures : T → ℕ) where
+module _ {T : Type 0} (A : Type 0) (tapes : Tape T) where
   -- Two nodes, or one node at two times, that receive equal requests to the map service and answer them alike, respond with equal
   -- bytes, if neither responds with allocation failure.
   abbrev pub EqualRequestsHaveEqualResponses : Type 0
   EqualRequestsHaveEqualResponses = (input query : List ℕ) (before after other other_after : Node T) (sent other_sent : Vec Message A) (response another : Response) →
       AsksMapService input query → AnswerAlike query before.parts.history other.parts.history →
-      Responds honest content images failures (Some input) before response sent after → response.status ≢ 503 →
-      Responds honest content images failures (Some input) other another other_sent other_after → another.status ≢ 503 →
+      Responds tapes (Some input) before response sent after → response.status ≢ 503 →
+      Responds tapes (Some input) other another other_sent other_after → another.status ≢ 503 →
       response_bytes another ≡ response_bytes response

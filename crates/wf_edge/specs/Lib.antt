@@ -1,3 +1,5 @@
+pub mod Asking
+pub mod AskingLaws
 pub mod Contents
 pub mod Ending
 pub mod Growth

@@ -17,20 +17,28 @@ use Rattle.wf_edge.specs.declared.notice.Notice.TheVariants as notice
 abbrev pub most_line_bytes : ℕ
 most_line_bytes = 128
 
+-- a page with a body of a media type
+abbrev pub page_of : ℕ → List ℕ → List ℕ → Response
+page_of status media body = record { status = status; media = media; allowed = None; body = body }
+
 -- a page of one line
 abbrev pub line_page : ℕ → List ℕ → Response
-line_page status words = record { status = status; media = plain; allowed = None; body = text_line words }
+line_page status words = page_of status plain (text_line words)
 
 -- ---- GET /wms
 
 -- the page of the map service's answer: the status is 200 even for an exception
 abbrev pub service_page : AnswerValue → Response
-service_page answer = record { status = 200; media = answer.media; allowed = None; body = answer.bytes }
+service_page answer = page_of 200 answer.media answer.bytes
 
--- the page of the map service's answer to a query, at the last published sequence
+-- the map service's answer to a query, at the last published sequence
+abbrev pub IsLastAnswer : List Definition → List ℕ → AnswerValue → Type 0
+IsLastAnswer history query answer = IsAnswerOf (length history) history query answer
+
+-- the page of that answer
 pub record IsServicePage (history : List Definition) (query : List ℕ) (page : Response) : Type 0 where
   pub answer : AnswerValue
-  pub is_answer : IsAnswerOf (length history) history query answer
+  pub is_answer : IsLastAnswer history query answer
   pub is_page : page ≡ service_page answer
 
 -- That page, or an allocation of the map service failed. Only the map service answers a query: none is rejected before.

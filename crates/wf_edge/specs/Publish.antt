@@ -12,16 +12,16 @@ use Rattle.wf_block.specs.Reading.{is_memory}
 use Rattle.wf_block.specs.declared.fault.MapFault.{MapFault}
 use Rattle.wf_model.specs.Table.{Propose}
 use Rattle.wf_node.specs.Node.{Node}
-use Rattle.wf_node.specs.Step.{IsStep}
 use Rattle.wf_node.specs.declared.fault.NodeFault.{NodeFault}
-use Rattle.wf_node.specs.declared.fault.NodeFault.TheVariants.{Halted}
 use Rattle.wf_http.specs.Response.{Response}
+use Rattle.wf_edge.specs.Asking.{IsAnswer}
 use Rattle.wf_edge.specs.Notice.{notice_of}
 use Rattle.wf_edge.specs.Page.{accepted_page, bad_map_page}
 use Rattle.wf_edge.specs.declared.notice.Notice.{Notice}
 use Rattle.wf_edge.specs.declared.notice.Notice.TheVariants as notice
 use Rattle.wf_edge.specs.declared.publish_fault.PublishFault.{PublishFault}
 use Rattle.wf_edge.specs.declared.publish_fault.PublishFault.TheVariants as fault
+use Rattle.wf_tape.specs.declared.tape.Tape.{Ghosts as Tape}
 
 -- the body is that map, and its canonical text is within the limit
 pub record IsMapOf (body : List ℕ) (d : Definition) : Type 0 where
@@ -51,12 +51,11 @@ unwritten canonical.TooBig = fault.TooBig
 unwritten canonical.NotCanonical = fault.Memory
 unwritten canonical.Memory = fault.Memory
 
-module _ {T A : Type 0} (honest : Type 0) (content : T → List ℕ) (images : T → List ℕ → Type 0) (failures : T → ℕ) where
+module _ {T A : Type 0} (tapes : Tape T) where
   -- The step Propose of the definition: where the node's leadership covers the next sequence, it stores nothing and asks for votes;
-  -- otherwise it stores a new round and asks for promises. A halted node rejects it, and is unchanged.
-  pub record IsProposed (before : Node T) (d : Definition) (result : Result (Vec Message A) NodeFault) (after : Node T) : Type 0 where
-    pub refused : before.halted ≡ true → (result ≡ Err Halted) × (after ≡ before)
-    pub steps : before.halted ≡ false → IsStep honest content images failures before (Propose d) result after
+  -- otherwise it stores a new round and asks for promises.
+  abbrev pub IsProposed : Node T → Definition → Result (Vec Message A) NodeFault → Node T → Type 0
+  IsProposed before d result after = IsAnswer tapes (Propose d) before result after
 
   -- The result for the body. Accepted: the node made the step Propose, and these are its messages. A node's error is that step's.
   -- With any other error no step was made.

@@ -5,7 +5,7 @@ use Rattle.wf_codec.specs.declared.message.Message.{Message}
 use Rattle.wf_def.specs.Definition.{Definition}
 use Rattle.wf_node.specs.Node.{Node}
 use Rattle.wf_node.specs.declared.fault.NodeFault.{NodeFault}
-use Rattle.wf_edge.specs.Ending.{IsEnded}
+use Rattle.wf_edge.specs.Ending.{Says}
 use Rattle.wf_http.specs.Breaking.{BreaksOff}
 use Rattle.wf_http.specs.Request.{Request, BeginsWith, IsRequestFault}
 use Rattle.wf_http.specs.Response.{Response, response_bytes, IsCount, WritesPart}
@@ -13,7 +13,6 @@ use Rattle.wf_http.specs.Target.{query_of}
 use Rattle.wf_edge.specs.Notice.{response_of}
 use Rattle.wf_edge.specs.Page.{status_page, IsServiceGiven}
 use Rattle.wf_edge.specs.Publish.{IsProposed, IsPublished, TellsFault}
-use Rattle.wf_edge.specs.Saying.{IsSaid}
 use Rattle.wf_http.specs.declared.fault.RequestFault.{RequestFault}
 use Rattle.wf_http.specs.declared.fault.RequestFault.TheVariants as fault
 use Rattle.wf_edge.specs.declared.notice.Notice.{Notice}
@@ -23,6 +22,8 @@ use Rattle.wf_http.specs.declared.resource.Asked.{Asked}
 use Rattle.wf_http.specs.declared.resource.Asked.TheVariants as asked
 use Rattle.wf_edge.specs.declared.outcome.Outcome.{Outcome}
 use Rattle.wf_edge.specs.declared.outcome.Outcome.TheVariants as outcome
+use Rattle.wf_stream.specs.declared.stream.Sink.{Ghosts as Sink}
+use Rattle.wf_tape.specs.declared.tape.Tape.{Ghosts as Tape}
 
 -- ---- what the input asks for
 
@@ -48,11 +49,11 @@ abbrev pub HandsOut : {A : Type 0} → Result (Vec Message A) NodeFault → Vec 
 HandsOut (Ok messages) sent = sent ≡ messages
 HandsOut (Err why) sent = sent.items ≡ []
 
-module _ {T A : Type 0} (honest : Type 0) (content : T → List ℕ) (images : T → List ℕ → Type 0) (failures : T → ℕ) where
+module _ {T A : Type 0} (tapes : Tape T) where
   -- the reply to a publish of a body: its messages are the step's, whatever the answer
   pub record GivesPublish (body : List ℕ) (before : Node T) (answer : Result Response Notice) (sent : Vec Message A) (after : Node T) : Type 0 where
     pub done : Result (Response × Vec Message A) PublishFault
-    pub published : IsPublished honest content images failures body before done after
+    pub published : IsPublished tapes body before done after
     pub tells : TellsPublish done answer sent
 
   -- The reply to a request, by what it asks for. Only a publish changes the node.
@@ -78,18 +79,12 @@ module _ {T A : Type 0} (honest : Type 0) (content : T → List ℕ) (images : T
     pub gives : Gives heard before answer sent after
     pub is : response ≡ response_of answer
 
-  -- for the crate's own contracts: a request was answered, and this was written of the response
-  pub record IsServed (request : Request) (old new : Option (List ℕ)) (before : Node T) (sent : Vec Message A) (after : Node T) (said : Outcome) : Type 0 where
-    pub answer : Result Response Notice
-    pub gives : GivesTo request.asked request before answer sent after
-    pub written : IsSaid (response_of answer) old new said
-
   -- ---- what one request may do to a node, whether or not the input is known
 
   -- nothing; or one step Propose, with exactly its messages
   pub data MovesOnce (before : Node T) (sent : Vec Message A) (after : Node T) : Type 0 where
     Stays : IsUnmoved before sent after → MovesOnce before sent after
-    Proposes : (d : Definition) (result : Result (Vec Message A) NodeFault) → IsProposed honest content images failures before d result after
+    Proposes : (d : Definition) (result : Result (Vec Message A) NodeFault) → IsProposed tapes before d result after
         → HandsOut result sent → MovesOnce before sent after
 
   -- ---- the outcome
@@ -119,18 +114,18 @@ module _ {T A : Type 0} (honest : Type 0) (content : T → List ℕ) (images : T
 
   -- ---- how the writing ended, of any writer
 
-  module _ {K : Type 0} (written : K → Option (List ℕ)) (failed_writes : K → ℕ) (fails : K → K → Type 0) where
-    -- for the crate's own contracts: a request was answered, and this is how its response ended
-    pub record EndsServed (request : Request) (old new : K) (before : Node T) (sent : Vec Message A) (after : Node T) (said : Outcome) : Type 0 where
+  module _ {K : Type 0} (sinks : Sink K) where
+    -- for the crate's own contracts: a request was answered, and its response written
+    pub record IsServed (request : Request) (old new : K) (before : Node T) (sent : Vec Message A) (after : Node T) (said : Outcome) : Type 0 where
       pub answer : Result Response Notice
       pub gives : GivesTo request.asked request before answer sent after
-      pub ended : IsEnded written failed_writes fails (response_of answer) old new said
+      pub says : Says sinks (response_of answer) old new said
 
     -- this many first bytes of a response were written without a failure; then a call failed, and no call came after it
     pub record StopsAtFailure (input : Option (List ℕ)) (old new : K) (before : Node T) (sent : Vec Message A) (after : Node T) (status count : ℕ) : Type 0 where
       pub response : Response
       pub responds : Responds input before response sent after
-      pub breaks : BreaksOff written failed_writes fails (response_bytes response) old new count
+      pub breaks : BreaksOff sinks (response_bytes response) old new count
       pub status_is : status ≡ response.status
 
     -- A failed write is the last call. Where the input is empty or the reader failed, the writer isn't called.

@@ -14,6 +14,7 @@ use Rattle.wf_edge.specs.Notice.{notice_of}
 use Rattle.wf_edge.specs.Publish.{IsMapOf, IsProposed, IsText}
 use Rattle.wf_edge.specs.Serving.{Responds}
 use Rattle.wf_edge.specs.declared.notice.Notice.TheVariants.{Unavailable}
+use Rattle.wf_tape.specs.declared.tape.Tape.{Ghosts as Tape}
 
 -- the input begins with a publish of that body
 pub record Publishes (input body : List ℕ) : Type 0 where
@@ -23,13 +24,13 @@ pub record Publishes (input body : List ℕ) : Type 0 where
   pub asks : request.asked ≡ Publish bytes
   pub of_body : request.body ≡ body
 
-module _ {T : Type 0} (A : Type 0) (honest : Type 0) (content : T → List ℕ) (images : T → List ℕ → Type 0) (failures : T → ℕ) where
+module _ {T : Type 0} (A : Type 0) (tapes : Tape T) where
   -- the step Propose of the body's map failed: an allocation of it did, or the node's tape does, or did before
   pub record FailsToPropose (body : List ℕ) (before after : Node T) : Type 0 where
     pub map : Definition
     pub of_body : IsMapOf body map
     pub why : NodeFault
-    pub step : IsProposed {A = A} honest content images failures before map (Err why) after
+    pub step : IsProposed {A = A} tapes before map (Err why) after
     pub is : notice_of why ≡ Unavailable
 
   -- A request to the map service, whose documents are allocated; a publish whose body, of at least one byte, isn't read yet; or one
@@ -43,4 +44,4 @@ module _ {T : Type 0} (A : Type 0) (honest : Type 0) (content : T → List ℕ) 
   -- no other request is answered with 503
   abbrev pub OnlyTheseAreUnavailable : Type 0
   OnlyTheseAreUnavailable = (input : List ℕ) (before after : Node T) (sent : Vec Message A) (response : Response) →
-      Responds honest content images failures (Some input) before response sent after → response.status ≡ 503 → MayBeUnavailable input before after
+      Responds tapes (Some input) before response sent after → response.status ≡ 503 → MayBeUnavailable input before after

@@ -1,12 +1,11 @@
 //! A node's answers that leave it unchanged.
-ghost use Rattle.std.specs.Prelude.{◌≡◌, length, IfOk};
-ghost use Rattle.wf_edge.specs.Page.{service_page, IsServiceGiven, status_page, accepted_page, bad_map_page};
-ghost use Rattle.wf_wms.specs.Answer.{IsAnswerOf};
-ghost use Rattle.wf_wms.specs.Kept.{AllKept};
+ghost use Rattle.std.specs.Prelude.{◌≡◌, IfOk};
+ghost use Rattle.wf_edge.specs.Page.{IsLastAnswer, service_page, IsServiceGiven, status_page, accepted_page, bad_map_page};
+ghost use Rattle.wf_wms.specs.KeptPictures.{AllKept};
 
-use crate::line::{accepted_line, fault_line, status_line};
 use crate::notice::Notice;
 use crate::page::Page;
+use crate::text_line::{accepted_line, fault_line, status_line};
 use http::StatusCode;
 use std::alloc::{AllocError, Global};
 use wf_ballot::Seq;
@@ -19,7 +18,7 @@ use wf_wms::service::{answer, answer_cached};
 
 // The map service's answer to a query, at the last published sequence.
 fn answer_at<T: Tape>(alloc: Global, node: &Node<T>, query: &[u8]) -> Result<Answer, AllocError>
-    ensures { IfOk result (λ answer. IsAnswerOf (length node.now.parts.history) node.now.parts.history query.now answer) }
+    ensures { IfOk result (IsLastAnswer node.now.parts.history query.now) }
 {
     let history = node.history();
     answer(alloc, history.published().number(), history, query)
@@ -33,7 +32,7 @@ fn answer_by<T: Tape>(
     query: &[u8],
 ) -> Result<Answer, AllocError>
     requires { AllKept node.now.parts.history cache.old }
-    ensures answer { IfOk result (λ answer. IsAnswerOf (length node.now.parts.history) node.now.parts.history query.now answer) }
+    ensures answer { IfOk result (IsLastAnswer node.now.parts.history query.now) }
     ensures kept { AllKept node.now.parts.history cache.new }
     ensures capacity { cache.new.cap ≡ cache.old.cap }
 {

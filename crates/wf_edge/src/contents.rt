@@ -1,6 +1,6 @@
 //! The contents of a page.
 
-use crate::line::Line;
+use crate::text_line::TextLine;
 
 /// The bytes of a page.
 #[derive(Drop)]
@@ -8,5 +8,5 @@ pub enum Contents {
     /// An answer of the map service.
     Bytes(Vec<u8>),
     /// A line of the node's own, stored inline.
-    Line(Line),
+    TextLine(TextLine),
 }

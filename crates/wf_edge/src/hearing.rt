@@ -22,14 +22,18 @@ pub fn hear<S: Source, K: Sink>(
     sink: &mut K,
 ) -> Result<Request, Outcome>
     ensures asks { IfOk result (λ request. judged request.head ≡ Ok request.asked) }
-    ensures ok { IfOk result (λ request. IfSome (S.left source.old) (λ input. BeginsWith input request)) }
+    ensures ok { IfOk result
+        (λ request. IfSome (S.left source.old) (λ input. BeginsWith input request)) }
     ensures quiet { OnOk result (sink.new ≡ sink.old) }
-    ensures err { IfErr result (IsUnheard (S.left source.old) (K.written sink.old) (K.written sink.new)) }
+    ensures err { IfErr result
+        (IsUnheard (S.left source.old) (K.written sink.old) (K.written sink.new)) }
     ensures takes { TakesRequest (S.piece source.old) (S.left source.old) (S.left source.new) }
     ensures heard { OnOk result (S.failures source.new ≡ S.failures source.old) }
-    ensures reads { IfErr result (λ said. CountsHearing said (S.failures source.old) (S.failures source.new)) }
-    ensures writes { IfErr result (λ said. CountsSaying said (K.failures sink.old) (K.failures sink.new)) }
-    ensures last { IfErr result (EndsUnheard K.written K.failures K.fails (S.left source.old) sink.old sink.new) }
+    ensures reads { IfErr result
+        (λ said. CountsHearing said (S.failures source.old) (S.failures source.new)) }
+    ensures writes { IfErr result
+        (λ said. CountsSaying said (K.failures sink.old) (K.failures sink.new)) }
+    ensures last { IfErr result (EndsUnheard K.Sink (S.left source.old) sink.old sink.new) }
 {
     match Request::read(alloc, source) {
         Ok(request) => Ok(request),

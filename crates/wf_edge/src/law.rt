@@ -23,7 +23,7 @@ pub fn each_query_has_one_page()
 /// Two nodes, or one node at two times, respond to the same request to the map service with the same bytes, wherever the map that
 /// it asks for is the same or they reject it alike, and neither responds with allocation failure. A theorem: the call does nothing.
 pub fn equal_requests_have_equal_responses<T: Tape>()
-    ensures { EqualRequestsHaveEqualResponses Global T.honest T.content T.images T.failed }
+    ensures { EqualRequestsHaveEqualResponses Global T.Tape }
 {
     each_query_has_one_page();
 }
@@ -32,5 +32,5 @@ pub fn equal_requests_have_equal_responses<T: Tape>()
 /// least one byte isn't read yet; one whose body is UTF-8 within the limit of a mapfile; and one whose step fails. A theorem: the
 /// call does nothing.
 pub fn only_these_are_unavailable<T: Tape>()
-    ensures { OnlyTheseAreUnavailable Global T.honest T.content T.images T.failed }
+    ensures { OnlyTheseAreUnavailable Global T.Tape }
 {}

@@ -1,11 +1,12 @@
 //! A node's responses with a body of their own.
-ghost use Rattle.std.specs.Prelude.{◌≡◌, None};
+ghost use Rattle.std.specs.Prelude.{◌≡◌};
 ghost use Rattle.wf_edge.specs.Contents.{bytes_of};
 ghost use Rattle.wf_edge.specs.Notice.{plain};
+ghost use Rattle.wf_edge.specs.Page.{page_of};
 
 use crate::contents::Contents;
-use crate::line::Line;
 use crate::telling::PLAIN;
+use crate::text_line::TextLine;
 use http::StatusCode;
 use std::marker::Model;
 use wf_http::response::Response;
@@ -33,14 +34,14 @@ fn slice(contents: &Contents) -> &[u8]
 {
     match contents {
         Contents::Bytes(bytes) => bytes,
-        Contents::Line(line) => line.as_slice(),
+        Contents::TextLine(line) => line.as_slice(),
     }
 }
 
 impl Page {
     /// A page with a status, and a body of a media type.
     pub(crate) fn new(status: StatusCode, media: &'static str, body: Vec<u8>) -> Self
-        ensures { result ≡ record { status = status; media = media.now; allowed = None; body = body.items } }
+        ensures { result ≡ page_of status media.now body.items }
     {
         Page {
             status,
@@ -50,13 +51,13 @@ impl Page {
     }
 
     /// A page of one line of plain text. Allocates nothing.
-    pub(crate) fn of_line(status: StatusCode, line: Line) -> Self
-        ensures { result ≡ record { status = status; media = plain; allowed = None; body = line.bytes.items } }
+    pub(crate) fn of_line(status: StatusCode, line: TextLine) -> Self
+        ensures { result ≡ page_of status plain line.bytes.items }
     {
         Page {
             status,
             media: PLAIN,
-            body: Contents::Line(line),
+            body: Contents::TextLine(line),
         }
     }
 

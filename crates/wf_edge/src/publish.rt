@@ -85,7 +85,7 @@ fn propose<T: Tape>(
     node: &mut Node<T>,
     canon: Canon,
 ) -> Result<Vec<Message>, NodeFault>
-    ensures { IsProposed T.honest T.content T.images T.failed node.old canon result node.new }
+    ensures { IsProposed T.Tape node.old canon result node.new }
 {
     node.step(alloc, Input::Propose(canon))
 }
@@ -99,7 +99,7 @@ fn publish_map<T: Tape>(
     canon: Canon,
 ) -> Result<(Page, Vec<Message>), PublishFault>
     requires { IsMapOf body.now canon }
-    ensures { IsPublished T.honest T.content T.images T.failed body.now node.old result node.new }
+    ensures { IsPublished T.Tape body.now node.old result node.new }
 {
     let page = accept(node.published());
     match propose(alloc, node, canon) {
@@ -118,7 +118,7 @@ pub(crate) fn publish<T: Tape>(
     node: &mut Node<T>,
     body: &[u8],
 ) -> Result<(Page, Vec<Message>), PublishFault>
-    ensures { IsPublished T.honest T.content T.images T.failed body.now node.old result node.new }
+    ensures { IsPublished T.Tape body.now node.old result node.new }
 {
     match canon_in(alloc, body) {
         Ok(canon) => publish_map(alloc, node, body, canon),

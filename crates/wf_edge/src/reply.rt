@@ -1,7 +1,7 @@
 //! The reply to a request.
 ghost use Rattle.std.specs.Prelude.{◌≡◌};
 ghost use Rattle.wf_edge.specs.Serving.{GivesPublish, GivesTo};
-ghost use Rattle.wf_wms.specs.Kept.{AllKept};
+ghost use Rattle.wf_wms.specs.KeptPictures.{AllKept};
 
 use crate::answering::{answer_query, answer_query_by, tell_status};
 use crate::notice::Notice;
@@ -25,7 +25,7 @@ pub(crate) struct Reply {
 // The reply to a publish.
 #[tactic(auto, using(crate::proofs::ServingLaw::gives_published))]
 fn reply_to_publish<T: Tape>(alloc: Global, node: &mut Node<T>, body: &[u8]) -> Reply
-    ensures { GivesPublish T.honest T.content T.images T.failed body.now node.old result.answer result.messages node.new }
+    ensures { GivesPublish T.Tape body.now node.old result.answer result.messages node.new }
 {
     match publish(alloc, node, body) {
         Ok((page, messages)) => Reply {
@@ -46,7 +46,7 @@ pub(crate) fn reply_to<T: Tape>(
     asked: Asked,
     request: &Request,
 ) -> Reply
-    ensures { GivesTo T.honest T.content T.images T.failed asked request.now node.old result.answer result.messages node.new }
+    ensures { GivesTo T.Tape asked request.now node.old result.answer result.messages node.new }
 {
     match asked {
         Asked::Wms => Reply {
@@ -70,7 +70,8 @@ pub(crate) fn reply_by<T: Tape>(
     request: &Request,
 ) -> Reply
     requires { AllKept node.old.parts.history cache.old }
-    ensures gives { GivesTo T.honest T.content T.images T.failed asked request.now node.old result.answer result.messages node.new }
+    ensures gives { GivesTo T.Tape asked request.now
+        node.old result.answer result.messages node.new }
     ensures kept { AllKept node.old.parts.history cache.new }
     ensures capacity { cache.new.cap ≡ cache.old.cap }
 {

@@ -14,7 +14,7 @@ use wf_stream::Sink;
 pub fn say<K: Sink>(sink: &mut K, response: &Response<'_>) -> Outcome
     ensures said { IsSaid response.now (K.written sink.old) (K.written sink.new) result }
     ensures writes { CountsSaying result (K.failures sink.old) (K.failures sink.new) }
-    ensures last { IsEnded K.written K.failures K.fails response.now sink.old sink.new result }
+    ensures last { IsEnded K.Sink response.now sink.old sink.new result }
 {
     match response.write(sink) {
         Ok(count) => Outcome::Sent(response.status(), count),
@@ -28,7 +28,7 @@ pub fn say<K: Sink>(sink: &mut K, response: &Response<'_>) -> Outcome
 pub fn say_fault<K: Sink>(sink: &mut K, fault: RequestFault) -> Outcome
     ensures said { IsFaultSaid fault (K.written sink.old) (K.written sink.new) result }
     ensures writes { CountsSaying result (K.failures sink.old) (K.failures sink.new) }
-    ensures last { IsFaultEnded K.written K.failures K.fails fault sink.old sink.new result }
+    ensures last { IsFaultEnded K.Sink fault sink.old sink.new result }
 {
     match fault {
         RequestFault::NoRequest => Outcome::NoRequest,

@@ -1,12 +1,12 @@
 //! Serving one request.
 ghost use Rattle.std.specs.Prelude.{◌≡◌};
-ghost use Rattle.wf_edge.specs.Ending.{IsEnded};
+ghost use Rattle.wf_edge.specs.Ending.{Says};
 ghost use Rattle.wf_edge.specs.Hearing.{CountsHearing};
 ghost use Rattle.wf_edge.specs.Notice.{response_of};
 ghost use Rattle.wf_http.specs.Request.{TakesRequest};
-ghost use Rattle.wf_edge.specs.Saying.{IsSaid, CountsSaying};
-ghost use Rattle.wf_edge.specs.Serving.{EndsServed, IsEnding, IsOutcome, IsServed, MovesOnce};
-ghost use Rattle.wf_wms.specs.Kept.{AllKept};
+ghost use Rattle.wf_edge.specs.Saying.{CountsSaying};
+ghost use Rattle.wf_edge.specs.Serving.{IsEnding, IsOutcome, IsServed, MovesOnce};
+ghost use Rattle.wf_wms.specs.KeptPictures.{AllKept};
 
 use crate::hearing::hear;
 use crate::notice::Notice;
@@ -34,9 +34,7 @@ pub struct Served {
 
 // Writes a page, or the notice in its place.
 fn say_answer<K: Sink>(sink: &mut K, answer: &Result<Page, Notice>) -> Outcome
-    ensures said { IsSaid (response_of answer.now) (K.written sink.old) (K.written sink.new) result }
-    ensures writes { CountsSaying result (K.failures sink.old) (K.failures sink.new) }
-    ensures last { IsEnded K.written K.failures K.fails (response_of answer.now) sink.old sink.new result }
+    ensures { Says K.Sink (response_of answer.now) sink.old sink.new result }
 {
     match answer {
         Ok(page) => say(sink, &page.response()),
@@ -45,16 +43,15 @@ fn say_answer<K: Sink>(sink: &mut K, answer: &Result<Page, Notice>) -> Outcome
 }
 
 // Answers a request and writes the response. The messages are returned whether or not the write succeeds.
-#[tactic(auto, using(crate::proofs::ServingLaw::request_served, crate::proofs::EndingLaw::request_ended))]
+#[tactic(auto, using(crate::proofs::ServingLaw::request_served))]
 fn serve_request<K: Sink, T: Tape>(
     alloc: Global,
     sink: &mut K,
     node: &mut Node<T>,
     request: &Request,
 ) -> Served
-    ensures served { IsServed T.honest T.content T.images T.failed request.now (K.written sink.old) (K.written sink.new) node.old result.messages node.new result.outcome }
-    ensures writes { CountsSaying result.outcome (K.failures sink.old) (K.failures sink.new) }
-    ensures last { EndsServed T.honest T.content T.images T.failed K.written K.failures K.fails request.now sink.old sink.new node.old result.messages node.new result.outcome }
+    ensures { IsServed T.Tape K.Sink request.now sink.old sink.new
+        node.old result.messages node.new result.outcome }
 {
     let Reply { answer, messages } = reply_to(alloc, node, request.asked(), request);
     let outcome = say_answer(sink, &answer);
@@ -68,19 +65,21 @@ fn serve_request<K: Sink, T: Tape>(
 /// checks pass, its body is a map with a canonical text, and no allocation fails before the step; the step's messages are returned
 /// whether or not the write succeeds. Any other request leaves the node unchanged. Allocation failure is answered with 503;
 /// nothing is allocated after the step of a publish.
-#[tactic(auto, using(crate::proofs::ServingLaw::served_outcome, crate::proofs::ServingLaw::unheard_outcome, crate::proofs::ServingLaw::served_reads, crate::proofs::ServingLaw::unheard_moves, crate::proofs::EndingLaw::served_ending, crate::proofs::EndingLaw::unheard_ending))]
+#[tactic(auto, using(crate::proofs::ServingLaw::unheard_outcome, crate::proofs::ServingLaw::unheard_moves, crate::proofs::EndingLaw::unheard_ending))]
 pub fn serve_one<S: Source, K: Sink, T: Tape>(
     alloc: Global,
     source: &mut S,
     sink: &mut K,
     node: &mut Node<T>,
 ) -> Served
-    ensures outcome { IsOutcome T.honest T.content T.images T.failed (S.left source.old) (K.written sink.old) (K.written sink.new) node.old result.messages node.new result.outcome }
-    ensures moves { MovesOnce T.honest T.content T.images T.failed node.old result.messages node.new }
+    ensures outcome { IsOutcome T.Tape (S.left source.old) (K.written sink.old) (K.written sink.new)
+        node.old result.messages node.new result.outcome }
+    ensures moves { MovesOnce T.Tape node.old result.messages node.new }
     ensures takes { TakesRequest (S.piece source.old) (S.left source.old) (S.left source.new) }
     ensures reads { CountsHearing result.outcome (S.failures source.old) (S.failures source.new) }
     ensures writes { CountsSaying result.outcome (K.failures sink.old) (K.failures sink.new) }
-    ensures last { IsEnding T.honest T.content T.images T.failed K.written K.failures K.fails (S.left source.old) sink.old sink.new node.old result.messages node.new result.outcome }
+    ensures last { IsEnding T.Tape K.Sink (S.left source.old) sink.old sink.new
+        node.old result.messages node.new result.outcome }
 {
     match hear(alloc, source, sink) {
         Ok(request) => {
@@ -96,7 +95,7 @@ pub fn serve_one<S: Source, K: Sink, T: Tape>(
 }
 
 // Answers a request with a cache of pictures of the node's maps, and writes the response.
-#[tactic(auto, using(crate::proofs::ServingLaw::request_served, crate::proofs::EndingLaw::request_ended))]
+#[tactic(auto, using(crate::proofs::ServingLaw::request_served))]
 fn serve_request_by<K: Sink, T: Tape>(
     alloc: Global,
     sink: &mut K,
@@ -105,9 +104,8 @@ fn serve_request_by<K: Sink, T: Tape>(
     request: &Request,
 ) -> Served
     requires { AllKept node.old.parts.history cache.old }
-    ensures served { IsServed T.honest T.content T.images T.failed request.now (K.written sink.old) (K.written sink.new) node.old result.messages node.new result.outcome }
-    ensures writes { CountsSaying result.outcome (K.failures sink.old) (K.failures sink.new) }
-    ensures last { EndsServed T.honest T.content T.images T.failed K.written K.failures K.fails request.now sink.old sink.new node.old result.messages node.new result.outcome }
+    ensures served { IsServed T.Tape K.Sink request.now sink.old sink.new
+        node.old result.messages node.new result.outcome }
     ensures kept { AllKept node.old.parts.history cache.new }
     ensures capacity { cache.new.cap ≡ cache.old.cap }
 {
@@ -122,7 +120,7 @@ fn serve_request_by<K: Sink, T: Tape>(
 
 /// The same as [`serve_one`], with a cache of pictures of the node's maps, which stays valid: a publish only adds to the node's
 /// history.
-#[tactic(auto, using(crate::proofs::ServingLaw::served_outcome, crate::proofs::ServingLaw::unheard_outcome, crate::proofs::ServingLaw::served_reads, crate::proofs::ServingLaw::unheard_moves, crate::proofs::EndingLaw::served_ending, crate::proofs::EndingLaw::unheard_ending))]
+#[tactic(auto, using(crate::proofs::ServingLaw::unheard_outcome, crate::proofs::ServingLaw::unheard_moves, crate::proofs::EndingLaw::unheard_ending))]
 pub fn serve_one_cached<S: Source, K: Sink, T: Tape>(
     alloc: Global,
     source: &mut S,
@@ -131,12 +129,14 @@ pub fn serve_one_cached<S: Source, K: Sink, T: Tape>(
     cache: &mut Cache,
 ) -> Served
     requires { AllKept node.old.parts.history cache.old }
-    ensures outcome { IsOutcome T.honest T.content T.images T.failed (S.left source.old) (K.written sink.old) (K.written sink.new) node.old result.messages node.new result.outcome }
-    ensures moves { MovesOnce T.honest T.content T.images T.failed node.old result.messages node.new }
+    ensures outcome { IsOutcome T.Tape (S.left source.old) (K.written sink.old) (K.written sink.new)
+        node.old result.messages node.new result.outcome }
+    ensures moves { MovesOnce T.Tape node.old result.messages node.new }
     ensures takes { TakesRequest (S.piece source.old) (S.left source.old) (S.left source.new) }
     ensures reads { CountsHearing result.outcome (S.failures source.old) (S.failures source.new) }
     ensures writes { CountsSaying result.outcome (K.failures sink.old) (K.failures sink.new) }
-    ensures last { IsEnding T.honest T.content T.images T.failed K.written K.failures K.fails (S.left source.old) sink.old sink.new node.old result.messages node.new result.outcome }
+    ensures last { IsEnding T.Tape K.Sink (S.left source.old) sink.old sink.new
+        node.old result.messages node.new result.outcome }
     ensures kept { AllKept node.new.parts.history cache.new }
     ensures capacity { cache.new.cap ≡ cache.old.cap }
 {

@@ -11,7 +11,7 @@ use Rattle.wf_model.specs.Table.{Action, Input, refusal}
 use Rattle.wf_model.specs.World as world
 use Rattle.wf_model.specs.World.{World, Event, input_of, refusal_of, turn_of, steps}
 use Rattle.wf_node.specs.Node.{Node, stored_of, working_of}
-use Rattle.wf_tape.specs.MemoryTape.{Kept}
+use Rattle.wf_tape.specs.MemoryTape.{TapeValue}
 use Rattle.wf_farm.specs.declared.event.Event as declared
 use Rattle.wf_farm.specs.declared.place.Place.{Place}
 use Rattle.wf_farm.specs.declared.place.Place.TheVariants.{Running, Stopped}
@@ -27,7 +27,7 @@ use Rattle.wf_farm.proofs.Turns.{running_refusal, turn_goes, turn_is}
 -- ---- a step that is taken
 
 -- A running node takes a step that the table doesn't reject.
-runs_free : (node : Node Kept) (x : world.Node Definition) (n i : ℕ) (input : Input Definition) → IsNode (Running node) x → refusal_of (Some x) (Some input) ≡ None →
+runs_free : (node : Node TapeValue) (x : world.Node Definition) (n i : ℕ) (input : Input Definition) → IsNode (Running node) x → refusal_of (Some x) (Some input) ≡ None →
     is_some (turn_of definition_eq n i (Some x) (Some input)) ≡ true
 runs_free node x n i input is free =
     let goes : refusal (stored_of node) (working_of node) input ≡ None =
@@ -60,21 +60,9 @@ module _ (places : List Place) (sent : List Message) (i : ℕ) (action : Action 
 -- ---- an event that may allocate
 
 module _ (places : List Place) (sent : List Message) (i : ℕ) where
-  pub proposal_may : (d : Definition) → TakesStep i (table.Propose d) places sent → MayAllocate (world.Propose i d) places sent
+  pub step_may : (action : Action Definition ℕ) → TakesStep i action places sent → MayAllocate (world.Act i action) places sent
   unfolding TakesStep MayAllocate may_allocate
-  proposal_may d taken = taken
-
-  pub retry_may : TakesStep i table.Retry places sent → MayAllocate (world.Retry i) places sent
-  unfolding TakesStep MayAllocate may_allocate
-  retry_may taken = taken
-
-  pub question_may : TakesStep i table.CatchUp places sent → MayAllocate (world.CatchUp i) places sent
-  unfolding TakesStep MayAllocate may_allocate
-  question_may taken = taken
-
-  pub delivery_may : (k : ℕ) → TakesStep i (table.Deliver k) places sent → MayAllocate (world.Deliver i k) places sent
-  unfolding TakesStep MayAllocate may_allocate
-  delivery_may k taken = taken
+  step_may action taken = taken
 
   pub torn_may : (action : Action Definition ℕ) → TakesStep i action places sent → MayAllocate (world.Torn i action world.After) places sent
   unfolding TakesStep MayAllocate may_allocate
@@ -88,7 +76,7 @@ module _ (places : List Place) (sent : List Message) (i : ℕ) where
       let there = node_at places w.nodes i (Stopped tape) shows.nodes at in
       ap is_stopped there.1 ∙ ap is_none there.2.0
 
-pub stopped_there : (place : Place) (tape : Kept) → place ≡ Stopped tape → IsStopped place
+pub stopped_there : (place : Place) (tape : TapeValue) → place ≡ Stopped tape → IsStopped place
 stopped_there place tape is = subst IsStopped (sym is) tt
 
 pub err_map : {A E P Q : Type 0} (result : Result A E) → (P → Q) → OnErr result P → OnErr result Q

@@ -5,7 +5,7 @@ use Rattle.wf_def.specs.Definition.{Definition}
 use Rattle.wf_learner.specs.History.{map_at}
 use Rattle.wf_model.specs.Stored.{definition_at}
 use Rattle.wf_node.specs.Node.{Node, stored_of}
-use Rattle.wf_tape.specs.MemoryTape.{Kept}
+use Rattle.wf_tape.specs.MemoryTape.{TapeValue}
 use Rattle.wf_wms.specs.Answer.{AnswerValue, AskedMapsAreAnsweredAlike, EachQueryHasOneAnswer, IsAnswerOf, subject}
 use Rattle.wf_farm.specs.declared.fault.FarmFault.TheVariants.{Memory, NoNode}
 use Rattle.wf_farm.specs.declared.place.Place.{Place}
@@ -18,25 +18,25 @@ use Rattle.wf_farm.specs.Leading.{HaveOneAnswer, HaveOneHistory, HaveOneMapAnswe
 -- ---- an answer and an error
 
 -- The running node answered, from as many definitions as its list has.
-pub answered : (farm : Farm) (i s : ℕ) (node : Node Kept) (history : List Definition) (query : List ℕ) (answer : AnswerValue) → Some node ≡ running_in (slice_get farm.places i) →
+pub answered : (farm : Farm) (i s : ℕ) (node : Node TapeValue) (history : List Definition) (query : List ℕ) (answer : AnswerValue) → Some node ≡ running_in (slice_get farm.places i) →
     history ≡ node.parts.history → s ≡ length history → IsAnswerOf s history query answer → Answers farm i (sequence_at farm i) query answer
 answered farm i s node history query answer runs same long is =
     let stands : s ≡ length node.parts.history = long ∙ ap (λ (h : List Definition). length h) same in
     subst (λ t. Answers farm i t query answer) (stands ∙ ap sequence_in runs)
     (record { node = node; runs = sym runs; stands = sym stands; is_answer = subst (λ h. IsAnswerOf s h query answer) same is })
 
-pub none_runs : (there : Option (Node Kept)) → None ≡ there → IsNoAnswer there NoNode
+pub none_runs : (there : Option (Node TapeValue)) → None ≡ there → IsNoAnswer there NoNode
 none_runs there none = subst (λ t. IsNoAnswer t NoNode) none refl
 
-pub memory_wanted : (there : Option (Node Kept)) (node : Node Kept) → Some node ≡ there → IsNoAnswer there (Memory 0)
+pub memory_wanted : (there : Option (Node TapeValue)) (node : Node TapeValue) → Some node ≡ there → IsNoAnswer there (Memory 0)
 memory_wanted there node runs = subst (λ t. IsNoAnswer t (Memory 0)) runs refl
 
 -- ---- one answer
 
 -- the stored part of a running node is the one it shows
-running_stored : (there : Option Place) (node : Node Kept) → running_in there ≡ Some node → HasStored there (stored_of node)
+running_stored : (there : Option Place) (node : Node TapeValue) → running_in there ≡ Some node → HasStored there (stored_of node)
 running_stored None node runs = absurd (none-some node runs)
-running_stored (Some (Running held)) node runs = ap (λ (x : Node Kept). stored_of x) (sym (same_Some held node runs))
+running_stored (Some (Running held)) node runs = ap (λ (x : Node TapeValue). stored_of x) (sym (same_Some held node runs))
 running_stored (Some (Stopped tape)) node runs = absurd (none-some node runs)
 
 -- the maps that two lists have at a sequence are equal, if their entries are
@@ -47,7 +47,7 @@ one_map_of history other agree zero map another here there = same_Some map anoth
 one_map_of history other agree (suc k) map another here there = agree (suc k) map another here there
 
 -- what two nodes published under one sequence is one definition
-one_entry : (farm : Farm) (i j k : ℕ) (node other : Node Kept) (map another : Definition) → HasOneHistory farm →
+one_entry : (farm : Farm) (i j k : ℕ) (node other : Node TapeValue) (map another : Definition) → HasOneHistory farm →
     running_in (slice_get farm.places i) ≡ Some node → running_in (slice_get farm.places j) ≡ Some other →
     definition_at node.parts.history k ≡ Some map → definition_at other.parts.history k ≡ Some another → map ≡ another
 unfolding HasOneHistory
@@ -72,7 +72,7 @@ one_of law history other agree s query answer another is is_other =
     law s history other query answer another (here.1 ∙ ap (λ m. Some m) same ∙ sym there.1) is is_other
 
 -- one answer at the sequence s, of two nodes' lists
-one_at : EachQueryHasOneAnswer → (farm : Farm) → HasOneHistory farm → (i j s : ℕ) (node other : Node Kept) (query : List ℕ) (answer another : AnswerValue) →
+one_at : EachQueryHasOneAnswer → (farm : Farm) → HasOneHistory farm → (i j s : ℕ) (node other : Node TapeValue) (query : List ℕ) (answer another : AnswerValue) →
     running_in (slice_get farm.places i) ≡ Some node → running_in (slice_get farm.places j) ≡ Some other →
     IsAnswerOf s node.parts.history query answer → IsAnswerOf s other.parts.history query another → another ≡ answer
 one_at law farm one i j s node other query answer another runs also is is_other =

@@ -5,7 +5,8 @@ use Rattle.wf_codec.specs.declared.message.Message.{Message}
 use Rattle.wf_def.specs.Definition.{Definition}
 use Rattle.wf_model.specs.Table as table
 use Rattle.wf_model.specs.Table.{Action}
-use Rattle.wf_model.specs.World.{Event, Deliver, happens, steps}
+use Rattle.wf_model.specs.World.{Event, deliver, happens, steps}
+use Rattle.wf_farm.specs.declared.rejection.Rejection.{Rejection}
 use Rattle.wf_farm.specs.declared.carrier.CarrierFault.{CarrierFault}
 use Rattle.wf_farm.specs.declared.carrier.CarrierFault.TheVariants as carrier
 use Rattle.wf_farm.specs.declared.fault.FarmFault.{FarmFault}
@@ -43,7 +44,7 @@ pump_for_memory p end result told is = subst (λ r. IfErr r IsMemory) (sym told)
 
 module _ (places after : List Place) (sent more : List Message) where
   -- a delivery is one event
-  pub acted_moves : (i k : ℕ) {number : Option ℕ} → IsActed i (table.Deliver k) number places sent after more → Moves (Deliver i k ∷ []) places sent after more
+  pub acted_moves : (i k : ℕ) {rejection : Option Rejection} → IsActed i (table.Deliver k) rejection places sent after more → Moves (deliver i k ∷ []) places sent after more
   unfolding Moves steps happens
   acted_moves i k acted = acted.leads
 
@@ -53,9 +54,9 @@ module _ (places after : List Place) (sent more : List Message) where
   stays_moves stays = stays
 
   -- one event or none, by the result
-  pub moves_some : (i k : ℕ) (result : Result (Option ℕ) CarrierFault) → IfOk result (λ number. IsActed i (table.Deliver k) number places sent after more) → OnErr result (StayShown places sent after more) →
+  pub moves_some : (i k : ℕ) (result : Result (Option Rejection) CarrierFault) → IfOk result (λ rejection. IsActed i (table.Deliver k) rejection places sent after more) → OnErr result (StayShown places sent after more) →
       (events : List (Event Definition)) × Moves events places sent after more
-  moves_some i k (Ok number) acted stays = (Deliver i k ∷ [], acted_moves i k acted)
+  moves_some i k (Ok rejection) acted stays = (deliver i k ∷ [], acted_moves i k acted)
   moves_some i k (Err fault) acted stays = ([], stays_moves stays)
 
 module _ {C : Type 0} (i : ℕ) (action : Action Definition ℕ) (places : List Place) (sent : List Message) where

@@ -9,13 +9,13 @@ use Rattle.wf_model.specs.Stored.{Stored, Record, fold}
 use Rattle.wf_node.specs.Images.{ReadsOn, ReadsWith}
 use Rattle.wf_node.specs.Opening.{IsFoldOf}
 use Rattle.wf_journal.specs.Journal.{Follows, IsSettled, ReadsSame}
-use Rattle.wf_tape.specs.MemoryTape.{Kept, IsImageOf}
+use Rattle.wf_tape.specs.MemoryTape.{TapeValue, IsImageOf}
 use Rattle.wf_journal.specs.Records.{AreReadOneWay, AreRecords, BeginsWithNone, ReadsAs, Splits, length_of}
 use Rattle.wf_journal.specs.Spelling.{spelling, text_spelling}
 use Rattle.wf_journal.specs.SpellingLaws.{length_of_encoding}
 use Rattle.wf_tape.specs.Tape.{IsBeginning}
-use Rattle.wf_farm.specs.declared.event.Kept.TheVariants as declared
-use Rattle.wf_farm.specs.Event.{view_kept}
+use Rattle.wf_model.specs.declared.kept.Kept.TheVariants as declared
+use Rattle.wf_model.specs.Kept.{view as view_kept}
 use Rattle.wf_farm.specs.Fused.{IsCutTape, kept_beyond, stored_by}
 use Rattle.wf_farm.proofs.Steps.{begins_taken}
 
@@ -54,14 +54,14 @@ same_both a b a_begins b_begins =
     sym (a_begins.1 ∙ ap (λ (t : List ℕ). a ++ t) none ∙ append-nil a)
 
 -- What a crash leaves is an image of the tape.
-crash_is_image : (left : Kept) (keep : ℕ) → IsImageOf left (take (left.synced + keep) left.bytes)
+crash_is_image : (left : TapeValue) (keep : ℕ) → IsImageOf left (take (left.synced + keep) left.bytes)
 crash_is_image left keep = (
   begins_taken (left.synced + keep) left.bytes,
   subst (λ (t : List ℕ). IsBeginning t (take (left.synced + keep) left.bytes)) (take-take left.synced (left.synced + keep) left.bytes (omega arith)) (begins_taken left.synced (take (left.synced + keep) left.bytes)),
 )
 
 -- All bytes are synced: they are the only image.
-only_image : (kept : Kept) → kept.synced ≡ length kept.bytes → (image : List ℕ) → IsImageOf kept image → image ≡ kept.bytes
+only_image : (kept : TapeValue) → kept.synced ≡ length kept.bytes → (image : List ℕ) → IsImageOf kept image → image ≡ kept.bytes
 only_image kept all image is =
     let whole : take kept.synced kept.bytes ≡ kept.bytes = take_all kept.synced kept.bytes (omega (arith, all)) in
     same_both image kept.bytes is.0 (subst (λ (t : List ℕ). IsBeginning t image) whole is.1)
@@ -97,7 +97,7 @@ module _ (one : AreReadOneWay) (long : ℕ) (r : Record Definition) (before afte
       is ∙ sym (ap (λ (b : Bool). stored_by (view_kept (if b then declared.After else declared.Before)) before after) tells)
 
 -- The node that is opened after a crash has stored what its tape's length tells.
-pub cut_opened : AreReadOneWay → (long keep : ℕ) (entry : Option (Record Definition)) (before after stored : Stored Definition) (left crashed now : Kept) → crashed.bytes ≡ take (left.synced + keep) left.bytes →
+pub cut_opened : AreReadOneWay → (long keep : ℕ) (entry : Option (Record Definition)) (before after stored : Stored Definition) (left crashed now : TapeValue) → crashed.bytes ≡ take (left.synced + keep) left.bytes →
     crashed.synced ≡ length crashed.bytes → IsFoldOf stored crashed.bytes → Follows ReadsSame (IsImageOf crashed) (IsImageOf now) → IsSettled now.bytes (IsImageOf now) →
     IsCutTape long entry before after left → stored ≡ stored_by (view_kept (kept_beyond long (length now.bytes))) before after
 cut_opened one long keep None before after stored left crashed now taken all fold_of follows settled cut = absurd cut.cut

@@ -16,7 +16,7 @@ use Rattle.wf_model.specs.Working.{Working}
 use Rattle.wf_model.specs.Table as table
 use Rattle.wf_model.specs.Table.{Action, Input, Refusal, most_told, store}
 use Rattle.wf_model.specs.World as world
-use Rattle.wf_model.specs.World.{World, Event, Turn, Deliver, Torn, Before, After, Kept, input_of, turn_of, turn, stored_after, kept_part, after_turn, after_torn, happens, steps}
+use Rattle.wf_model.specs.World.{World, Event, Turn, deliver, Torn, Before, After, Kept, input_of, turn_of, turn, stored_after, kept_part, after_turn, after_torn, happens, steps}
 use Rattle.wf_node.specs.Fault as fault
 use Rattle.wf_node.specs.Growth.{IsGrown, grown_itself, row_grown, same_grown}
 use Rattle.wf_node.specs.Images.{EachStandsFor}
@@ -43,6 +43,7 @@ use Rattle.wf_farm.proofs.Counting.{done_on}
 use Rattle.wf_farm.proofs.Events.{sent_message}
 use Rattle.wf_farm.proofs.Runs.{steps_more}
 use Rattle.wf_farm.proofs.Turns.{turn_goes, turn_is, turn_sets, torn_sets}
+use Rattle.wf_tape.specs.declared.tape.Tape.{Ghosts as Tape}
 
 -- ---- what a node does with an input
 
@@ -85,17 +86,17 @@ halt_told false why (Some fault_case.TapeFailed) halts runs = refl
 halt_told false why (Some fault_case.Nothing) halts runs = refl
 
 -- Without an input that is lost a step is an answer.
-module _ {T : Type 0} (honest : Type 0) (content : T → List ℕ) (images : T → List ℕ → Type 0) (node after : Node T) (input : Input Definition) where
+module _ {T : Type 0} (tapes : Tape T) (node after : Node T) (input : Input Definition) where
   rejects : (f : NodeFault) (why : Refusal) → fault.refusal_of f ≡ Some why → is_memory f ≡ false → is_failure f ≡ false → node.halted ≡ false →
-      (node.halted ≡ false → fault.refusal_of f ≡ refusal_at node input) → (f ≢ fault_case.Memory → f ≢ fault_case.TapeFailed → after ≡ node) → Answers honest content images input node after []
+      (node.halted ≡ false → fault.refusal_of f ≡ refusal_at node input) → (f ≢ fault_case.Memory → f ≢ fault_case.TapeFailed → after ≡ node) → Answers tapes input node after []
   rejects f why tells memory failure runs refused unchanged =
       let other = neither f memory failure in
       giving.Rejects why runs (sym (refused runs) ∙ tells) (unchanged other.0 other.1) refl
 
-module _ {T A : Type 0} (honest : Type 0) (content : T → List ℕ) (images : T → List ℕ → Type 0) (node after : Node T) (input : Input Definition) where
+module _ {T A : Type 0} (tapes : Tape T) (node after : Node T) (input : Input Definition) where
   pub any_answered : (result : Result (Vec Message A) NodeFault) → (node.halted ≡ true → result ≡ Err fault_case.Halted) → (node.halted ≡ false → fault.refused_by result ≡ refusal_at node input) →
-      IfOk result (λ said. IsRow node (row_of node input) said.items after) → (honest → OnOk result (content after.tape ≡ content node.tape ++ bytes_of (row_of node input).entry)) →
-      IfOk result (λ said. Answers honest content images input node after said.items)
+      IfOk result (λ said. IsRow node (row_of node input) said.items after) → (tapes.honest → OnOk result (tapes.content after.tape ≡ tapes.content node.tape ++ bytes_of (row_of node input).entry)) →
+      IfOk result (λ said. Answers tapes input node after said.items)
   any_answered (Ok said) halted refused is grown =
       let runs = runs_by {A = Vec Message A} (Ok said) node.halted refl halted in
       giving.Steps runs (sym (refused runs)) is grown
@@ -105,10 +106,10 @@ module _ {T A : Type 0} (honest : Type 0) (content : T → List ℕ) (images : T
   pub any_rejected : (result : Result (Vec Message A) NodeFault) → (node.halted ≡ true → result ≡ Err fault_case.Halted) → (result ≡ Err fault_case.Halted → node.halted ≡ true) →
       (node.halted ≡ false → fault.refused_by result ≡ refusal_at node input) →
       IfErr result (λ f. f ≢ fault_case.Memory → f ≢ fault_case.TapeFailed → after ≡ node) → IfErr result (λ f. IsSameNode node after) → (result ≡ Err fault_case.Memory → after.halted ≡ false) →
-      (honest → result ≡ Err fault_case.Memory → IsUnchanged (content node.tape) (content after.tape) (images node.tape) (images after.tape)) → (result ≡ Err fault_case.TapeFailed → after.halted ≡ true) →
-      (honest → result ≡ Err fault_case.TapeFailed → IsExtended (content node.tape) (bytes_of (row_of node input).entry) (content after.tape)) →
-      (honest → result ≡ Err fault_case.TapeFailed → EachStandsFor (stored_of node) (store (stored_of node) (row_of node input).entry) (images after.tape)) →
-      IfErr result (λ f. Takes honest content images (is_memory f) input node after [])
+      (tapes.honest → result ≡ Err fault_case.Memory → IsUnchanged (tapes.content node.tape) (tapes.content after.tape) (tapes.images node.tape) (tapes.images after.tape)) → (result ≡ Err fault_case.TapeFailed → after.halted ≡ true) →
+      (tapes.honest → result ≡ Err fault_case.TapeFailed → IsExtended (tapes.content node.tape) (bytes_of (row_of node input).entry) (tapes.content after.tape)) →
+      (tapes.honest → result ≡ Err fault_case.TapeFailed → EachStandsFor (stored_of node) (store (stored_of node) (row_of node input).entry) (tapes.images after.tape)) →
+      IfErr result (λ f. Takes tapes (is_memory f) input node after [])
   any_rejected (Ok said) halted running refused unchanged same spares spared halts part torn = tt
   any_rejected (Err fault_case.Memory) halted running refused unchanged same spares spared halts part torn =
       record { runs = runs_by {A = Vec Message A} (Err fault_case.Memory) node.halted refl halted; still = spares refl; same = same; kept = λ h. (spared h refl).content; quiet = refl }
@@ -118,13 +119,13 @@ module _ {T A : Type 0} (honest : Type 0) (content : T → List ℕ) (images : T
   any_rejected (Err fault_case.Halted) halted running refused unchanged same spares spared halts part torn =
       let other = neither fault_case.Halted refl refl in giving.Halts (running refl) (unchanged other.0 other.1) refl
   any_rejected (Err fault_case.Busy) halted running refused unchanged same spares spared halts part torn =
-      rejects honest content images node after input fault_case.Busy table.Busy refl refl refl (runs_by {A = Vec Message A} (Err fault_case.Busy) node.halted refl halted) refused unchanged
+      rejects tapes node after input fault_case.Busy table.Busy refl refl refl (runs_by {A = Vec Message A} (Err fault_case.Busy) node.halted refl halted) refused unchanged
   any_rejected (Err fault_case.SequenceFull) halted running refused unchanged same spares spared halts part torn =
-      rejects honest content images node after input fault_case.SequenceFull table.SequenceFull refl refl refl (runs_by {A = Vec Message A} (Err fault_case.SequenceFull) node.halted refl halted) refused unchanged
+      rejects tapes node after input fault_case.SequenceFull table.SequenceFull refl refl refl (runs_by {A = Vec Message A} (Err fault_case.SequenceFull) node.halted refl halted) refused unchanged
   any_rejected (Err fault_case.RoundsFull) halted running refused unchanged same spares spared halts part torn =
-      rejects honest content images node after input fault_case.RoundsFull table.RoundsFull refl refl refl (runs_by {A = Vec Message A} (Err fault_case.RoundsFull) node.halted refl halted) refused unchanged
+      rejects tapes node after input fault_case.RoundsFull table.RoundsFull refl refl refl (runs_by {A = Vec Message A} (Err fault_case.RoundsFull) node.halted refl halted) refused unchanged
   any_rejected (Err fault_case.Nothing) halted running refused unchanged same spares spared halts part torn =
-      rejects honest content images node after input fault_case.Nothing table.NothingToRetry refl refl refl (runs_by {A = Vec Message A} (Err fault_case.Nothing) node.halted refl halted) refused unchanged
+      rejects tapes node after input fault_case.Nothing table.NothingToRetry refl refl refl (runs_by {A = Vec Message A} (Err fault_case.Nothing) node.halted refl halted) refused unchanged
 
 -- No step sends more than eight messages.
 module _ {T A : Type 0} (node after : Node T) (input : Input Definition) where
@@ -137,18 +138,18 @@ pub none_few : (said : List Message) → said ≡ [] → length said ≤ most_to
 none_few said quiet = let none : length said ≡ 0 = ap length quiet in omega (arith, none)
 
 -- Nothing is sent: by a halted node, and if the input is lost before the node is asked.
-module _ {T : Type 0} (honest : Type 0) (content : T → List ℕ) (images : T → List ℕ → Type 0) (input : Input Definition) (node : Node T) (said : List Message) (quiet : said ≡ []) where
-  pub halted_takes : (lost : Bool) → lost ≡ false → node.halted ≡ true → Takes honest content images lost input node node said
-  halted_takes lost is halted = subst (λ b. Takes honest content images b input node node said) (sym is) (giving.Halts halted refl quiet)
+module _ {T : Type 0} (tapes : Tape T) (input : Input Definition) (node : Node T) (said : List Message) (quiet : said ≡ []) where
+  pub halted_takes : (lost : Bool) → lost ≡ false → node.halted ≡ true → Takes tapes lost input node node said
+  halted_takes lost is halted = subst (λ b. Takes tapes b input node node said) (sym is) (giving.Halts halted refl quiet)
 
-  pub unheard_takes : (lost : Bool) → lost ≡ true → node.halted ≡ false → Takes honest content images lost input node node said
-  unheard_takes lost is runs = subst (λ b. Takes honest content images b input node node said) (sym is) (record { runs = runs; still = runs; same = refl; kept = λ h. refl; quiet = quiet })
+  pub unheard_takes : (lost : Bool) → lost ≡ true → node.halted ≡ false → Takes tapes lost input node node said
+  unheard_takes lost is runs = subst (λ b. Takes tapes b input node node said) (sym is) (record { runs = runs; still = runs; same = refl; kept = λ h. refl; quiet = quiet })
 
 -- The same result by other names.
-pub takes_as : {T : Type 0} (honest : Type 0) (content : T → List ℕ) (images : T → List ℕ → Type 0) (input : Input Definition) (node after : Node T) (lost now : Bool) (said sent : List Message) → now ≡ lost → sent ≡ said →
-    Takes honest content images lost input node after said → Takes honest content images now input node after sent
-takes_as honest content images input node after lost now said sent is same takes =
-    subst (λ b. Takes honest content images b input node after sent) (sym is) (subst (λ ms. Takes honest content images lost input node after ms) (sym same) takes)
+pub takes_as : {T : Type 0} (tapes : Tape T) (input : Input Definition) (node after : Node T) (lost now : Bool) (said sent : List Message) → now ≡ lost → sent ≡ said →
+    Takes tapes lost input node after said → Takes tapes now input node after sent
+takes_as tapes input node after lost now said sent is same takes =
+    subst (λ b. Takes tapes b input node after sent) (sym is) (subst (λ ms. Takes tapes lost input node after ms) (sym same) takes)
 
 -- ---- prefixes of published lists
 
@@ -320,20 +321,20 @@ module _ {T : Type 0} (stands : ℕ → Stored Definition → Type 0) (nodes : L
         Tears After (nothing_more quiet (torn_shown w After runs goes halts same (store_begins (stored_of node) (row_of node input).entry) later shows))
 
     -- Whatever a node does with the action's input, the world is unchanged, or acts so.
-    pub takes_acts : (honest : Type 0) (content : T → List ℕ) (images : T → List ℕ → Type 0) (said : List Message) (lost : Bool) → Takes honest content images lost input node after said →
-        (after.halted ≡ true → (honest → EachStandsFor (stored_of node) (store (stored_of node) (row_of node input).entry) (images after.tape)) → stands i (stored_of node) ⊎ stands i (store (stored_of node) (row_of node input).entry)) →
+    pub takes_acts : (tapes : Tape T) (said : List Message) (lost : Bool) → Takes tapes lost input node after said →
+        (after.halted ≡ true → (tapes.honest → EachStandsFor (stored_of node) (store (stored_of node) (row_of node input).entry) (tapes.images after.tape)) → stands i (stored_of node) ⊎ stands i (store (stored_of node) (row_of node input).entry)) →
         (w : World Definition) → Shows stands nodes sent w → IsActed stands i action w (slice_set nodes i after) (sent ++ said)
-    takes_acts honest content images said true is torn w shows =
+    takes_acts tapes said true is torn w shows =
         Stays (nothing_more is.quiet (keeps_shown w (λ x was. spared_is (stands i) node after x is.runs is.still is.same was) shows))
-    takes_acts honest content images said false (giving.Halts halted same quiet) torn w shows = unchanged_shown w said same quiet shows
-    takes_acts honest content images said false (giving.Rejects why runs refused same quiet) torn w shows = unchanged_shown w said same quiet shows
-    takes_acts honest content images said false (giving.Steps runs goes is grown) torn w shows = Acts (steps_shown w said runs goes is shows)
-    takes_acts honest content images said false (giving.Fails runs goes halts same part each quiet) torn w shows = fails_shown w said runs goes halts same quiet (torn halts each) shows
+    takes_acts tapes said false (giving.Halts halted same quiet) torn w shows = unchanged_shown w said same quiet shows
+    takes_acts tapes said false (giving.Rejects why runs refused same quiet) torn w shows = unchanged_shown w said same quiet shows
+    takes_acts tapes said false (giving.Steps runs goes is grown) torn w shows = Acts (steps_shown w said runs goes is shows)
+    takes_acts tapes said false (giving.Fails runs goes halts same part each quiet) torn w shows = fails_shown w said runs goes halts same quiet (torn halts each) shows
 
 -- ---- what is unchanged
 
-module _ {T : Type 0} (honest : Type 0) (content : T → List ℕ) (images : T → List ℕ → Type 0) (node after : Node T) (input : Input Definition) (said : List Message) where
-  pub stays_halted : (lost : Bool) → Takes honest content images lost input node after said → node.halted ≡ true → after ≡ node
+module _ {T : Type 0} (tapes : Tape T) (node after : Node T) (input : Input Definition) (said : List Message) where
+  pub stays_halted : (lost : Bool) → Takes tapes lost input node after said → node.halted ≡ true → after ≡ node
   stays_halted true is halted = absurd (both_ways node.halted is.runs halted)
   stays_halted false (giving.Halts was same quiet) halted = same
   stays_halted false (giving.Rejects why runs refused same quiet) halted = same
@@ -347,7 +348,7 @@ module _ {T : Type 0} (honest : Type 0) (content : T → List ℕ) (images : T �
   but_for_tape : IsSameNode node after → (after.id ≡ node.id) × (after.n ≡ node.n) × IsGrown node.parts.history after.parts.history
   but_for_tape same = (ap (λ (y : Node T). y.id) same, ap (λ (y : Node T). y.n) same, same_grown node after same)
 
-  pub stays_itself : (lost : Bool) → Takes honest content images lost input node after said → (after.id ≡ node.id) × (after.n ≡ node.n) × IsGrown node.parts.history after.parts.history
+  pub stays_itself : (lost : Bool) → Takes tapes lost input node after said → (after.id ≡ node.id) × (after.n ≡ node.n) × IsGrown node.parts.history after.parts.history
   stays_itself true is = but_for_tape is.same
   stays_itself false (giving.Halts halted same quiet) = by_itself same
   stays_itself false (giving.Rejects why runs refused same quiet) = by_itself same
@@ -366,10 +367,10 @@ module _ {T : Type 0} (nodes : List (Node T)) (i : ℕ) (node after : Node T) (a
   ]
 
 -- what may be left of a failed node's tape, at its index
-pub left_here : {T : Type 0} (images : T → List ℕ → Type 0) (nodes : List (Node T)) (left : ℕ → List ℕ) (i : ℕ) (node after : Node T) → slice_get nodes i ≡ Some node → MayLeave images (slice_set nodes i after) left →
-    after.halted ≡ true → images after.tape (left i)
+pub left_here : {T : Type 0} (tapes : Tape T) (nodes : List (Node T)) (left : ℕ → List ℕ) (i : ℕ) (node after : Node T) → slice_get nodes i ≡ Some node → MayLeave tapes (slice_set nodes i after) left →
+    after.halted ≡ true → tapes.images after.tape (left i)
 unfolding MayLeave
-left_here images nodes left i node after at may halts = may i after (set_there nodes i after node at) halts
+left_here tapes nodes left i node after at may halts = may i after (set_there nodes i after node at) halts
 
 -- ---- one delivery
 
@@ -378,35 +379,35 @@ delivered_one : {T : Type 0} (stands : ℕ → Stored Definition → Type 0) (i 
     Shows stands nodes sent w ⊎ ((event : Event Definition) × IsDelivery event × Shows stands nodes sent (happens definition_eq w event))
 unfolding happens
 delivered_one stands i k w nodes sent (Stays shows) = inl shows
-delivered_one stands i k w nodes sent (Acts shows) = inr (Deliver i k, tt, shows)
+delivered_one stands i k w nodes sent (Acts shows) = inr (deliver i k, tt, shows)
 delivered_one stands i k w nodes sent (Tears kept shows) = inr (Torn i (table.Deliver k) kept, tt, shows)
 
-module _ {T : Type 0} (honest : Type 0) (content : T → List ℕ) (images : T → List ℕ → Type 0) (nodes : List (Node T)) (sent : List Message) (i k : ℕ) (node after : Node T) (m : Message) (said : List Message)
+module _ {T : Type 0} (tapes : Tape T) (nodes : List (Node T)) (sent : List Message) (i k : ℕ) (node after : Node T) (m : Message) (said : List Message)
     (at : slice_get nodes i ≡ Some node) (there : slice_get sent k ≡ Some m) (turns : StandInTurn nodes) where
   abbrev heard : Input Definition
   heard = table.Deliver (message.view m)
 
-  takes_one : (stands : ℕ → Stored Definition → Type 0) (lost : Bool) → Takes honest content images lost heard node after said →
-      (after.halted ≡ true → (honest → EachStandsFor (stored_of node) (store (stored_of node) (row_of node heard).entry) (images after.tape)) → stands i (stored_of node) ⊎ stands i (store (stored_of node) (row_of node heard).entry)) →
+  takes_one : (stands : ℕ → Stored Definition → Type 0) (lost : Bool) → Takes tapes lost heard node after said →
+      (after.halted ≡ true → (tapes.honest → EachStandsFor (stored_of node) (store (stored_of node) (row_of node heard).entry) (tapes.images after.tape)) → stands i (stored_of node) ⊎ stands i (store (stored_of node) (row_of node heard).entry)) →
       TakeOne stands nodes sent (slice_set nodes i after) (sent ++ said)
   unfolding TakeOne
   takes_one stands lost takes torn = λ w shows.
       delivered_one stands i k w (slice_set nodes i after) (sent ++ said)
-      (takes_acts stands nodes sent i node after (table.Deliver k) heard at (sent_message sent k m there) turns honest content images said lost takes torn w shows)
+      (takes_acts stands nodes sent i node after (table.Deliver k) heard at (sent_message sent k m there) turns tapes said lost takes torn w shows)
 
   -- One delivery to one of the nodes.
-  pub one_delivery : (lost : Bool) → Takes honest content images lost heard node after said → IsOne honest images nodes sent (slice_set nodes i after) (sent ++ said)
+  pub one_delivery : (lost : Bool) → Takes tapes lost heard node after said → IsOne tapes nodes sent (slice_set nodes i after) (sent ++ said)
   one_delivery lost takes = record {
     any = takes_one AnyPart lost takes (λ halts each. inl tt);
-    on_tape = λ h left may. takes_one (StandFor left) lost takes (λ halts each. each h (left i) (left_here images nodes left i node after at may halts));
-    halted = keeps_halted nodes i node after at (stays_halted honest content images node after heard said lost takes);
-    turn = keeps_turn nodes i node after at (stays_itself honest content images node after heard said lost takes);
+    on_tape = λ h left may. takes_one (StandFor left) lost takes (λ halts each. each h (left i) (left_here tapes nodes left i node after at may halts));
+    halted = keeps_halted nodes i node after at (stays_halted tapes node after heard said lost takes);
+    turn = keeps_turn nodes i node after at (stays_itself tapes node after heard said lost takes);
   }
 
 -- No delivery at all.
-pub no_delivery : {T : Type 0} (honest : Type 0) (images : T → List ℕ → Type 0) (nodes : List (Node T)) (sent : List Message) → IsOne honest images nodes sent nodes sent
+pub no_delivery : {T : Type 0} (tapes : Tape T) (nodes : List (Node T)) (sent : List Message) → IsOne tapes nodes sent nodes sent
 unfolding TakeOne
-no_delivery honest images nodes sent = record {
+no_delivery tapes nodes sent = record {
   any = λ w shows. inl shows;
   on_tape = λ h left may w shows. inl shows;
   halted = halted_itself nodes;
@@ -449,9 +450,9 @@ module _ {T : Type 0} (stands : ℕ → Stored Definition → Type 0) (done : �
       led_on stands w done middle after said more led (takes (steps definition_eq w led.events) led.shows)
 
 -- Bytes that may be left of the tapes that failed could have been left before a delivery: such a tape is unchanged.
-pub left_before : {T : Type 0} (images : T → List ℕ → Type 0) (nodes after : List (Node T)) (left : ℕ → List ℕ) → KeepHalted nodes after → MayLeave images after left → MayLeave images nodes left
+pub left_before : {T : Type 0} (tapes : Tape T) (nodes after : List (Node T)) (left : ℕ → List ℕ) → KeepHalted nodes after → MayLeave tapes after left → MayLeave tapes nodes left
 unfolding MayLeave KeepHalted
-left_before images nodes after left keeps may = λ i node at halted. may i node (keeps i node at halted) halted
+left_before tapes nodes after left keeps may = λ i node at halted. may i node (keeps i node at halted) halted
 
 -- ---- the rounds
 
@@ -467,9 +468,9 @@ ended_early p Done node middle after said more left ended = (ended.0, omega (ari
 ended_early p Stopped node middle after said more left ended = omega (arith, ended.1, ap length left.1)
 ended_early p (Failed fault) node middle after said more left ended = omega (arith, left.0)
 
-module _ {T : Type 0} (honest : Type 0) (content : T → List ℕ) (images : T → List ℕ → Type 0) (nodes : List (Node T)) (messages : List Message) where
+module _ {T : Type 0} (tapes : Tape T) (nodes : List (Node T)) (messages : List Message) where
   -- Nothing is delivered yet.
-  come_start : HaveCome honest content images nodes messages (record { whole = 0; some = 0; done = 0 }) 0 nodes messages
+  come_start : HaveCome tapes nodes messages (record { whole = 0; some = 0; done = 0 }) 0 nodes messages
   come_start = record {
     any = leads_nowhere AnyPart nodes messages;
     on_tape = λ h left may. leads_nowhere (StandFor left) nodes messages;
@@ -480,33 +481,33 @@ module _ {T : Type 0} (honest : Type 0) (content : T → List ℕ) (images : T �
 
   module _ (p : Progress) (lost : ℕ) (loses : Bool) (middle after : List (Node T)) (said more : List Message) where
     -- One more delivery.
-    come_on : HaveCome honest content images nodes messages p lost middle said → IsOne honest images middle said after more → IsHanded honest content images p.some p.whole loses middle said after more →
-        HaveCome honest content images nodes messages (next (length nodes) p) (counted lost loses) after more
+    come_on : HaveCome tapes nodes messages p lost middle said → IsOne tapes middle said after more → IsHanded tapes p.some p.whole loses middle said after more →
+        HaveCome tapes nodes messages (next (length nodes) p) (counted lost loses) after more
     come_on come one handed = record {
       any = subst (λ d. Lead AnyPart d nodes messages after more) (sym (done_on (length nodes) p)) (leads_on AnyPart p.done nodes middle after messages said more come.any one.any);
       on_tape = λ h left left_after.
           subst (λ d. Lead (StandFor left) d nodes messages after more) (sym (done_on (length nodes) p))
-          (leads_on (StandFor left) p.done nodes middle after messages said more (come.on_tape h left (left_before images middle after left one.halted left_after)) (one.on_tape h left left_after));
+          (leads_on (StandFor left) p.done nodes middle after messages said more (come.on_tape h left (left_before tapes middle after left one.halted left_after)) (one.on_tape h left left_after));
       halted = halted_twice nodes middle after come.halted one.halted;
       turn = keeps_turn_twice nodes middle after come.turn one.turn;
       order = Next p lost loses middle after said more come.order handed;
     }
 
   -- What the rounds delivered, as the world and the nodes see it.
-  come_along : (p : Progress) (lost : ℕ) (after : List (Node T)) (more : List Message) → HaveGone (IsGiven honest content images) [] (length nodes) 0 nodes messages p lost after more →
-      HaveCome honest content images nodes messages p lost after more
+  come_along : (p : Progress) (lost : ℕ) (after : List (Node T)) (more : List Message) → HaveGone (IsGiven tapes) [] (length nodes) 0 nodes messages p lost after more →
+      HaveCome tapes nodes messages p lost after more
   come_along _ _ _ _ Begin = come_start
   come_along _ _ _ _ (Go p lost loses middle after said more gone left one) = come_on p lost loses middle after said more (come_along p lost middle said gone) one.0
-      (subst (λ k. IsHanded honest content images p.some k loses middle said after more) (omega arith)
-      (subst (λ i. IsHanded honest content images i (0 + p.whole) loses middle said after more) (get_or_past [] p.some p.some (omega arith)) one.1))
+      (subst (λ k. IsHanded tapes p.some k loses middle said after more) (omega arith)
+      (subst (λ i. IsHanded tapes i (0 + p.whole) loses middle said after more) (get_or_past [] p.some p.some (omega arith)) one.1))
 
-  module _ (p : Progress) (lost : ℕ) (end : End) (after : List (Node T)) (more : List Message) (ended : HaveEnded (IsGiven honest content images) AreKept [] (length nodes) 0 nodes messages p lost end after more) where
-    come_to : HaveCome honest content images nodes messages p lost after ended.said
+  module _ (p : Progress) (lost : ℕ) (end : End) (after : List (Node T)) (more : List Message) (ended : HaveEnded (IsGiven tapes) AreKept [] (length nodes) 0 nodes messages p lost end after more) where
+    come_to : HaveCome tapes nodes messages p lost after ended.said
     come_to =
-        subst (λ ns. HaveCome honest content images nodes messages p lost ns ended.said) (sym (kept_left end _ _ ended.middle after ended.said more ended.left)) (come_along p lost ended.middle ended.said ended.gone)
+        subst (λ ns. HaveCome tapes nodes messages p lost ns ended.said) (sym (kept_left end _ _ ended.middle after ended.said more ended.left)) (come_along p lost ended.middle ended.said ended.gone)
 
     -- The rounds lead to what they left.
-    pub come_done : p.done ≤ most_deliveries → IsDelivered honest images nodes messages p.done after
+    pub come_done : p.done ≤ most_deliveries → IsDelivered tapes nodes messages p.done after
     come_done most = record {
       any = record { sent = ended.said; lead = come_to.any };
       on_tape = λ h left may. record { sent = ended.said; lead = come_to.on_tape h left may };
@@ -516,5 +517,5 @@ module _ {T : Type 0} (honest : Type 0) (content : T → List ℕ) (images : T �
     }
 
     -- The deliveries were those of the rounds.
-    pub handed_out : goes.IsEnd 0 (length more) p end → AreHandedOut honest content images nodes messages p.done lost (is_early end) after
+    pub handed_out : goes.IsEnd 0 (length more) p end → AreHandedOut tapes nodes messages p.done lost (is_early end) after
     handed_out is = record { come = p; sent = ended.said; handed = come_to.order; count = refl; ended = ended_early p end _ ended.middle after ended.said more ended.left is }

@@ -12,10 +12,11 @@ use Rattle.wf_model.specs.Table.{Action, Input}
 use Rattle.wf_model.specs.World as world
 use Rattle.wf_model.specs.World.{World, Turn, input_of, delivered, refusal_of, refused, refused_at, turn, after_turn, after_torn, after_stop, after_restart, happens}
 use Rattle.wf_node.specs.declared.fault.NodeFault.{NodeFault}
+use Rattle.wf_farm.specs.declared.rejection.Rejection.{Rejection}
 use Rattle.wf_farm.specs.declared.place.Place.{Place}
 use Rattle.wf_farm.specs.Cluster.{AreNodes, Shows, AreMembers, KeepMembers, IsActed, IsTorn, Happens, StayShown}
 use Rattle.wf_farm.specs.Fault.{told}
-use Rattle.wf_farm.specs.Place.{IsNode, IsMember, Stays, IsStepped, IsTornAt, KeepsMember, Stops, Restarts, Steps, DeniesStep, Tears, DeniesTear, number_in, turn_at}
+use Rattle.wf_farm.specs.Place.{IsNode, IsMember, Stays, IsStepped, IsTornAt, KeepsMember, Stops, Restarts, Steps, DeniesStep, Tears, DeniesTear, rejection_in, turn_at}
 use Rattle.wf_farm.specs.Turn.{node_after, messages_of, node_torn, node_stopped, node_restarted}
 use Rattle.wf_farm.proofs.Turns.{turn_is, turn_absent, turn_unsent, refused_is, refused_absent, refused_unsent, turn_sets, torn_sets, stop_sets, restart_sets}
 use Rattle.wf_farm.specs.PlaceLaws.{get_set_same, get_set_other, set_same}
@@ -71,7 +72,7 @@ place_members places i place after at keeps = record {
   ]);
 }
 
--- The same where the number of entries and the entry's index are given by other names.
+-- The same where the rejection of entries and the entry's index are given by other names.
 pub cast_members : (places : List Place) (i : ℕ) (place after : Place) (n id : ℕ) → slice_get places i ≡ Some place → n ≡ length places → id ≡ i → (IsMember n id place → IsMember n id after) →
     KeepMembers places (slice_set places i after)
 cast_members places i place after n id at many is keeps = place_members places i place after at
@@ -93,14 +94,14 @@ member_at places i place members at = members i place at
 -- ---- a step
 
 module _ (places : List Place) (sent : List Message) (i : ℕ) where
-  module _ (place after : Place) (said : List Message) (action : Action Definition ℕ) (input : Input Definition) (number : Option ℕ)
+  module _ (place after : Place) (said : List Message) (action : Action Definition ℕ) (input : Input Definition) (rejection : Option Rejection)
       (at : slice_get places i ≡ Some place) (given : input_of (map message.view sent) action ≡ Some input) where
     -- the input in a shown world
     given_in : (w : World Definition) → Shows places sent w → input_of w.sent action ≡ Some input
     given_in w shows = ap (λ ms. input_of ms action) shows.messages ∙ given
 
     -- A step of the node at an index is the world's.
-    pub place_acts : IsStepped (length places) i input place after (map message.view said) number → IsActed i action number places sent (slice_set places i after) (sent ++ said)
+    pub place_acts : IsStepped (length places) i input place after (map message.view said) rejection → IsActed i action rejection places sent (slice_set places i after) (sent ++ said)
     place_acts stepped = record {
       leads = λ w shows.
           let here = node_at places w.nodes i place shows.nodes at in
@@ -117,7 +118,7 @@ module _ (places : List Place) (sent : List Message) (i : ℕ) where
     }
 
     -- A crash within a step likewise: nothing is sent.
-    pub place_tears : (kept : world.Kept) → IsTornAt kept (length places) i input place after number → IsTorn i action kept number places sent (slice_set places i after) sent
+    pub place_tears : (kept : world.Kept) → IsTornAt kept (length places) i input place after rejection → IsTorn i action kept rejection places sent (slice_set places i after) sent
     place_tears kept torn = record {
       leads = λ w shows.
           let here = node_at places w.nodes i place shows.nodes at in
@@ -137,7 +138,7 @@ module _ (places : List Place) (sent : List Message) (i : ℕ) where
       let here = node_at places w.nodes i place shows.nodes at in
       record { nodes = subst (AreNodes (slice_set places i after)) (set_same w.nodes i here.0 here.1) (set_nodes places w.nodes i after here.0 shows.nodes (stays here.0 here.2)); messages = shows.messages }
 
-  -- ---- from what an entry promises of its step, whatever its number and the number of nodes
+  -- ---- from what an entry promises of its step, whatever its rejection and the rejection of nodes
 
   module _ (place after : Place) (action : Action Definition ℕ) (input : Input Definition) (at : slice_get places i ≡ Some place) (members : AreMembers places)
       (given : input_of (map message.view sent) action ≡ Some input) where
@@ -146,39 +147,39 @@ module _ (places : List Place) (sent : List Message) (i : ℕ) where
     step_acts said done = place_acts place after said action input None at given (done (length places) i (member_at places i place members at))
 
     -- A rejected step sends nothing.
-    pub refused_acts : (f : NodeFault) (number : ℕ) → DeniesStep input place after f → number_in f ≡ Some number → IsActed i action (Some number) places sent (slice_set places i after) sent
+    pub refused_acts : (f : NodeFault) (rejection : Rejection) → DeniesStep input place after f → rejection_in f ≡ Some rejection → IsActed i action (Some rejection) places sent (slice_set places i after) sent
     unfolding DeniesStep
-    refused_acts f number denied is =
-        subst (λ ms. IsActed i action (Some number) places sent (slice_set places i after) ms) (append-nil sent)
-        (place_acts place after [] action input (Some number) at given ((denied (length places) i (member_at places i place members at)).refused number is))
+    refused_acts f rejection denied is =
+        subst (λ ms. IsActed i action (Some rejection) places sent (slice_set places i after) ms) (append-nil sent)
+        (place_acts place after [] action input (Some rejection) at given ((denied (length places) i (member_at places i place members at)).refused rejection is))
 
     -- the result of a rejection
-    pub answered_acts : {E : Type 0} (result : Result (Option ℕ) E) (f : NodeFault) → IfOk result (λ number. number ≡ number_in f) → IfOk result IsSome → DeniesStep input place after f →
-        IfOk result (λ number. IsActed i action number places sent (slice_set places i after) sent)
+    pub answered_acts : {E : Type 0} (result : Result (Option Rejection) E) (f : NodeFault) → IfOk result (λ rejection. rejection ≡ rejection_in f) → IfOk result IsSome → DeniesStep input place after f →
+        IfOk result (λ rejection. IsActed i action rejection places sent (slice_set places i after) sent)
     answered_acts (Ok None) f is some denied = absurd (false≢true some)
-    answered_acts (Ok (Some number)) f is some denied = refused_acts f number denied (sym is)
+    answered_acts (Ok (Some rejection)) f is some denied = refused_acts f rejection denied (sym is)
     answered_acts (Err e) f is some denied = tt
 
     pub tear_acts : (kept : world.Kept) → Tears kept input place after → IsTorn i action kept None places sent (slice_set places i after) sent
     unfolding Tears
     tear_acts kept torn = place_tears place after [] action input None at given kept (torn (length places) i (member_at places i place members at))
 
-    pub refused_tears : (kept : world.Kept) (f : NodeFault) (number : ℕ) → DeniesTear kept input place after f → number_in f ≡ Some number →
-        IsTorn i action kept (Some number) places sent (slice_set places i after) sent
+    pub refused_tears : (kept : world.Kept) (f : NodeFault) (rejection : Rejection) → DeniesTear kept input place after f → rejection_in f ≡ Some rejection →
+        IsTorn i action kept (Some rejection) places sent (slice_set places i after) sent
     unfolding DeniesTear
-    refused_tears kept f number denied is = place_tears place after [] action input (Some number) at given kept ((denied (length places) i (member_at places i place members at)).refused number is)
+    refused_tears kept f rejection denied is = place_tears place after [] action input (Some rejection) at given kept ((denied (length places) i (member_at places i place members at)).refused rejection is)
 
-    pub answered_tears : {E : Type 0} (kept : world.Kept) (result : Result (Option ℕ) E) (f : NodeFault) → IfOk result (λ number. number ≡ number_in f) → IfOk result IsSome → DeniesTear kept input place after f →
-        IfOk result (λ number. IsTorn i action kept number places sent (slice_set places i after) sent)
+    pub answered_tears : {E : Type 0} (kept : world.Kept) (result : Result (Option Rejection) E) (f : NodeFault) → IfOk result (λ rejection. rejection ≡ rejection_in f) → IfOk result IsSome → DeniesTear kept input place after f →
+        IfOk result (λ rejection. IsTorn i action kept rejection places sent (slice_set places i after) sent)
     answered_tears kept (Ok None) f is some denied = absurd (false≢true some)
-    answered_tears kept (Ok (Some number)) f is some denied = refused_tears kept f number denied (sym is)
+    answered_tears kept (Ok (Some rejection)) f is some denied = refused_tears kept f rejection denied (sym is)
     answered_tears kept (Err e) f is some denied = tt
 
     -- A crash within a step that changes nothing in its entry changes nothing.
-    pub keeps_torn : (kept : world.Kept) (number : Option ℕ) → ((n j : ℕ) → IsMember n j place → IsTornAt kept n j input place place number) → IsTorn i action kept number places sent places sent
-    keeps_torn kept number torn =
-        subst (λ ps. IsTorn i action kept number places sent ps sent) (set_same places i place at)
-        (place_tears place place [] action input number at given kept (torn (length places) i (member_at places i place members at)))
+    pub keeps_torn : (kept : world.Kept) (rejection : Option Rejection) → ((n j : ℕ) → IsMember n j place → IsTornAt kept n j input place place rejection) → IsTorn i action kept rejection places sent places sent
+    keeps_torn kept rejection torn =
+        subst (λ ps. IsTorn i action kept rejection places sent ps sent) (set_same places i place at)
+        (place_tears place place [] action input rejection at given kept (torn (length places) i (member_at places i place members at)))
 
   -- The state after an error, whatever the input was.
   pub denied_stays : (place after : Place) (input : Input Definition) (f : NodeFault) → slice_get places i ≡ Some place → AreMembers places → DeniesStep input place after f →
@@ -265,7 +266,7 @@ module _ (places : List Place) (sent : List Message) (i : ℕ) where
 
 -- ---- the input of a delivery
 
--- A message that was sent is the model's with the same number.
+-- A message that was sent is the model's with the same rejection.
 pub sent_message : (sent : List Message) (k : ℕ) (m : Message) → slice_get sent k ≡ Some m → input_of (map message.view sent) (table.Deliver k) ≡ Some (table.Deliver (message.view m))
 unfolding input_of delivered
 sent_message sent k m e = ap delivered (slice_get-map message.view sent k ∙ ap (λ x. option_map message.view x) e)
@@ -276,43 +277,18 @@ unsent_message sent k e = ap delivered (slice_get-map message.view sent k ∙ ap
 
 -- ---- steps and crashes within a step are events
 
-module _ (i : ℕ) (number : Option ℕ) (places after : List Place) (sent more : List Message) where
-  pub proposes : (d : Definition) → IsActed i (table.Propose d) number places sent after more → Happens (world.Propose i d) number places sent after more
+module _ (i : ℕ) (rejection : Option Rejection) (places after : List Place) (sent more : List Message) where
+  pub acts : (action : Action Definition ℕ) → IsActed i action rejection places sent after more → Happens (world.Act i action) rejection places sent after more
   unfolding happens refused
-  proposes d acted = record { leads = acted.leads; why = acted.why }
+  acts action acted = record { leads = acted.leads; why = acted.why }
 
-  pub retries : IsActed i table.Retry number places sent after more → Happens (world.Retry i) number places sent after more
-  unfolding happens refused
-  retries acted = record { leads = acted.leads; why = acted.why }
-
-  pub catches_up : IsActed i table.CatchUp number places sent after more → Happens (world.CatchUp i) number places sent after more
-  unfolding happens refused
-  catches_up acted = record { leads = acted.leads; why = acted.why }
-
-  pub delivers : (k : ℕ) → IsActed i (table.Deliver k) number places sent after more → Happens (world.Deliver i k) number places sent after more
-  unfolding happens refused
-  delivers k acted = record { leads = acted.leads; why = acted.why }
-
-  pub is_torn : (action : Action Definition ℕ) (kept : world.Kept) → IsTorn i action kept number places sent after more → Happens (world.Torn i action kept) number places sent after more
+  pub is_torn : (action : Action Definition ℕ) (kept : world.Kept) → IsTorn i action kept rejection places sent after more → Happens (world.Torn i action kept) rejection places sent after more
   unfolding happens refused
   is_torn action kept torn = record { leads = torn.leads; why = torn.why }
 
 pub ok_map : {A E : Type 0} (P Q : A → Type 0) (result : Result A E) → ((x : A) → P x → Q x) → IfOk result P → IfOk result Q
 ok_map P Q (Ok x) f p = f x p
 ok_map P Q (Err e) f p = tt
-
--- the input of a step that isn't a delivery
-pub proposal_given : (sent : List Message) (d own : Definition) → own ≡ d → input_of (map message.view sent) (table.Propose d) ≡ Some (table.Propose own)
-unfolding input_of
-proposal_given sent d own same = ap (λ x. Some (table.Propose x)) (sym same)
-
-pub retry_given : (sent : List Message) → input_of (map message.view sent) table.Retry ≡ Some table.Retry
-unfolding input_of
-retry_given sent = refl
-
-pub question_given : (sent : List Message) → input_of (map message.view sent) table.CatchUp ≡ Some table.CatchUp
-unfolding input_of
-question_given sent = refl
 
 pub on_err : {A E P : Type 0} (result : Result A E) → P → OnErr result P
 on_err (Ok x) p = tt

@@ -12,7 +12,7 @@ use Rattle.wf_model.specs.StepsLaws.{steps_in_turn}
 use Rattle.wf_model.specs.Table as table
 use Rattle.wf_model.specs.Table.{refusal}
 use Rattle.wf_model.specs.World as world
-use Rattle.wf_model.specs.World.{World, Deliver, after_turn, happens, input_of, steps}
+use Rattle.wf_model.specs.World.{World, deliver, after_turn, happens, input_of, steps}
 use Rattle.wf_node.specs.Node.{Node}
 use Rattle.wf_farm.specs.declared.progress.Progress.{Progress}
 use Rattle.wf_farm.specs.Cluster.{Moves}
@@ -33,22 +33,23 @@ use Rattle.wf_farm.proofs.Listed.{IsUpTo, targets_up_to}
 use Rattle.wf_farm.proofs.Rounds.{no_deliveries, one_more, rounds_more, whole_round}
 use Rattle.wf_farm.proofs.Runs.{steps_more}
 use Rattle.wf_farm.proofs.Turns.{turn_unsent}
+use Rattle.wf_tape.specs.declared.tape.Tape.{Ghosts as Tape}
 
 -- ---- one delivery
 
-module _ {T : Type 0} (honest : Type 0) (content : T → List ℕ) (images : T → List ℕ → Type 0) (i k : ℕ) (nodes after : List (Node T)) (sent more : List Message) where
-  module _ (loses : Bool) (one : IsHanded honest content images i k loses nodes sent after more) where
+module _ {T : Type 0} (tapes : Tape T) (i k : ℕ) (nodes after : List (Node T)) (sent more : List Message) where
+  module _ (loses : Bool) (one : IsHanded tapes i k loses nodes sent after more) where
     pub keeps_failed : KeepHalted nodes after
     keeps_failed =
         subst (KeepHalted nodes) (sym one.nodes_are)
-        (keeps_halted nodes i one.node one.after one.at (stays_halted honest content images one.node one.after (table.Deliver (message.view one.handed)) one.said loses one.takes))
+        (keeps_halted nodes i one.node one.after one.at (stays_halted tapes one.node one.after (table.Deliver (message.view one.handed)) one.said loses one.takes))
 
     keeps_index : KeepTurn nodes after
     keeps_index =
         subst (KeepTurn nodes) (sym one.nodes_are)
-        (keeps_turn nodes i one.node one.after one.at (stays_itself honest content images one.node one.after (table.Deliver (message.view one.handed)) one.said loses one.takes))
+        (keeps_turn nodes i one.node one.after one.at (stays_itself tapes one.node one.after (table.Deliver (message.view one.handed)) one.said loses one.takes))
 
-  module _ (one : IsHanded honest content images i k false nodes sent after more) (w : World Definition) (turns : StandInTurn nodes) (shows : Shows AnyPart nodes sent w) (running : NoneHalted nodes) (none : NoneHalted after) where
+  module _ (one : IsHanded tapes i k false nodes sent after more) (w : World Definition) (turns : StandInTurn nodes) (shows : Shows AnyPart nodes sent w) (running : NoneHalted nodes) (none : NoneHalted after) where
     runs_here : one.node.halted ≡ false
     unfolding NoneHalted
     runs_here = running i one.node one.at
@@ -57,7 +58,7 @@ module _ {T : Type 0} (honest : Type 0) (content : T → List ℕ) (images : T �
     unfolding NoneHalted
     runs_there = none i one.after (subst (λ ns. slice_get ns i ≡ Some one.after) (sym one.nodes_are) (set_there nodes i one.after one.node one.at))
 
-    takes_exactly : Answers honest content images (table.Deliver (message.view one.handed)) one.node one.after one.said → Shows AnyPart (slice_set nodes i one.after) (sent ++ one.said) (happens definition_eq w (Deliver i k))
+    takes_exactly : Answers tapes (table.Deliver (message.view one.handed)) one.node one.after one.said → Shows AnyPart (slice_set nodes i one.after) (sent ++ one.said) (happens definition_eq w (deliver i k))
     unfolding happens refusal
     takes_exactly (giving.Halts halted same quiet) = absurd (both_ways one.node.halted runs_here halted)
     takes_exactly (giving.Rejects why runs refused same quiet) = absurd (none-some why refused)
@@ -66,10 +67,10 @@ module _ {T : Type 0} (honest : Type 0) (content : T → List ℕ) (images : T �
     takes_exactly (giving.Fails runs goes halts same part each quiet) = absurd (both_ways one.after.halted runs_there halts)
 
     -- The delivery leads to exactly the world after it.
-    one_exactly : Shows AnyPart after more (happens definition_eq w (Deliver i k))
+    one_exactly : Shows AnyPart after more (happens definition_eq w (deliver i k))
     one_exactly =
-        subst (λ ns. Shows AnyPart ns more (happens definition_eq w (Deliver i k))) (sym one.nodes_are)
-        (subst (λ ms. Shows AnyPart (slice_set nodes i one.after) ms (happens definition_eq w (Deliver i k))) (sym one.sent_are) (takes_exactly one.takes))
+        subst (λ ns. Shows AnyPart ns more (happens definition_eq w (deliver i k))) (sym one.nodes_are)
+        (subst (λ ms. Shows AnyPart (slice_set nodes i one.after) ms (happens definition_eq w (deliver i k))) (sym one.sent_are) (takes_exactly one.takes))
 
 -- as many messages were sent as the world has
 pub as_many_sent : {T : Type 0} (nodes : List (Node T)) (sent : List Message) (w : World Definition) → Shows AnyPart nodes sent w → length w.sent ≡ length sent
@@ -81,7 +82,7 @@ none_lost : (lost : ℕ) (loses : Bool) → counted lost loses ≡ 0 → (lost �
 none_lost lost true none = absurd (omega (arith, none))
 none_lost lost false none = (none, refl)
 
-module _ {T : Type 0} (honest : Type 0) (content : T → List ℕ) (images : T → List ℕ → Type 0) (nodes : List (Node T)) (messages : List Message) (w : World Definition) (targets : List ℕ) where
+module _ {T : Type 0} (tapes : Tape T) (nodes : List (Node T)) (messages : List Message) (w : World Definition) (targets : List ℕ) where
   abbrev world_after : ℕ → ℕ → World Definition
   world_after whole some = steps definition_eq w (deliveries targets 0 whole some)
 
@@ -103,24 +104,24 @@ module _ {T : Type 0} (honest : Type 0) (content : T → List ℕ) (images : T �
     left = λ k below. absurd (omega (arith, below));
   }
 
-  module _ (p : Progress) (middle after : List (Node T)) (said more : List Message) (gone : HasGone p middle said) (one : IsHanded honest content images p.some p.whole false middle said after more)
+  module _ (p : Progress) (middle after : List (Node T)) (said more : List Message) (gone : HasGone p middle said) (one : IsHanded tapes p.some p.whole false middle said after more)
       (own : get_or targets p.some 0 ≡ p.some) (turns : StandInTurn nodes) (none : NoneHalted after) where
-    one_named : IsHanded honest content images (get_or targets p.some 0) (0 + p.whole) false middle said after more
+    one_named : IsHanded tapes (get_or targets p.some 0) (0 + p.whole) false middle said after more
     one_named =
-        subst (λ i. IsHanded honest content images i (0 + p.whole) false middle said after more) (sym own)
-        (subst (λ k. IsHanded honest content images p.some k false middle said after more) (let same : p.whole ≡ 0 + p.whole = omega arith in same) one)
+        subst (λ i. IsHanded tapes i (0 + p.whole) false middle said after more) (sym own)
+        (subst (λ k. IsHanded tapes p.some k false middle said after more) (let same : p.whole ≡ 0 + p.whole = omega arith in same) one)
 
     one_further : Shows AnyPart after more (world_after p.whole (p.some + 1))
     one_further =
-        let so_far = deliveries targets 0 p.whole p.some in let event = Deliver (get_or targets p.some 0) (0 + p.whole) in
+        let so_far = deliveries targets 0 p.whole p.some in let event = deliver (get_or targets p.some 0) (0 + p.whole) in
         subst (λ es. Shows AnyPart after more (steps definition_eq w es)) (one_more targets 0 p.whole p.some gone.part)
         (subst (Shows AnyPart after more) (sym (steps_more w so_far event))
-        (one_exactly honest content images (get_or targets p.some 0) (0 + p.whole) middle after said more one_named (world_after p.whole p.some) (gone.turn.in_turn turns) gone.shows
-        (none_before middle after (keeps_failed honest content images p.some p.whole middle after said more false one) none) none))
+        (one_exactly tapes (get_or targets p.some 0) (0 + p.whole) middle after said more one_named (world_after p.whole p.some) (gone.turn.in_turn turns) gone.shows
+        (none_before middle after (keeps_failed tapes p.some p.whole middle after said more false one) none) none))
 
     counted_further : length (deliveries targets 0 p.whole (p.some + 1)) ≡ p.done + 1
     counted_further =
-        ap length (sym (one_more targets 0 p.whole p.some gone.part)) ∙ length-append (deliveries targets 0 p.whole p.some) (Deliver (get_or targets p.some 0) (0 + p.whole) ∷ []) ∙ ap (λ k. k + 1) gone.counted
+        ap length (sym (one_more targets 0 p.whole p.some gone.part)) ∙ length-append (deliveries targets 0 p.whole p.some) (deliver (get_or targets p.some 0) (0 + p.whole) ∷ []) ∙ ap (λ k. k + 1) gone.counted
 
     is_sent : p.whole < length (world_after p.whole p.some).sent
     is_sent = let there : p.whole < length said = slice_get_within said p.whole one.handed one.there in omega (arith, there, as_many_sent middle said (world_after p.whole p.some) gone.shows)
@@ -142,14 +143,14 @@ module _ {T : Type 0} (honest : Type 0) (content : T → List ℕ) (images : T �
           shows = subst (λ es. Shows AnyPart after more (steps definition_eq w es)) is one_further;
           counted = ap length (sym is) ∙ counted_further;
           part = omega (arith, gone.part);
-          turn = keeps_turn_twice nodes middle after gone.turn (keeps_index honest content images p.some p.whole middle after said more false one);
+          turn = keeps_turn_twice nodes middle after gone.turn (keeps_index tapes p.some p.whole middle after said more false one);
           left = λ k below. left_by p.some refl k (omega (arith, below));
         }
     further_by false some = record {
       shows = one_further;
       counted = counted_further;
       part = grind (arith, some, gone.part);
-      turn = keeps_turn_twice nodes middle after gone.turn (keeps_index honest content images p.some p.whole middle after said more false one);
+      turn = keeps_turn_twice nodes middle after gone.turn (keeps_index tapes p.some p.whole middle after said more false one);
       left = λ k below. left_by p.some refl k (omega (arith, below, begun_most (p.some + 1)));
     }
 
@@ -157,24 +158,24 @@ module _ {T : Type 0} (honest : Type 0) (content : T → List ℕ) (images : T �
     gone_further = further_by (p.some + 1 == length targets) refl
 
   module _ (shows : Shows AnyPart nodes messages w) (turns : StandInTurn nodes) (some : 0 < length nodes) (are : IsUpTo (length nodes) targets) where
-    gone_exactly : (p : Progress) (lost : ℕ) (after : List (Node T)) (sent : List Message) → AreHanded honest content images nodes messages p lost after sent → lost ≡ 0 → NoneHalted after → HasGone p after sent
+    gone_exactly : (p : Progress) (lost : ℕ) (after : List (Node T)) (sent : List Message) → AreHanded tapes nodes messages p lost after sent → lost ≡ 0 → NoneHalted after → HasGone p after sent
     gone_exactly _ _ _ _ First kept none = gone_nowhere (omega (arith, some, are.long)) shows
     gone_exactly _ _ _ _ (Next p lost loses middle after said more handed one) kept none =
         let before = none_lost lost loses kept in
-        let gone = gone_exactly p lost middle said handed before.0 (none_before middle after (keeps_failed honest content images p.some p.whole middle after said more loses one) none) in
+        let gone = gone_exactly p lost middle said handed before.0 (none_before middle after (keeps_failed tapes p.some p.whole middle after said more loses one) none) in
         subst (λ n. HasGone (next n p) after more) are.long
-        (gone_further p middle after said more gone (subst (λ b. IsHanded honest content images p.some p.whole b middle said after more) before.1 one)
+        (gone_further p middle after said more gone (subst (λ b. IsHanded tapes p.some p.whole b middle said after more) before.1 one)
         (are.own p.some 0 (omega (arith, gone.part, are.long))) turns none)
 
-pub delivered_exactly : {T : Type 0} (honest : Type 0) (content : T → List ℕ) (images : T → List ℕ → Type 0) → DeliveredExactly honest content images
-delivered_exactly honest content images = λ nodes after messages done stopped w targets some are turns shows out none.
-    let gone = gone_exactly honest content images nodes messages w targets shows turns some (targets_up_to (length nodes) targets are) out.come 0 after out.sent out.handed refl none in
+pub delivered_exactly : {T : Type 0} (tapes : Tape T) → DeliveredExactly tapes
+delivered_exactly tapes = λ nodes after messages done stopped w targets some are turns shows out none.
+    let gone = gone_exactly tapes nodes messages w targets shows turns some (targets_up_to (length nodes) targets are) out.come 0 after out.sent out.handed refl none in
     record { come = out.come; part = gone.part; counted = gone.counted ∙ out.count; sent = out.sent; shows = gone.shows; ended = out.ended }
 
 -- ---- no message is left
 
 -- The delivery of a message that wasn't sent has no effect, and so have the deliveries of any later one.
-no_delivery : (w : World Definition) (i k : ℕ) → length w.sent ≤ k → happens definition_eq w (Deliver i k) ≡ w
+no_delivery : (w : World Definition) (i k : ℕ) → length w.sent ≤ k → happens definition_eq w (deliver i k) ≡ w
 unfolding happens after_turn input_of world.delivered
 no_delivery w i k unsent = ap (after_turn w i) (turn_unsent definition_eq w i (table.Deliver k) (ap world.delivered (slice_get_past w.sent k unsent)))
 
@@ -231,8 +232,8 @@ module _ (before now : Farm) (w : World Definition) (shows : farm.Shows before w
   pub pump_ended : pumped.0.whole ≡ length (after_rounds w pumped.0.targets pumped.0.whole).sent
   pump_ended = omega (arith, first, pumped.1.2, ap length pump_shown.messages ∙ length-map now.sent message.view)
 
-module _ {T : Type 0} (honest : Type 0) (content : T → List ℕ) (images : T → List ℕ → Type 0) (nodes after : List (Node T)) (messages : List Message) (done : ℕ) (w : World Definition) (before now : Farm)
-    (turns : StandInTurn nodes) (shows : Shows AnyPart nodes messages w) (out : AreHandedOut honest content images nodes messages done 0 false after) (none : NoneHalted after) (held : farm.Shows before w) (first : before.pumped ≡ 0)
+module _ {T : Type 0} (tapes : Tape T) (nodes after : List (Node T)) (messages : List Message) (done : ℕ) (w : World Definition) (before now : Farm)
+    (turns : StandInTurn nodes) (shows : Shows AnyPart nodes messages w) (out : AreHandedOut tapes nodes messages done 0 false after) (none : NoneHalted after) (held : farm.Shows before w) (first : before.pumped ≡ 0)
     (pumped : IsPumped [] before now false) where
   same_size : size before ≡ length nodes
   same_size = sym (as_many before.places w.nodes held.nodes) ∙ shows.nodes_are.as_many
@@ -242,7 +243,7 @@ module _ {T : Type 0} (honest : Type 0) (content : T → List ℕ) (images : T �
 
   delivered : ArePumped pumped.0.targets w done false after
   delivered =
-      delivered_exactly honest content images nodes after messages done false w pumped.0.targets some_nodes (subst (λ n. AreTargets n [] pumped.0.targets) same_size pumped.0.are_targets) turns shows out none
+      delivered_exactly tapes nodes after messages done false w pumped.0.targets some_nodes (subst (λ n. AreTargets n [] pumped.0.targets) same_size pumped.0.are_targets) turns shows out none
 
   delivered_rounds : deliveries pumped.0.targets 0 delivered.come.whole delivered.come.some ≡ rounds pumped.0.targets 0 delivered.come.whole
   delivered_rounds = ap (deliveries pumped.0.targets 0 delivered.come.whole) delivered.ended.0 ∙ whole_rounds w pumped.0.targets delivered.come.whole
@@ -268,6 +269,6 @@ module _ {T : Type 0} (honest : Type 0) (content : T → List ℕ) (images : T �
     same_count,
   )
 
-pub pumped_alike : {T : Type 0} (honest : Type 0) (content : T → List ℕ) (images : T → List ℕ → Type 0) → PumpedAlike honest content images
-pumped_alike honest content images = λ nodes after messages done w before now turns shows out none held first pumped.
-    alike honest content images nodes after messages done w before now turns shows out none held first pumped
+pub pumped_alike : {T : Type 0} (tapes : Tape T) → PumpedAlike tapes
+pumped_alike tapes = λ nodes after messages done w before now turns shows out none held first pumped.
+    alike tapes nodes after messages done w before now turns shows out none held first pumped

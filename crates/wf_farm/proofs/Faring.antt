@@ -8,15 +8,14 @@ use Rattle.wf_codec.specs.declared.message.Message.{Message}
 use Rattle.wf_def.specs.Definition.{Definition}
 use Rattle.wf_def.specs.Equality.{definition_eq}
 use Rattle.wf_model.specs.Message as model
-use Rattle.wf_model.specs.Stored.{Stored}
 use Rattle.wf_model.specs.Table as table
 use Rattle.wf_model.specs.Table.{Action, Input, Refusal, refusal}
-use Rattle.wf_model.specs.Working.{Working}
 use Rattle.wf_model.specs.World as world
-use Rattle.wf_model.specs.World.{World, Event, Deliver, delivered, happens, input_of, refusal_of, refusal_running, refused, refused_at, steps}
+use Rattle.wf_model.specs.World.{World, Event, deliver, delivered, happens, input_of, refusal_of, refusal_running, refused, refused_at, steps}
 use Rattle.wf_node.specs.Fault as fault
 use Rattle.wf_node.specs.declared.fault.NodeFault.{NodeFault}
-use Rattle.wf_farm.specs.declared.event.Kept.{Kept}
+use Rattle.wf_model.specs.declared.kept.Kept.{Kept}
+use Rattle.wf_farm.specs.declared.rejection.Rejection.{Rejection}
 use Rattle.wf_farm.specs.declared.place.Place.{Place}
 use Rattle.wf_farm.specs.declared.progress.Progress.{Progress}
 use Rattle.wf_journal.specs.Records.{AreReadOneWay}
@@ -26,10 +25,10 @@ use Rattle.wf_farm.specs.Agreement.{HistoriesGrow}
 use Rattle.wf_farm.specs.Farm.{Farm, IsReached, size}
 use Rattle.wf_farm.proofs.Worlds.{grown}
 use Rattle.wf_farm.specs.Cluster.{AreMembers, Moves, Shows, TellsWhy, Turns}
-use Rattle.wf_farm.specs.Event.{view_kept}
+use Rattle.wf_model.specs.Kept.{view as view_kept}
 use Rattle.wf_farm.specs.Fault.{told}
 use Rattle.wf_farm.specs.Fused.{GoesOn, HappensOrTears, HasFaredTo, HaveFared, IsDoneOrTorn, IsPumpEnd, PumpsOrTears, crash_at, step_of, torn_at}
-use Rattle.wf_farm.specs.Place.{TellsWhyNot, number_in}
+use Rattle.wf_farm.specs.Place.{TellsWhyNot, rejection_in}
 use Rattle.wf_farm.specs.Progress.{next}
 use Rattle.wf_farm.specs.Pump.{AreTargets, begun, deliveries, most_deliveries}
 use Rattle.wf_farm.proofs.Events.{member_at, node_at}
@@ -125,31 +124,31 @@ farm_grown law one in_turn before after events long reached moves = λ i old new
 
 -- The deliveries of the messages so far.
 abbrev pub given_to : ℕ → List ℕ → ℕ → List (Event Definition)
-given_to to messages done = map (Deliver to) (take done messages)
+given_to to messages done = map (deliver to) (take done messages)
 
-given_more : (to : ℕ) (messages : List ℕ) (done k : ℕ) → slice_get messages done ≡ Some k → given_to to messages (suc done) ≡ given_to to messages done ++ Deliver to k ∷ []
+given_more : (to : ℕ) (messages : List ℕ) (done k : ℕ) → slice_get messages done ≡ Some k → given_to to messages (suc done) ≡ given_to to messages done ++ deliver to k ∷ []
 given_more to [] done k at = absurd (none-some k at)
-given_more to (x ∷ messages) zero k at = ap (λ n. Deliver to n ∷ []) (same_Some x k at)
-given_more to (x ∷ messages) (suc done) k at = ap (λ rest. Deliver to x ∷ rest) (given_more to messages done k at)
+given_more to (x ∷ messages) zero k at = ap (λ n. deliver to n ∷ []) (same_Some x k at)
+given_more to (x ∷ messages) (suc done) k at = ap (λ rest. deliver to x ∷ rest) (given_more to messages done k at)
 
 given_long : (to : ℕ) (messages : List ℕ) (done k : ℕ) → slice_get messages done ≡ Some k → done ≡ length (given_to to messages done)
 given_long to [] done k at = absurd (none-some k at)
 given_long to (x ∷ messages) zero k at = refl
 given_long to (x ∷ messages) (suc done) k at = ap suc (given_long to messages done k at)
 
-given_all : (to : ℕ) (messages : List ℕ) → given_to to messages (length messages) ≡ map (Deliver to) messages
+given_all : (to : ℕ) (messages : List ℕ) → given_to to messages (length messages) ≡ map (deliver to) messages
 given_all to [] = refl
-given_all to (x ∷ messages) = ap (λ rest. Deliver to x ∷ rest) (given_all to messages)
+given_all to (x ∷ messages) = ap (λ rest. deliver to x ∷ rest) (given_all to messages)
 
 module _ (node to : ℕ) (messages : List ℕ) (places middle after : List Place) (sent said more : List Message) where
   pub next_fared : (done more_done k : ℕ) (torn now : Option (ℕ × Kept)) → more_done ≡ suc done → slice_get messages done ≡ Some k → HaveFared node (given_to to messages done) torn places sent middle said →
-      GoesOn node done (Deliver to k) torn now middle said after more → HaveFared node (given_to to messages more_done) now places sent after more
+      GoesOn node done (deliver to k) torn now middle said after more → HaveFared node (given_to to messages more_done) now places sent after more
   next_fared done more_done k torn now one at fared goes =
       subst (λ es. HaveFared node es now places sent after more) (sym (ap (given_to to messages) one ∙ given_more to messages done k at))
-      (fared_on node (given_to to messages done) (Deliver to k) places middle after sent said more done torn now (given_long to messages done k at) fared goes)
+      (fared_on node (given_to to messages done) (deliver to k) places middle after sent said more done torn now (given_long to messages done k at) fared goes)
 
 pub all_fared : (node to : ℕ) (messages : List ℕ) (places after : List Place) (sent more : List Message) (done : ℕ) (torn : Option (ℕ × Kept)) → done ≡ length messages →
-    HaveFared node (given_to to messages done) torn places sent after more → HaveFared node (map (Deliver to) messages) torn places sent after more
+    HaveFared node (given_to to messages done) torn places sent after more → HaveFared node (map (deliver to) messages) torn places sent after more
 all_fared node to messages places after sent more done torn all fared = subst (λ es. HaveFared node es torn places sent after more) (ap (given_to to messages) all ∙ given_all to messages) fared
 
 -- ---- the deliveries of a pump
@@ -165,15 +164,15 @@ module _ (node : ℕ) (targets : List ℕ) (first : ℕ) (places : List Place) (
   }
 
   module _ (p : Progress) (torn now : Option (ℕ × Kept)) (middle after : List Place) (said more : List Message) (come : HasFaredTo node targets first p torn places sent middle said) (left : first + p.whole < length said)
-      (may : p.done < most_deliveries) (goes : GoesOn node p.done (Deliver (get_or targets p.some 0) (first + p.whole)) torn now middle said after more) (grows : length said ≤ length more) where
+      (may : p.done < most_deliveries) (goes : GoesOn node p.done (deliver (get_or targets p.some 0) (first + p.whole)) torn now middle said after more) (grows : length said ≤ length more) where
     fares_on : HaveFared node (deliveries targets first p.whole (p.some + 1)) now places sent after more
     fares_on =
         subst (λ es. HaveFared node es now places sent after more) (one_more targets first p.whole p.some come.part)
-        (fared_on node (deliveries targets first p.whole p.some) (Deliver (get_or targets p.some 0) (first + p.whole)) places middle after sent said more p.done torn now (sym come.count) come.fared goes)
+        (fared_on node (deliveries targets first p.whole p.some) (deliver (get_or targets p.some 0) (first + p.whole)) places middle after sent said more p.done torn now (sym come.count) come.fared goes)
 
     counts_on : length (deliveries targets first p.whole (p.some + 1)) ≡ p.done + 1
     counts_on =
-        ap length (sym (one_more targets first p.whole p.some come.part)) ∙ length-append (deliveries targets first p.whole p.some) (Deliver (get_or targets p.some 0) (first + p.whole) ∷ []) ∙ ap (λ k. k + 1) come.count
+        ap length (sym (one_more targets first p.whole p.some come.part)) ∙ length-append (deliveries targets first p.whole p.some) (deliver (get_or targets p.some 0) (first + p.whole) ∷ []) ∙ ap (λ k. k + 1) come.count
 
     goes_by : (whole : Bool) → (p.some + 1 == length targets) ≡ whole → HasFaredTo node targets first
         (if whole then record { whole = p.whole + 1; some = 0; done = p.done + 1 } else record { whole = p.whole; some = p.some + 1; done = p.done + 1 }) now places sent after more
@@ -230,7 +229,7 @@ pumps node names before after n count targets items p torn many same are come pu
 
 -- ---- one delivery
 
-step_delivery : (node k : ℕ) → step_of (Deliver node k) ≡ Some (record { node = node; action = table.Deliver k })
+step_delivery : (node k : ℕ) → step_of (deliver node k) ≡ Some (record { node = node; action = table.Deliver k })
 unfolding step_of
 step_delivery node k = refl
 
@@ -238,68 +237,18 @@ step_delivery node k = refl
 pub heard : (node k : ℕ) (m : model.Message Definition) (torn : Option Kept) (places after : List Place) (sent more : List Message) →
     input_of (map message.view sent) (table.Deliver k) ≡ Some (table.Deliver m) →
     ((action : Action Definition ℕ) → input_of (map message.view sent) action ≡ Some (table.Deliver m) → IsDoneOrTorn torn true node action places sent after more) →
-    HappensOrTears node (Deliver node k) torn places sent after more
+    HappensOrTears node (deliver node k) torn places sent after more
 heard node k m torn places after sent more given done =
-    tried_event places after sent more {E = Unit {0}} node (Deliver node k) (table.Deliver m) (Ok torn) (table.Deliver k, step_delivery node k)
+    tried_event places after sent more {E = Unit {0}} node (deliver node k) (table.Deliver m) (Ok torn) (table.Deliver k, step_delivery node k)
     (record { step = record { node = node; action = table.Deliver k }; is_step = step_delivery node k; given = given; not_before = tt }) done
 
 -- ---- rejections
 
-no_question : (stored : Stored Definition) (working : Option (Working Definition)) → refusal_running stored working table.CatchUp ≡ None
-unfolding refusal_running refusal
-no_question stored None = refl
-no_question stored (Some working) = refl
-
-no_delivery : (stored : Stored Definition) (working : Option (Working Definition)) (m : model.Message Definition) → refusal_running stored working (table.Deliver m) ≡ None
-unfolding refusal_running refusal
-no_delivery stored None m = refl
-no_delivery stored (Some working) m = refl
-
-question_there : (node : Option (world.Node Definition)) → refusal_of node (Some table.CatchUp) ≡ None
-unfolding refusal_of
-question_there None = refl
-question_there (Some node) = no_question node.stored node.working
-
-delivery_there : (node : Option (world.Node Definition)) (given : Option (model.Message Definition)) → refusal_of node (delivered given) ≡ None
-unfolding refusal_of delivered
-delivery_there None given = refl
-delivery_there (Some node) None = refl
-delivery_there (Some node) (Some m) = no_delivery node.stored node.working m
-
-given_proposal : (sent : List (model.Message Definition)) (d : Definition) → input_of sent (table.Propose d) ≡ Some (table.Propose d)
-unfolding input_of
-given_proposal sent d = refl
-
-given_retry : (sent : List (model.Message Definition)) → input_of sent table.Retry ≡ Some table.Retry
-unfolding input_of
-given_retry sent = refl
-
 module _ (i : ℕ) (places : List Place) (sent : List Message) where
-  -- Neither a question nor a delivery is rejected.
-  pub question_quiet : TellsWhy (λ w. refused_at w i table.CatchUp) None places sent
-  unfolding refused_at input_of
-  question_quiet = λ w shows. sym (ap told (question_there (slice_get w.nodes i)))
-
-  pub delivery_quiet : (k : ℕ) → TellsWhy (λ w. refused_at w i (table.Deliver k)) None places sent
-  unfolding refused_at input_of
-  delivery_quiet k = λ w shows. sym (ap told (delivery_there (slice_get w.nodes i) (slice_get w.sent k)))
-
   -- Why an event is rejected is why its step is.
-  pub proposal_told : (d : Definition) (number : Option ℕ) → TellsWhy (λ w. refused_at w i (table.Propose d)) number places sent → TellsWhy (λ w. refused w (world.Propose i d)) number places sent
+  pub step_told : (action : Action Definition ℕ) (rejection : Option Rejection) → TellsWhy (λ w. refused_at w i action) rejection places sent → TellsWhy (λ w. refused w (world.Act i action)) rejection places sent
   unfolding refused
-  proposal_told d number why = why
-
-  pub retry_told : (number : Option ℕ) → TellsWhy (λ w. refused_at w i table.Retry) number places sent → TellsWhy (λ w. refused w (world.Retry i)) number places sent
-  unfolding refused
-  retry_told number why = why
-
-  pub question_told : TellsWhy (λ w. refused w (world.CatchUp i)) None places sent
-  unfolding refused
-  question_told = question_quiet
-
-  pub delivery_told : (k : ℕ) → TellsWhy (λ w. refused w (world.Deliver i k)) None places sent
-  unfolding refused
-  delivery_told k = delivery_quiet k
+  step_told action rejection why = why
 
   pub stop_told : TellsWhy (λ w. refused w (world.Stop i)) None places sent
   unfolding refused
@@ -309,42 +258,23 @@ module _ (i : ℕ) (places : List Place) (sent : List Message) where
   unfolding refused
   restart_told = λ w shows. refl
 
-  pub torn_told : (action : Action Definition ℕ) (kept : world.Kept) (number : Option ℕ) → TellsWhy (λ w. refused_at w i action) number places sent → TellsWhy (λ w. refused w (world.Torn i action kept)) number places sent
+  pub torn_told : (action : Action Definition ℕ) (kept : world.Kept) (rejection : Option Rejection) → TellsWhy (λ w. refused_at w i action) rejection places sent → TellsWhy (λ w. refused w (world.Torn i action kept)) rejection places sent
   unfolding refused
-  torn_told action kept number why = why
+  torn_told action kept rejection why = why
 
   -- Why the node in the entry would reject the step is why the world does.
-  told_by : (found : Option Refusal) (f : NodeFault) → fault.IsWhyNot found (Some f) → number_in f ≡ told found
-  told_by found f why = ap told why.0
-
   module _ (place : Place) (action : Action Definition ℕ) (input : Input Definition) (at : slice_get places i ≡ Some place) (members : AreMembers places)
-      (given : (w : World Definition) → Shows places sent w → input_of w.sent action ≡ Some input) where
+      (given : input_of (map message.view sent) action ≡ Some input) where
     why_in : (why : Option NodeFault) (w : World Definition) → Shows places sent w → TellsWhyNot place action why → fault.IsWhyNot (refused_at w i action) why
     unfolding TellsWhyNot
     why_in why w shows tells =
         let here = node_at places w.nodes i place shows.nodes at in
-        subst (λ r. fault.IsWhyNot r why) (sym (refused_is w i here.0 action input here.1 (given w shows)))
-        (tells (length places) i here.0 w.sent input (member_at places i place members at) here.2 (given w shows))
+        let given_in : input_of w.sent action ≡ Some input = ap (λ ms. input_of ms action) shows.messages ∙ given in
+        subst (λ r. fault.IsWhyNot r why) (sym (refused_is w i here.0 action input here.1 given_in))
+        (tells (length places) i here.0 w.sent input (member_at places i place members at) here.2 given_in)
 
-    rejected_told : (f : NodeFault) → TellsWhyNot place action (Some f) → TellsWhy (λ w. refused_at w i action) (number_in f) places sent
-    rejected_told f tells = λ w shows. told_by (refused_at w i action) f (why_in (Some f) w shows tells)
+    pub rejected_told : (rejection : Option Rejection) (f : NodeFault) → rejection ≡ rejection_in f → TellsWhyNot place action (Some f) → TellsWhy (λ w. refused_at w i action) rejection places sent
+    rejected_told rejection f is tells = λ w shows. is ∙ ap told (why_in (Some f) w shows tells).0
 
-    taken_told : TellsWhyNot place action None → TellsWhy (λ w. refused_at w i action) None places sent
+    pub taken_told : TellsWhyNot place action None → TellsWhy (λ w. refused_at w i action) None places sent
     taken_told tells = λ w shows. sym (ap told (why_in None w shows tells))
-
-  module _ (place : Place) (at : slice_get places i ≡ Some place) (members : AreMembers places) (number : Option ℕ) where
-    pub proposal_rejected : (f : NodeFault) → number ≡ number_in f → ((d : Definition) → TellsWhyNot place (table.Propose d) (Some f)) → (d : Definition) → TellsWhy (λ w. refused_at w i (table.Propose d)) number places sent
-    proposal_rejected f is tells = λ d.
-        subst (λ n. TellsWhy (λ w. refused_at w i (table.Propose d)) n places sent) (sym is)
-        (rejected_told place (table.Propose d) (table.Propose d) at members (λ w shows. given_proposal w.sent d) f (tells d))
-
-    pub proposal_taken : ((d : Definition) → TellsWhyNot place (table.Propose d) None) → (d : Definition) → TellsWhy (λ w. refused_at w i (table.Propose d)) None places sent
-    proposal_taken tells = λ d. taken_told place (table.Propose d) (table.Propose d) at members (λ w shows. given_proposal w.sent d) (tells d)
-
-    pub retry_rejected : (f : NodeFault) → number ≡ number_in f → TellsWhyNot place table.Retry (Some f) → TellsWhy (λ w. refused_at w i table.Retry) number places sent
-    retry_rejected f is tells =
-        subst (λ n. TellsWhy (λ w. refused_at w i table.Retry) n places sent) (sym is)
-        (rejected_told place table.Retry table.Retry at members (λ w shows. given_retry w.sent) f tells)
-
-    pub retry_taken : TellsWhyNot place table.Retry None → TellsWhy (λ w. refused_at w i table.Retry) None places sent
-    retry_taken tells = taken_told place table.Retry table.Retry at members (λ w shows. given_retry w.sent) tells

@@ -8,23 +8,24 @@ use Rattle.wf_def.specs.Definition.{Definition}
 use Rattle.wf_model.specs.Table.{Action, Input}
 use Rattle.wf_model.specs.World.{After, input_of}
 use Rattle.wf_node.specs.declared.fault.NodeFault.{NodeFault}
+use Rattle.wf_farm.specs.declared.rejection.Rejection.{Rejection}
 use Rattle.wf_farm.specs.declared.place.Place.{Place}
 use Rattle.wf_farm.specs.declared.place.Place.TheVariants.{Running, Stopped}
 use Rattle.wf_farm.specs.Cluster.{AreMembers, IsActed, IsTorn}
 use Rattle.wf_farm.specs.Farm.{running_in}
-use Rattle.wf_farm.specs.Place.{IsMember, IsStepped, TellsWhyNot, Steps, number_in}
+use Rattle.wf_farm.specs.Place.{IsMember, IsStepped, TellsWhyNot, Steps, rejection_in}
 use Rattle.wf_farm.proofs.Events.{absent_acts, absent_torn, member_at, place_acts, tear_acts, unsent_acts, unsent_torn}
 use Rattle.wf_farm.proofs.Steps.{refused_step, same_member, step_stops, still_stopped, stopped_steps}
 use Rattle.wf_farm.specs.PlaceLaws.{set_same}
 
 module _ (places : List Place) (sent : List Message) (i : ℕ) (action : Action Definition ℕ) (members : AreMembers places) where
   -- A step that changes nothing in its entry and sends nothing changes nothing.
-  keeps_acts : (place : Place) (input : Input Definition) (number : Option ℕ) → slice_get places i ≡ Some place → input_of (map message.view sent) action ≡ Some input →
-      ((n j : ℕ) → IsMember n j place → IsStepped n j input place place [] number) → IsActed i action number places sent places sent
-  keeps_acts place input number at given stepped =
-      subst (λ ps. IsActed i action number places sent ps sent) (set_same places i place at)
-      (subst (λ ms. IsActed i action number places sent (slice_set places i place) ms) (append-nil sent)
-      (place_acts places sent i place place [] action input number at given (stepped (length places) i (member_at places i place members at))))
+  keeps_acts : (place : Place) (input : Input Definition) (rejection : Option Rejection) → slice_get places i ≡ Some place → input_of (map message.view sent) action ≡ Some input →
+      ((n j : ℕ) → IsMember n j place → IsStepped n j input place place [] rejection) → IsActed i action rejection places sent places sent
+  keeps_acts place input rejection at given stepped =
+      subst (λ ps. IsActed i action rejection places sent ps sent) (set_same places i place at)
+      (subst (λ ms. IsActed i action rejection places sent (slice_set places i place) ms) (append-nil sent)
+      (place_acts places sent i place place [] action input rejection at given (stepped (length places) i (member_at places i place members at))))
 
   idle_at : (there : Option Place) (given : Option (Input Definition)) → slice_get places i ≡ there → input_of (map message.view sent) action ≡ given → is_some (running_in there) ≡ false →
       IsActed i action None places sent places sent
@@ -54,7 +55,7 @@ module _ (places : List Place) (sent : List Message) (i : ℕ) (action : Action 
 
   -- A rejected step changes nothing, and the rejection is reported.
   pub denied_acts : (place : Place) (input : Input Definition) (f : NodeFault) → slice_get places i ≡ Some place → input_of (map message.view sent) action ≡ Some input → TellsWhyNot place action (Some f) →
-      IsActed i action (number_in f) places sent places sent
+      IsActed i action (rejection_in f) places sent places sent
   unfolding TellsWhyNot
   denied_acts place input f at given why =
-      keeps_acts place input (number_in f) at given (λ n j member. refused_step n j input place f (λ x is. why n j x (map message.view sent) input member is given))
+      keeps_acts place input (rejection_in f) at given (λ n j member. refused_step n j input place f (λ x is. why n j x (map message.view sent) input member is given))

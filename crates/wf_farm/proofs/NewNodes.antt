@@ -28,6 +28,7 @@ use Rattle.wf_farm.specs.Leading.{AreFresh, IsFresh, said_by}
 use Rattle.wf_farm.specs.PlaceLaws.{get_set_other, get_set_same, set_there}
 use Rattle.wf_farm.specs.Publishing.{NewStayNew, NoneHalted}
 use Rattle.wf_farm.proofs.Exactly.{keeps_failed}
+use Rattle.wf_tape.specs.declared.tape.Tape.{Ghosts as Tape}
 
 -- ---- the step table
 
@@ -93,9 +94,9 @@ module _ {T : Type 0} (node after : Node T) (fresh : IsFresh node) where
   same_fresh : after.halted ≡ false → IsSameNode node after → IsFresh after
   same_fresh runs same = record { runs = runs; stored = ap stored_of same ∙ fresh.stored; working = ap working_of same ∙ fresh.working }
 
-  module _ (honest : Type 0) (content : T → List ℕ) (images : T → List ℕ → Type 0) (said : List Message) (runs : after.halted ≡ false) where
+  module _ (tapes : Tape T) (said : List Message) (runs : after.halted ≡ false) where
     -- it is asked what is published
-    answers_fresh : (m : model.Message Definition) → IsAsk m → Answers honest content images (table.Deliver m) node after said → IsFresh after × (said ≡ [])
+    answers_fresh : (m : model.Message Definition) → IsAsk m → Answers tapes (table.Deliver m) node after said → IsFresh after × (said ≡ [])
     unfolding refusal row on_message on_ask says
     answers_fresh (model.Prepare s b) asks takes = absurd asks
     answers_fresh (model.Promise i s b votes) asks takes = absurd asks
@@ -109,7 +110,7 @@ module _ {T : Type 0} (node after : Node T) (fresh : IsFresh node) where
         (stepped_fresh (table.Deliver (model.Ask s)) said is refl refl, none_said said (is.messages ∙ none_answered (stored_of node) (working_of node) s fresh.stored))
     answers_fresh (model.Ask s) asks (giving.Fails running goes halts same part each none) = absurd (both_ways after.halted runs halts)
 
-    takes_fresh : (m : model.Message Definition) → IsAsk m → (lost : Bool) → Takes honest content images lost (table.Deliver m) node after said → IsFresh after × (said ≡ [])
+    takes_fresh : (m : model.Message Definition) → IsAsk m → (lost : Bool) → Takes tapes lost (table.Deliver m) node after said → IsFresh after × (said ≡ [])
     takes_fresh m asks true is = (same_fresh is.still is.same, is.quiet)
     takes_fresh m asks false is = answers_fresh m asks is
 
@@ -122,15 +123,15 @@ set_fresh nodes i node after fresh at is = λ j n e. elim (cases_eq j i) [
   | inr differs ↦ fresh j n (sym (get_set_other nodes i j after differs) ∙ e)
 ]
 
-module _ {T : Type 0} (honest : Type 0) (content : T → List ℕ) (images : T → List ℕ → Type 0) where
-  module _ (i k : ℕ) (loses : Bool) (nodes after : List (Node T)) (sent more : List Message) (one : IsHanded honest content images i k loses nodes sent after more) (fresh : AreFresh nodes) (asks : AllAsk sent) (none : NoneHalted after) where
+module _ {T : Type 0} (tapes : Tape T) where
+  module _ (i k : ℕ) (loses : Bool) (nodes after : List (Node T)) (sent more : List Message) (one : IsHanded tapes i k loses nodes sent after more) (fresh : AreFresh nodes) (asks : AllAsk sent) (none : NoneHalted after) where
     runs_there : one.after.halted ≡ false
     unfolding NoneHalted
     runs_there = none i one.after (subst (λ ns. slice_get ns i ≡ Some one.after) (sym one.nodes_are) (set_there nodes i one.after one.node one.at))
 
     given : IsFresh one.after × (one.said ≡ [])
     unfolding AreFresh
-    given = takes_fresh one.node one.after (fresh i one.node one.at) honest content images one.said runs_there (message.view one.handed) (one_asks sent k one.handed asks one.there) loses one.takes
+    given = takes_fresh one.node one.after (fresh i one.node one.at) tapes one.said runs_there (message.view one.handed) (one_asks sent k one.handed asks one.there) loses one.takes
 
     one_fresh : AreFresh after × (more ≡ sent)
     one_fresh = (
@@ -139,10 +140,10 @@ module _ {T : Type 0} (honest : Type 0) (content : T → List ℕ) (images : T �
     )
 
   module _ (nodes : List (Node T)) (messages : List Message) (fresh : AreFresh nodes) (asks : AllAsk messages) where
-    all_fresh : (p : Progress) (lost : ℕ) (after : List (Node T)) (sent : List Message) → AreHanded honest content images nodes messages p lost after sent → NoneHalted after → AreFresh after × (sent ≡ messages)
+    all_fresh : (p : Progress) (lost : ℕ) (after : List (Node T)) (sent : List Message) → AreHanded tapes nodes messages p lost after sent → NoneHalted after → AreFresh after × (sent ≡ messages)
     all_fresh _ _ _ _ First none = (fresh, refl)
     all_fresh _ _ _ _ (Next p lost loses middle after said more handed one) none =
-        let so : AreFresh middle × (said ≡ messages) = all_fresh p lost middle said handed (none_before middle after (keeps_failed honest content images p.some p.whole middle after said more loses one) none) in
+        let so : AreFresh middle × (said ≡ messages) = all_fresh p lost middle said handed (none_before middle after (keeps_failed tapes p.some p.whole middle after said more loses one) none) in
         let here = one_fresh p.some p.whole loses middle after said more one so.0 (subst AllAsk (sym so.1) asks) none in
         (here.0, here.1 ∙ so.1)
 
@@ -165,14 +166,14 @@ module _ {T : Type 0} (before asked : Node T) (fresh : IsFresh before) where
   failed_fresh fault.Halted same runs writes unchanged = unchanged_fresh (unchanged (λ e. cc) (λ e. cc))
   failed_fresh fault.Nothing same runs writes unchanged = unchanged_fresh (unchanged (λ e. cc) (λ e. cc))
 
-  asked_fresh : (honest : Type 0) (content : T → List ℕ) (images : T → List ℕ → Type 0) (failures : T → ℕ) (answer : Result (Vec Message Global) NodeFault) → IsStep honest content images failures before table.CatchUp answer asked →
+  asked_fresh : (tapes : Tape T) (answer : Result (Vec Message Global) NodeFault) → IsStep tapes before table.CatchUp answer asked →
       IsFresh asked × AllAsk (said_by answer)
-  asked_fresh honest content images failures (Ok said) step =
+  asked_fresh tapes (Ok said) step =
       (stepped_fresh before asked fresh table.CatchUp said.items step.done the_row.entry the_row.same, subst (AllByRecursion IsAsk) (sym step.done.messages) the_row.asks)
-  asked_fresh honest content images failures (Err f) step = (failed_fresh f step.same (λ e. step.still_running (ap Err e)) (λ e. step.writes (ap Err e)) step.unchanged, tt)
+  asked_fresh tapes (Err f) step = (failed_fresh f step.same (λ e. step.still_running (ap Err e)) (λ e. step.writes (ap Err e)) step.unchanged, tt)
 
-pub new_stay_new : {T : Type 0} (honest : Type 0) (content : T → List ℕ) (images : T → List ℕ → Type 0) (failures : T → ℕ) → NewStayNew honest content images failures
+pub new_stay_new : {T : Type 0} (tapes : Tape T) → NewStayNew tapes
 unfolding AreFresh
-new_stay_new honest content images failures = λ nodes after i before asked answer done lost stopped fresh at step out none.
-    let so = asked_fresh before asked (fresh i before at) honest content images failures answer step in
-    (all_fresh honest content images (slice_set nodes i asked) (said_by answer) (set_fresh nodes i before asked fresh at so.0) so.1 out.come lost after out.sent out.handed none).0
+new_stay_new tapes = λ nodes after i before asked answer done lost stopped fresh at step out none.
+    let so = asked_fresh before asked (fresh i before at) tapes answer step in
+    (all_fresh tapes (slice_set nodes i asked) (said_by answer) (set_fresh nodes i before asked fresh at so.0) so.1 out.come lost after out.sent out.handed none).0

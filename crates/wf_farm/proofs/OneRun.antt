@@ -18,7 +18,7 @@ use Rattle.wf_model.specs.Stored.{Stored, definition_at}
 use Rattle.wf_model.specs.Table as table
 use Rattle.wf_model.specs.Table.{Action, Input, store}
 use Rattle.wf_model.specs.World as world
-use Rattle.wf_model.specs.World.{World, Event, Propose, Retry, CatchUp, Torn, input_of, turn, after_turn, happens, steps, start, after}
+use Rattle.wf_model.specs.World.{World, Event, Act, Torn, input_of, turn, after_turn, happens, steps, start, after}
 use Rattle.wf_node.specs.Images.{EachStandsFor}
 use Rattle.wf_node.specs.Node.{Node, stored_of}
 use Rattle.wf_node.specs.Step.{row_of, IsStep}
@@ -33,22 +33,21 @@ use Rattle.wf_farm.specs.Leading.{IsLedWith, IsLedTo, LeadSaying, LeadTo, AreLed
 use Rattle.wf_farm.specs.Start.{fresh_node}
 use Rattle.wf_farm.proofs.Deliveries.{IsActed, Stays, Acts, Tears, any_answered, any_rejected, running_is, takes_acts, stays_halted, stays_itself, keeps_halted, left_here, left_before, node_eq, begins_itself}
 use Rattle.wf_farm.proofs.Turns.{world_of}
+use Rattle.wf_tape.specs.declared.tape.Tape.{Ghosts as Tape}
 
 -- ---- a node is asked to step
 
--- the action and the event that ask node i for this, whatever was sent
-record IsAsked (i : ℕ) (input : Input Definition) : Type 0 where
+-- the action whose input this is, whatever was sent
+record IsAsked (input : Input Definition) : Type 0 where
   action : Action Definition ℕ
-  event : Event Definition
   given : (sent : List (model.Message Definition)) → input_of sent action ≡ Some input
-  acts : (w : World Definition) → happens definition_eq w event ≡ after_turn w i (turn definition_eq w i action)
 
-asked : (i : ℕ) (input : Input Definition) → IsOwn input → IsAsked i input
-unfolding input_of happens
-asked i (table.Propose d) own = record { action = table.Propose d; event = Propose i d; given = λ sent. refl; acts = λ w. refl }
-asked i table.Retry own = record { action = table.Retry; event = Retry i; given = λ sent. refl; acts = λ w. refl }
-asked i table.CatchUp own = record { action = table.CatchUp; event = CatchUp i; given = λ sent. refl; acts = λ w. refl }
-asked i (table.Deliver m) own = absurd own
+asked : (input : Input Definition) → IsOwn input → IsAsked input
+unfolding input_of
+asked (table.Propose d) own = record { action = table.Propose d; given = λ sent. refl }
+asked table.Retry own = record { action = table.Retry; given = λ sent. refl }
+asked table.CatchUp own = record { action = table.CatchUp; given = λ sent. refl }
+asked (table.Deliver m) own = absurd own
 
 module _ {T : Type 0} (stands : ℕ → Stored Definition → Type 0) (w : World Definition) (nodes : List (Node T)) (sent : List Message) where
   no_event : Shows stands nodes sent w → IsLedWith stands w nodes sent
@@ -59,73 +58,77 @@ module _ {T : Type 0} (stands : ℕ → Stored Definition → Type 0) (w : World
   unfolding steps
   one_event event shows = record { events = event ∷ []; shows = shows }
 
+  acted_event : (i : ℕ) (action : Action Definition ℕ) → Shows stands nodes sent (after_turn w i (turn definition_eq w i action)) → IsLedWith stands w nodes sent
+  unfolding happens
+  acted_event i action shows = one_event (Act i action) shows
+
   torn_event : (i : ℕ) (action : Action Definition ℕ) (kept : world.Kept) → Shows stands nodes sent (world.after_torn w i kept (turn definition_eq w i action)) → IsLedWith stands w nodes sent
   unfolding happens
   torn_event i action kept shows = one_event (Torn i action kept) shows
 
   -- No event, or that one, complete or a crash within it, leads to what a step leaves.
-  asked_once : (i : ℕ) (input : Input Definition) (is : IsAsked i input) → IsActed stands i is.action w nodes sent → IsLedWith stands w nodes sent
+  asked_once : (i : ℕ) (input : Input Definition) (is : IsAsked input) → IsActed stands i is.action w nodes sent → IsLedWith stands w nodes sent
   asked_once i input is (Stays shows) = no_event shows
-  asked_once i input is (Acts shows) = one_event is.event (subst (Shows stands nodes sent) (sym (is.acts w)) shows)
+  asked_once i input is (Acts shows) = acted_event i is.action shows
   asked_once i input is (Tears kept shows) = torn_event i is.action kept shows
 
-module _ {T : Type 0} (honest : Type 0) (content : T → List ℕ) (images : T → List ℕ → Type 0) (nodes : List (Node T)) (i : ℕ) (node after : Node T) (input : Input Definition) (said : List Message)
+module _ {T : Type 0} (tapes : Tape T) (nodes : List (Node T)) (i : ℕ) (node after : Node T) (input : Input Definition) (said : List Message)
     (at : slice_get nodes i ≡ Some node) (turns : StandInTurn nodes) (own : IsOwn input) where
-  takes_leads : (stands : ℕ → Stored Definition → Type 0) (lost : Bool) → Takes honest content images lost input node after said →
-      (after.halted ≡ true → (honest → EachStandsFor (stored_of node) (store (stored_of node) (row_of node input).entry) (images after.tape)) → stands i (stored_of node) ⊎ stands i (store (stored_of node) (row_of node input).entry)) →
+  takes_leads : (stands : ℕ → Stored Definition → Type 0) (lost : Bool) → Takes tapes lost input node after said →
+      (after.halted ≡ true → (tapes.honest → EachStandsFor (stored_of node) (store (stored_of node) (row_of node input).entry) (tapes.images after.tape)) → stands i (stored_of node) ⊎ stands i (store (stored_of node) (row_of node input).entry)) →
       LeadSaying stands nodes said (slice_set nodes i after)
   unfolding LeadSaying
   takes_leads stands lost takes torn = λ w sent shows.
-      let is = asked i input own in
+      let is = asked input own in
       asked_once stands w (slice_set nodes i after) (sent ++ said) i input is
-      (takes_acts stands nodes sent i node after is.action input at (is.given (map message.view sent)) turns honest content images said lost takes torn w shows)
+      (takes_acts stands nodes sent i node after is.action input at (is.given (map message.view sent)) turns tapes said lost takes torn w shows)
 
   -- Whatever a node does that is asked to step, it leads the nodes on.
-  pub takes_led : (lost : Bool) → Takes honest content images lost input node after said → AreLedSaying honest images nodes said (slice_set nodes i after)
+  pub takes_led : (lost : Bool) → Takes tapes lost input node after said → AreLedSaying tapes nodes said (slice_set nodes i after)
   takes_led lost takes = record {
     any = takes_leads AnyPart lost takes (λ halts each. inl tt);
-    on_tape = λ h left may. takes_leads (StandFor left) lost takes (λ halts each. each h (left i) (left_here images nodes left i node after at may halts));
-    halted = keeps_halted nodes i node after at (stays_halted honest content images node after input said lost takes);
-    turn = keeps_turn nodes i node after at (stays_itself honest content images node after input said lost takes);
+    on_tape = λ h left may. takes_leads (StandFor left) lost takes (λ halts each. each h (left i) (left_here tapes nodes left i node after at may halts));
+    halted = keeps_halted nodes i node after at (stays_halted tapes node after input said lost takes);
+    turn = keeps_turn nodes i node after at (stays_itself tapes node after input said lost takes);
   }
 
 -- What a node returns is what it does; the input is lost if it returns allocation failure.
-module _ {T : Type 0} (honest : Type 0) (content : T → List ℕ) (images : T → List ℕ → Type 0) (failures : T → ℕ) (before after : Node T) (input : Input Definition) where
+module _ {T : Type 0} (tapes : Tape T) (before after : Node T) (input : Input Definition) where
   abbrev is_lost : Result (Vec Message Global) NodeFault → Bool
   is_lost (Ok said) = false
   is_lost (Err f) = is_memory f
 
   abbrev TakesBy : Result (Vec Message Global) NodeFault → Type 0
-  TakesBy answer = Takes honest content images (is_lost answer) input before after (said_by answer)
+  TakesBy answer = Takes tapes (is_lost answer) input before after (said_by answer)
 
-  takes_either : (answer : Result (Vec Message Global) NodeFault) → IfOk answer (λ said. Answers honest content images input before after said.items) → IfErr answer (λ f. Takes honest content images (is_memory f) input before after []) →
+  takes_either : (answer : Result (Vec Message Global) NodeFault) → IfOk answer (λ said. Answers tapes input before after said.items) → IfErr answer (λ f. Takes tapes (is_memory f) input before after []) →
       TakesBy answer
   takes_either (Ok said) answered lost = answered
   takes_either (Err f) answered lost = lost
 
-  takes_running : (answer : Result (Vec Message Global) NodeFault) → before.halted ≡ false → IsStep honest content images failures before input answer after → TakesBy answer
+  takes_running : (answer : Result (Vec Message Global) NodeFault) → before.halted ≡ false → IsStep tapes before input answer after → TakesBy answer
   takes_running answer runs step =
       let halted : before.halted ≡ true → answer ≡ Err fault_case.Halted = λ is. absurd (both_ways before.halted runs is) in
       takes_either answer
-      (any_answered honest content images before after input answer halted (λ is. step.refused) step.done step.grown)
-      (any_rejected honest content images before after input answer halted (λ is. absurd (step.running is)) (λ is. step.refused) step.unchanged step.same step.still_running step.same_tape step.halts step.part step.torn)
+      (any_answered tapes before after input answer halted (λ is. step.refused) step.done step.grown)
+      (any_rejected tapes before after input answer halted (λ is. absurd (step.running is)) (λ is. step.refused) step.unchanged step.same step.still_running step.same_tape step.halts step.part step.torn)
 
   takes_halted : (answer : Result (Vec Message Global) NodeFault) → before.halted ≡ true → answer ≡ Err fault_case.Halted → after ≡ before → TakesBy answer
   takes_halted answer is halted same = subst TakesBy (sym halted) (giving.Halts is same refl)
 
   takes_by : (halted : Bool) (answer : Result (Vec Message Global) NodeFault) → before.halted ≡ halted → (before.halted ≡ true → (answer ≡ Err fault_case.Halted) × (after ≡ before)) →
-      (before.halted ≡ false → IsStep honest content images failures before input answer after) → TakesBy answer
+      (before.halted ≡ false → IsStep tapes before input answer after) → TakesBy answer
   takes_by true answer is refused steps = takes_halted answer is (refused is).0 (refused is).1
   takes_by false answer is refused steps = takes_running answer is (steps is)
 
   pub takes_answered : (answer : Result (Vec Message Global) NodeFault) → (before.halted ≡ true → (answer ≡ Err fault_case.Halted) × (after ≡ before)) →
-      (before.halted ≡ false → IsStep honest content images failures before input answer after) → TakesBy answer
+      (before.halted ≡ false → IsStep tapes before input answer after) → TakesBy answer
   takes_answered answer refused steps = takes_by before.halted answer refl refused steps
 
-pub step_leads_on : {T : Type 0} (honest : Type 0) (content : T → List ℕ) (images : T → List ℕ → Type 0) (failures : T → ℕ) → StepLeadsOn honest content images failures
-step_leads_on honest content images failures = λ nodes i before after input answer at turns own refused steps.
-    takes_led honest content images nodes i before after input (said_by answer) at turns own (is_lost honest content images failures before after input answer)
-    (takes_answered honest content images failures before after input answer refused steps)
+pub step_leads_on : {T : Type 0} (tapes : Tape T) → StepLeadsOn tapes
+step_leads_on tapes = λ nodes i before after input answer at turns own refused steps.
+    takes_led tapes nodes i before after input (said_by answer) at turns own (is_lost tapes before after input answer)
+    (takes_answered tapes before after input answer refused steps)
 
 -- ---- one run
 
@@ -187,11 +190,11 @@ module _ {T : Type 0} (stands : ℕ → Stored Definition → Type 0) (nodes mid
       let led = leads w sent shows in
       led_through stands w led.events after (heard_on stands middle after said (steps definition_eq w led.events) sent law done delivered led.shows)
 
-pub deliveries_lead_on : EarlierMessages Definition → {T : Type 0} (honest : Type 0) (images : T → List ℕ → Type 0) → DeliveriesLeadOn honest images
-deliveries_lead_on law honest images = λ nodes middle after said done led delivered. record {
+pub deliveries_lead_on : EarlierMessages Definition → {T : Type 0} (tapes : Tape T) → DeliveriesLeadOn tapes
+deliveries_lead_on law tapes = λ nodes middle after said done led delivered. record {
   any = deliveries_lead AnyPart nodes middle after said law done led.any delivered.any;
   on_tape = λ h left may.
-      deliveries_lead (StandFor left) nodes middle after said law done (led.on_tape h left (left_before images middle after left delivered.halted may)) (delivered.on_tape h left may);
+      deliveries_lead (StandFor left) nodes middle after said law done (led.on_tape h left (left_before tapes middle after left delivered.halted may)) (delivered.on_tape h left may);
   halted = halted_twice nodes middle after led.halted delivered.halted;
   turn = keeps_turn_twice nodes middle after led.turn delivered.turn;
 }
@@ -227,8 +230,8 @@ module _ {T : Type 0} (stands : ℕ → Stored Definition → Type 0) where
       let led = leads w sent shows in
       record { sent = sent ++ said; events = led.events; shows = led.shows }
 
-module _ {T : Type 0} (honest : Type 0) (images : T → List ℕ → Type 0) where
-  pub nothing_leads_on : NothingLeadsOn honest images
+module _ {T : Type 0} (tapes : Tape T) where
+  pub nothing_leads_on : NothingLeadsOn tapes
   nothing_leads_on = λ nodes. record {
     any = nothing_leads AnyPart nodes;
     on_tape = λ h left may. nothing_leads (StandFor left) nodes;
@@ -236,7 +239,7 @@ module _ {T : Type 0} (honest : Type 0) (images : T → List ℕ → Type 0) whe
     turn = keeps_turn_itself nodes;
   }
 
-  pub nothing_is_said : NothingIsSaid honest images
+  pub nothing_is_said : NothingIsSaid tapes
   nothing_is_said = λ nodes. record {
     any = nothing_said AnyPart nodes;
     on_tape = λ h left may. nothing_said (StandFor left) nodes;
@@ -244,23 +247,23 @@ module _ {T : Type 0} (honest : Type 0) (images : T → List ℕ → Type 0) whe
     turn = keeps_turn_itself nodes;
   }
 
-  pub twice_leads_on : TwiceLeadsOn honest images
+  pub twice_leads_on : TwiceLeadsOn tapes
   twice_leads_on = λ nodes middle after first second. record {
     any = leads_twice AnyPart nodes middle after first.any second.any;
-    on_tape = λ h left may. leads_twice (StandFor left) nodes middle after (first.on_tape h left (left_before images middle after left second.halted may)) (second.on_tape h left may);
+    on_tape = λ h left may. leads_twice (StandFor left) nodes middle after (first.on_tape h left (left_before tapes middle after left second.halted may)) (second.on_tape h left may);
     halted = halted_twice nodes middle after first.halted second.halted;
     turn = keeps_turn_twice nodes middle after first.turn second.turn;
   }
 
-  pub both_are_said : BothAreSaid honest images
+  pub both_are_said : BothAreSaid tapes
   both_are_said = λ nodes middle after said more first second. record {
     any = says_twice AnyPart nodes middle after said more first.any second.any;
-    on_tape = λ h left may. says_twice (StandFor left) nodes middle after said more (first.on_tape h left (left_before images middle after left second.halted may)) (second.on_tape h left may);
+    on_tape = λ h left may. says_twice (StandFor left) nodes middle after said more (first.on_tape h left (left_before tapes middle after left second.halted may)) (second.on_tape h left may);
     halted = halted_twice nodes middle after first.halted second.halted;
     turn = keeps_turn_twice nodes middle after first.turn second.turn;
   }
 
-  pub unheard_leads_on : UnheardLeadsOn honest images
+  pub unheard_leads_on : UnheardLeadsOn tapes
   unheard_leads_on = λ nodes after said led. record {
     any = unheard AnyPart nodes after said led.any;
     on_tape = λ h left may. unheard (StandFor left) nodes after said (led.on_tape h left may);
@@ -278,11 +281,11 @@ module _ {T : Type 0} (stands : ℕ → Stored Definition → Type 0) (nodes end
       let whole = led_through stands (start (length nodes)) reached.events ended led in
       record { sent = whole.sent; events = whole.events; shows = subst (λ k. Shows stands ended whole.sent (steps definition_eq (start k) whole.events)) (sym long) whole.shows }
 
-module _ {T : Type 0} (honest : Type 0) (images : T → List ℕ → Type 0) where
-  pub reached_leads_on : ReachedLeadsOn honest images
+module _ {T : Type 0} (tapes : Tape T) where
+  pub reached_leads_on : ReachedLeadsOn tapes
   reached_leads_on = λ nodes ended reached led. reached_through AnyPart nodes ended reached led.any led.turn.as_many
 
-  pub reached_on_tape : ReachedOnTape honest images
+  pub reached_on_tape : ReachedOnTape tapes
   reached_on_tape = λ h left nodes ended may reached led. reached_through (StandFor left) nodes ended reached (led.on_tape h left may) led.turn.as_many
 
 -- ---- the start

@@ -10,7 +10,7 @@ use Rattle.wf_def.specs.EqualityLaws.{definition_eq_equiv}
 use Rattle.wf_model.specs.Stored.{definition_at}
 use Rattle.wf_model.specs.Table as table
 use Rattle.wf_model.specs.World as world
-use Rattle.wf_model.specs.World.{World, Propose, happens, input_of, start, steps}
+use Rattle.wf_model.specs.World.{World, propose, happens, input_of, start, steps}
 use Rattle.wf_node.specs.Growth.{row_grown}
 use Rattle.wf_node.specs.Node.{Node}
 use Rattle.wf_node.specs.Step.{IsStep, row_of}
@@ -32,6 +32,7 @@ use Rattle.wf_farm.proofs.Exactly.{as_many_sent, delivered_exactly, ends_once, p
 use Rattle.wf_farm.proofs.Listed.{IsUpTo, none_up_to, one_up_to, targets_up_to, up_to_targets}
 use Rattle.wf_farm.proofs.OneRun.{fresh_shown}
 use Rattle.wf_farm.proofs.ThreeNodes.{IsEnded, three, world_at, is_run, all_sent, all_ended, all_counted, began_long}
+use Rattle.wf_tape.specs.declared.tape.Tape.{Ghosts as Tape}
 
 -- ---- the world
 
@@ -46,7 +47,7 @@ one_of_all P (y ∷ xs) (suc i) x all at = one_of_all P xs i x all.1 at
 
 module _ (d : Definition) (i : ℕ) (node : i < 3) where
   abbrev began : World Definition
-  began = happens definition_eq (start 3) (Propose i d)
+  began = happens definition_eq (start 3) (propose i d)
 
   abbrev after_rounds : ℕ → World Definition
   after_rounds k = steps definition_eq began (rounds three 0 k)
@@ -86,8 +87,8 @@ published_by nodes w d each shown none = λ i node at.
     let here = shown.node_is i node at in
     subst (IsEnded d) (is_running (AnyPart i) node here.0 (none i node at) here.2) (each i here.0 here.1)
 
-module _ {T : Type 0} (honest : Type 0) (content : T → List ℕ) (images : T → List ℕ → Type 0) (failures : T → ℕ) (nodes : List (Node T)) (i : ℕ) (before proposed : Node T) (d : Definition) (said : Vec Message Global)
-    (long : length nodes ≡ 3) (turns : StandInTurn nodes) (fresh : AreFresh nodes) (at : slice_get nodes i ≡ Some before) (step : IsStep honest content images failures before (table.Propose d) (Ok said) proposed) where
+module _ {T : Type 0} (tapes : Tape T) (nodes : List (Node T)) (i : ℕ) (before proposed : Node T) (d : Definition) (said : Vec Message Global)
+    (long : length nodes ≡ 3) (turns : StandInTurn nodes) (fresh : AreFresh nodes) (at : slice_get nodes i ≡ Some before) (step : IsStep tapes before (table.Propose d) (Ok said) proposed) where
   node_within : i < 3
   node_within = let within : i < length nodes = slice_get_within nodes i before at in omega (arith, within, long)
 
@@ -101,13 +102,13 @@ module _ {T : Type 0} (honest : Type 0) (content : T → List ℕ) (images : T �
   proposed_turn : KeepTurn nodes (slice_set nodes i proposed)
   proposed_turn = keeps_turn nodes i before proposed at (step.done.id, step.done.n, row_grown before proposed (row_of before (table.Propose d)) said.items step.done)
 
-  module _ (after : List (Node T)) (done : ℕ) (out : AreHandedOut honest content images (slice_set nodes i proposed) said.items done 0 false after) (none : NoneHalted after) where
+  module _ (after : List (Node T)) (done : ℕ) (out : AreHandedOut tapes (slice_set nodes i proposed) said.items done 0 false after) (none : NoneHalted after) where
     many : length (slice_set nodes i proposed) ≡ 3
     many = proposed_turn.as_many ∙ long
 
     delivered : ArePumped three (began d i node_within) done false after
     delivered =
-        delivered_exactly honest content images (slice_set nodes i proposed) after said.items done false (began d i node_within) three (omega (arith, many))
+        delivered_exactly tapes (slice_set nodes i proposed) after said.items done false (began d i node_within) three (omega (arith, many))
         (subst (λ n. AreTargets n [] three) (sym many) (up_to_targets 3 three three_up_to)) (proposed_turn.in_turn turns) proposed_shown out none
 
     in_rounds : deliveries three 0 delivered.come.whole delivered.come.some ≡ rounds three 0 delivered.come.whole
@@ -128,10 +129,10 @@ module _ {T : Type 0} (honest : Type 0) (content : T → List ℕ) (images : T �
     all_publish =
         published_by after (after_rounds d i node_within delivered.come.whole) d (published d i node_within delivered.come.whole delivered_ends) delivered_shown.nodes_are none
 
-pub published_on_all : {T : Type 0} (honest : Type 0) (content : T → List ℕ) (images : T → List ℕ → Type 0) (failures : T → ℕ) → PublishedOnAll honest content images failures
-published_on_all honest content images failures = λ nodes after i before proposed d said done long turns fresh at step out none. (
-  all_done honest content images failures nodes i before proposed d said long turns fresh at step after done out none,
-  all_publish honest content images failures nodes i before proposed d said long turns fresh at step after done out none,
+pub published_on_all : {T : Type 0} (tapes : Tape T) → PublishedOnAll tapes
+published_on_all tapes = λ nodes after i before proposed d said done long turns fresh at step out none. (
+  all_done tapes nodes i before proposed d said long turns fresh at step after done out none,
+  all_publish tapes nodes i before proposed d said long turns fresh at step after done out none,
 )
 
 -- ---- a farm
@@ -158,7 +159,7 @@ module _ (now : Farm) (w : World Definition) (d : Definition) (shows : farm.Show
     | inr past ↦ absurd (omega (arith, within, past.0))
   ]
 
-module _ (before proposed now : Farm) (i : ℕ) (d : Definition) (new : farm.Shows before (start 3)) (first : before.pumped ≡ 0) (node : i < 3) (runs : Runs (Propose i d ∷ []) before proposed) (same : proposed.pumped ≡ before.pumped)
+module _ (before proposed now : Farm) (i : ℕ) (d : Definition) (new : farm.Shows before (start 3)) (first : before.pumped ≡ 0) (node : i < 3) (runs : Runs (propose i d ∷ []) before proposed) (same : proposed.pumped ≡ before.pumped)
     (pumped : IsPumped [] proposed now false) where
   farm_began : farm.Shows proposed (began d i node)
   unfolding Moves steps

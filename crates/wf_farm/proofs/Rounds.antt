@@ -4,7 +4,8 @@ use Rattle.std.proofs.lemmas.List.{get_or_default, append-nil, drop_all, append_
 use Rattle.wf_codec.specs.declared.message.Message.{Message}
 use Rattle.wf_def.specs.Equality.{definition_eq}
 use Rattle.wf_model.specs.Table as table
-use Rattle.wf_model.specs.World.{Deliver, happens, steps}
+use Rattle.wf_model.specs.World.{deliver, happens, steps}
+use Rattle.wf_farm.specs.declared.rejection.Rejection.{Rejection}
 use Rattle.wf_farm.specs.declared.place.Place.{Place}
 use Rattle.wf_farm.specs.declared.progress.End.{End}
 use Rattle.wf_farm.specs.declared.progress.End.TheVariants.{Done, Stopped, Failed}
@@ -24,14 +25,14 @@ use Rattle.wf_farm.proofs.Runs.{keep_twice, steps_more}
 to_each_append : (nodes more : List ℕ) (k : ℕ) → to_each (nodes ++ more) k ≡ to_each nodes k ++ to_each more k
 unfolding to_each
 to_each_append [] more k = refl
-to_each_append (i ∷ nodes) more k = ap (λ es. Deliver i k ∷ es) (to_each_append nodes more k)
+to_each_append (i ∷ nodes) more k = ap (λ es. deliver i k ∷ es) (to_each_append nodes more k)
 
 -- one more delivery in a round
 pub one_more : (targets : List ℕ) (first whole some : ℕ) → some < length targets →
-    deliveries targets first whole some ++ Deliver (get_or targets some 0) (first + whole) ∷ [] ≡ deliveries targets first whole (some + 1)
+    deliveries targets first whole some ++ deliver (get_or targets some 0) (first + whole) ∷ [] ≡ deliveries targets first whole (some + 1)
 unfolding to_each deliveries
 one_more targets first whole some within =
-    append_assoc (rounds targets first whole) (to_each (take some targets) (first + whole)) (Deliver (get_or targets some 0) (first + whole) ∷ [])
+    append_assoc (rounds targets first whole) (to_each (take some targets) (first + whole)) (deliver (get_or targets some 0) (first + whole) ∷ [])
     ∙ ap (λ es. rounds targets first whole ++ es) (sym (to_each_append (take some targets) (get_or targets some 0 ∷ []) (first + whole))
     ∙ ap (λ nodes. to_each nodes (first + whole)) (sym (take_more targets some 0 within)))
 
@@ -91,18 +92,18 @@ module _ (targets : List ℕ) (first : ℕ) (places : List Place) (sent : List M
       most = come.most;
     }
 
-    module _ (number : Option ℕ) (come : HasCome targets first p places sent middle said) (left : first + p.whole < length said) (may : p.done < most_deliveries)
-        (acted : IsActed (get_or targets p.some 0) (table.Deliver (first + p.whole)) number middle said after more) (grows : length said ≤ length more) where
+    module _ (rejection : Option Rejection) (come : HasCome targets first p places sent middle said) (left : first + p.whole < length said) (may : p.done < most_deliveries)
+        (acted : IsActed (get_or targets p.some 0) (table.Deliver (first + p.whole)) rejection middle said after more) (grows : length said ≤ length more) where
       moves_on : Moves (deliveries targets first p.whole (p.some + 1)) places sent after more
       unfolding Moves happens
       moves_on = λ w shows.
-          let so_far = deliveries targets first p.whole p.some in let event = Deliver (get_or targets p.some 0) (first + p.whole) in
+          let so_far = deliveries targets first p.whole p.some in let event = deliver (get_or targets p.some 0) (first + p.whole) in
           subst (λ es. Shows after more (steps definition_eq w es)) (one_more targets first p.whole p.some come.part)
           (subst (Shows after more) (sym (steps_more w so_far event)) (acted.leads (steps definition_eq w so_far) (come.moves w shows)))
 
       counts_on : length (deliveries targets first p.whole (p.some + 1)) ≡ p.done + 1
       counts_on =
-          ap length (sym (one_more targets first p.whole p.some come.part)) ∙ length-append (deliveries targets first p.whole p.some) (Deliver (get_or targets p.some 0) (first + p.whole) ∷ []) ∙ ap (λ k. k + 1) come.count
+          ap length (sym (one_more targets first p.whole p.some come.part)) ∙ length-append (deliveries targets first p.whole p.some) (deliver (get_or targets p.some 0) (first + p.whole) ∷ []) ∙ ap (λ k. k + 1) come.count
 
       come_by : (whole : Bool) → (p.some + 1 == length targets) ≡ whole → HasCome targets first
           (if whole then record { whole = p.whole + 1; some = 0; done = p.done + 1 } else record { whole = p.whole; some = p.some + 1; done = p.done + 1 }) places sent after more
@@ -133,8 +134,8 @@ module _ (targets : List ℕ) (first : ℕ) (places : List Place) (sent : List M
   come_along _ _ _ _ (Go p lost loses middle after said more gone left one) some within most =
       let may : p.done < most_deliveries = omega (arith, done_on (length targets) p, most) in
       let come : HasCome targets first p places sent middle said × KeepMembers places middle = come_along p lost middle said gone some within (omega (arith, may)) in (
-        come_on p middle after said more one.number come.0 left may
-            (subst (λ i. IsActed i (table.Deliver (first + p.whole)) one.number middle said after more) (get_or_default targets p.some p.some 0 come.0.part) one.acted) one.grows,
+        come_on p middle after said more one.rejection come.0 left may
+            (subst (λ i. IsActed i (table.Deliver (first + p.whole)) one.rejection middle said after more) (get_or_default targets p.some p.some 0 come.0.part) one.acted) one.grows,
         keep_twice places middle after come.1 one.members,
       )
 

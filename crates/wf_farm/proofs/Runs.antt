@@ -5,6 +5,7 @@ use Rattle.wf_codec.specs.declared.message.Message.{Message}
 use Rattle.wf_def.specs.Definition.{Definition}
 use Rattle.wf_def.specs.Equality.{definition_eq}
 use Rattle.wf_model.specs.World.{World, Event, refused, happens, steps}
+use Rattle.wf_farm.specs.declared.rejection.Rejection.{Rejection}
 use Rattle.wf_farm.specs.declared.event.Event as declared
 use Rattle.wf_farm.specs.declared.place.Place.{Place}
 use Rattle.wf_farm.specs.Event.{view}
@@ -40,22 +41,22 @@ module _ (places : List Place) (sent : List Message) where
   none_run = record { leads = λ w shows. shows; why = λ w shows. refl }
 
   -- The events so far and one more.
-  pub more_run : (events : List (Event Definition)) (event : Event Definition) (number next : Option ℕ) (middle after : List Place) (said more : List Message) →
-      HaveRun events number places sent middle said → Happens event next middle said after more → HaveRun (events ++ event ∷ []) next places sent after more
+  pub more_run : (events : List (Event Definition)) (event : Event Definition) (rejection next : Option Rejection) (middle after : List Place) (said more : List Message) →
+      HaveRun events rejection places sent middle said → Happens event next middle said after more → HaveRun (events ++ event ∷ []) next places sent after more
   unfolding Moves
-  more_run events event number next middle after said more ran happened = record {
+  more_run events event rejection next middle after said more ran happened = record {
     leads = λ w shows. subst (Shows after more) (sym (steps_more w events event)) (happened.leads (steps definition_eq w events) (ran.leads w shows));
     why = λ w shows. happened.why (steps definition_eq w events) (ran.leads w shows) ∙ sym (ap told (last_more w events event));
   }
 
-  pub next_run : (events : List declared.Event) (done more_done : ℕ) (event : declared.Event) (number next : Option ℕ) (middle after : List Place) (said more : List Message) → more_done ≡ suc done → slice_get events done ≡ Some event →
-      HaveRun (take done (map view events)) number places sent middle said → Happens (view event) next middle said after more → HaveRun (take more_done (map view events)) next places sent after more
-  next_run events done more_done event number next middle after said more one at ran happened =
-      subst (λ es. HaveRun es next places sent after more) (sym (ap (λ k. take k (map view events)) one ∙ take_more events done event at)) (more_run (take done (map view events)) (view event) number next middle after said more ran happened)
+  pub next_run : (events : List declared.Event) (done more_done : ℕ) (event : declared.Event) (rejection next : Option Rejection) (middle after : List Place) (said more : List Message) → more_done ≡ suc done → slice_get events done ≡ Some event →
+      HaveRun (take done (map view events)) rejection places sent middle said → Happens (view event) next middle said after more → HaveRun (take more_done (map view events)) next places sent after more
+  next_run events done more_done event rejection next middle after said more one at ran happened =
+      subst (λ es. HaveRun es next places sent after more) (sym (ap (λ k. take k (map view events)) one ∙ take_more events done event at)) (more_run (take done (map view events)) (view event) rejection next middle after said more ran happened)
 
-  pub all_run : (events : List declared.Event) (done : ℕ) (number : Option ℕ) (after : List Place) (more : List Message) → done ≡ length events →
-      HaveRun (take done (map view events)) number places sent after more → HaveRun (map view events) number places sent after more
-  all_run events done number after more all ran = subst (λ es. HaveRun es number places sent after more) (ap (λ k. take k (map view events)) all ∙ take_all events) ran
+  pub all_run : (events : List declared.Event) (done : ℕ) (rejection : Option Rejection) (after : List Place) (more : List Message) → done ≡ length events →
+      HaveRun (take done (map view events)) rejection places sent after more → HaveRun (map view events) rejection places sent after more
+  all_run events done rejection after more all ran = subst (λ es. HaveRun es rejection places sent after more) (ap (λ k. take k (map view events)) all ∙ take_all events) ran
 
   -- An event that changes nothing leaves the run where it was.
   pub stays_run : (events : List (Event Definition)) (middle after : List Place) (said more : List Message) → Moves events places sent middle said → StayShown middle said after more →

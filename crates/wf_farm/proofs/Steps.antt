@@ -27,12 +27,13 @@ use Rattle.wf_tape.specs.MemoryTape as tape
 use Rattle.wf_tape.specs.MemoryTape.{IsImageOf, NeverFails}
 use Rattle.wf_journal.specs.Records.{AreReadOneWay, IsReadAsNone}
 use Rattle.wf_tape.specs.Tape.{IsBeginning}
+use Rattle.wf_farm.specs.declared.rejection.Rejection.{Rejection}
 use Rattle.wf_farm.specs.declared.place.Place.{Place}
 use Rattle.wf_farm.specs.declared.place.Place.TheVariants.{Running, Stopped}
-use Rattle.wf_farm.specs.Fault.{number_of, told}
+use Rattle.wf_farm.specs.Fault.{rejection_of, told}
 use Rattle.wf_farm.specs.Leading.{IsFresh}
 use Rattle.wf_farm.specs.Reopening.{HasStoredAgain, IsReopened}
-use Rattle.wf_farm.specs.Place.{IsNode, IsMember, IsChanged, Stays, turn_at, IsStepped, IsTornAt, number_in, IsDenied, IsDeniedTorn, KeepsMember, Stops, Restarts, Steps, DeniesStep, Tears, DeniesTear, TellsWhyNot}
+use Rattle.wf_farm.specs.Place.{IsNode, IsMember, IsChanged, Stays, turn_at, IsStepped, IsTornAt, rejection_in, IsDenied, IsDeniedTorn, KeepsMember, Stops, Restarts, Steps, DeniesStep, Tears, DeniesTear, TellsWhyNot}
 use Rattle.wf_farm.specs.Start.{fresh_node}
 use Rattle.wf_farm.specs.Turn.{node_after, messages_of, node_torn, node_stopped, working_restarted, node_restarted}
 use Rattle.wf_farm.proofs.Turns.{turn_goes, turn_refused, turn_stopped, running_refusal, stopped_refusal}
@@ -44,16 +45,16 @@ pub node_eq : (stored others : Stored Definition) (working held : Option (Workin
 node_eq stored others working held e h = ap (λ s. node_of s working) e ∙ ap (λ x. node_of others x) h
 
 -- the node of the model that a running one is
-abbrev pub shown : Node tape.Kept → world.Node Definition
+abbrev pub shown : Node tape.TapeValue → world.Node Definition
 shown node = node_of (stored_of node) (Some (working_of node))
 
 -- ---- a step
 
-pub goes_of : (node : Node tape.Kept) (input : Input Definition) → refusal_at node input ≡ None →
+pub goes_of : (node : Node tape.TapeValue) (input : Input Definition) → refusal_at node input ≡ None →
     turn_at node.n node.id input (shown node) ≡ Some (record { stored = stored_of node; row = row_of node input })
 goes_of node input goes = turn_goes definition_eq node.n node.id (stored_of node) (working_of node) input goes
 
-module _ (node after : Node tape.Kept) (input : Input Definition) (said : List Message) (goes : refusal_at node input ≡ None) (is : IsRow node (row_of node input) said after) where
+module _ (node after : Node tape.TapeValue) (input : Input Definition) (said : List Message) (goes : refusal_at node input ≡ None) (is : IsRow node (row_of node input) said after) where
   stepped_node : node_after (turn_at node.n node.id input (shown node)) (shown node) ≡ shown after
   unfolding node_after stored_after
   stepped_node =
@@ -74,55 +75,55 @@ module _ (node after : Node tape.Kept) (input : Input Definition) (said : List M
   }
 
 -- A completed step is the turn of the node in this entry.
-pub step_done : (n i : ℕ) (node after : Node tape.Kept) (input : Input Definition) (said : List Message) → IsMember n i (Running node) → refusal_at node input ≡ None →
+pub step_done : (n i : ℕ) (node after : Node tape.TapeValue) (input : Input Definition) (said : List Message) → IsMember n i (Running node) → refusal_at node input ≡ None →
     IsRow node (row_of node input) said after → IsStepped n i input (Running node) (Running after) (map message.view said) None
 step_done n i node after input said member goes is =
     subst (λ m. IsStepped m i input (Running node) (Running after) (map message.view said) None) member.1
     (subst (λ j. IsStepped node.n j input (Running node) (Running after) (map message.view said) None) member.0 (done_here node after input said goes is))
 
 -- its node is still a member
-pub done_member : (node after : Node tape.Kept) (input : Input Definition) (said : List Message) → (NeverFails node.tape → NeverFails after.tape) → IsRow node (row_of node input) said after →
+pub done_member : (node after : Node tape.TapeValue) (input : Input Definition) (said : List Message) → (NeverFails node.tape → NeverFails after.tape) → IsRow node (row_of node input) said after →
     KeepsMember (Running node) (Running after)
 unfolding KeepsMember
 done_member node after input said sturdy is = λ n i member. (is.id ∙ member.0, is.n ∙ member.1, is.running, sturdy member.3)
 
 -- No step sends more than eight messages.
-pub said_few : (node after : Node tape.Kept) (input : Input Definition) (said : List Message) → RowsAreShort Definition → IsRow node (row_of node input) said after → length said ≤ most_told
+pub said_few : (node after : Node tape.TapeValue) (input : Input Definition) (said : List Message) → RowsAreShort Definition → IsRow node (row_of node input) said after → length said ≤ most_told
 said_few node after input said short is =
     omega (arith, length-map said message.view, ap length is.messages, short definition_eq node.n node.id (stored_of node) (working_of node) input)
 
-module _ (node : Node tape.Kept) (input : Input Definition) (why : Refusal) (refused : refusal_at node input ≡ Some why) where
-  refused_here : IsStepped node.n node.id input (Running node) (Running node) [] (Some (number_of why))
+module _ (node : Node tape.TapeValue) (input : Input Definition) (why : Refusal) (refused : refusal_at node input ≡ Some why) where
+  refused_here : IsStepped node.n node.id input (Running node) (Running node) [] (Some (rejection_of why))
   unfolding node_after messages_of
   refused_here =
       let none : turn_at node.n node.id input (shown node) ≡ None = turn_refused definition_eq node.n node.id (stored_of node) (working_of node) input why refused in
       record {
         node = λ x e. subst (λ y. node_after (turn_at node.n node.id input y) y ≡ shown node) (sym e) (ap (λ t. node_after t (shown node)) none);
         messages = λ x e. subst (λ y. [] ≡ messages_of (turn_at node.n node.id input y)) (sym e) (sym (ap messages_of none));
-        refusal = λ x e. subst (λ y. Some (number_of why) ≡ told (refusal_of (Some y) (Some input))) (sym e)
+        refusal = λ x e. subst (λ y. Some (rejection_of why) ≡ told (refusal_of (Some y) (Some input))) (sym e)
             (sym (ap told (running_refusal (stored_of node) (working_of node) input ∙ refused)));
       }
 
-pub step_refused : (n i : ℕ) (node : Node tape.Kept) (input : Input Definition) (why : Refusal) → IsMember n i (Running node) → refusal_at node input ≡ Some why →
-    IsStepped n i input (Running node) (Running node) [] (Some (number_of why))
+pub step_refused : (n i : ℕ) (node : Node tape.TapeValue) (input : Input Definition) (why : Refusal) → IsMember n i (Running node) → refusal_at node input ≡ Some why →
+    IsStepped n i input (Running node) (Running node) [] (Some (rejection_of why))
 step_refused n i node input why member refused =
-    subst (λ m. IsStepped m i input (Running node) (Running node) [] (Some (number_of why))) member.1
-    (subst (λ j. IsStepped node.n j input (Running node) (Running node) [] (Some (number_of why))) member.0 (refused_here node input why refused))
+    subst (λ m. IsStepped m i input (Running node) (Running node) [] (Some (rejection_of why))) member.1
+    (subst (λ j. IsStepped node.n j input (Running node) (Running node) [] (Some (rejection_of why))) member.0 (refused_here node input why refused))
 
 -- a node that is unchanged but for its tape
-pub same_stays : (node after : Node tape.Kept) → IsSameNode node after → Stays (Running node) (Running after)
+pub same_stays : (node after : Node tape.TapeValue) → IsSameNode node after → Stays (Running node) (Running after)
 unfolding Stays
 same_stays node after same = λ x e. e ∙ node_eq _ _ _ _ (sym (ap stored_of same)) (ap Some (sym (ap working_of same)))
 
--- the number of an error
-pub number_why : (f : NodeFault) (number : ℕ) → number_in f ≡ Some number → (why : Refusal) × (fault.refusal_of f ≡ Some why) × (number_of why ≡ number)
-number_why fault_case.Memory number e = absurd (none-some number e)
-number_why fault_case.Busy number e = (table.Busy, refl, same_Some 2 number e)
-number_why fault_case.SequenceFull number e = (table.SequenceFull, refl, same_Some 3 number e)
-number_why fault_case.RoundsFull number e = (table.RoundsFull, refl, same_Some 4 number e)
-number_why fault_case.Halted number e = absurd (none-some number e)
-number_why fault_case.TapeFailed number e = absurd (none-some number e)
-number_why fault_case.Nothing number e = (table.NothingToRetry, refl, same_Some 7 number e)
+-- the rejection of an error
+pub rejection_why : (f : NodeFault) (rejection : Rejection) → rejection_in f ≡ Some rejection → (why : Refusal) × (fault.refusal_of f ≡ Some why) × (rejection_of why ≡ rejection)
+rejection_why fault_case.Memory rejection e = absurd (none-some rejection e)
+rejection_why fault_case.Busy rejection e = (table.Busy, refl, same_Some (rejection_of table.Busy) rejection e)
+rejection_why fault_case.SequenceFull rejection e = (table.SequenceFull, refl, same_Some (rejection_of table.SequenceFull) rejection e)
+rejection_why fault_case.RoundsFull rejection e = (table.RoundsFull, refl, same_Some (rejection_of table.RoundsFull) rejection e)
+rejection_why fault_case.Halted rejection e = absurd (none-some rejection e)
+rejection_why fault_case.TapeFailed rejection e = absurd (none-some rejection e)
+rejection_why fault_case.Nothing rejection e = (table.NothingToRetry, refl, same_Some (rejection_of table.NothingToRetry) rejection e)
 
 -- the table's rejections are neither allocation failure nor a failure of the tape
 unchanged_by : (f : NodeFault) (why : Refusal) → fault.refusal_of f ≡ Some why → (f ≢ fault_case.Memory) × (f ≢ fault_case.TapeFailed)
@@ -132,7 +133,7 @@ unchanged_by f why e = (
 )
 
 -- After an error the node is still a member: its tape hasn't failed, since a tape in memory without a fuse doesn't.
-module _ (node after : Node tape.Kept) (sturdy : NeverFails node.tape → NeverFails after.tape) (same : IsSameNode node after) where
+module _ (node after : Node tape.TapeValue) (sturdy : NeverFails node.tape → NeverFails after.tape) (same : IsSameNode node after) where
   kept_member : after.halted ≡ false → KeepsMember (Running node) (Running after)
   unfolding KeepsMember
   kept_member runs = λ n i member. (ap (λ x. x.id) same ∙ member.0, ap (λ x. x.n) same ∙ member.1, runs, sturdy member.3)
@@ -155,21 +156,21 @@ module _ (node after : Node tape.Kept) (sturdy : NeverFails node.tape → NeverF
   denied_member fault_case.Nothing runs sound halted unchanged = unchanged_member fault_case.Nothing table.NothingToRetry refl unchanged
 
 -- A step that ends in an error: the node is unchanged, and the table's rejection is that of the farm's model.
-pub step_denied : (n i : ℕ) (node after : Node tape.Kept) (input : Input Definition) (f : NodeFault) → IsMember n i (Running node) → fault.refusal_of f ≡ refusal_at node input →
+pub step_denied : (n i : ℕ) (node after : Node tape.TapeValue) (input : Input Definition) (f : NodeFault) → IsMember n i (Running node) → fault.refusal_of f ≡ refusal_at node input →
     IsSameNode node after → (f ≢ fault_case.Memory → f ≢ fault_case.TapeFailed → after ≡ node) → IsDenied n i input (Running node) (Running after) f
 step_denied n i node after input f member refused same unchanged = record {
   stays = same_stays node after same;
-  refused = λ number e.
-      let why = number_why f number e in
+  refused = λ rejection e.
+      let why = rejection_why f rejection e in
       let other = unchanged_by f why.0 why.1 in
       subst (λ k. IsStepped n i input (Running node) (Running after) [] (Some k)) why.2
-      (subst (λ x. IsStepped n i input (Running node) (Running x) [] (Some (number_of why.0))) (sym (unchanged other.0 other.1))
+      (subst (λ x. IsStepped n i input (Running node) (Running x) [] (Some (rejection_of why.0))) (sym (unchanged other.0 other.1))
       (step_refused n i node input why.0 member (sym refused ∙ why.1)));
 }
 
 -- ---- a step, whatever it returns
 
-module _ {A : Type 0} (node after : Node tape.Kept) (input : Input Definition) where
+module _ {A : Type 0} (node after : Node tape.TapeValue) (input : Input Definition) where
   pub any_done : (result : Result (Vec Message A) NodeFault) → (node.halted ≡ false → fault.refused_by result ≡ refusal_at node input) →
       IfOk result (λ said. IsRow node (row_of node input) said.items after) → IfOk result (λ said. Steps input (Running node) (Running after) (map message.view said.items))
   unfolding Steps
@@ -194,7 +195,7 @@ module _ {A : Type 0} (node after : Node tape.Kept) (input : Input Definition) w
   any_member (Err f) is runs sturdy sound halted same unchanged = denied_member node after sturdy same f (λ e. runs (ap Err e)) sound (λ e. halted (ap Err e)) unchanged
 
 -- A stopped node takes no step.
-pub stopped_steps : (kept : tape.Kept) (input : Input Definition) → Steps input (Stopped kept) (Stopped kept) []
+pub stopped_steps : (kept : tape.TapeValue) (input : Input Definition) → Steps input (Stopped kept) (Stopped kept) []
 unfolding Steps node_after messages_of
 stopped_steps kept input = λ n i member. record {
   node = λ x is. subst (λ t. IsNode (Stopped kept) (node_after t x)) (sym (turn_stopped definition_eq n i x input is.0)) is;
@@ -213,16 +214,16 @@ member_twice before middle after first second = λ n i member. second n i (first
 -- ---- a stop
 
 -- The tape of a node that was closed stands for what it stored.
-pub closed : (node : Node tape.Kept) (left : tape.Kept) → (node.halted ≡ false → AllStandFor (stored_of node) (IsImageOf left)) → Stops (Running node) (Stopped left)
+pub closed : (node : Node tape.TapeValue) (left : tape.TapeValue) → (node.halted ≡ false → AllStandFor (stored_of node) (IsImageOf left)) → Stops (Running node) (Stopped left)
 unfolding Stops node_stopped
 closed node left stands = λ n i member x e. (refl, subst (λ y. AllStandFor y.stored (IsImageOf left)) (sym e) (stands member.2))
 
-pub still_stopped : (kept : tape.Kept) → Stops (Stopped kept) (Stopped kept)
+pub still_stopped : (kept : tape.TapeValue) → Stops (Stopped kept) (Stopped kept)
 unfolding Stops node_stopped
 still_stopped kept = λ n i member x is. (refl, is.1)
 
 -- The tape of a node that was closed is still without a fuse.
-pub closed_member : (node : Node tape.Kept) (left : tape.Kept) → left ≡ node.tape → KeepsMember (Running node) (Stopped left)
+pub closed_member : (node : Node tape.TapeValue) (left : tape.TapeValue) → left ≡ node.tape → KeepsMember (Running node) (Stopped left)
 unfolding KeepsMember
 closed_member node left same = λ n i member. subst NeverFails (sym same) member.3
 
@@ -240,16 +241,16 @@ pub begins_taken : (n : ℕ) (bytes : List ℕ) → IsBeginning (take n bytes) b
 begins_taken n bytes = (drop n bytes, sym (take-append-drop n bytes))
 
 -- the whole contents of a tape are an image of it
-pub content_is_image : (kept : tape.Kept) → IsImageOf kept kept.bytes
+pub content_is_image : (kept : tape.TapeValue) → IsImageOf kept kept.bytes
 content_is_image kept = (begins_itself kept.bytes, begins_taken kept.synced kept.bytes)
 
 -- A tape stands for exactly one stored part.
-pub one_stored : AreReadOneWay → (kept : tape.Kept) (stored others : Stored Definition) → AllStandFor stored (IsImageOf kept) → AllStandFor others (IsImageOf kept) → stored ≡ others
+pub one_stored : AreReadOneWay → (kept : tape.TapeValue) (stored others : Stored Definition) → AllStandFor stored (IsImageOf kept) → AllStandFor others (IsImageOf kept) → stored ≡ others
 one_stored one kept stored others first second =
     one_stand one kept.bytes stored others (first kept.bytes (content_is_image kept)) (second kept.bytes (content_is_image kept))
 
 -- A node opened from a tape stored what the tape stands for, and has no proposal and no leadership.
-pub opened : AreReadOneWay → (kept : tape.Kept) (node : Node tape.Kept) → IsFoldOf (stored_of node) kept.bytes → working_of node ≡ at_start → Restarts (Stopped kept) (Running node)
+pub opened : AreReadOneWay → (kept : tape.TapeValue) (node : Node tape.TapeValue) → IsFoldOf (stored_of node) kept.bytes → working_of node ≡ at_start → Restarts (Stopped kept) (Running node)
 unfolding Restarts node_restarted working_restarted
 opened one kept node fold_of idle = λ x is.
     let stands : StandsFor x.stored kept.bytes = is.1 kept.bytes (content_is_image kept) in
@@ -258,39 +259,39 @@ opened one kept node fold_of idle = λ x is.
     ∙ node_eq _ _ _ _ (one_stand one kept.bytes x.stored (stored_of node) stands found) (ap Some (sym idle))
 
 -- A node opened from a tape without a fuse is on such a tape, and a tape that is returned is still one.
-pub opened_member : (n i : ℕ) (before : Place) (kept : tape.Kept) (node : Node tape.Kept) → before ≡ Stopped kept → node.id ≡ i → node.n ≡ n → node.halted ≡ false → (NeverFails kept → NeverFails node.tape) →
+pub opened_member : (n i : ℕ) (before : Place) (kept : tape.TapeValue) (node : Node tape.TapeValue) → before ≡ Stopped kept → node.id ≡ i → node.n ≡ n → node.halted ≡ false → (NeverFails kept → NeverFails node.tape) →
     IsMember n i before → IsMember n i (Running node)
 opened_member n i before kept node was id many runs sturdy member = (id, many, runs, sturdy (subst (IsMember n i) was member))
 
-pub returned_member : (n i : ℕ) (before : Place) (kept left : tape.Kept) → before ≡ Stopped kept → (NeverFails kept → NeverFails left) → IsMember n i before → IsMember n i (Stopped left)
+pub returned_member : (n i : ℕ) (before : Place) (kept left : tape.TapeValue) → before ≡ Stopped kept → (NeverFails kept → NeverFails left) → IsMember n i before → IsMember n i (Stopped left)
 returned_member n i before kept left was sturdy member = sturdy (subst (IsMember n i) was member)
 
-pub still_running : (node : Node tape.Kept) → Restarts (Running node) (Running node)
+pub still_running : (node : Node tape.TapeValue) → Restarts (Running node) (Running node)
 unfolding Restarts node_restarted working_restarted
 still_running node = λ x e. subst (λ y. node_restarted y ≡ shown node) (sym e) refl
 
 -- A tape that is returned stands for what it stood for.
-pub still_stands : (kept left : tape.Kept) (stored : Stored Definition) → Follows ReadsSame (IsImageOf kept) (IsImageOf left) → AllStandFor stored (IsImageOf kept) → AllStandFor stored (IsImageOf left)
+pub still_stands : (kept left : tape.TapeValue) (stored : Stored Definition) → Follows ReadsSame (IsImageOf kept) (IsImageOf left) → AllStandFor stored (IsImageOf kept) → AllStandFor stored (IsImageOf left)
 still_stands kept left stored follows stands = λ image there.
     let earlier = follows image there in
     let stood = stands earlier.0 earlier.1 in
     record { records = stood.records; reads = earlier.2 stood.records stood.reads; folds = stood.folds }
 
 -- So does the entry of a node that stays stopped.
-pub not_opened : (kept left : tape.Kept) → Follows ReadsSame (IsImageOf kept) (IsImageOf left) → Stays (Stopped kept) (Stopped left)
+pub not_opened : (kept left : tape.TapeValue) → Follows ReadsSame (IsImageOf kept) (IsImageOf left) → Stays (Stopped kept) (Stopped left)
 unfolding Stays
 not_opened kept left follows = λ x is. (is.0, still_stands kept left x.stored follows is.1)
 
 -- ---- a node that is closed and opened again
 
 -- The bytes of the tape stand for what is stored again.
-found_again : (again : Node tape.Kept) (kept : tape.Kept) → IsFoldOf (stored_of again) kept.bytes → StandsFor (stored_of again) kept.bytes
+found_again : (again : Node tape.TapeValue) (kept : tape.TapeValue) → IsFoldOf (stored_of again) kept.bytes → StandsFor (stored_of again) kept.bytes
 found_again again kept fold_of = record { records = fold_of.records; reads = (fold_of.rest, fold_of.tape.reads); folds = fold_of.folds }
 
-module _ (one : AreReadOneWay) (node again : Node tape.Kept) (kept : tape.Kept) (same : kept ≡ node.tape) (stands : node.halted ≡ false → AllStandFor (stored_of node) (IsImageOf kept)) where
+module _ (one : AreReadOneWay) (node again : Node tape.TapeValue) (kept : tape.TapeValue) (same : kept ≡ node.tape) (stands : node.halted ≡ false → AllStandFor (stored_of node) (IsImageOf kept)) where
   stored_by : (halted : Bool) → node.halted ≡ halted → StandsFor (stored_of again) kept.bytes → HasStoredAgain halted node.tape.bytes node again
   stored_by false is found = one_stand one kept.bytes (stored_of again) (stored_of node) found (stands is kept.bytes (content_is_image kept))
-  stored_by true is found = subst (λ (k : tape.Kept). StandsFor (stored_of again) k.bytes) same found
+  stored_by true is found = subst (λ (k : tape.TapeValue). StandsFor (stored_of again) k.bytes) same found
 
   -- It runs, without a proposal or leadership, and has stored what it had.
   pub opened_again : again.halted ≡ false → working_of again ≡ at_start → IsFoldOf (stored_of again) kept.bytes → IsReopened node.tape.bytes node again
@@ -301,20 +302,20 @@ unfolding fold fold_from
 fold_none = refl
 
 -- From an empty tape nothing is stored.
-pub opened_fresh : IsReadAsNone → (node : Node tape.Kept) → node.halted ≡ false → IsFoldOf (stored_of node) [] → working_of node ≡ at_start → IsFresh node
+pub opened_fresh : IsReadAsNone → (node : Node tape.TapeValue) → node.halted ≡ false → IsFoldOf (stored_of node) [] → working_of node ≡ at_start → IsFresh node
 opened_fresh none node runs fold_of idle = record {
   runs = runs;
   stored = sym (same_Some nothing_stored (stored_of node) (sym fold_none ∙ ap fold (sym (none fold_of.records (fold_of.rest, fold_of.tape.reads))) ∙ fold_of.folds));
   working = idle;
 }
 
-pub fresh_shown : (node : Node tape.Kept) → IsFresh node → IsNode (Running node) fresh_node
+pub fresh_shown : (node : Node tape.TapeValue) → IsFresh node → IsNode (Running node) fresh_node
 fresh_shown node is = node_eq _ _ _ _ (sym is.stored) (ap Some (sym is.working))
 
 -- ---- crashes within a step
 
 none_told : (why : Refusal) → None ≡ told (Some why) → ⊥
-none_told why e = none-some (number_of why) e
+none_told why e = none-some (rejection_of why) e
 
 -- A node that would take the step, or is stopped, and then stops: what it had stored, or what the turn leaves.
 module _ (n i : ℕ) (input : Input Definition) (stored : Stored Definition) where
@@ -363,60 +364,60 @@ torn_before n i input before after free stopped = record {
 }
 
 -- A crash within a rejected step changes nothing, whatever would be kept.
-pub torn_refused : (kept : world.Kept) (n i : ℕ) (input : Input Definition) (before after : Place) (number : ℕ) → IsStepped n i input before after [] (Some number) → Stays before after →
-    ((x : world.Node Definition) → IsNode before x → turn_at n i input x ≡ None) → IsTornAt kept n i input before after (Some number)
+pub torn_refused : (kept : world.Kept) (n i : ℕ) (input : Input Definition) (before after : Place) (rejection : Rejection) → IsStepped n i input before after [] (Some rejection) → Stays before after →
+    ((x : world.Node Definition) → IsNode before x → turn_at n i input x ≡ None) → IsTornAt kept n i input before after (Some rejection)
 unfolding node_torn Stays
-torn_refused kept n i input before after number stepped stays none = record {
+torn_refused kept n i input before after rejection stepped stays none = record {
   node = λ x is. subst (λ t. IsNode after (node_torn kept t x)) (sym (none x is)) (stays x is);
   refusal = stepped.refusal;
 }
 
 -- if a rejection is reported, there is no turn
-no_turn_running : (n i : ℕ) (input : Input Definition) (stored : Stored Definition) (working : Working Definition) (why : Option Refusal) (number : ℕ) → refusal stored working input ≡ why → Some number ≡ told why →
+no_turn_running : (n i : ℕ) (input : Input Definition) (stored : Stored Definition) (working : Working Definition) (why : Option Refusal) (rejection : Rejection) → refusal stored working input ≡ why → Some rejection ≡ told why →
     turn_at n i input (node_of stored (Some working)) ≡ None
-no_turn_running n i input stored working None number e is = absurd (none-some number (sym is))
-no_turn_running n i input stored working (Some why) number e is = turn_refused definition_eq n i stored working input why e
+no_turn_running n i input stored working None rejection e is = absurd (none-some rejection (sym is))
+no_turn_running n i input stored working (Some why) rejection e is = turn_refused definition_eq n i stored working input why e
 
-no_turn_parts : (n i : ℕ) (input : Input Definition) (stored : Stored Definition) (working : Option (Working Definition)) (number : ℕ) →
-    Some number ≡ told (refusal_of (Some (node_of stored working)) (Some input)) → turn_at n i input (node_of stored working) ≡ None
-no_turn_parts n i input stored None number is = turn_stopped definition_eq n i (node_of stored None) input refl
-no_turn_parts n i input stored (Some working) number is =
-    no_turn_running n i input stored working (refusal stored working input) number refl (is ∙ ap told (running_refusal stored working input))
+no_turn_parts : (n i : ℕ) (input : Input Definition) (stored : Stored Definition) (working : Option (Working Definition)) (rejection : Rejection) →
+    Some rejection ≡ told (refusal_of (Some (node_of stored working)) (Some input)) → turn_at n i input (node_of stored working) ≡ None
+no_turn_parts n i input stored None rejection is = turn_stopped definition_eq n i (node_of stored None) input refl
+no_turn_parts n i input stored (Some working) rejection is =
+    no_turn_running n i input stored working (refusal stored working input) rejection refl (is ∙ ap told (running_refusal stored working input))
 
-pub no_turn : (n i : ℕ) (input : Input Definition) (x : world.Node Definition) (number : ℕ) → Some number ≡ told (refusal_of (Some x) (Some input)) → turn_at n i input x ≡ None
-no_turn n i input x number is = no_turn_parts n i input x.stored x.working number is
+pub no_turn : (n i : ℕ) (input : Input Definition) (x : world.Node Definition) (rejection : Rejection) → Some rejection ≡ told (refusal_of (Some x) (Some input)) → turn_at n i input x ≡ None
+no_turn n i input x rejection is = no_turn_parts n i input x.stored x.working rejection is
 
 -- A step that ends in an error likewise: nothing has changed.
 pub torn_denied : (kept : world.Kept) (n i : ℕ) (input : Input Definition) (before after : Place) (f : NodeFault) → IsDenied n i input before after f → IsDeniedTorn kept n i input before after f
 torn_denied kept n i input before after f denied = record {
   stays = denied.stays;
-  refused = λ number e.
-      let stepped = denied.refused number e in
-      torn_refused kept n i input before after number stepped denied.stays (λ x is. no_turn n i input x number (stepped.refusal x is));
+  refused = λ rejection e.
+      let stepped = denied.refused rejection e in
+      torn_refused kept n i input before after rejection stepped denied.stays (λ x is. no_turn n i input x rejection (stepped.refusal x is));
 }
 
 -- If no error reports why not, the table doesn't reject.
 pub free_where_none : (why : Option Refusal) → fault.IsWhyNot why None → None ≡ told why
 free_where_none why none = sym (ap told none)
 
-some_told : (why : Option Refusal) → (why ≡ None → ⊥) → (number : ℕ) × (Some number ≡ told why)
+some_told : (why : Option Refusal) → (why ≡ None → ⊥) → (rejection : Rejection) × (Some rejection ≡ told why)
 some_told None not_none = absurd (not_none refl)
-some_told (Some why) not_none = (number_of why, refl)
+some_told (Some why) not_none = (rejection_of why, refl)
 
 -- A crash within a step that would be rejected: nothing has changed, and the rejection is reported.
 pub refused_before : (kept : world.Kept) (n i : ℕ) (input : Input Definition) (place : Place) (f : NodeFault) →
-    ((x : world.Node Definition) → IsNode place x → fault.IsWhyNot (refusal_of (Some x) (Some input)) (Some f)) → IsTornAt kept n i input place place (number_in f)
+    ((x : world.Node Definition) → IsNode place x → fault.IsWhyNot (refusal_of (Some x) (Some input)) (Some f)) → IsTornAt kept n i input place place (rejection_in f)
 unfolding node_torn
 refused_before kept n i input place f why = record {
   node = λ x is.
-      let number = some_told (refusal_of (Some x) (Some input)) (why x is).1 in
-      subst (λ t. IsNode place (node_torn kept t x)) (sym (no_turn n i input x number.0 number.1)) is;
+      let rejection = some_told (refusal_of (Some x) (Some input)) (why x is).1 in
+      subst (λ t. IsNode place (node_torn kept t x)) (sym (no_turn n i input x rejection.0 rejection.1)) is;
   refusal = λ x is. ap told (why x is).0;
 }
 
 -- ---- why a step would be rejected
 
-why_running : (node : Node tape.Kept) (x : world.Node Definition) (input : Input Definition) (result : Option NodeFault) → IsNode (Running node) x →
+why_running : (node : Node tape.TapeValue) (x : world.Node Definition) (input : Input Definition) (result : Option NodeFault) → IsNode (Running node) x →
     fault.IsWhyNot (refusal (stored_of node) (working_of node) input) result → fault.IsWhyNot (refusal_of (Some x) (Some input)) result
 why_running node x input result is why =
     subst (λ y. fault.IsWhyNot (refusal_of (Some y) (Some input)) result) (sym is)
@@ -440,7 +441,7 @@ why_delivered (Some message) stored working input result given none =
     subst (λ y. fault.IsWhyNot (refusal stored working y) result) (same_Some (table.Deliver message) input given) (free_of_none None result refl none)
 
 -- A proposal and a retry: the table doesn't depend on the definition. A catch-up and a delivery are never rejected.
-pub why_not_running : (node : Node tape.Kept) (x : world.Node Definition) (sent : List (model.Message Definition)) (action : table.Action Definition ℕ) (input : Input Definition) (result : Option NodeFault) →
+pub why_not_running : (node : Node tape.TapeValue) (x : world.Node Definition) (sent : List (model.Message Definition)) (action : table.Action Definition ℕ) (input : Input Definition) (result : Option NodeFault) →
     IsNode (Running node) x → input_of sent action ≡ Some input → WhyNotAt (stored_of node) (working_of node) action result → fault.IsWhyNot (refusal_of (Some x) (Some input)) result
 unfolding input_of refusal
 why_not_running node x sent (table.Propose d) input result is given why =
@@ -451,7 +452,7 @@ why_not_running node x sent table.CatchUp input result is given why =
     why_running node x input result is (subst (λ y. fault.IsWhyNot (refusal (stored_of node) (working_of node) y) result) (same_Some table.CatchUp input given) (free_of_none None result refl why))
 why_not_running node x sent (table.Deliver k) input result is given why = why_running node x input result is (why_delivered (slice_get sent k) (stored_of node) (working_of node) input result given why)
 
-pub why_not_stopped : (kept : tape.Kept) (x : world.Node Definition) (input : Input Definition) → IsNode (Stopped kept) x → fault.IsWhyNot (refusal_of (Some x) (Some input)) None
+pub why_not_stopped : (kept : tape.TapeValue) (x : world.Node Definition) (input : Input Definition) → IsNode (Stopped kept) x → fault.IsWhyNot (refusal_of (Some x) (Some input)) None
 why_not_stopped kept x input is = stopped_refusal x input is.0
 
 -- ---- crashes within a step, whichever node is there
@@ -475,17 +476,17 @@ stops_before action sent input before after free given stops = λ n i member.
 
 -- Nothing, if it has one.
 pub refused_stays : (kept : world.Kept) (action : table.Action Definition ℕ) (sent : List (model.Message Definition)) (input : Input Definition) (place : Place) (f : NodeFault) → TellsWhyNot place action (Some f) →
-    input_of sent action ≡ Some input → (n i : ℕ) → IsMember n i place → IsTornAt kept n i input place place (number_in f)
+    input_of sent action ≡ Some input → (n i : ℕ) → IsMember n i place → IsTornAt kept n i input place place (rejection_in f)
 unfolding TellsWhyNot
 refused_stays kept action sent input place f why given n i member = refused_before kept n i input place f (λ x is. why n i x sent input member is given)
 
 -- why not, as the entries report it
-pub tells_running : (node : Node tape.Kept) (action : table.Action Definition ℕ) (result : Option NodeFault) → (node.halted ≡ false → WhyNotAt (stored_of node) (working_of node) action result) →
+pub tells_running : (node : Node tape.TapeValue) (action : table.Action Definition ℕ) (result : Option NodeFault) → (node.halted ≡ false → WhyNotAt (stored_of node) (working_of node) action result) →
     TellsWhyNot (Running node) action result
 unfolding TellsWhyNot
 tells_running node action result why = λ n i x sent input member is given. why_not_running node x sent action input result is given (why member.2)
 
-pub tells_stopped : (kept : tape.Kept) (action : table.Action Definition ℕ) → TellsWhyNot (Stopped kept) action None
+pub tells_stopped : (kept : tape.TapeValue) (action : table.Action Definition ℕ) → TellsWhyNot (Stopped kept) action None
 unfolding TellsWhyNot
 tells_stopped kept action = λ n i x sent input member is given. why_not_stopped kept x input is
 
@@ -500,14 +501,14 @@ tells_no_delivery (Stopped kept) k = tells_stopped kept (table.Deliver k)
 
 -- A step that is rejected changes nothing.
 pub refused_step : (n i : ℕ) (input : Input Definition) (place : Place) (f : NodeFault) →
-    ((x : world.Node Definition) → IsNode place x → fault.IsWhyNot (refusal_of (Some x) (Some input)) (Some f)) → IsStepped n i input place place [] (number_in f)
+    ((x : world.Node Definition) → IsNode place x → fault.IsWhyNot (refusal_of (Some x) (Some input)) (Some f)) → IsStepped n i input place place [] (rejection_in f)
 unfolding node_after messages_of
 refused_step n i input place f why = record {
   node = λ x is.
-      let number = some_told (refusal_of (Some x) (Some input)) (why x is).1 in
-      subst (λ t. IsNode place (node_after t x)) (sym (no_turn n i input x number.0 number.1)) is;
+      let rejection = some_told (refusal_of (Some x) (Some input)) (why x is).1 in
+      subst (λ t. IsNode place (node_after t x)) (sym (no_turn n i input x rejection.0 rejection.1)) is;
   messages = λ x is.
-      let number = some_told (refusal_of (Some x) (Some input)) (why x is).1 in
-      sym (ap messages_of (no_turn n i input x number.0 number.1));
+      let rejection = some_told (refusal_of (Some x) (Some input)) (why x is).1 in
+      sym (ap messages_of (no_turn n i input x rejection.0 rejection.1));
   refusal = λ x is. ap told (why x is).0;
 }

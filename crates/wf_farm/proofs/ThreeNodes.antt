@@ -10,7 +10,7 @@ use Rattle.wf_model.specs.Message.{first_vote}
 use Rattle.wf_model.specs.Stored.{nothing_stored, published, next_sequence, definition_at, put, raised, with_record}
 use Rattle.wf_model.specs.Working.{Working, at_start, nobody, and_node, better, better_each, carried, proposed, same_ballot, same_phase, is_at, leading_at}
 use Rattle.wf_model.specs.Table.{store, quiet, says, stores, with_proposal, rounds_full, refuse_round, refuse_proposal, refusal, begin_at, ask_votes, propose_by, on_propose, told_of, told, votes_from, promise_to, prepare_open, on_prepare, votes_at, vote_for, accept_open, on_accept, hears, with_promise, asking_votes, leadership_of, promised, on_promise, with_vote, ended, ends, after_publishing, voted, on_accepted, on_chosen, on_message, row}
-use Rattle.wf_model.specs.World.{World, Node, Propose, delivered, input_of, stored_after, with_node, after_turn, turn_running, turn_of, turn, happens, steps, start}
+use Rattle.wf_model.specs.World.{World, Node, propose, delivered, input_of, stored_after, with_node, after_turn, turn_running, turn_of, turn, happens, steps, start}
 use Rattle.wf_model.specs.StepsLaws.{steps_in_turn}
 use Rattle.wf_farm.specs.Publishing.{Rests}
 use Rattle.wf_farm.specs.Pump.{deliveries, rounds, to_each}
@@ -58,7 +58,7 @@ always a b = true
 
 -- Node i of three new ones has proposed the definition, and then the first messages were delivered to each node, so many.
 unfoldable pub world_at : Definition → ℕ → ℕ → World Definition
-world_at d i zero = happens always (start 3) (Propose i d)
+world_at d i zero = happens always (start 3) (propose i d)
 world_at d i (suc k) = steps always (world_at d i k) (to_each three k)
 
 -- unfolds all definitions that the run computes with
@@ -79,7 +79,7 @@ module _ (d : Definition) where
     each_alike (suc (suc zero)) node = ((refl, refl, refl), (refl, refl, refl), (refl, refl, refl))
     each_alike (suc (suc (suc i))) node = absurd (omega (arith, node))
 
-    begins_alike : (i : ℕ) → i < 3 → happens same (start 3) (Propose i d) ≡ happens always (start 3) (Propose i d)
+    begins_alike : (i : ℕ) → i < 3 → happens same (start 3) (propose i d) ≡ happens always (start 3) (propose i d)
     unfolding computed
     begins_alike zero node = refl
     begins_alike (suc zero) node = refl
@@ -88,19 +88,19 @@ module _ (d : Definition) where
 
     module _ (equal : same d d ≡ true) (i : ℕ) (node : i < 3) where
       -- The run by this test of definitions is that by the other one.
-      pub is_run : (k : ℕ) → k ≤ 9 → steps same (happens same (start 3) (Propose i d)) (rounds three 0 k) ≡ world_at d i k
+      pub is_run : (k : ℕ) → k ≤ 9 → steps same (happens same (start 3) (propose i d)) (rounds three 0 k) ≡ world_at d i k
       unfolding steps rounds world_at always
       is_run zero within = begins_alike i node
       is_run (suc k) within =
-          ap (steps same (happens same (start 3) (Propose i d))) (sym (rounds_more three 0 k))
-          ∙ steps_in_turn Definition same (happens same (start 3) (Propose i d)) (rounds three 0 k) (to_each three (0 + k))
+          ap (steps same (happens same (start 3) (propose i d))) (sym (rounds_more three 0 k))
+          ∙ steps_in_turn Definition same (happens same (start 3) (propose i d)) (rounds three 0 k) (to_each three (0 + k))
           ∙ ap (λ (w : World Definition). steps same w (to_each three (0 + k))) (is_run k (omega (arith, within)))
           ∙ ap (λ m. steps same (world_at d i k) (to_each three m)) (omega arith)
           ∙ each_of (IsAlike i) (each_alike i node) k (omega (arith, within))
           ∙ ap (λ b. steps (λ x y. b) (world_at d i k) (to_each three k)) equal
 
   -- the proposal leaves as many nodes
-  pub began_long : (same : Definition → Definition → Bool) (i : ℕ) → i < 3 → length (happens same (start 3) (Propose i d)).nodes ≡ 3
+  pub began_long : (same : Definition → Definition → Bool) (i : ℕ) → i < 3 → length (happens same (start 3) (propose i d)).nodes ≡ 3
   unfolding computed
   began_long same zero node = refl
   began_long same (suc zero) node = refl

@@ -9,19 +9,20 @@ use Rattle.wf_def.specs.Definition.{Definition}
 use Rattle.wf_def.specs.Equality.{definition_eq}
 use Rattle.wf_model.specs.Message as model
 use Rattle.wf_model.specs.StepsLaws.{steps_in_turn}
-use Rattle.wf_model.specs.Table as table
 use Rattle.wf_model.specs.Table.{Action, Input}
 use Rattle.wf_model.specs.World as world
 use Rattle.wf_model.specs.World.{World, Event, after_torn, after_turn, happens, input_of, steps, turn}
+use Rattle.wf_farm.specs.declared.rejection.Rejection.{Rejection}
 use Rattle.wf_farm.specs.declared.event.Event as declared
-use Rattle.wf_farm.specs.declared.event.Kept.{Kept}
+use Rattle.wf_model.specs.declared.kept.Kept.{Kept}
 use Rattle.wf_farm.specs.declared.fate.Fate.{Fate}
 use Rattle.wf_farm.specs.declared.fate.Fate.TheVariants as fate
 use Rattle.wf_farm.specs.declared.place.Place.{Place}
 use Rattle.wf_farm.specs.declared.place.Place.TheVariants.{Running, Stopped}
 use Rattle.wf_tape.specs.MemoryTape.{NeverFails}
 use Rattle.wf_farm.specs.Cluster.{AreMembers, KeepMembers, Moves, Shows, Turns}
-use Rattle.wf_farm.specs.Event.{view, view_kept}
+use Rattle.wf_model.specs.Kept.{view as view_kept}
+use Rattle.wf_farm.specs.Event.{view}
 use Rattle.wf_farm.specs.Farm.{Farm, Runs}
 use Rattle.wf_farm.specs.declared.fault.FarmFault.{FarmFault}
 use Rattle.wf_farm.specs.declared.fault.FarmFault.TheVariants.{Memory}
@@ -40,11 +41,11 @@ set_twice (z ∷ xs) zero x y = refl
 set_twice (z ∷ xs) (suc i) x y = ap (λ zs. z ∷ zs) (set_twice xs i x y)
 
 -- A rejected step changes nothing, so a crash within it doesn't.
-torn_rejected : (kept : world.Kept) (n i : ℕ) (input : Input Definition) (before after : Place) (number : ℕ) → IsStepped n i input before after [] (Some number) → IsTornAt kept n i input before after (Some number)
+torn_rejected : (kept : world.Kept) (n i : ℕ) (input : Input Definition) (before after : Place) (rejection : Rejection) → IsStepped n i input before after [] (Some rejection) → IsTornAt kept n i input before after (Some rejection)
 unfolding Stays node_after
-torn_rejected kept n i input before after number stepped =
-    let none : (x : world.Node Definition) → IsNode before x → turn_at n i input x ≡ None = λ x is. no_turn n i input x number (stepped.refusal x is) in
-    torn_refused kept n i input before after number stepped (λ x is. subst (λ t. IsNode after (node_after t x)) (none x is) (stepped.node x is)) none
+torn_rejected kept n i input before after rejection stepped =
+    let none : (x : world.Node Definition) → IsNode before x → turn_at n i input x ≡ None = λ x is. no_turn n i input x rejection (stepped.refusal x is) in
+    torn_refused kept n i input before after rejection stepped (λ x is. subst (λ t. IsNode after (node_after t x)) (none x is) (stepped.node x is)) none
 
 -- ---- the entry of the node
 
@@ -69,11 +70,11 @@ module _ (places : List Place) (sent : List Message) (i : ℕ) (place : Place) (
       (place_tears places sent i place last said action input None at given world.After torn).leads)
 
   -- A rejected step.
-  rejected_done : (heard : Bool) (after : Place) (number : ℕ) → IsStepped (length places) i input place after [] (Some number) → IsDoneOrTorn None heard i action places sent (slice_set places i after) sent
-  rejected_done true after number stepped =
-      subst (λ ms. IsDoneOrTorn None true i action places sent (slice_set places i after) ms) (append-nil sent) (place_acts places sent i place after [] action input (Some number) at given stepped).leads
-  rejected_done false after number stepped =
-      (place_tears places sent i place after [] action input (Some number) at given world.After (torn_rejected world.After (length places) i input place after number stepped)).leads
+  rejected_done : (heard : Bool) (after : Place) (rejection : Rejection) → IsStepped (length places) i input place after [] (Some rejection) → IsDoneOrTorn None heard i action places sent (slice_set places i after) sent
+  rejected_done true after rejection stepped =
+      subst (λ ms. IsDoneOrTorn None true i action places sent (slice_set places i after) ms) (append-nil sent) (place_acts places sent i place after [] action input (Some rejection) at given stepped).leads
+  rejected_done false after rejection stepped =
+      (place_tears places sent i place after [] action input (Some rejection) at given world.After (torn_rejected world.After (length places) i input place after rejection stepped)).leads
 
   -- A crash within the step, and a restart.
   torn_done : (heard : Bool) (kept : Kept) (middle after : Place) → IsTornAt (view_kept kept) (length places) i input place middle None → Restarts middle after →
@@ -99,7 +100,7 @@ module _ (places : List Place) (sent : List Message) (i : ℕ) (place : Place) (
       subst (λ t. IsDoneOrTorn t heard i action places sent after more) (sym none) (told_done heard middle said.items after more stepped told member)
   fares_told heard middle said (Err e) after more stepped member told none = tt
 
--- what became of a step, where the number of nodes and the node's number are given by other names
+-- what became of a step, where the rejection of nodes and the node's rejection are given by other names
 pub cast_fares : (n m id i : ℕ) (input : Input Definition) (what : Fate) (place after : Place) → n ≡ m → id ≡ i → Fares n id input what place after → Fares m i input what place after
 cast_fares n m id i input what place after many is fares = subst (λ k. Fares m k input what place after) is (subst (λ k. Fares k id input what place after) many fares)
 
@@ -138,10 +139,7 @@ module _ (places after : List Place) (sent more : List Message) where
   done_event : (event : Event Definition) (step : Step) → step_of event ≡ Some step → IsNotBefore event → IsDoneOrTorn None (is_heard event) step.node step.action places sent after more →
       Turns (λ w. happens definition_eq w event) places sent after more
   unfolding step_of happens
-  done_event (world.Propose i d) step is not_before done = subst (λ (s : Step). IsDoneOrTorn None true s.node s.action places sent after more) (sym (same_Some _ step is)) done
-  done_event (world.Retry i) step is not_before done = subst (λ (s : Step). IsDoneOrTorn None true s.node s.action places sent after more) (sym (same_Some _ step is)) done
-  done_event (world.CatchUp i) step is not_before done = subst (λ (s : Step). IsDoneOrTorn None true s.node s.action places sent after more) (sym (same_Some _ step is)) done
-  done_event (world.Deliver i k) step is not_before done = subst (λ (s : Step). IsDoneOrTorn None true s.node s.action places sent after more) (sym (same_Some _ step is)) done
+  done_event (world.Act i action) step is not_before done = subst (λ (s : Step). IsDoneOrTorn None true s.node s.action places sent after more) (sym (same_Some _ step is)) done
   done_event (world.Stop i) step is not_before done = absurd (none-some step is)
   done_event (world.Restart i) step is not_before done = absurd (none-some step is)
   done_event (world.Torn i action world.Before) step is not_before done = absurd not_before
@@ -177,21 +175,9 @@ module _ (sent : List (model.Message Definition)) where
   given_by event step None is not_before same = tt
   given_by event step (Some input) is not_before same = record { step = step; is_step = is; given = sym same; not_before = not_before }
 
-  pub proposal_gives : (i : ℕ) (d own : Definition) → own ≡ d → GivesInput sent (world.Propose i d) (Some (table.Propose own))
-  unfolding step_of input_of
-  proposal_gives i d own same = given_by (world.Propose i d) (record { node = i; action = table.Propose d }) (Some (table.Propose own)) refl tt (ap (λ x. Some (table.Propose x)) same)
-
-  pub retry_gives : (i : ℕ) → GivesInput sent (world.Retry i) (Some table.Retry)
-  unfolding step_of input_of
-  retry_gives i = given_by (world.Retry i) (record { node = i; action = table.Retry }) (Some table.Retry) refl tt refl
-
-  pub question_gives : (i : ℕ) → GivesInput sent (world.CatchUp i) (Some table.CatchUp)
-  unfolding step_of input_of
-  question_gives i = given_by (world.CatchUp i) (record { node = i; action = table.CatchUp }) (Some table.CatchUp) refl tt refl
-
-  pub delivery_gives : (i k : ℕ) (given : Option (Input Definition)) → given ≡ input_of sent (table.Deliver k) → GivesInput sent (world.Deliver i k) given
+  pub step_gives : (i : ℕ) (action : Action Definition ℕ) (given : Option (Input Definition)) → given ≡ input_of sent action → GivesInput sent (world.Act i action) given
   unfolding step_of
-  delivery_gives i k given same = given_by (world.Deliver i k) (record { node = i; action = table.Deliver k }) given refl tt same
+  step_gives i action given same = given_by (world.Act i action) (record { node = i; action = action }) given refl tt same
 
   pub torn_gives : (i : ℕ) (action : Action Definition ℕ) (given : Option (Input Definition)) → given ≡ input_of sent action → GivesInput sent (world.Torn i action world.After) given
   unfolding step_of
@@ -233,7 +219,7 @@ module _ (events : List declared.Event) (done : ℕ) (event : declared.Event) (a
       (moves_then (take done (map view events) ++ crash_at (view_kept kept) (Some (view event))) (drop (done + 1) (map view events)) places here after sent heard more
       (moves_then (take done (map view events)) (crash_at (view_kept kept) (Some (view event))) places middle here sent said heard before within) behind)
 
-  -- A crash within the step of the event of this number, and the rest of the events.
+  -- A crash within the step of the event of this rejection, and the rest of the events.
   pub went_on : {E : Type 0} (node : ℕ) (kept : Kept) (result : Result (Option (ℕ × Kept)) E) (places middle here after : List Place) (sent said heard more : List Message) →
       Moves (take done (map view events)) places sent middle said → HappensOrTears node (view event) (Some kept) middle said here heard → OnOk result (Moves (drop (done + 1) (map view events)) here heard after more) →
       IfOk result (λ torn. torn ≡ Some (done, kept)) → IfOk result (λ torn. Moves (with_torn (map view events) torn) places sent after more)
@@ -276,21 +262,9 @@ module _ (i node : ℕ) (same : i ≡ node) where
   of_node : (event : Event Definition) (action : Action Definition ℕ) → step_of event ≡ Some (record { node = i; action = action }) → IsStepOf node event
   of_node event action is = subst (λ k. IsStepOf k event) same (action, is)
 
-  pub proposal_step : (d : Definition) → IsStepOf node (world.Propose i d)
+  pub whole_step : (action : Action Definition ℕ) → IsStepOf node (world.Act i action)
   unfolding step_of
-  proposal_step d = of_node (world.Propose i d) (table.Propose d) refl
-
-  pub retry_step : IsStepOf node (world.Retry i)
-  unfolding step_of
-  retry_step = of_node (world.Retry i) table.Retry refl
-
-  pub question_step : IsStepOf node (world.CatchUp i)
-  unfolding step_of
-  question_step = of_node (world.CatchUp i) table.CatchUp refl
-
-  pub delivery_step : (k : ℕ) → IsStepOf node (world.Deliver i k)
-  unfolding step_of
-  delivery_step k = of_node (world.Deliver i k) (table.Deliver k) refl
+  whole_step action = of_node (world.Act i action) action refl
 
   pub torn_step : (action : Action Definition ℕ) (kept : world.Kept) → IsStepOf node (world.Torn i action kept)
   unfolding step_of

@@ -4,7 +4,6 @@ use Rattle.std.specs.Prelude.{◌≡◌, ℕ, Bool, true, false, List, take, sli
 use Rattle.wf_codec.specs.declared.message.Message.{Message}
 use Rattle.wf_def.specs.Definition.{Definition}
 use Rattle.wf_def.specs.Equality.{definition_eq}
-use Rattle.wf_model.specs.Table as table
 use Rattle.wf_model.specs.Table.{Action}
 use Rattle.wf_model.specs.World as world
 use Rattle.wf_model.specs.World.{World, Event, turn, steps}
@@ -26,10 +25,7 @@ is_stopped (Some node) = is_none node.working
 -- Whether the event may allocate: its step is taken, also if the node crashes after the step's record; or its stopped node restarts.
 -- A stop doesn't, nor does a crash before the step's record.
 unfoldable pub may_allocate : World Definition → Event Definition → Bool
-may_allocate w (world.Propose i d) = is_taken w i (table.Propose d)
-may_allocate w (world.Retry i) = is_taken w i table.Retry
-may_allocate w (world.CatchUp i) = is_taken w i table.CatchUp
-may_allocate w (world.Deliver i k) = is_taken w i (table.Deliver k)
+may_allocate w (world.Act i action) = is_taken w i action
 may_allocate w (world.Stop i) = false
 may_allocate w (world.Restart i) = is_stopped (slice_get w.nodes i)
 may_allocate w (world.Torn i action world.Before) = false

@@ -1,14 +1,14 @@
 -- The answers of a farm's nodes to clients of the web map service.
 use Rattle.std.specs.Prelude.{◌≡◌, ℕ, List, length, slice_get, Option, Some, None}
 use Rattle.wf_node.specs.Node.{Node}
-use Rattle.wf_tape.specs.MemoryTape.{Kept}
+use Rattle.wf_tape.specs.MemoryTape.{TapeValue}
 use Rattle.wf_wms.specs.Answer.{AnswerValue, AsksForMap, IsAnswerOf}
 use Rattle.wf_farm.specs.declared.fault.FarmFault.{FarmFault}
 use Rattle.wf_farm.specs.declared.fault.FarmFault.TheVariants.{Memory, NoNode}
 use Rattle.wf_farm.specs.Farm.{Farm, running_in}
 
 -- the last sequence that a node published
-abbrev pub sequence_in : Option (Node Kept) → ℕ
+abbrev pub sequence_in : Option (Node TapeValue) → ℕ
 sequence_in None = 0
 sequence_in (Some node) = length node.parts.history
 
@@ -18,7 +18,7 @@ sequence_at farm i = sequence_in (running_in (slice_get farm.places i))
 
 -- Node i runs, s is the last sequence that it published, and this is the answer to the query at s, from what it published.
 pub record Answers (farm : Farm) (i s : ℕ) (query : List ℕ) (answer : AnswerValue) : Type 0 where
-  pub node : Node Kept
+  pub node : Node TapeValue
   pub runs : running_in (slice_get farm.places i) ≡ Some node
   pub stands : length node.parts.history ≡ s
   pub is_answer : IsAnswerOf s node.parts.history query answer
@@ -33,6 +33,6 @@ HasOneMapAnswer farm = (i j s t m : ℕ) (query : List ℕ) (answer another : An
     Answers farm i s query answer → Answers farm j t query another → another ≡ answer
 
 -- why no node answers: none runs there, or an allocation failed before anything was done
-abbrev pub IsNoAnswer : Option (Node Kept) → FarmFault → Type 0
+abbrev pub IsNoAnswer : Option (Node TapeValue) → FarmFault → Type 0
 IsNoAnswer None fault = fault ≡ NoNode
 IsNoAnswer (Some node) fault = fault ≡ Memory 0

@@ -4,9 +4,11 @@ use Rattle.wf_codec.specs.Message as message
 use Rattle.wf_codec.specs.declared.message.Message.{Message}
 use Rattle.wf_def.specs.Definition.{Definition}
 use Rattle.wf_def.specs.Equality.{definition_eq}
-use Rattle.wf_model.specs.Table.{Action, Refusal}
+use Rattle.wf_model.specs.Table.{Action, Input, Refusal}
 use Rattle.wf_model.specs.World as world
-use Rattle.wf_model.specs.World.{World, Event, refused, refused_at, turn, after_turn, after_torn, after_stop, after_restart, happens, steps}
+use Rattle.wf_model.specs.World.{World, Event, input_of, refused, refused_at, turn, after_turn, after_torn, after_stop, after_restart, happens, steps}
+use Rattle.wf_farm.specs.declared.rejection.Rejection.{Rejection}
+use Rattle.wf_farm.specs.declared.cluster.Cluster.{Cluster}
 use Rattle.wf_farm.specs.declared.place.Place.{Place}
 use Rattle.wf_farm.specs.Fault.{told}
 use Rattle.wf_farm.specs.Place.{IsNode, IsMember}
@@ -22,6 +24,10 @@ AreNodes (place ∷ places) (node ∷ nodes) = IsNode place node × AreNodes pla
 pub record Shows (places : List Place) (sent : List Message) (w : World Definition) : Type 0 where
   pub nodes : AreNodes places w.nodes
   pub messages : w.sent ≡ map message.view sent
+
+-- the input of an action, where these messages were sent
+abbrev pub input_in : List Message → Action Definition ℕ → Option (Input Definition)
+input_in sent action = input_of (map message.view sent) action
 
 -- each entry has the node of its index, and none has failed
 unfoldable pub AreMembers : List Place → Type 0
@@ -41,26 +47,30 @@ Turns change places sent places_after sent_after =
 unfoldable pub StayShown : List Place → List Message → List Place → List Message → Type 0
 StayShown places sent places_after sent_after = Turns (λ w. w) places sent places_after sent_after
 
+-- one event
+abbrev pub Leads : Event Definition → List Place → List Message → List Place → List Message → Type 0
+Leads event places sent places_after sent_after = Turns (λ w. happens definition_eq w event) places sent places_after sent_after
+
 -- a run of these events
 unfoldable pub Moves : List (Event Definition) → List Place → List Message → List Place → List Message → Type 0
 Moves events places sent places_after sent_after = Turns (λ w. steps definition_eq w events) places sent places_after sent_after
 
--- the number reported for an action or an event is that of its rejection in the world before
-abbrev pub TellsWhy : (World Definition → Option Refusal) → Option ℕ → List Place → List Message → Type 0
-TellsWhy why number places sent = (w : World Definition) → Shows places sent w → number ≡ told (why w)
+-- the rejection reported for an action or an event is that of the world before
+abbrev pub TellsWhy : (World Definition → Option Refusal) → Option Rejection → List Place → List Message → Type 0
+TellsWhy why rejection places sent = (w : World Definition) → Shows places sent w → rejection ≡ told (why w)
 
 -- a step, a crash within a step, and any event, done completely
-pub record IsActed (i : ℕ) (action : Action Definition ℕ) (number : Option ℕ) (places : List Place) (sent : List Message) (places_after : List Place) (sent_after : List Message) : Type 0 where
+pub record IsActed (i : ℕ) (action : Action Definition ℕ) (rejection : Option Rejection) (places : List Place) (sent : List Message) (places_after : List Place) (sent_after : List Message) : Type 0 where
   pub leads : Turns (λ w. after_turn w i (turn definition_eq w i action)) places sent places_after sent_after
-  pub why : TellsWhy (λ w. refused_at w i action) number places sent
+  pub why : TellsWhy (λ w. refused_at w i action) rejection places sent
 
-pub record IsTorn (i : ℕ) (action : Action Definition ℕ) (kept : world.Kept) (number : Option ℕ) (places : List Place) (sent : List Message) (places_after : List Place) (sent_after : List Message) : Type 0 where
+pub record IsTorn (i : ℕ) (action : Action Definition ℕ) (kept : world.Kept) (rejection : Option Rejection) (places : List Place) (sent : List Message) (places_after : List Place) (sent_after : List Message) : Type 0 where
   pub leads : Turns (λ w. after_torn w i kept (turn definition_eq w i action)) places sent places_after sent_after
-  pub why : TellsWhy (λ w. refused_at w i action) number places sent
+  pub why : TellsWhy (λ w. refused_at w i action) rejection places sent
 
-pub record Happens (event : Event Definition) (number : Option ℕ) (places : List Place) (sent : List Message) (places_after : List Place) (sent_after : List Message) : Type 0 where
+pub record Happens (event : Event Definition) (rejection : Option Rejection) (places : List Place) (sent : List Message) (places_after : List Place) (sent_after : List Message) : Type 0 where
   pub leads : Turns (λ w. happens definition_eq w event) places sent places_after sent_after
-  pub why : TellsWhy (λ w. refused w event) number places sent
+  pub why : TellsWhy (λ w. refused w event) rejection places sent
 
 -- the rejection of the last event, None if there is no event or no rejection
 unfoldable pub last_refused : World Definition → List (Event Definition) → Option Refusal
@@ -68,6 +78,16 @@ last_refused w [] = None
 last_refused w (event ∷ []) = refused w event
 last_refused w (event ∷ next ∷ rest) = last_refused (happens definition_eq w event) (next ∷ rest)
 
-pub record HaveRun (events : List (Event Definition)) (number : Option ℕ) (places : List Place) (sent : List Message) (places_after : List Place) (sent_after : List Message) : Type 0 where
+pub record HaveRun (events : List (Event Definition)) (rejection : Option Rejection) (places : List Place) (sent : List Message) (places_after : List Place) (sent_after : List Message) : Type 0 where
   pub leads : Moves events places sent places_after sent_after
-  pub why : TellsWhy (λ w. last_refused w events) number places sent
+  pub why : TellsWhy (λ w. last_refused w events) rejection places sent
+
+-- ---- the same of a cluster, as the code has it
+
+-- what holds of its entries and its messages
+abbrev pub HoldsIn : (List Place → List Message → Type 0) → Cluster → Type 0
+HoldsIn holds cluster = holds cluster.places.items cluster.sent.items
+
+-- what holds between those of one and those of another
+abbrev pub Between : (List Place → List Message → List Place → List Message → Type 0) → Cluster → Cluster → Type 0
+Between holds before after = holds before.places.items before.sent.items after.places.items after.sent.items

@@ -20,6 +20,7 @@ use Rattle.wf_farm.specs.declared.progress.Progress.{Progress}
 use Rattle.wf_farm.specs.Giving.{Takes}
 use Rattle.wf_farm.specs.Progress.{next}
 use Rattle.wf_farm.specs.Pump.{most_deliveries}
+use Rattle.wf_tape.specs.declared.tape.Tape.{Ghosts as Tape}
 
 -- ---- nodes and a world
 
@@ -59,8 +60,8 @@ abbrev pub StandInTurn : {T : Type 0} → List (Node T) → Type 0
 StandInTurn nodes = StandAmong (length nodes) nodes
 
 -- these bytes are what a crash may leave of the tape of each node whose tape failed
-unfoldable pub MayLeave : {T : Type 0} → (T → List ℕ → Type 0) → List (Node T) → (ℕ → List ℕ) → Type 0
-MayLeave {T} images nodes left = (i : ℕ) (node : Node T) → slice_get nodes i ≡ Some node → node.halted ≡ true → images node.tape (left i)
+unfoldable pub MayLeave : {T : Type 0} → Tape T → List (Node T) → (ℕ → List ℕ) → Type 0
+MayLeave {T} tapes nodes left = (i : ℕ) (node : Node T) → slice_get nodes i ≡ Some node → node.halted ≡ true → tapes.images node.tape (left i)
 
 -- ---- the deliveries
 
@@ -72,11 +73,8 @@ IsOfMessage table.Retry = ⊥
 IsOfMessage table.CatchUp = ⊥
 
 abbrev pub IsDelivery : Event Definition → Type 0
-IsDelivery (world.Deliver i k) = ⊤
+IsDelivery (world.Act i action) = IsOfMessage action
 IsDelivery (world.Torn i action kept) = IsOfMessage action
-IsDelivery (world.Propose i d) = ⊥
-IsDelivery (world.Retry i) = ⊥
-IsDelivery (world.CatchUp i) = ⊥
 IsDelivery (world.Stop i) = ⊥
 IsDelivery (world.Restart i) = ⊥
 
@@ -118,7 +116,7 @@ abbrev pub counted : ℕ → Bool → ℕ
 counted lost true = lost + 1
 counted lost false = lost
 
-module _ {T : Type 0} (honest : Type 0) (content : T → List ℕ) (images : T → List ℕ → Type 0) where
+module _ {T : Type 0} (tapes : Tape T) where
   -- Message k was delivered to node i, and the node's messages were sent; or an allocation failed, and the delivery was lost.
   pub record IsHanded (i k : ℕ) (lost : Bool) (nodes : List (Node T)) (sent : List Message) (nodes_after : List (Node T)) (sent_after : List Message) : Type 0 where
     pub node : Node T
@@ -127,7 +125,7 @@ module _ {T : Type 0} (honest : Type 0) (content : T → List ℕ) (images : T �
     pub said : List Message
     pub at : slice_get nodes i ≡ Some node
     pub there : slice_get sent k ≡ Some handed
-    pub takes : Takes honest content images lost (table.Deliver (message.view handed)) node after said
+    pub takes : Takes tapes lost (table.Deliver (message.view handed)) node after said
     pub nodes_are : nodes_after ≡ slice_set nodes i after
     pub sent_are : sent_after ≡ sent ++ said
 
@@ -176,31 +174,31 @@ AreKept i k nodes sent nodes_after sent_after = nodes_after ≡ nodes
 abbrev pub CanTake : {T : Type 0} → List (Node T) → ℕ → Type 0
 CanTake nodes i = StandInTurn nodes × (i < length nodes)
 
-module _ {T : Type 0} (honest : Type 0) (images : T → List ℕ → Type 0) where
+module _ {T : Type 0} (tapes : Tape T) where
   -- for the crate's own contracts: one delivery to one of the nodes, or none
   pub record IsOne (nodes : List (Node T)) (sent : List Message) (nodes_after : List (Node T)) (sent_after : List Message) : Type 0 where
     pub any : TakeOne AnyPart nodes sent nodes_after sent_after
-    pub on_tape : honest → (left : ℕ → List ℕ) → MayLeave images nodes_after left → TakeOne (StandFor left) nodes sent nodes_after sent_after
+    pub on_tape : tapes.honest → (left : ℕ → List ℕ) → MayLeave tapes nodes_after left → TakeOne (StandFor left) nodes sent nodes_after sent_after
     pub halted : KeepHalted nodes nodes_after
     pub turn : KeepTurn nodes nodes_after
 
   -- the result of the deliveries: `done` were made
   pub record IsDelivered (nodes : List (Node T)) (messages : List Message) (done : ℕ) (nodes_after : List (Node T)) : Type 0 where
     pub any : AreDelivered AnyPart done nodes messages nodes_after
-    pub on_tape : honest → (left : ℕ → List ℕ) → MayLeave images nodes_after left → AreDelivered (StandFor left) done nodes messages nodes_after
+    pub on_tape : tapes.honest → (left : ℕ → List ℕ) → MayLeave tapes nodes_after left → AreDelivered (StandFor left) done nodes messages nodes_after
     pub halted : KeepHalted nodes nodes_after
     pub turn : KeepTurn nodes nodes_after
     pub most : done ≤ most_deliveries
 
-module _ {T : Type 0} (honest : Type 0) (content : T → List ℕ) (images : T → List ℕ → Type 0) where
+module _ {T : Type 0} (tapes : Tape T) where
   -- for the crate's own contracts: one delivery, as the world and the node see it
   abbrev pub IsGiven : ℕ → ℕ → Bool → List (Node T) → List Message → List (Node T) → List Message → Type 0
-  IsGiven i k lost nodes sent nodes_after sent_after = IsOne honest images nodes sent nodes_after sent_after × IsHanded honest content images i k lost nodes sent nodes_after sent_after
+  IsGiven i k lost nodes sent nodes_after sent_after = IsOne tapes nodes sent nodes_after sent_after × IsHanded tapes i k lost nodes sent nodes_after sent_after
 
   -- for the crate's own contracts: the deliveries have come this far
   pub record HaveCome (nodes : List (Node T)) (messages : List Message) (p : Progress) (lost : ℕ) (nodes_after : List (Node T)) (sent : List Message) : Type 0 where
     pub any : Lead AnyPart p.done nodes messages nodes_after sent
-    pub on_tape : honest → (left : ℕ → List ℕ) → MayLeave images nodes_after left → Lead (StandFor left) p.done nodes messages nodes_after sent
+    pub on_tape : tapes.honest → (left : ℕ → List ℕ) → MayLeave tapes nodes_after left → Lead (StandFor left) p.done nodes messages nodes_after sent
     pub halted : KeepHalted nodes nodes_after
     pub turn : KeepTurn nodes nodes_after
-    pub order : AreHanded honest content images nodes messages p lost nodes_after sent
+    pub order : AreHanded tapes nodes messages p lost nodes_after sent

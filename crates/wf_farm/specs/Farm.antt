@@ -5,7 +5,8 @@ use Rattle.wf_def.specs.Definition.{Definition}
 use Rattle.wf_def.specs.Equality.{definition_eq}
 use Rattle.wf_model.specs.World.{World, Event, after}
 use Rattle.wf_node.specs.Node.{Node}
-use Rattle.wf_tape.specs.MemoryTape.{Kept}
+use Rattle.wf_tape.specs.MemoryTape.{TapeValue}
+use Rattle.wf_farm.specs.declared.rejection.Rejection.{Rejection}
 use Rattle.wf_farm.specs.declared.place.Place.{Place}
 use Rattle.wf_farm.specs.declared.place.Place.TheVariants.{Running, Stopped}
 use Rattle.wf_farm.specs.declared.fault.FarmFault.{FarmFault}
@@ -13,13 +14,13 @@ use Rattle.wf_farm.specs.declared.fault.FarmFault.TheVariants.{Memory, NoNode, C
 use Rattle.wf_farm.specs.Cluster as cluster
 use Rattle.wf_farm.specs.Cluster.{AreMembers, Moves}
 
--- Its nodes' entries and all messages ever sent; the number of the first message not pumped yet; and the number of the rejection
--- of the last run's last event, if it was rejected.
+-- Its nodes' entries and all messages ever sent; the number of the first message not pumped yet; and the rejection of the last run's
+-- last event, if it was rejected.
 pub record Farm : Type 0 where
   pub places : List Place
   pub sent : List Message
   pub pumped : ℕ
-  pub refused : Option ℕ
+  pub refused : Option Rejection
 
 -- The farm is this world.
 abbrev pub Shows : Farm → World Definition → Type 0
@@ -30,7 +31,7 @@ abbrev pub size : Farm → ℕ
 size farm = length farm.places
 
 -- the node in an entry, if it runs
-abbrev pub running_in : Option Place → Option (Node Kept)
+abbrev pub running_in : Option Place → Option (Node TapeValue)
 running_in None = None
 running_in (Some (Running node)) = Some node
 running_in (Some (Stopped tape)) = None

@@ -7,7 +7,6 @@ use Rattle.wf_def.specs.Definition.{Definition}
 use Rattle.wf_def.specs.Equality.{definition_eq}
 use Rattle.wf_model.specs.Message as model
 use Rattle.wf_model.specs.Stored.{Stored, Record}
-use Rattle.wf_model.specs.Table as table
 use Rattle.wf_model.specs.Table.{Action, Input, store}
 use Rattle.wf_model.specs.Working.{at_start}
 use Rattle.wf_model.specs.World as world
@@ -21,8 +20,9 @@ use Rattle.wf_node.specs.declared.fault.NodeFault.TheVariants as fault
 use Rattle.wf_tape.specs.MemoryTape as tape
 use Rattle.wf_tape.specs.MemoryTape.{IsImageOf, NeverFails}
 use Rattle.wf_journal.specs.Records.{AreRecords}
-use Rattle.wf_farm.specs.declared.event.Kept.{Kept}
-use Rattle.wf_farm.specs.declared.event.Kept.TheVariants as kept
+use Rattle.wf_model.specs.declared.kept.Kept.{Kept}
+use Rattle.wf_model.specs.declared.kept.Kept.TheVariants as kept
+use Rattle.wf_farm.specs.declared.rejection.Rejection.{Rejection}
 use Rattle.wf_farm.specs.declared.fate.Fate.{Fate}
 use Rattle.wf_farm.specs.declared.fate.Fate.TheVariants as fate
 use Rattle.wf_farm.specs.declared.fault.FarmFault.{FarmFault}
@@ -30,7 +30,7 @@ use Rattle.wf_farm.specs.declared.fault.FarmFault.TheVariants.{Memory, NoNode, C
 use Rattle.wf_farm.specs.declared.place.Place.{Place}
 use Rattle.wf_farm.specs.declared.place.Place.TheVariants.{Running, Stopped}
 use Rattle.wf_farm.specs.Cluster.{Turns, Moves, TellsWhy}
-use Rattle.wf_farm.specs.Event.{view_kept}
+use Rattle.wf_model.specs.Kept.{view as view_kept}
 use Rattle.wf_farm.specs.Farm.{Farm, Runs, size}
 use Rattle.wf_farm.specs.Pump.{AreTargets, begun, deliveries, most_deliveries}
 use Rattle.wf_farm.specs.declared.progress.Progress.{Progress}
@@ -45,10 +45,7 @@ pub record Step : Type 0 where
 
 -- the step of an event, also of one that is a crash within a step; a stop and a restart are none
 unfoldable pub step_of : Event Definition → Option Step
-step_of (world.Propose i d) = Some (record { node = i; action = table.Propose d })
-step_of (world.Retry i) = Some (record { node = i; action = table.Retry })
-step_of (world.CatchUp i) = Some (record { node = i; action = table.CatchUp })
-step_of (world.Deliver i k) = Some (record { node = i; action = table.Deliver k })
+step_of (world.Act i action) = Some (record { node = i; action = action })
 step_of (world.Stop i) = None
 step_of (world.Restart i) = None
 step_of (world.Torn i action kept) = Some (record { node = i; action = action })
@@ -90,9 +87,9 @@ pub record RunsOrTears (i : ℕ) (events : List (Event Definition)) (torn : Opti
   pub step : IsStepOfNode i events torn
 
 -- What is reported of one event: why it was rejected, if it was. One whose step was torn wasn't.
-abbrev pub TellsWhyUnlessTorn : Event Definition → Option (ℕ × Kept) → Option ℕ → List Place → List Message → Type 0
-TellsWhyUnlessTorn event None number places sent = TellsWhy (λ w. refused w event) number places sent
-TellsWhyUnlessTorn event (Some torn) number places sent = number ≡ None
+abbrev pub TellsWhyUnlessTorn : Event Definition → Option (ℕ × Kept) → Option Rejection → List Place → List Message → Type 0
+TellsWhyUnlessTorn event None rejection places sent = TellsWhy (λ w. refused w event) rejection places sent
+TellsWhyUnlessTorn event (Some torn) rejection places sent = rejection ≡ None
 
 -- the same of a farm
 abbrev pub TellsUnlessTorn : Event Definition → Option (ℕ × Kept) → Farm → Farm → Type 0
@@ -118,7 +115,7 @@ pub record PumpsOrTears (i : ℕ) (names : List ℕ) (torn : Option (ℕ × Kept
   pub end : IsPumpEnd stopped (length (deliveries targets before.pumped whole some)) (before.pumped + whole) some (length after.sent)
 
 -- the tape in an entry
-abbrev pub tape_in : Place → tape.Kept
+abbrev pub tape_in : Place → tape.TapeValue
 tape_in (Running node) = node.tape
 tape_in (Stopped kept) = kept
 
@@ -174,10 +171,7 @@ IsTold false i said places sent places_after sent_after =
 -- whether the messages of the event's step are sent
 abbrev pub is_heard : Event Definition → Bool
 is_heard (world.Torn i action kept) = false
-is_heard (world.Propose i d) = true
-is_heard (world.Retry i) = true
-is_heard (world.CatchUp i) = true
-is_heard (world.Deliver i k) = true
+is_heard (world.Act i action) = true
 is_heard (world.Stop i) = true
 is_heard (world.Restart i) = true
 
@@ -185,10 +179,7 @@ is_heard (world.Restart i) = true
 abbrev pub IsNotBefore : Event Definition → Type 0
 IsNotBefore (world.Torn i action world.Before) = ⊥
 IsNotBefore (world.Torn i action world.After) = ⊤
-IsNotBefore (world.Propose i d) = ⊤
-IsNotBefore (world.Retry i) = ⊤
-IsNotBefore (world.CatchUp i) = ⊤
-IsNotBefore (world.Deliver i k) = ⊤
+IsNotBefore (world.Act i action) = ⊤
 IsNotBefore (world.Stop i) = ⊤
 IsNotBefore (world.Restart i) = ⊤
 
@@ -207,11 +198,11 @@ GivesInput sent event (Some input) = IsInputOf sent event input
 -- in the middle, and restarted.
 abbrev pub Fares : ℕ → ℕ → Input Definition → Fate → Place → Place → Type 0
 Fares n i input (fate.Done said) before after = IsStepped n i input before after (map message.view said.items) None
-Fares n i input fate.Rejected before after = (number : ℕ) × IsStepped n i input before after [] (Some number)
+Fares n i input fate.Rejected before after = (rejection : Rejection) × IsStepped n i input before after [] (Some rejection)
 Fares n i input (fate.Torn kept) before after = (middle : Place) × IsTornAt (view_kept kept) n i input before middle None × Restarts middle after
 
 -- A step of a node whose tape may fail; afterwards the tape doesn't fail.
-pub record IsTried {A : Type 0} (before : Node tape.Kept) (input : Input Definition) (result : Result (Vec Message A) NodeFault) (after : Node tape.Kept) : Type 0 where
+pub record IsTried {A : Type 0} (before : Node tape.TapeValue) (input : Input Definition) (result : Result (Vec Message A) NodeFault) (after : Node tape.TapeValue) : Type 0 where
   pub refused : before.halted ≡ false → refused_by result ≡ refusal_at before input
   pub done : IfOk result (λ said. IsRow before (row_of before input) said.items after)
   pub same : IfErr result (λ why. IsSameNode before after)
@@ -236,7 +227,7 @@ IsTornTo before after fate.Rejected place = ⊥
 
 -- A tape after a step that failed: before it the tape had these records alone, as many bytes long, and each image is cut within the
 -- step's record or behind it.
-pub record IsCutTape (long : ℕ) (entry : Option (Record Definition)) (before after : Stored Definition) (left : tape.Kept) : Type 0 where
+pub record IsCutTape (long : ℕ) (entry : Option (Record Definition)) (before after : Stored Definition) (left : tape.TapeValue) : Type 0 where
   pub content : List ℕ
   pub records : List (Record Definition)
   pub are_records : AreRecords content records

@@ -1,5 +1,5 @@
 -- What a node does with an input that a caller gives it, over any kind of tape.
-use Rattle.std.specs.Prelude.{◌≡◌, ◌++◌, ℕ, Bool, true, false, List, [], Option, Some, None}
+use Rattle.std.specs.Prelude.{◌≡◌, ◌++◌, Bool, true, false, List, [], Option, Some, None}
 use Rattle.wf_codec.specs.declared.message.Message.{Message}
 use Rattle.wf_def.specs.Definition.{Definition}
 use Rattle.wf_model.specs.Table.{Input, Refusal, store}
@@ -10,6 +10,7 @@ use Rattle.wf_node.specs.Storing.{bytes_of}
 use Rattle.wf_tape.specs.Tape.{IsExtended}
 use Rattle.wf_node.specs.declared.fault.NodeFault.{NodeFault}
 use Rattle.wf_node.specs.declared.fault.NodeFault.TheVariants as fault
+use Rattle.wf_tape.specs.declared.tape.Tape.{Ghosts as Tape}
 
 -- whether a node's error is allocation failure, and whether it is that of a halted node
 abbrev pub is_memory : NodeFault → Bool
@@ -34,14 +35,14 @@ abbrev pub tells_halt : Option NodeFault → Bool
 tells_halt None = false
 tells_halt (Some f) = is_halt f
 
-module _ {T : Type 0} (honest : Type 0) (content : T → List ℕ) (images : T → List ℕ → Type 0) where
+module _ {T : Type 0} (tapes : Tape T) where
   -- An allocation failed before the node had done anything, so the input is lost: the node, which isn't halted, is unchanged but
   -- for its tape, whose content is unchanged too, and sends nothing.
   pub record IsLost (before after : Node T) (said : List Message) : Type 0 where
     pub runs : before.halted ≡ false
     pub still : after.halted ≡ false
     pub same : IsSameNode before after
-    pub kept : honest → content after.tape ≡ content before.tape
+    pub kept : tapes.honest → tapes.content after.tape ≡ tapes.content before.tape
     pub quiet : said ≡ []
 
   -- What a node does with an input that isn't lost. A halted node rejects it, and so does one whose step table rejects it: either
@@ -51,10 +52,10 @@ module _ {T : Type 0} (honest : Type 0) (content : T → List ℕ) (images : T �
     Halts : before.halted ≡ true → after ≡ before → said ≡ [] → Answers input before after said
     Rejects : (why : Refusal) → before.halted ≡ false → refusal_at before input ≡ Some why → after ≡ before → said ≡ [] → Answers input before after said
     Steps : before.halted ≡ false → refusal_at before input ≡ None → IsRow before (row_of before input) said after
-        → (honest → content after.tape ≡ content before.tape ++ bytes_of (row_of before input).entry) → Answers input before after said
+        → (tapes.honest → tapes.content after.tape ≡ tapes.content before.tape ++ bytes_of (row_of before input).entry) → Answers input before after said
     Fails : before.halted ≡ false → refusal_at before input ≡ None → after.halted ≡ true → IsSameNode before after
-        → (honest → IsExtended (content before.tape) (bytes_of (row_of before input).entry) (content after.tape))
-        → (honest → EachStandsFor (stored_of before) (store (stored_of before) (row_of before input).entry) (images after.tape)) → said ≡ [] → Answers input before after said
+        → (tapes.honest → IsExtended (tapes.content before.tape) (bytes_of (row_of before input).entry) (tapes.content after.tape))
+        → (tapes.honest → EachStandsFor (stored_of before) (store (stored_of before) (row_of before input).entry) (tapes.images after.tape)) → said ≡ [] → Answers input before after said
 
   -- What it does with an input, by whether that is lost.
   abbrev pub Takes : Bool → Input Definition → Node T → Node T → List Message → Type 0

@@ -16,6 +16,7 @@ use Rattle.wf_node.specs.declared.fault.NodeFault.{NodeFault}
 use Rattle.wf_node.specs.declared.fault.NodeFault.TheVariants.{Halted}
 use Rattle.wf_wms.specs.Answer.{AnswerValue, AsksForMap, IsAnswerOf}
 use Rattle.wf_farm.specs.Delivering.{AnyPart, StandFor, Shows, StandInTurn, MayLeave, KeepHalted, KeepTurn, IsDelivered}
+use Rattle.wf_tape.specs.declared.tape.Tape.{Ghosts as Tape}
 
 -- ---- what leads from a world
 
@@ -41,19 +42,19 @@ LeadTo stands nodes nodes_after = (w : World Definition) (sent : List Message) �
 
 -- ---- the same over any kind of tape, and over an honest one for whatever bytes a crash leaves of the tapes that failed
 
-module _ {T : Type 0} (honest : Type 0) (images : T → List ℕ → Type 0) where
+module _ {T : Type 0} (tapes : Tape T) where
   -- Some events lead to what the nodes are afterwards, and send these messages. A node whose tape failed before is unchanged;
   -- each keeps its index and what it published.
   pub record AreLedSaying (nodes : List (Node T)) (said : List Message) (nodes_after : List (Node T)) : Type 0 where
     pub any : LeadSaying AnyPart nodes said nodes_after
-    pub on_tape : honest → (left : ℕ → List ℕ) → MayLeave images nodes_after left → LeadSaying (StandFor left) nodes said nodes_after
+    pub on_tape : tapes.honest → (left : ℕ → List ℕ) → MayLeave tapes nodes_after left → LeadSaying (StandFor left) nodes said nodes_after
     pub halted : KeepHalted nodes nodes_after
     pub turn : KeepTurn nodes nodes_after
 
   -- The same with some messages sent.
   pub record AreLedOn (nodes nodes_after : List (Node T)) : Type 0 where
     pub any : LeadTo AnyPart nodes nodes_after
-    pub on_tape : honest → (left : ℕ → List ℕ) → MayLeave images nodes_after left → LeadTo (StandFor left) nodes nodes_after
+    pub on_tape : tapes.honest → (left : ℕ → List ℕ) → MayLeave tapes nodes_after left → LeadTo (StandFor left) nodes nodes_after
     pub halted : KeepHalted nodes nodes_after
     pub turn : KeepTurn nodes nodes_after
 
@@ -107,43 +108,43 @@ said_by (Err why) = []
 
 -- One of the nodes is asked for a step, and returns: the nodes are led on, and exactly its messages were sent. A halted node
 -- rejects, and is unchanged.
-abbrev pub StepLeadsOn : {T : Type 0} → Type 0 → (T → List ℕ) → (T → List ℕ → Type 0) → (T → ℕ) → Type 0
-StepLeadsOn {T} honest content images failures = (nodes : List (Node T)) (i : ℕ) (before after : Node T) (input : Input Definition) (answer : Result (Vec Message Global) NodeFault) →
+abbrev pub StepLeadsOn : {T : Type 0} → Tape T → Type 0
+StepLeadsOn {T} tapes = (nodes : List (Node T)) (i : ℕ) (before after : Node T) (input : Input Definition) (answer : Result (Vec Message Global) NodeFault) →
     slice_get nodes i ≡ Some before → StandInTurn nodes → IsOwn input → (before.halted ≡ true → (answer ≡ Err Halted) × (after ≡ before)) →
-    (before.halted ≡ false → IsStep honest content images failures before input answer after) → AreLedSaying honest images nodes (said_by answer) (slice_set nodes i after)
+    (before.halted ≡ false → IsStep tapes before input answer after) → AreLedSaying tapes nodes (said_by answer) (slice_set nodes i after)
 
 -- Nodes to which sent messages are delivered are led on, however many were sent before.
-abbrev pub DeliveriesLeadOn : {T : Type 0} → Type 0 → (T → List ℕ → Type 0) → Type 0
-DeliveriesLeadOn {T} honest images = (nodes middle after : List (Node T)) (said : List Message) (done : ℕ) →
-    AreLedSaying honest images nodes said middle → IsDelivered honest images middle said done after → AreLedOn honest images nodes after
+abbrev pub DeliveriesLeadOn : {T : Type 0} → Tape T → Type 0
+DeliveriesLeadOn {T} tapes = (nodes middle after : List (Node T)) (said : List Message) (done : ℕ) →
+    AreLedSaying tapes nodes said middle → IsDelivered tapes middle said done after → AreLedOn tapes nodes after
 
 -- Nodes to which nothing happens are led to themselves, and nothing is sent.
-abbrev pub NothingLeadsOn : {T : Type 0} → Type 0 → (T → List ℕ → Type 0) → Type 0
-NothingLeadsOn {T} honest images = (nodes : List (Node T)) → AreLedOn honest images nodes nodes
+abbrev pub NothingLeadsOn : {T : Type 0} → Tape T → Type 0
+NothingLeadsOn {T} tapes = (nodes : List (Node T)) → AreLedOn tapes nodes nodes
 
-abbrev pub NothingIsSaid : {T : Type 0} → Type 0 → (T → List ℕ → Type 0) → Type 0
-NothingIsSaid {T} honest images = (nodes : List (Node T)) → AreLedSaying honest images nodes [] nodes
+abbrev pub NothingIsSaid : {T : Type 0} → Tape T → Type 0
+NothingIsSaid {T} tapes = (nodes : List (Node T)) → AreLedSaying tapes nodes [] nodes
 
 -- Two runs in turn are one run; the messages sent are those of the first and then those of the second.
-abbrev pub TwiceLeadsOn : {T : Type 0} → Type 0 → (T → List ℕ → Type 0) → Type 0
-TwiceLeadsOn {T} honest images = (nodes middle after : List (Node T)) → AreLedOn honest images nodes middle → AreLedOn honest images middle after → AreLedOn honest images nodes after
+abbrev pub TwiceLeadsOn : {T : Type 0} → Tape T → Type 0
+TwiceLeadsOn {T} tapes = (nodes middle after : List (Node T)) → AreLedOn tapes nodes middle → AreLedOn tapes middle after → AreLedOn tapes nodes after
 
-abbrev pub BothAreSaid : {T : Type 0} → Type 0 → (T → List ℕ → Type 0) → Type 0
-BothAreSaid {T} honest images = (nodes middle after : List (Node T)) (said more : List Message) →
-    AreLedSaying honest images nodes said middle → AreLedSaying honest images middle more after → AreLedSaying honest images nodes (said ++ more) after
+abbrev pub BothAreSaid : {T : Type 0} → Tape T → Type 0
+BothAreSaid {T} tapes = (nodes middle after : List (Node T)) (said more : List Message) →
+    AreLedSaying tapes nodes said middle → AreLedSaying tapes middle more after → AreLedSaying tapes nodes (said ++ more) after
 
 -- Messages sent need not be delivered.
-abbrev pub UnheardLeadsOn : {T : Type 0} → Type 0 → (T → List ℕ → Type 0) → Type 0
-UnheardLeadsOn {T} honest images = (nodes after : List (Node T)) (said : List Message) → AreLedSaying honest images nodes said after → AreLedOn honest images nodes after
+abbrev pub UnheardLeadsOn : {T : Type 0} → Tape T → Type 0
+UnheardLeadsOn {T} tapes = (nodes after : List (Node T)) (said : List Message) → AreLedSaying tapes nodes said after → AreLedOn tapes nodes after
 
 -- Nodes led on from reached nodes are reached; over an honest tape also with the bytes that a crash leaves of the tapes that
 -- failed.
-abbrev pub ReachedLeadsOn : {T : Type 0} → Type 0 → (T → List ℕ → Type 0) → Type 0
-ReachedLeadsOn {T} honest images = (nodes after : List (Node T)) → AreReached AnyPart nodes → AreLedOn honest images nodes after → AreReached AnyPart after
+abbrev pub ReachedLeadsOn : {T : Type 0} → Tape T → Type 0
+ReachedLeadsOn {T} tapes = (nodes after : List (Node T)) → AreReached AnyPart nodes → AreLedOn tapes nodes after → AreReached AnyPart after
 
-abbrev pub ReachedOnTape : {T : Type 0} → Type 0 → (T → List ℕ → Type 0) → Type 0
-ReachedOnTape {T} honest images = honest → (left : ℕ → List ℕ) (nodes after : List (Node T)) → MayLeave images after left →
-    AreReached (StandFor left) nodes → AreLedOn honest images nodes after → AreReached (StandFor left) after
+abbrev pub ReachedOnTape : {T : Type 0} → Tape T → Type 0
+ReachedOnTape {T} tapes = tapes.honest → (left : ℕ → List ℕ) (nodes after : List (Node T)) → MayLeave tapes after left →
+    AreReached (StandFor left) nodes → AreLedOn tapes nodes after → AreReached (StandFor left) after
 
 -- Fresh nodes are the start, whatever bytes a crash leaves of the tapes that failed: none failed.
 abbrev pub FreshAreReached : Type 0 → Type 0

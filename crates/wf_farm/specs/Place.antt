@@ -11,6 +11,7 @@ use Rattle.wf_node.specs.Images.{AllStandFor}
 use Rattle.wf_node.specs.Node.{stored_of, working_of}
 use Rattle.wf_node.specs.declared.fault.NodeFault.{NodeFault}
 use Rattle.wf_tape.specs.MemoryTape.{IsImageOf, NeverFails}
+use Rattle.wf_farm.specs.declared.rejection.Rejection.{Rejection}
 use Rattle.wf_farm.specs.declared.place.Place.{Place}
 use Rattle.wf_farm.specs.declared.place.Place.TheVariants.{Running, Stopped}
 use Rattle.wf_farm.specs.Fault.{told}
@@ -50,29 +51,29 @@ Restarts before after = IsChanged node_restarted before after
 abbrev pub turn_at : ℕ → ℕ → Input Definition → world.Node Definition → Option (Turn Definition)
 turn_at n i input node = turn_of definition_eq n i (Some node) (Some input)
 
--- A step of node i of n: the node after its turn, the turn's messages, and the number of its rejection, if it is rejected.
-pub record IsStepped (n i : ℕ) (input : Input Definition) (before after : Place) (said : List (model.Message Definition)) (refused : Option ℕ) : Type 0 where
+-- A step of node i of n: the node after its turn, the turn's messages, and its rejection, if it is rejected.
+pub record IsStepped (n i : ℕ) (input : Input Definition) (before after : Place) (said : List (model.Message Definition)) (refused : Option Rejection) : Type 0 where
   pub node : IsChanged (λ node. node_after (turn_at n i input node) node) before after
   pub messages : (node : world.Node Definition) → IsNode before node → said ≡ messages_of (turn_at n i input node)
   pub refusal : (node : world.Node Definition) → IsNode before node → refused ≡ told (refusal_of (Some node) (Some input))
 
 -- A crash within a step of node i of n, which kept this.
-pub record IsTornAt (kept : world.Kept) (n i : ℕ) (input : Input Definition) (before after : Place) (refused : Option ℕ) : Type 0 where
+pub record IsTornAt (kept : world.Kept) (n i : ℕ) (input : Input Definition) (before after : Place) (refused : Option Rejection) : Type 0 where
   pub node : IsChanged (λ node. node_torn kept (turn_at n i input node) node) before after
   pub refusal : (node : world.Node Definition) → IsNode before node → refused ≡ told (refusal_of (Some node) (Some input))
 
--- The number of the table's rejection that an error is; none for an allocation failure.
-abbrev pub number_in : NodeFault → Option ℕ
-number_in f = told (fault.refusal_of f)
+-- The table's rejection that an error is; none for an allocation failure.
+abbrev pub rejection_in : NodeFault → Option Rejection
+rejection_in f = told (fault.refusal_of f)
 
 -- A step that ends in an error leaves the node unchanged. If the error is the table's rejection, that is the step.
 pub record IsDenied (n i : ℕ) (input : Input Definition) (before after : Place) (f : NodeFault) : Type 0 where
   pub stays : Stays before after
-  pub refused : (number : ℕ) → number_in f ≡ Some number → IsStepped n i input before after [] (Some number)
+  pub refused : (rejection : Rejection) → rejection_in f ≡ Some rejection → IsStepped n i input before after [] (Some rejection)
 
 pub record IsDeniedTorn (kept : world.Kept) (n i : ℕ) (input : Input Definition) (before after : Place) (f : NodeFault) : Type 0 where
   pub stays : Stays before after
-  pub refused : (number : ℕ) → number_in f ≡ Some number → IsTornAt kept n i input before after (Some number)
+  pub refused : (rejection : Rejection) → rejection_in f ≡ Some rejection → IsTornAt kept n i input before after (Some rejection)
 
 -- The same for whichever node the entry has, of whatever number of nodes.
 unfoldable pub Steps : Input Definition → Place → Place → List (model.Message Definition) → Type 0

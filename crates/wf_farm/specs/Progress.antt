@@ -1,6 +1,7 @@
 -- The progress of a pump, and how it ended.
 use Rattle.std.specs.Prelude.{◌≡◌, ◌<◌, ◌≤◌, ◌+◌, ℕ, Bool, true, false, List, length, Option, Result, Ok, Err, if◌then◌else◌, ◌==◌}
 use Rattle.wf_codec.specs.declared.message.Message.{Message}
+use Rattle.wf_farm.specs.declared.rejection.Rejection.{Rejection}
 use Rattle.wf_farm.specs.declared.place.Place.{Place}
 use Rattle.wf_farm.specs.declared.fault.FarmFault.{FarmFault}
 use Rattle.wf_farm.specs.declared.progress.End.{End}
@@ -32,8 +33,8 @@ CanTake places i = AreMembers places
 
 -- Message k was delivered to node i, if both exist and the node runs; nothing is lost.
 pub record IsGiven (i k : ℕ) (lost : Bool) (places : List Place) (sent : List Message) (places_after : List Place) (sent_after : List Message) : Type 0 where
-  pub number : Option ℕ
-  pub acted : IsActed i (table.Deliver k) number places sent places_after sent_after
+  pub rejection : Option Rejection
+  pub acted : IsActed i (table.Deliver k) rejection places sent places_after sent_after
   pub members : KeepMembers places places_after
   pub grows : length sent ≤ length sent_after
 

@@ -7,7 +7,7 @@ use Rattle.wf_def.specs.Definition.{Definition}
 use Rattle.wf_def.specs.Equality.{definition_eq}
 use Rattle.wf_model.specs.Table as table
 use Rattle.wf_model.specs.Working.{Proposing, Idle, Running, Won, Overtaken}
-use Rattle.wf_model.specs.World.{World, Propose, start, steps}
+use Rattle.wf_model.specs.World.{World, propose, start, steps}
 use Rattle.wf_node.specs.Node.{Node, working_of}
 use Rattle.wf_node.specs.Step.{IsStep}
 use Rattle.wf_node.specs.declared.fault.NodeFault.{NodeFault}
@@ -18,6 +18,7 @@ use Rattle.wf_farm.specs.Farm as farm
 use Rattle.wf_farm.specs.Farm.{Farm, Runs, size}
 use Rattle.wf_farm.specs.Leading.{AreFresh, said_by}
 use Rattle.wf_farm.specs.Pump.{AreTargets, IsPumped, count, deliveries}
+use Rattle.wf_tape.specs.declared.tape.Tape.{Ghosts as Tape}
 
 -- no node's tape has failed
 unfoldable pub NoneHalted : {T : Type 0} → List (Node T) → Type 0
@@ -46,18 +47,18 @@ pub record ArePumped {T : Type 0} (targets : List ℕ) (w : World Definition) (d
   pub shows : Shows AnyPart after sent (steps definition_eq w (deliveries targets 0 come.whole come.some))
   pub ended : IsEnd stopped come sent
 
-module _ {T : Type 0} (honest : Type 0) (content : T → List ℕ) (images : T → List ℕ → Type 0) where
+module _ {T : Type 0} (tapes : Tape T) where
   -- From whatever world the nodes and the messages were, deliveries of which none was lost, and at which no tape failed, are those of
   -- a pump to every node.
   abbrev pub DeliveredExactly : Type 0
   DeliveredExactly = (nodes after : List (Node T)) (messages : List Message) (done : ℕ) (stopped : Bool) (w : World Definition) (targets : List ℕ) → 0 < length nodes → AreTargets (length nodes) [] targets →
-      StandInTurn nodes → Shows AnyPart nodes messages w → AreHandedOut honest content images nodes messages done 0 stopped after → NoneHalted after → ArePumped targets w done stopped after
+      StandInTurn nodes → Shows AnyPart nodes messages w → AreHandedOut tapes nodes messages done 0 stopped after → NoneHalted after → ArePumped targets w done stopped after
 
   -- If the nodes and a farm of which nothing is pumped yet are one world, such deliveries until none is left, and a pump to every node
   -- until none is left, leave them one world; and these are as many deliveries.
   abbrev pub PumpedAlike : Type 0
   PumpedAlike = (nodes after : List (Node T)) (messages : List Message) (done : ℕ) (w : World Definition) (before now : Farm) → StandInTurn nodes → Shows AnyPart nodes messages w →
-      AreHandedOut honest content images nodes messages done 0 false after → NoneHalted after → farm.Shows before w → before.pumped ≡ 0 → (pumped : IsPumped [] before now false) →
+      AreHandedOut tapes nodes messages done 0 false after → NoneHalted after → farm.Shows before w → before.pumped ≡ 0 → (pumped : IsPumped [] before now false) →
       (sent : List Message) × (x : World Definition) × Shows AnyPart after sent x × farm.Shows now x × (count pumped.0 ≡ done)
 
 -- ---- three new nodes
@@ -65,22 +66,22 @@ module _ {T : Type 0} (honest : Type 0) (content : T → List ℕ) (images : T �
 -- One of three new nodes proposed a definition, and its messages were delivered to all, and so were those sent in reply, until none
 -- was left; no delivery was lost, and no tape failed. These were 27 deliveries, and all three nodes have published the
 -- definition; the proposal has ended.
-abbrev pub PublishedOnAll : {T : Type 0} → Type 0 → (T → List ℕ) → (T → List ℕ → Type 0) → (T → ℕ) → Type 0
-PublishedOnAll {T} honest content images failures = (nodes after : List (Node T)) (i : ℕ) (before proposed : Node T) (d : Definition) (said : Vec Message Global) (done : ℕ) →
-    length nodes ≡ 3 → StandInTurn nodes → AreFresh nodes → slice_get nodes i ≡ Some before → IsStep honest content images failures before (table.Propose d) (Ok said) proposed →
-    AreHandedOut honest content images (slice_set nodes i proposed) said.items done 0 false after → NoneHalted after → (done ≡ 27) × AllPublish after d
+abbrev pub PublishedOnAll : {T : Type 0} → Tape T → Type 0
+PublishedOnAll {T} tapes = (nodes after : List (Node T)) (i : ℕ) (before proposed : Node T) (d : Definition) (said : Vec Message Global) (done : ℕ) →
+    length nodes ≡ 3 → StandInTurn nodes → AreFresh nodes → slice_get nodes i ≡ Some before → IsStep tapes before (table.Propose d) (Ok said) proposed →
+    AreHandedOut tapes (slice_set nodes i proposed) said.items done 0 false after → NoneHalted after → (done ≡ 27) × AllPublish after d
 
 -- In a new farm of three nodes one proposed a definition, and then a pump to every node was made until none was left: all three
 -- have published the definition.
 abbrev pub PublishedByPump : Type 0
-PublishedByPump = (before proposed now : Farm) (i : ℕ) (d : Definition) → farm.Shows before (start 3) → before.pumped ≡ 0 → i < 3 → Runs (Propose i d ∷ []) before proposed → proposed.pumped ≡ before.pumped →
+PublishedByPump = (before proposed now : Farm) (i : ℕ) (d : Definition) → farm.Shows before (start 3) → before.pumped ≡ 0 → i < 3 → Runs (propose i d ∷ []) before proposed → proposed.pumped ≡ before.pumped →
     IsPumped [] proposed now false → (j : ℕ) → j < size now → Publishes now j 1 d
 
 -- ---- new nodes that catch up
 
 -- One of new nodes was asked for the definition after its last one, and its messages were delivered, some of them perhaps lost; no
 -- tape failed. The nodes are new still.
-abbrev pub NewStayNew : {T : Type 0} → Type 0 → (T → List ℕ) → (T → List ℕ → Type 0) → (T → ℕ) → Type 0
-NewStayNew {T} honest content images failures = (nodes after : List (Node T)) (i : ℕ) (before asked : Node T) (answer : Result (Vec Message Global) NodeFault) (done lost : ℕ) (stopped : Bool) → AreFresh nodes →
-    slice_get nodes i ≡ Some before → IsStep honest content images failures before table.CatchUp answer asked → AreHandedOut honest content images (slice_set nodes i asked) (said_by answer) done lost stopped after →
+abbrev pub NewStayNew : {T : Type 0} → Tape T → Type 0
+NewStayNew {T} tapes = (nodes after : List (Node T)) (i : ℕ) (before asked : Node T) (answer : Result (Vec Message Global) NodeFault) (done lost : ℕ) (stopped : Bool) → AreFresh nodes →
+    slice_get nodes i ≡ Some before → IsStep tapes before table.CatchUp answer asked → AreHandedOut tapes (slice_set nodes i asked) (said_by answer) done lost stopped after →
     NoneHalted after → AreFresh after

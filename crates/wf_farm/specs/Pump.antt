@@ -4,7 +4,7 @@ use Rattle.std.specs.List.Sorted.{IsStrictlyIncreasing}
 use Rattle.wf_codec.specs.declared.message.Message.{Message}
 use Rattle.wf_def.specs.Definition.{Definition}
 use Rattle.wf_def.specs.Equality.{definition_eq}
-use Rattle.wf_model.specs.World.{World, Event, Deliver, steps}
+use Rattle.wf_model.specs.World.{World, Event, deliver, steps}
 use Rattle.wf_farm.specs.declared.fault.FarmFault.{FarmFault}
 use Rattle.wf_farm.specs.declared.fault.FarmFault.TheVariants.{Memory, NoNode, Carried}
 use Rattle.wf_farm.specs.declared.place.Place.{Place}
@@ -29,7 +29,7 @@ pub record AreTargets (n : ℕ) (names targets : List ℕ) : Type 0 where
 -- the deliveries of message k to each of these nodes
 unfoldable pub to_each : List ℕ → ℕ → List (Event Definition)
 to_each [] k = []
-to_each (i ∷ nodes) k = Deliver i k ∷ to_each nodes k
+to_each (i ∷ nodes) k = deliver i k ∷ to_each nodes k
 
 -- the deliveries of `count` messages from number k on, each to each of these nodes
 unfoldable pub rounds : List ℕ → ℕ → ℕ → List (Event Definition)
@@ -43,7 +43,7 @@ deliveries nodes first whole some = rounds nodes first whole ++ to_each (take so
 -- After these deliveries the next one may allocate: its node takes the step.
 unfoldable pub NextMayAllocate : (targets : List ℕ) (first whole some : ℕ) → List Place → List Message → Type 0
 NextMayAllocate targets first whole some places sent = (w : World Definition) → Shows places sent w →
-    may_allocate (steps definition_eq w (deliveries targets first whole some)) (Deliver (get_or targets some 0) (first + whole)) ≡ true
+    may_allocate (steps definition_eq w (deliveries targets first whole some)) (deliver (get_or targets some 0) (first + whole)) ≡ true
 
 -- the number of messages that a partial round begins, where `some` of its deliveries are done
 abbrev pub begun : ℕ → ℕ

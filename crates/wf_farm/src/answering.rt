@@ -14,7 +14,8 @@ impl Farm {
     /// node published. Err: F2 iff no such node runs; F1 with 0 if an allocation fails.
     #[tactic(auto, using(crate::proofs::Answered::none_runs, crate::proofs::Answered::memory_wanted))]
     pub fn answer(&self, alloc: Global, number: usize, query: &[u8]) -> Result<Answer, FarmFault>
-        ensures answer { IfOk result (λ answer. Answers self.now number (sequence_at self.now number) query.now answer) }
+        ensures answer { IfOk result (λ answer.
+            Answers self.now number (sequence_at self.now number) query.now answer) }
         ensures fault { IfErr result (IsNoAnswer (running_in (slice_get self.now.places number))) }
     {
         let Some(node) = self.node(number) else {

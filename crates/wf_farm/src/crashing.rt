@@ -6,12 +6,12 @@ ghost use Rattle.wf_model.specs.Stored.{Record, Stored};
 ghost use Rattle.wf_node.specs.Input.{view};
 ghost use Rattle.wf_tape.specs.MemoryTape.{NeverFails};
 ghost use Rattle.wf_farm.specs.Fused.{Fares, IsCutTape, IsTornTo, kept_beyond};
-ghost use Rattle.wf_farm.specs.Place.{IsMember, Restarts, number_in};
+ghost use Rattle.wf_farm.specs.Place.{IsMember, Restarts, rejection_in};
 ghost use Rattle.wf_farm.specs.declared.place.Place.TheVariants.{Running};
 
 use crate::event::Kept;
 use crate::fate::Fate;
-use crate::fault::refusal_number;
+use crate::fault::rejection_in;
 use crate::fuse::{Fuse, open, step};
 use crate::place::Place;
 use std::alloc::{AllocError, Global};
@@ -148,9 +148,9 @@ fn try_running(
 fn reject(node: Node<MemoryTape>, fault: NodeFault) -> Result<(Place, Fate), AllocError>
     ensures place { IfOk result (λ x. x.0 ≡ Running node) }
     ensures fate { IfOk result (λ x. x.1 ≡ Fate.Rejected) }
-    ensures number { OnOk result (IsSome (number_in fault)) }
+    ensures rejection { OnOk result (IsSome (rejection_in fault)) }
 {
-    match refusal_number(fault) {
+    match rejection_in(fault) {
         Some(_) => Ok((Place::Running(node), Fate::Rejected)),
         None => {
             drop(node);
@@ -172,7 +172,9 @@ fn crash(
     requires nodes { n ≤ 64 }
     requires id { id < n }
     requires fuse { NeverFails node.tape }
-    ensures torn { (entry : Option (Record Definition)) (before after : Stored Definition) → IsCutTape long entry before after node.tape → IfOk result (λ x. IsTornTo before after x.1 x.0) }
+    ensures torn { (entry : Option (Record Definition)) (before after : Stored Definition) →
+        IsCutTape long entry before after node.tape →
+        IfOk result (λ x. IsTornTo before after x.1 x.0) }
     ensures member { IfOk result (λ x. IsMember n id x.0) }
 {
     // Theorem of the tape: it stands for exactly one stored part.

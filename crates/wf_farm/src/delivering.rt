@@ -42,8 +42,11 @@ pub struct Pumped {
 pub fn deliver_all<T: Tape>(alloc: Global, nodes: &mut [Node<T>], messages: Vec<Message>) -> Pumped
     requires in_turn { StandInTurn nodes.old }
     ensures delivered { AreDelivered AnyPart result.deliveries nodes.old messages.items nodes.new }
-    ensures on_tape { T.honest → (left : ℕ → List ℕ) → MayLeave T.images nodes.new left → AreDelivered (StandFor left) result.deliveries nodes.old messages.items nodes.new }
-    ensures handed { 0 < length nodes.old → AreHandedOut T.honest T.content T.images nodes.old messages.items result.deliveries result.lost result.stopped nodes.new }
+    ensures on_tape { T.honest → (left : ℕ → List ℕ) → MayLeave T.Tape nodes.new left →
+        AreDelivered (StandFor left) result.deliveries nodes.old messages.items nodes.new }
+    ensures handed { 0 < length nodes.old →
+        AreHandedOut T.Tape nodes.old messages.items result.deliveries result.lost result.stopped
+        nodes.new }
     ensures none { nodes.old ≡ [] → result ≡ record { deliveries = 0; lost = 0; stopped = false } }
     ensures halted { KeepHalted nodes.old nodes.new }
     ensures in_turn { StandInTurn nodes.new }
@@ -66,8 +69,9 @@ pub fn deliver_all<T: Tape>(alloc: Global, nodes: &mut [Node<T>], messages: Vec<
 fn deliver_each<T: Tape>(alloc: Global, nodes: &mut [Node<T>], messages: Vec<Message>) -> Pumped
     requires some { 0 < length nodes.old }
     requires in_turn { StandInTurn nodes.old }
-    ensures delivered { IsDelivered T.honest T.images nodes.old messages.items result.deliveries nodes.new }
-    ensures handed { AreHandedOut T.honest T.content T.images nodes.old messages.items result.deliveries result.lost result.stopped nodes.new }
+    ensures delivered { IsDelivered T.Tape nodes.old messages.items result.deliveries nodes.new }
+    ensures handed { AreHandedOut T.Tape nodes.old messages.items result.deliveries result.lost
+        result.stopped nodes.new }
 {
     let mut nothing = ();
     let mut sent = messages;
@@ -100,7 +104,7 @@ impl<T: Tape> Receiver<()> for Node<T> {
 
     ghost takes = { CanTake };
 
-    ghost delivered = { IsGiven T.honest T.content T.images };
+    ghost delivered = { IsGiven T.Tape };
 
     ghost stays = { AreKept };
 
@@ -133,8 +137,9 @@ fn deliver_one<T: Tape>(
     requires node { node < length nodes.old }
     requires number { number < length sent.old.items }
     requires in_turn { StandInTurn nodes.old }
-    ensures one { IsOne T.honest T.images nodes.old sent.old.items nodes.new sent.new.items }
-    ensures handed { IfOk result (λ lost. IsHanded T.honest T.content T.images node number lost nodes.old sent.old.items nodes.new sent.new.items) }
+    ensures one { IsOne T.Tape nodes.old sent.old.items nodes.new sent.new.items }
+    ensures handed { IfOk result (λ lost.
+        IsHanded T.Tape node number lost nodes.old sent.old.items nodes.new sent.new.items) }
     ensures none { OnErr result (nodes.new ≡ nodes.old) }
     ensures grows { length sent.old.items ≤ length sent.new.items }
 {
@@ -156,7 +161,8 @@ struct Said {
 /// Delivers a copy of a message to a node, and returns the messages that it sends. If the copy can't be allocated, the message is
 /// lost and nothing is sent. A halted node gets no copy, so it loses nothing.
 fn hand<T: Tape>(alloc: Global, node: &mut Node<T>, message: &Message) -> Said
-    ensures takes { Takes T.honest T.content T.images result.lost (Deliver (view_message message.now)) node.old node.new result.messages.items }
+    ensures takes { Takes T.Tape result.lost (Deliver (view_message message.now)) node.old node.new
+        result.messages.items }
     ensures few { length result.messages.items ≤ most_told }
 {
     if is_halted(node) {
@@ -170,7 +176,7 @@ fn hand<T: Tape>(alloc: Global, node: &mut Node<T>, message: &Message) -> Said
 
 /// Returns the messages that a node sends on an input: none if it rejects, or if an allocation fails and the input is lost.
 fn hear<T: Tape>(alloc: Global, node: &mut Node<T>, input: Input) -> Said
-    ensures takes { Takes T.honest T.content T.images result.lost (view input) node.old node.new result.messages.items }
+    ensures takes { Takes T.Tape result.lost (view input) node.old node.new result.messages.items }
     ensures few { length result.messages.items ≤ most_told }
 {
     match step(alloc, node, input) {
@@ -242,8 +248,10 @@ fn says_halt(fault: NodeFault) -> bool
 
 /// Performs a step of a node. Returns the messages that it sends, or an error, after which it has sent none.
 fn step<T: Tape>(alloc: Global, node: &mut Node<T>, input: Input) -> Result<Vec<Message>, NodeFault>
-    ensures answers { IfOk result (λ said. Answers T.honest T.content T.images (view input) node.old node.new said.items) }
-    ensures takes { IfErr result (λ fault. Takes T.honest T.content T.images (is_memory fault) (view input) node.old node.new []) }
+    ensures answers { IfOk result (λ said.
+        Answers T.Tape (view input) node.old node.new said.items) }
+    ensures takes { IfErr result (λ fault.
+        Takes T.Tape (is_memory fault) (view input) node.old node.new []) }
     ensures few { IfOk result (λ said. length said.items ≤ most_told) }
 {
     // Theorem of the model: no transition sends more than eight messages.

@@ -2,11 +2,11 @@
 
 ghost use Rattle.std.specs.Prelude.{◌≡◌, ◌≤◌, [], ◌∷◌, length, IfErr, IfOk, OnErr, OnOk};
 ghost use Rattle.wf_model.specs.Table as table;
-ghost use Rattle.wf_model.specs.World.{Deliver};
+ghost use Rattle.wf_model.specs.World.{deliver};
 ghost use Rattle.wf_farm.specs.Agreement.{HistoriesGrow};
 ghost use Rattle.wf_farm.specs.Allocating.{TakesStep};
 ghost use Rattle.wf_farm.specs.Carrying.{ChangesByStep, IsUndelivered};
-ghost use Rattle.wf_farm.specs.Cluster.{AreMembers, IsActed, KeepMembers, StayShown};
+ghost use Rattle.wf_farm.specs.Cluster.{AreMembers, Between, HoldsIn, IsActed, KeepMembers, StayShown};
 ghost use Rattle.wf_farm.specs.Farm.{IsAtOnce, Runs, size};
 ghost use Rattle.wf_farm.specs.declared.carrier.CarrierFault.TheVariants as carriers;
 
@@ -15,6 +15,7 @@ use crate::cluster::Cluster;
 use crate::farm::Farm;
 use crate::fault::{FarmFault, fault_after};
 use crate::receiving::deliver_to;
+use crate::rejection::Rejection;
 use std::alloc::Global;
 use wf_canon::Canon;
 use wf_journal::records_are_read_one_way;
@@ -34,11 +35,13 @@ impl Farm {
         node: usize,
         number: usize,
     ) -> Result<(), FarmFault>
-        ensures done { OnOk result (Runs (Deliver node number ∷ []) self.old self.new) }
+        ensures done { OnOk result (Runs (deliver node number ∷ []) self.old self.new) }
         ensures fault { IfErr result IsUndelivered }
         ensures stays { OnErr result (Runs [] self.old self.new) }
-        ensures taken { OnErr result (TakesStep node (table.Deliver number) self.old.places self.old.sent) }
-        ensures idle { ChangesByStep node (table.Deliver number) self.old.places self.old.sent carrier.old carrier.new }
+        ensures taken { OnErr result
+            (TakesStep node (table.Deliver number) self.old.places self.old.sent) }
+        ensures idle { ChangesByStep node (table.Deliver number) self.old.places self.old.sent
+            carrier.old carrier.new }
         ensures faithful { C.faithful → IfErr result IsAtOnce }
         ensures refused { self.new.refused ≡ self.old.refused }
         ensures grows { HistoriesGrow self.old self.new }
@@ -67,13 +70,15 @@ impl Cluster {
         carrier: &mut C,
         node: usize,
         number: usize,
-    ) -> Result<Option<u8>, CarrierFault>
+    ) -> Result<Option<Rejection>, CarrierFault>
         requires members { AreMembers self.old.places.items }
         ensures grows { length self.old.sent.items ≤ length self.new.sent.items }
-        ensures done { IfOk result (λ refused. IsActed node (table.Deliver number) refused self.old.places.items self.old.sent.items self.new.places.items self.new.sent.items) }
-        ensures err { OnErr result (StayShown self.old.places.items self.old.sent.items self.new.places.items self.new.sent.items) }
-        ensures taken { OnErr result (TakesStep node (table.Deliver number) self.old.places.items self.old.sent.items) }
-        ensures idle { ChangesByStep node (table.Deliver number) self.old.places.items self.old.sent.items carrier.old carrier.new }
+        ensures done { IfOk result (λ why.
+            Between (IsActed node (table.Deliver number) why) self.old self.new) }
+        ensures err { OnErr result (Between StayShown self.old self.new) }
+        ensures taken { OnErr result (HoldsIn (TakesStep node (table.Deliver number)) self.old) }
+        ensures idle { ChangesByStep node (table.Deliver number) self.old.places.items
+            self.old.sent.items carrier.old carrier.new }
         ensures memory { C.faithful → IfErr result (λ fault. fault ≡ carriers.Memory) }
         ensures members { KeepMembers self.old.places.items self.new.places.items }
     {

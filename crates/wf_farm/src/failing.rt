@@ -4,13 +4,13 @@ ghost use Rattle.std.specs.Prelude.{◌≡◌, ◌<◌, ◌≤◌, ◌+◌, ◌�
 ghost use Rattle.wf_farm.specs.declared.carrier.CarrierFault.TheVariants as carriers;
 ghost use Rattle.wf_codec.specs.Message.{view as view_message};
 ghost use Rattle.wf_def.specs.Definition.{Definition};
-ghost use Rattle.wf_def.specs.Equality.{definition_eq};
-ghost use Rattle.wf_model.specs.Table.{Action as ModelAction, Deliver, Propose, Retry};
+ghost use Rattle.wf_model.specs.Table.{Action as ModelAction, Deliver};
 ghost use Rattle.wf_model.specs.World as world;
-ghost use Rattle.wf_model.specs.World.{happens, input_of, refused, refused_at};
+ghost use Rattle.wf_model.specs.World.{refused, refused_at};
 ghost use Rattle.wf_node.specs.Input.{view as view_input};
-ghost use Rattle.wf_farm.specs.Cluster.{AreMembers, KeepMembers, Moves, TellsWhy, Turns};
-ghost use Rattle.wf_farm.specs.Event.{view, view_action};
+ghost use Rattle.wf_farm.specs.Cluster.{AreMembers, Between, HoldsIn, KeepMembers, Leads, Moves, TellsWhy, input_in};
+ghost use Rattle.wf_model.specs.Action.{numbered};
+ghost use Rattle.wf_farm.specs.Event.{view};
 ghost use Rattle.wf_farm.specs.Pump.{most_deliveries};
 ghost use Rattle.wf_farm.specs.Fused.{GivesInput, GoesOn, HappensOrTears, HasFaredTo, HaveFared, IsDoneOrTorn, IsStepOf, IsStepOfNode, IsTold, TellsWhyUnlessTorn, is_heard, with_torn};
 
@@ -18,12 +18,14 @@ use crate::carrier::{Carrier, CarrierFault, carried};
 use crate::cluster::Cluster;
 use crate::event::{Action, Event, Kept};
 use crate::fate::Fate;
-use crate::fault::refusal_number;
+use crate::fault::rejection_in;
 use crate::fuse::Fuse;
 use crate::progress::Progress;
+use crate::rejection::Rejection;
 use crate::round::MOST_DELIVERIES;
 use std::alloc::{AllocError, Global};
 use wf_ballot::NodeId;
+use wf_canon::Canon;
 use wf_codec::Message;
 use wf_node::Input;
 
@@ -41,7 +43,8 @@ impl Cluster {
     ) -> Result<Option<(usize, Kept)>, usize>
         requires members { AreMembers self.old.places.items }
         requires size { length self.old.places.items ≤ 64 }
-        ensures done { IfOk result (λ torn. Moves (with_torn (map view events.now) torn) self.old.places.items self.old.sent.items self.new.places.items self.new.sent.items) }
+        ensures done { IfOk result (λ torn.
+            Between (Moves (with_torn (map view events.now) torn)) self.old self.new) }
         ensures which { IfOk result (IsStepOfNode node (map view events.now)) }
         ensures most { IfErr result (λ done. done < length events.now) }
         ensures members { OnOk result (KeepMembers self.old.places.items self.new.places.items) }
@@ -69,7 +72,8 @@ impl Cluster {
         requires within { done < length events.now }
         requires members { AreMembers self.old.places.items }
         requires size { length self.old.places.items ≤ 64 }
-        ensures rest { OnOk result (Moves (drop (done + 1) (map view events.now)) self.old.places.items self.old.sent.items self.new.places.items self.new.sent.items) }
+        ensures rest { OnOk result
+            (Between (Moves (drop (done + 1) (map view events.now))) self.old self.new) }
         ensures torn { IfOk result (λ torn. torn ≡ Some (done, kept)) }
         ensures most { IfErr result (λ done. done < length events.now) }
         ensures members { KeepMembers self.old.places.items self.new.places.items }
@@ -83,19 +87,21 @@ impl Cluster {
     }
 
     /// Applies the event, with the fuse on the tape of this node if it is about that node. Returns what the crash left if the tape
-    /// failed within the event's step, with the number 0; and otherwise the number of the event's rejection, if its node rejects. Err if
-    /// an allocation fails.
+    /// failed within the event's step, with the number 0; and otherwise the event's rejection, if its node rejects. Err if an
+    /// allocation fails.
     pub(crate) fn tell_fused(
         &mut self,
         alloc: Global,
         event: &Event,
         node: usize,
         fuse: &mut Fuse,
-    ) -> Result<(Option<(usize, Kept)>, Option<u8>), AllocError>
+    ) -> Result<(Option<(usize, Kept)>, Option<Rejection>), AllocError>
         requires members { AreMembers self.old.places.items }
         requires size { length self.old.places.items ≤ 64 }
-        ensures done { IfOk result (λ x. HaveFared node (view event.now ∷ []) x.0 self.old.places.items self.old.sent.items self.new.places.items self.new.sent.items) }
-        ensures why { IfOk result (λ x. TellsWhyUnlessTorn (view event.now) x.0 x.1 self.old.places.items self.old.sent.items) }
+        ensures done { IfOk result (λ x.
+            Between (HaveFared node (view event.now ∷ []) x.0) self.old self.new) }
+        ensures why { IfOk result (λ x.
+            HoldsIn (TellsWhyUnlessTorn (view event.now) x.0 x.1) self.old) }
         ensures members { OnOk result (KeepMembers self.old.places.items self.new.places.items) }
         ensures grows { OnOk result (length self.old.sent.items ≤ length self.new.sent.items) }
     {
@@ -107,57 +113,33 @@ impl Cluster {
         }
     }
 
-    /// The number of the event's rejection, if its node would reject it now. Allocates nothing.
-    #[tactic(auto, using(crate::proofs::Faring::proposal_told, crate::proofs::Faring::retry_told, crate::proofs::Faring::question_told, crate::proofs::Faring::delivery_told, crate::proofs::Faring::stop_told, crate::proofs::Faring::restart_told))]
-    fn rejection(&self, event: &Event) -> Option<u8>
+    /// The event's rejection, if its node would reject it now. Allocates nothing.
+    #[tactic(auto, using(crate::proofs::Faring::stop_told, crate::proofs::Faring::restart_told))]
+    fn rejection(&self, event: &Event) -> Option<Rejection>
         requires members { AreMembers self.now.places.items }
-        ensures { TellsWhy (λ w. refused w (view event.now)) result self.now.places.items self.now.sent.items }
+        ensures { HoldsIn (TellsWhy (λ w. refused w (view event.now)) result) self.now }
     {
         match event {
-            Event::Propose(node, _) => self.proposal_rejection(*node),
-            Event::Retry(node) => self.retry_rejection(*node),
-            Event::CatchUp(_) | Event::Deliver(_, _) | Event::Stop(_) | Event::Restart(_) => None,
+            Event::Act(node, action) => self.step_rejection(*node, action),
+            Event::Stop(_) | Event::Restart(_) => None,
             Event::Torn(node, action, _) => self.step_rejection(*node, action),
         }
     }
 
     /// The same for a step.
-    #[tactic(auto, using(crate::proofs::Faring::question_quiet, crate::proofs::Faring::delivery_quiet))]
-    fn step_rejection(&self, node: usize, action: &Action) -> Option<u8>
+    fn step_rejection(&self, node: usize, action: &Action<Canon, usize>) -> Option<Rejection>
         requires members { AreMembers self.now.places.items }
-        ensures { TellsWhy (λ w. refused_at w node (view_action action.now)) result self.now.places.items self.now.sent.items }
-    {
-        match action {
-            Action::Propose(_) => self.proposal_rejection(node),
-            Action::Retry => self.retry_rejection(node),
-            Action::CatchUp | Action::Deliver(_) => None,
-        }
-    }
-
-    /// The number with which the node would reject a proposal now, if it exists and runs.
-    fn proposal_rejection(&self, node: usize) -> Option<u8>
-        requires members { AreMembers self.now.places.items }
-        ensures { (d : Definition) → TellsWhy (λ w. refused_at w node (Propose d)) result self.now.places.items self.now.sent.items }
+        ensures { HoldsIn
+            (TellsWhy (λ w. refused_at w node (numbered action.now)) result) self.now }
     {
         if !self.runs(node) {
             return None;
         }
-        match self.places[node].proposal_refusal() {
-            Some(fault) => refusal_number(fault),
-            None => None,
-        }
-    }
-
-    /// The number with which the node would reject a retry now, if it exists and runs.
-    fn retry_rejection(&self, node: usize) -> Option<u8>
-        requires members { AreMembers self.now.places.items }
-        ensures { TellsWhy (λ w. refused_at w node Retry) result self.now.places.items self.now.sent.items }
-    {
-        if !self.runs(node) {
+        if !self.is_sent(action) {
             return None;
         }
-        match self.places[node].retry_refusal() {
-            Some(fault) => refusal_number(fault),
+        match self.places[node].refusal(action) {
+            Some(fault) => rejection_in(fault),
             None => None,
         }
     }
@@ -176,7 +158,8 @@ impl Cluster {
     ) -> Result<Option<(usize, Kept)>, CarrierFault>
         requires members { AreMembers self.old.places.items }
         requires size { length self.old.places.items ≤ 64 }
-        ensures done { IfOk result (λ torn. HaveFared node (map (world.Deliver to) messages.now) torn self.old.places.items self.old.sent.items self.new.places.items self.new.sent.items) }
+        ensures done { IfOk result (λ torn.
+            Between (HaveFared node (map (world.deliver to) messages.now) torn) self.old self.new) }
         ensures memory { C.faithful → IfErr result (λ fault. fault ≡ carriers.Memory) }
         ensures members { OnOk result (KeepMembers self.old.places.items self.new.places.items) }
         ensures grows { OnOk result (length self.old.sent.items ≤ length self.new.sent.items) }
@@ -208,8 +191,10 @@ impl Cluster {
         requires size { length self.old.places.items ≤ 64 }
         requires some { 0 < length targets.now }
         requires within { first ≤ length self.old.sent.items }
-        ensures come { IfOk result (λ x. HasFaredTo node targets.now first x.0 x.1 self.old.places.items self.old.sent.items self.new.places.items self.new.sent.items) }
-        ensures end { IfOk result (λ x. first + x.0.whole < length self.new.sent.items → x.0.done ≡ most_deliveries) }
+        ensures come { IfOk result (λ x.
+            Between (HasFaredTo node targets.now first x.0 x.1) self.old self.new) }
+        ensures end { IfOk result (λ x.
+            first + x.0.whole < length self.new.sent.items → x.0.done ≡ most_deliveries) }
         ensures memory { C.faithful → IfErr result (λ fault. fault ≡ carriers.Memory) }
         ensures members { OnOk result (KeepMembers self.old.places.items self.new.places.items) }
     {
@@ -245,7 +230,8 @@ impl Cluster {
     ) -> Result<Option<(usize, Kept)>, CarrierFault>
         requires members { AreMembers self.old.places.items }
         requires size { length self.old.places.items ≤ 64 }
-        ensures on { IfOk result (λ now. GoesOn node done (world.Deliver to number) torn now self.old.places.items self.old.sent.items self.new.places.items self.new.sent.items) }
+        ensures on { IfOk result (λ now.
+            Between (GoesOn node done (world.deliver to number) torn now) self.old self.new) }
         ensures memory { C.faithful → IfErr result (λ fault. fault ≡ carriers.Memory) }
         ensures members { OnOk result (KeepMembers self.old.places.items self.new.places.items) }
         ensures grows { OnOk result (length self.old.sent.items ≤ length self.new.sent.items) }
@@ -276,7 +262,8 @@ impl Cluster {
     ) -> Result<Option<Kept>, CarrierFault>
         requires members { AreMembers self.old.places.items }
         requires size { length self.old.places.items ≤ 64 }
-        ensures done { IfOk result (λ torn. HappensOrTears node (world.Deliver to number) torn self.old.places.items self.old.sent.items self.new.places.items self.new.sent.items) }
+        ensures done { IfOk result (λ torn.
+            Between (HappensOrTears node (world.deliver to number) torn) self.old self.new) }
         ensures memory { C.faithful → IfErr result (λ fault. fault ≡ carriers.Memory) }
         ensures members { OnOk result (KeepMembers self.old.places.items self.new.places.items) }
         ensures grows { OnOk result (length self.old.sent.items ≤ length self.new.sent.items) }
@@ -301,8 +288,10 @@ impl Cluster {
         requires node { node < length self.old.places.items }
         requires members { AreMembers self.old.places.items }
         requires size { length self.old.places.items ≤ 64 }
-        ensures done { (number : ℕ) → input_of (map view_message self.old.sent.items) (Deliver number) ≡ Some (Deliver (view_message message)) →
-            IfOk result (λ torn. HappensOrTears node (world.Deliver node number) torn self.old.places.items self.old.sent.items self.new.places.items self.new.sent.items) }
+        ensures done { (number : ℕ) →
+            input_in self.old.sent.items (Deliver number) ≡ Some (Deliver (view_message message)) →
+            IfOk result (λ torn.
+            Between (HappensOrTears node (world.deliver node number) torn) self.old self.new) }
         ensures memory { IfErr result (λ fault. fault ≡ carriers.Memory) }
         ensures members { OnOk result (KeepMembers self.old.places.items self.new.places.items) }
         ensures grows { OnOk result (length self.old.sent.items ≤ length self.new.sent.items) }
@@ -323,7 +312,7 @@ impl Cluster {
     ) -> Result<Option<Kept>, CarrierFault>
         requires members { AreMembers self.old.places.items }
         ensures none { IfOk result (λ torn. torn ≡ None) }
-        ensures done { OnOk result (Turns (λ w. happens definition_eq w (world.Deliver to number)) self.old.places.items self.old.sent.items self.new.places.items self.new.sent.items) }
+        ensures done { OnOk result (Between (Leads (world.deliver to number)) self.old self.new) }
         ensures memory { C.faithful → IfErr result (λ fault. fault ≡ carriers.Memory) }
         ensures members { KeepMembers self.old.places.items self.new.places.items }
         ensures grows { length self.old.sent.items ≤ length self.new.sent.items }
@@ -346,7 +335,8 @@ impl Cluster {
     ) -> Result<Option<Kept>, AllocError>
         requires members { AreMembers self.old.places.items }
         requires size { length self.old.places.items ≤ 64 }
-        ensures done { IfOk result (λ torn. HappensOrTears node (view event.now) torn self.old.places.items self.old.sent.items self.new.places.items self.new.sent.items) }
+        ensures done { IfOk result (λ torn.
+            Between (HappensOrTears node (view event.now) torn) self.old self.new) }
         ensures members { OnOk result (KeepMembers self.old.places.items self.new.places.items) }
         ensures grows { OnOk result (length self.old.sent.items ≤ length self.new.sent.items) }
     {
@@ -368,7 +358,8 @@ impl Cluster {
     ) -> Result<Option<Kept>, AllocError>
         requires members { AreMembers self.old.places.items }
         requires size { length self.old.places.items ≤ 64 }
-        ensures done { IfOk result (λ torn. HappensOrTears node (view event.now) torn self.old.places.items self.old.sent.items self.new.places.items self.new.sent.items) }
+        ensures done { IfOk result (λ torn.
+            Between (HappensOrTears node (view event.now) torn) self.old self.new) }
         ensures members { OnOk result (KeepMembers self.old.places.items self.new.places.items) }
         ensures grows { OnOk result (length self.old.sent.items ≤ length self.new.sent.items) }
     {
@@ -390,7 +381,7 @@ impl Cluster {
         requires members { AreMembers self.old.places.items }
         requires size { length self.old.places.items ≤ 64 }
         ensures none { IfOk result (λ torn. torn ≡ None) }
-        ensures done { OnOk result (Turns (λ w. happens definition_eq w (view event.now)) self.old.places.items self.old.sent.items self.new.places.items self.new.sent.items) }
+        ensures done { OnOk result (Between (Leads (view event.now)) self.old self.new) }
         ensures members { KeepMembers self.old.places.items self.new.places.items }
         ensures grows { length self.old.sent.items ≤ length self.new.sent.items }
     {
@@ -409,26 +400,21 @@ impl Cluster {
             return false;
         }
         match event {
-            Event::Propose(_, _) => self.places[node].proposal_refusal().is_none(),
+            Event::Act(_, action) => self.places[node].refusal(action).is_none(),
             Event::Torn(_, action, _) => self.places[node].refusal(action).is_none(),
-            Event::Retry(_) => self.places[node].retry_refusal().is_none(),
-            _ => true,
+            Event::Stop(_) | Event::Restart(_) => true,
         }
     }
 
     /// The input of the event's step; None if its message wasn't sent, or if it isn't a step that is done before the node stops.
-    #[tactic(auto, using(crate::proofs::TriedEvents::proposal_gives, crate::proofs::TriedEvents::retry_gives, crate::proofs::TriedEvents::question_gives, crate::proofs::TriedEvents::delivery_gives, crate::proofs::TriedEvents::torn_gives))]
+    #[tactic(auto, using(crate::proofs::TriedEvents::step_gives, crate::proofs::TriedEvents::torn_gives))]
     fn event_input(&self, event: &Event) -> Result<Option<Input>, AllocError>
-        ensures { IfOk result (λ input. GivesInput (map view_message self.now.sent.items) (view event.now) (option_map view_input input)) }
+        ensures { IfOk result (λ input.
+            GivesInput (map view_message self.now.sent.items) (view event.now)
+            (option_map view_input input)) }
     {
         match event {
-            Event::Propose(_, canon) => match canon.copy() {
-                Ok(own) => Ok(Some(Input::Propose(own))),
-                Err(fault) => Err(fault),
-            },
-            Event::Retry(_) => Ok(Some(Input::Retry)),
-            Event::CatchUp(_) => Ok(Some(Input::CatchUp)),
-            Event::Deliver(_, number) => self.message(*number),
+            Event::Act(_, action) => self.input_of(action),
             Event::Torn(_, action, Kept::After) => self.input_of(action),
             Event::Torn(_, _, Kept::Before) | Event::Stop(_) | Event::Restart(_) => Ok(None),
         }
@@ -447,8 +433,9 @@ impl Cluster {
         requires node { node < length self.old.places.items }
         requires members { AreMembers self.old.places.items }
         requires size { length self.old.places.items ≤ 64 }
-        ensures done { (action : ModelAction Definition ℕ) → input_of (map view_message self.old.sent.items) action ≡ Some (view_input input) →
-            IfOk result (λ torn. IsDoneOrTorn torn heard node action self.old.places.items self.old.sent.items self.new.places.items self.new.sent.items) }
+        ensures done { (action : ModelAction Definition ℕ) →
+            input_in self.old.sent.items action ≡ Some (view_input input) →
+            IfOk result (λ torn. Between (IsDoneOrTorn torn heard node action) self.old self.new) }
         ensures members { OnOk result (KeepMembers self.old.places.items self.new.places.items) }
         ensures grows { OnOk result (length self.old.sent.items ≤ length self.new.sent.items) }
     {
@@ -473,7 +460,7 @@ impl Cluster {
         heard: bool,
     ) -> Result<Option<Kept>, AllocError>
         requires { node < length self.old.places.items }
-        ensures told { OnOk result (IsTold heard node said.items self.old.places.items self.old.sent.items self.new.places.items self.new.sent.items) }
+        ensures told { OnOk result (Between (IsTold heard node said.items) self.old self.new) }
         ensures none { IfOk result (λ torn. torn ≡ None) }
     {
         if !heard {
@@ -499,7 +486,7 @@ impl Cluster {
         requires members { AreMembers self.old.places.items }
         requires size { length self.old.places.items ≤ 64 }
         ensures none { IfOk result (λ torn. torn ≡ None) }
-        ensures done { OnOk result (Turns (λ w. happens definition_eq w (world.Restart number)) self.old.places.items self.old.sent.items self.new.places.items self.new.sent.items) }
+        ensures done { OnOk result (Between (Leads (world.Restart number)) self.old self.new) }
         ensures members { OnOk result (KeepMembers self.old.places.items self.new.places.items) }
         ensures grows { OnOk result (length self.old.sent.items ≤ length self.new.sent.items) }
     {
@@ -523,7 +510,7 @@ impl Cluster {
         requires members { AreMembers self.old.places.items }
         requires size { length self.old.places.items ≤ 64 }
         ensures none { IfOk result (λ torn. torn ≡ None) }
-        ensures done { OnOk result (Turns (λ w. happens definition_eq w (world.Restart number)) self.old.places.items self.old.sent.items self.new.places.items self.new.sent.items) }
+        ensures done { OnOk result (Between (Leads (world.Restart number)) self.old self.new) }
         ensures members { KeepMembers self.old.places.items self.new.places.items }
         ensures grows { length self.old.sent.items ≤ length self.new.sent.items }
     {
@@ -539,10 +526,7 @@ fn is_step_of(event: &Event, node: usize) -> bool
     ensures { result ≡ true → IsStepOf node (view event.now) }
 {
     match event {
-        Event::Propose(number, _) => *number == node,
-        Event::Retry(number) => *number == node,
-        Event::CatchUp(number) => *number == node,
-        Event::Deliver(number, _) => *number == node,
+        Event::Act(number, _) => *number == node,
         Event::Torn(number, _, _) => *number == node,
         Event::Stop(_) | Event::Restart(_) => false,
     }
@@ -554,11 +538,6 @@ fn is_heard(event: &Event) -> bool
 {
     match event {
         Event::Torn(_, _, _) => false,
-        Event::Propose(_, _)
-        | Event::Retry(_)
-        | Event::CatchUp(_)
-        | Event::Deliver(_, _)
-        | Event::Stop(_)
-        | Event::Restart(_) => true,
+        Event::Act(_, _) | Event::Stop(_) | Event::Restart(_) => true,
     }
 }

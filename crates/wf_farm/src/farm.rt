@@ -3,6 +3,7 @@
 use crate::cluster::Cluster;
 use crate::event::Event;
 use crate::fault::FarmFault;
+use crate::rejection::Rejection;
 use std::alloc::Global;
 use std::marker::Model;
 use wf_canon::Canon;
@@ -19,8 +20,8 @@ pub struct Farm {
     pub(crate) cluster: Cluster,
     // The number of the first message that doesn't count as pumped.
     pub(crate) pumped: usize,
-    // The number of the last event's rejection.
-    pub(crate) refused: Option<u8>,
+    // The last event's rejection.
+    pub(crate) refused: Option<Rejection>,
 }
 
 impl Model for Farm {
@@ -79,9 +80,13 @@ impl Farm {
     #[tactic(auto, using(crate::proofs::Worlds::farm_moved))]
     pub fn run(&mut self, alloc: Global, events: &[Event]) -> Result<(), FarmFault>
         ensures done { OnOk result (Runs (map view events.now) self.old self.new) }
-        ensures refused { OnOk result (TellsWhy (λ w. last_refused w (map view events.now)) self.new.refused self.old.places self.old.sent) }
-        ensures part { IfErr result (λ fault. RunsPart fault (map view events.now) self.old self.new) }
-        ensures may { IfErr result (λ fault. AllocatesAt fault (map view events.now) self.old.places self.old.sent) }
+        ensures refused { OnOk result
+            (TellsWhy (λ w. last_refused w (map view events.now)) self.new.refused
+            self.old.places self.old.sent) }
+        ensures part { IfErr result (λ fault.
+            RunsPart fault (map view events.now) self.old self.new) }
+        ensures may { IfErr result (λ fault.
+            AllocatesAt fault (map view events.now) self.old.places self.old.sent) }
         ensures none { OnErr result (self.new.refused ≡ None) }
         ensures grows { HistoriesGrow self.old self.new }
         ensures size { size self.new ≡ size self.old }
@@ -93,8 +98,8 @@ impl Farm {
         crate::law::agreement();
         records_are_read_one_way();
         match self.cluster.run(alloc, events) {
-            Ok(number) => {
-                self.refused = number;
+            Ok(why) => {
+                self.refused = why;
                 Ok(())
             }
             Err(done) => {
@@ -104,8 +109,8 @@ impl Farm {
         }
     }
 
-    /// The number of the error with which the last event of the last run was rejected: 2, 3, 4 or 7; None if it wasn't.
-    pub fn refused(&self) -> Option<u8>
+    /// Why the last event of the last run was rejected; None if it wasn't.
+    pub fn refused(&self) -> Option<Rejection>
         ensures { result ≡ self.now.refused }
     {
         self.refused

@@ -2,9 +2,10 @@
 
 ghost use Rattle.std.specs.Prelude.{◌≡◌};
 ghost use Rattle.wf_farm.specs.Carrying.{fault_after};
-ghost use Rattle.wf_farm.specs.Place.{number_in};
+ghost use Rattle.wf_farm.specs.Place.{rejection_in};
 
 use crate::carrier::CarrierFault;
+use crate::rejection::Rejection;
 use thiserror::Error;
 use wf_node::NodeFault;
 
@@ -32,15 +33,15 @@ pub(crate) fn fault_after(fault: CarrierFault, done: usize) -> FarmFault
     }
 }
 
-/// The number of a rejection, 2, 3, 4 or 7; None for an error that isn't a rejection of the step table.
-pub(crate) fn refusal_number(fault: NodeFault) -> Option<u8>
-    ensures { result ≡ number_in fault }
+/// The rejection that a node's error is; None for an error that isn't a rejection of the step table.
+pub(crate) fn rejection_in(fault: NodeFault) -> Option<Rejection>
+    ensures { result ≡ rejection_in fault }
 {
     match fault {
-        NodeFault::Busy => Some(2),
-        NodeFault::SequenceFull => Some(3),
-        NodeFault::RoundsFull => Some(4),
-        NodeFault::Nothing => Some(7),
+        NodeFault::Busy => Some(Rejection::Busy),
+        NodeFault::SequenceFull => Some(Rejection::SequenceFull),
+        NodeFault::RoundsFull => Some(Rejection::RoundsFull),
+        NodeFault::Nothing => Some(Rejection::NothingToRetry),
         NodeFault::Memory => None,
         NodeFault::Halted => None,
         NodeFault::TapeFailed => None,

@@ -2,7 +2,7 @@
 
 ghost use Rattle.std.specs.Prelude.{◌≡◌, ◌<◌, ◌≤◌, [], ◌∷◌, None, length, map, IfOk, IfErr, OnOk};
 ghost use Rattle.wf_def.specs.Equality.{definition_eq};
-ghost use Rattle.wf_model.specs.World.{Deliver, start, steps};
+ghost use Rattle.wf_model.specs.World.{deliver, start, steps};
 ghost use Rattle.wf_farm.specs.Agreement.{HistoriesGrow};
 ghost use Rattle.wf_farm.specs.Event.{view};
 ghost use Rattle.wf_farm.specs.Farm.{IsAtOnce, Shows, Runs, size};
@@ -52,8 +52,10 @@ pub fn happen_fused(
     node: usize,
     fuse: &mut Fuse,
 ) -> Result<Fused, FarmFault>
-    ensures done { IfOk result (λ fused. RunsOrTears node (view event.now ∷ []) fused.torn farm fused.farm) }
-    ensures refused { IfOk result (λ fused. TellsUnlessTorn (view event.now) fused.torn farm fused.farm) }
+    ensures done { IfOk result (λ fused.
+        RunsOrTears node (view event.now ∷ []) fused.torn farm fused.farm) }
+    ensures refused { IfOk result (λ fused.
+        TellsUnlessTorn (view event.now) fused.torn farm fused.farm) }
     ensures fuse { IfOk result (λ fused. NoneFails fused.farm.places) }
     ensures grows { IfOk result (λ fused. HistoriesGrow farm fused.farm) }
     ensures size { IfOk result (λ fused. size fused.farm ≡ size farm) }
@@ -100,7 +102,8 @@ pub fn deliver_fused<C: Carrier>(
     node: usize,
     fuse: &mut Fuse,
 ) -> Result<Fused, CarrierFault>
-    ensures done { IfOk result (λ fused. RunsOrTears node (map (Deliver to) messages.now) fused.torn farm fused.farm) }
+    ensures done { IfOk result (λ fused.
+        RunsOrTears node (map (deliver to) messages.now) fused.torn farm fused.farm) }
     ensures fuse { IfOk result (λ fused. NoneFails fused.farm.places) }
     ensures grows { IfOk result (λ fused. HistoriesGrow farm fused.farm) }
     ensures size { IfOk result (λ fused. size fused.farm ≡ size farm) }
@@ -145,7 +148,8 @@ pub fn pump_fused<C: Carrier>(
     node: usize,
     fuse: &mut Fuse,
 ) -> Result<FusedPump, CarrierFault>
-    ensures done { IfOk result (λ pump. PumpsOrTears node nodes.now pump.fused.torn pump.stopped farm pump.fused.farm) }
+    ensures done { IfOk result (λ pump.
+        PumpsOrTears node nodes.now pump.fused.torn pump.stopped farm pump.fused.farm) }
     ensures fuse { IfOk result (λ pump. NoneFails pump.fused.farm.places) }
     ensures grows { IfOk result (λ pump. HistoriesGrow farm pump.fused.farm) }
     ensures size { IfOk result (λ pump. size pump.fused.farm ≡ size farm) }
@@ -208,7 +212,8 @@ pub fn run_fused(
     requires some { 1 ≤ n }
     requires most { n ≤ 64 }
     requires node { node < n }
-    ensures done { IfOk result (λ fused. Shows fused.farm (steps definition_eq (start n) (with_torn (map view events.now) fused.torn))) }
+    ensures done { IfOk result (λ fused. Shows fused.farm
+        (steps definition_eq (start n) (with_torn (map view events.now) fused.torn))) }
     ensures torn { IfOk result (λ fused. IsStepOfNode node (map view events.now) fused.torn) }
     ensures fuse { IfOk result (λ fused. NoneFails fused.farm.places) }
     ensures size { IfOk result (λ fused. size fused.farm ≡ n) }
@@ -229,7 +234,8 @@ fn go(
     node: usize,
     fuse: Fuse,
 ) -> Result<Fused, FarmFault>
-    ensures done { IfOk result (λ fused. Runs (with_torn (map view events.now) fused.torn) farm fused.farm) }
+    ensures done { IfOk result (λ fused.
+        Runs (with_torn (map view events.now) fused.torn) farm fused.farm) }
     ensures torn { IfOk result (λ fused. IsStepOfNode node (map view events.now) fused.torn) }
     ensures fuse { IfOk result (λ fused. NoneFails fused.farm.places) }
     ensures size { IfOk result (λ fused. size fused.farm ≡ size farm) }

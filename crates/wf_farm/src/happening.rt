@@ -1,22 +1,22 @@
 //! One event of a farm.
 
-ghost use Rattle.std.specs.Prelude.{◌≡◌, ◌<◌, ◌≤◌, ◌+◌, ◌++◌, ℕ, true, is_some, length, map, option_map, slice_get, None, Some, IfOk, OnErr, vec_len, vec_capacity};
-ghost use Rattle.wf_codec.specs.Message.{view as view_message};
+ghost use Rattle.std.specs.Prelude.{◌≡◌, ◌<◌, ◌≤◌, ◌+◌, ◌++◌, ℕ, true, is_some, length, option_map, slice_get, None, Some, IfOk, OnErr, vec_len, vec_capacity};
 ghost use Rattle.wf_def.specs.Definition.{Definition};
-ghost use Rattle.wf_model.specs.Table.{Action as ModelAction, Deliver, Propose, Retry};
+ghost use Rattle.wf_model.specs.Action.{numbered};
+ghost use Rattle.wf_model.specs.Kept.{view as view_kept};
+ghost use Rattle.wf_model.specs.Table.{Action as ModelAction, Deliver};
 ghost use Rattle.wf_model.specs.World as world;
-ghost use Rattle.wf_model.specs.World.{input_of};
 ghost use Rattle.wf_node.specs.Input.{view as view_input};
 ghost use Rattle.wf_farm.specs.Allocating.{MayAllocate, TakesStep};
-ghost use Rattle.wf_farm.specs.Cluster.{AreMembers, Happens, IsActed, IsTorn, KeepMembers, StayShown};
-ghost use Rattle.wf_farm.specs.Event.{view, view_action, view_kept};
+ghost use Rattle.wf_farm.specs.Cluster.{AreMembers, Between, Happens, HoldsIn, IsActed, IsTorn, KeepMembers, StayShown, input_in};
+ghost use Rattle.wf_farm.specs.Event.{view};
 ghost use Rattle.wf_farm.specs.Farm.{running_in};
 
-use crate::carrier::Copies;
 use crate::cluster::Cluster;
 use crate::event::{Action, Event, Kept};
-use crate::fault::refusal_number;
+use crate::fault::rejection_in;
 use crate::receiving::{answer, runs, step};
+use crate::rejection::Rejection;
 use std::alloc::{AllocError, Global};
 use wf_ballot::NodeId;
 use wf_canon::Canon;
@@ -27,23 +27,25 @@ use wf_node::Input;
 pub(crate) const MOST_SAID: usize = 8;
 
 impl Cluster {
-    /// Applies the event, and returns the number of its rejection, if its node rejects. If an allocation fails, the world is
-    /// unchanged, and the event would have an effect.
+    /// Applies the event, and returns its rejection, if its node rejects. If an allocation fails, the world is unchanged, and the
+    /// event would have an effect.
     #[tactic(auto, using(crate::proofs::Events::same_members))]
-    pub(crate) fn happen(&mut self, alloc: Global, event: &Event) -> Result<Option<u8>, AllocError>
+    pub(crate) fn happen(
+        &mut self,
+        alloc: Global,
+        event: &Event,
+    ) -> Result<Option<Rejection>, AllocError>
         requires members { AreMembers self.old.places.items }
         requires size { length self.old.places.items ≤ 64 }
-        ensures done { IfOk result (λ number. Happens (view event.now) number self.old.places.items self.old.sent.items self.new.places.items self.new.sent.items) }
-        ensures err { OnErr result (StayShown self.old.places.items self.old.sent.items self.new.places.items self.new.sent.items) }
-        ensures may { OnErr result (MayAllocate (view event.now) self.old.places.items self.old.sent.items) }
+        ensures done { IfOk result (λ why.
+            Between (Happens (view event.now) why) self.old self.new) }
+        ensures err { OnErr result (Between StayShown self.old self.new) }
+        ensures may { OnErr result (HoldsIn (MayAllocate (view event.now)) self.old) }
         ensures members { KeepMembers self.old.places.items self.new.places.items }
         ensures grows { length self.old.sent.items ≤ length self.new.sent.items }
     {
         match event {
-            Event::Propose(node, canon) => self.propose(alloc, *node, canon),
-            Event::Retry(node) => self.retry(alloc, *node),
-            Event::CatchUp(node) => self.step(alloc, *node, Input::CatchUp),
-            Event::Deliver(node, number) => self.deliver(alloc, *node, *number),
+            Event::Act(node, action) => self.act(alloc, *node, action),
             Event::Stop(node) => {
                 self.stop(alloc, *node);
                 Ok(None)
@@ -53,84 +55,72 @@ impl Cluster {
         }
     }
 
-    /// Starts a proposal at a node, if it exists and runs. A rejection takes precedence over allocation failure.
+    /// Performs a step of a node, if it exists and runs, and sends its messages. A step without effect takes precedence over
+    /// allocation failure.
     #[tactic(auto, using(crate::proofs::Events::same_members))]
-    fn propose(
+    fn act(
         &mut self,
         alloc: Global,
         node: usize,
-        canon: &Canon,
-    ) -> Result<Option<u8>, AllocError>
+        action: &Action<Canon, usize>,
+    ) -> Result<Option<Rejection>, AllocError>
         requires members { AreMembers self.old.places.items }
-        ensures grows { length self.old.sent.items ≤ length self.new.sent.items }
-        ensures done { IfOk result (λ refused. IsActed node (Propose canon.now) refused self.old.places.items self.old.sent.items self.new.places.items self.new.sent.items) }
-        ensures err { OnErr result (StayShown self.old.places.items self.old.sent.items self.new.places.items self.new.sent.items) }
-        ensures taken { OnErr result (TakesStep node (Propose canon.now) self.old.places.items self.old.sent.items) }
+        ensures done { IfOk result (λ why.
+            Between (IsActed node (numbered action.now) why) self.old self.new) }
+        ensures err { OnErr result (Between StayShown self.old self.new) }
+        ensures taken { OnErr result (HoldsIn (TakesStep node (numbered action.now)) self.old) }
         ensures members { KeepMembers self.old.places.items self.new.places.items }
+        ensures grows { length self.old.sent.items ≤ length self.new.sent.items }
     {
         if !self.runs(node) {
             return Ok(None);
         }
-        match self.places[node].proposal_refusal() {
-            Some(fault) => Ok(refusal_number(fault)),
-            None => match canon.copy() {
-                Ok(own) => self.step(alloc, node, Input::Propose(own)),
-                Err(fault) => Err(fault),
-            },
-        }
-    }
-
-    /// Restarts a node's running proposal, if the node exists and runs. A rejection takes precedence over allocation failure.
-    #[tactic(auto, using(crate::proofs::Events::same_members))]
-    fn retry(&mut self, alloc: Global, node: usize) -> Result<Option<u8>, AllocError>
-        requires members { AreMembers self.old.places.items }
-        ensures grows { length self.old.sent.items ≤ length self.new.sent.items }
-        ensures done { IfOk result (λ refused. IsActed node Retry refused self.old.places.items self.old.sent.items self.new.places.items self.new.sent.items) }
-        ensures err { OnErr result (StayShown self.old.places.items self.old.sent.items self.new.places.items self.new.sent.items) }
-        ensures taken { OnErr result (TakesStep node Retry self.old.places.items self.old.sent.items) }
-        ensures members { KeepMembers self.old.places.items self.new.places.items }
-    {
-        if !self.runs(node) {
+        if !self.is_sent(action) {
             return Ok(None);
         }
-        match self.places[node].retry_refusal() {
-            Some(fault) => Ok(refusal_number(fault)),
-            None => self.step(alloc, node, Input::Retry),
+        match self.places[node].refusal(action) {
+            Some(fault) => Ok(rejection_in(fault)),
+            None => self.act_done(alloc, node, action),
         }
     }
 
-    /// Delivers a message to a node, if both exist and the node runs.
+    /// The same for a step that isn't rejected.
     #[tactic(auto, using(crate::proofs::Events::same_members))]
-    pub(crate) fn deliver(
+    fn act_done(
         &mut self,
         alloc: Global,
         node: usize,
-        number: usize,
-    ) -> Result<Option<u8>, AllocError>
+        action: &Action<Canon, usize>,
+    ) -> Result<Option<Rejection>, AllocError>
         requires members { AreMembers self.old.places.items }
-        ensures grows { length self.old.sent.items ≤ length self.new.sent.items }
-        ensures done { IfOk result (λ refused. IsActed node (Deliver number) refused self.old.places.items self.old.sent.items self.new.places.items self.new.sent.items) }
-        ensures err { OnErr result (StayShown self.old.places.items self.old.sent.items self.new.places.items self.new.sent.items) }
-        ensures taken { OnErr result (TakesStep node (Deliver number) self.old.places.items self.old.sent.items) }
+        ensures done { IfOk result (λ why.
+            Between (IsActed node (numbered action.now) why) self.old self.new) }
+        ensures err { OnErr result (Between StayShown self.old self.new) }
         ensures members { KeepMembers self.old.places.items self.new.places.items }
+        ensures grows { length self.old.sent.items ≤ length self.new.sent.items }
     {
-        let mut copies = Copies;
-        match self.deliver_by(alloc, &mut copies, node, number) {
-            Ok(refused) => Ok(refused),
-            Err(_) => Err(AllocError),
+        match self.input_of(action) {
+            Ok(Some(input)) => self.step(alloc, node, input),
+            Ok(None) => Ok(None),
+            Err(fault) => Err(fault),
         }
     }
 
-    /// Performs a step of a node, if it exists and runs, and sends its messages.
+    /// Performs the step of a node with this input, if the node exists and runs, and sends its messages.
     #[tactic(auto, using(crate::proofs::Events::same_members))]
-    fn step(&mut self, alloc: Global, node: usize, input: Input) -> Result<Option<u8>, AllocError>
+    fn step(
+        &mut self,
+        alloc: Global,
+        node: usize,
+        input: Input,
+    ) -> Result<Option<Rejection>, AllocError>
         requires members { AreMembers self.old.places.items }
-        ensures grows { length self.old.sent.items ≤ length self.new.sent.items }
-        ensures done { (action : ModelAction Definition ℕ) → input_of (map view_message self.old.sent.items) action ≡ Some (view_input input) →
-            IfOk result (λ refused. IsActed node action refused self.old.places.items self.old.sent.items self.new.places.items self.new.sent.items) }
-        ensures err { OnErr result (StayShown self.old.places.items self.old.sent.items self.new.places.items self.new.sent.items) }
-        ensures runs { OnErr result (is_some (running_in (slice_get self.old.places.items node)) ≡ true) }
+        ensures done { (action : ModelAction Definition ℕ) →
+            input_in self.old.sent.items action ≡ Some (view_input input) →
+            IfOk result (λ why. Between (IsActed node action why) self.old self.new) }
+        ensures err { OnErr result (Between StayShown self.old self.new) }
         ensures members { KeepMembers self.old.places.items self.new.places.items }
+        ensures grows { length self.old.sent.items ≤ length self.new.sent.items }
     {
         step(alloc, &mut self.places, &mut self.sent, node, input)
     }
@@ -139,7 +129,7 @@ impl Cluster {
     #[tactic(auto, using(crate::proofs::Events::same_members))]
     fn stop(&mut self, alloc: Global, node: usize)
         requires members { AreMembers self.old.places.items }
-        ensures done { Happens (world.Stop node) None self.old.places.items self.old.sent.items self.new.places.items self.new.sent.items }
+        ensures done { Between (Happens (world.Stop node) None) self.old self.new }
         ensures members { KeepMembers self.old.places.items self.new.places.items }
         ensures grows { length self.old.sent.items ≤ length self.new.sent.items }
     {
@@ -150,12 +140,17 @@ impl Cluster {
 
     /// Restarts a stopped node, if it exists.
     #[tactic(auto, using(crate::proofs::Events::same_members))]
-    pub(crate) fn restart(&mut self, alloc: Global, node: usize) -> Result<Option<u8>, AllocError>
+    pub(crate) fn restart(
+        &mut self,
+        alloc: Global,
+        node: usize,
+    ) -> Result<Option<Rejection>, AllocError>
         requires members { AreMembers self.old.places.items }
         requires size { length self.old.places.items ≤ 64 }
-        ensures done { IfOk result (λ number. Happens (world.Restart node) number self.old.places.items self.old.sent.items self.new.places.items self.new.sent.items) }
-        ensures err { OnErr result (StayShown self.old.places.items self.old.sent.items self.new.places.items self.new.sent.items) }
-        ensures may { OnErr result (MayAllocate (world.Restart node) self.old.places.items self.old.sent.items) }
+        ensures done { IfOk result (λ why.
+            Between (Happens (world.Restart node) why) self.old self.new) }
+        ensures err { OnErr result (Between StayShown self.old self.new) }
+        ensures may { OnErr result (HoldsIn (MayAllocate (world.Restart node)) self.old) }
         ensures members { KeepMembers self.old.places.items self.new.places.items }
         ensures grows { length self.old.sent.items ≤ length self.new.sent.items }
     {
@@ -176,13 +171,15 @@ impl Cluster {
         &mut self,
         alloc: Global,
         node: usize,
-        action: &Action,
+        action: &Action<Canon, usize>,
         kept: Kept,
-    ) -> Result<Option<u8>, AllocError>
+    ) -> Result<Option<Rejection>, AllocError>
         requires members { AreMembers self.old.places.items }
-        ensures done { IfOk result (λ number. IsTorn node (view_action action.now) (view_kept kept) number self.old.places.items self.old.sent.items self.new.places.items self.new.sent.items) }
-        ensures err { OnErr result (StayShown self.old.places.items self.old.sent.items self.new.places.items self.new.sent.items) }
-        ensures may { OnErr result (MayAllocate (world.Torn node (view_action action.now) (view_kept kept)) self.old.places.items self.old.sent.items) }
+        ensures done { IfOk result (λ why.
+            Between (IsTorn node (numbered action.now) (view_kept kept) why) self.old self.new) }
+        ensures err { OnErr result (Between StayShown self.old self.new) }
+        ensures may { OnErr result (HoldsIn
+            (MayAllocate (world.Torn node (numbered action.now) (view_kept kept))) self.old) }
         ensures members { KeepMembers self.old.places.items self.new.places.items }
         ensures grows { length self.old.sent.items ≤ length self.new.sent.items }
     {
@@ -195,9 +192,15 @@ impl Cluster {
     /// A crash within a step of a node, if it exists and runs, before its record is stored: the step has no effect and the node
     /// stops, unless it would reject the step. Allocates nothing.
     #[tactic(auto, using(crate::proofs::Events::same_members))]
-    fn tear_before(&mut self, alloc: Global, node: usize, action: &Action) -> Option<u8>
+    fn tear_before(
+        &mut self,
+        alloc: Global,
+        node: usize,
+        action: &Action<Canon, usize>,
+    ) -> Option<Rejection>
         requires members { AreMembers self.old.places.items }
-        ensures done { IsTorn node (view_action action.now) world.Before result self.old.places.items self.old.sent.items self.new.places.items self.new.sent.items }
+        ensures done { Between
+            (IsTorn node (numbered action.now) world.Before result) self.old self.new }
         ensures members { KeepMembers self.old.places.items self.new.places.items }
         ensures grows { length self.old.sent.items ≤ length self.new.sent.items }
     {
@@ -208,7 +211,7 @@ impl Cluster {
             return None;
         }
         match self.places[node].refusal(action) {
-            Some(fault) => refusal_number(fault),
+            Some(fault) => rejection_in(fault),
             None => {
                 self.places[node].stop(alloc);
                 None
@@ -223,12 +226,13 @@ impl Cluster {
         &mut self,
         alloc: Global,
         node: usize,
-        action: &Action,
-    ) -> Result<Option<u8>, AllocError>
+        action: &Action<Canon, usize>,
+    ) -> Result<Option<Rejection>, AllocError>
         requires members { AreMembers self.old.places.items }
-        ensures done { IfOk result (λ number. IsTorn node (view_action action.now) world.After number self.old.places.items self.old.sent.items self.new.places.items self.new.sent.items) }
-        ensures err { OnErr result (StayShown self.old.places.items self.old.sent.items self.new.places.items self.new.sent.items) }
-        ensures taken { OnErr result (TakesStep node (view_action action.now) self.old.places.items self.old.sent.items) }
+        ensures done { IfOk result (λ why.
+            Between (IsTorn node (numbered action.now) world.After why) self.old self.new) }
+        ensures err { OnErr result (Between StayShown self.old self.new) }
+        ensures taken { OnErr result (HoldsIn (TakesStep node (numbered action.now)) self.old) }
         ensures members { KeepMembers self.old.places.items self.new.places.items }
         ensures grows { length self.old.sent.items ≤ length self.new.sent.items }
     {
@@ -239,7 +243,7 @@ impl Cluster {
             return Ok(None);
         }
         match self.places[node].refusal(action) {
-            Some(fault) => Ok(refusal_number(fault)),
+            Some(fault) => Ok(rejection_in(fault)),
             None => self.tear_done(alloc, node, action),
         }
     }
@@ -250,11 +254,12 @@ impl Cluster {
         &mut self,
         alloc: Global,
         node: usize,
-        action: &Action,
-    ) -> Result<Option<u8>, AllocError>
+        action: &Action<Canon, usize>,
+    ) -> Result<Option<Rejection>, AllocError>
         requires members { AreMembers self.old.places.items }
-        ensures done { IfOk result (λ number. IsTorn node (view_action action.now) world.After number self.old.places.items self.old.sent.items self.new.places.items self.new.sent.items) }
-        ensures err { OnErr result (StayShown self.old.places.items self.old.sent.items self.new.places.items self.new.sent.items) }
+        ensures done { IfOk result (λ why.
+            Between (IsTorn node (numbered action.now) world.After why) self.old self.new) }
+        ensures err { OnErr result (Between StayShown self.old self.new) }
         ensures members { KeepMembers self.old.places.items self.new.places.items }
         ensures grows { length self.old.sent.items ≤ length self.new.sent.items }
     {
@@ -281,8 +286,8 @@ impl Cluster {
 
     /// Whether the action has an input: if it is a delivery, whether its message was sent.
     #[tactic(auto, unfolding(wf_model::specs::World::input_of, wf_model::specs::World::delivered))]
-    fn is_sent(&self, action: &Action) -> bool
-        ensures { result ≡ is_some (input_of (map view_message self.now.sent.items) (view_action action.now)) }
+    pub(crate) fn is_sent(&self, action: &Action<Canon, usize>) -> bool
+        ensures { result ≡ is_some (input_in self.now.sent.items (numbered action.now)) }
     {
         match action {
             Action::Propose(_) => true,
@@ -294,8 +299,12 @@ impl Cluster {
 
     /// The input of an action; None if its message wasn't sent.
     #[tactic(auto, using(crate::proofs::Events::sent_message), unfolding(wf_model::specs::World::input_of, wf_model::specs::World::delivered))]
-    pub(crate) fn input_of(&self, action: &Action) -> Result<Option<Input>, AllocError>
-        ensures { IfOk result (λ input. option_map view_input input ≡ input_of (map view_message self.now.sent.items) (view_action action.now)) }
+    pub(crate) fn input_of(
+        &self,
+        action: &Action<Canon, usize>,
+    ) -> Result<Option<Input>, AllocError>
+        ensures { IfOk result (λ input.
+            option_map view_input input ≡ input_in self.now.sent.items (numbered action.now)) }
     {
         match action {
             Action::Propose(canon) => match canon.copy() {
@@ -310,8 +319,9 @@ impl Cluster {
 
     /// The delivery of a message; None if it wasn't sent.
     #[tactic(auto, using(crate::proofs::Events::sent_message), unfolding(wf_model::specs::World::input_of, wf_model::specs::World::delivered))]
-    pub(crate) fn message(&self, number: usize) -> Result<Option<Input>, AllocError>
-        ensures { IfOk result (λ input. option_map view_input input ≡ input_of (map view_message self.now.sent.items) (Deliver number)) }
+    fn message(&self, number: usize) -> Result<Option<Input>, AllocError>
+        ensures { IfOk result (λ input.
+            option_map view_input input ≡ input_in self.now.sent.items (Deliver number)) }
     {
         match self.sent.get(number) {
             None => Ok(None),

@@ -15,13 +15,13 @@ use wf_wms::law::{asked_maps_are_answered_alike, each_query_has_one_answer};
 /// A step Propose, Retry or CatchUp of a node leads the nodes on, whatever it returns, and sends exactly the messages that it
 /// returns. A theorem: the call does nothing.
 pub fn a_step_leads_on<T: Tape>()
-    ensures { StepLeadsOn T.honest T.content T.images T.failed }
+    ensures { StepLeadsOn T.Tape }
 {}
 
 /// Nodes to which sent messages are delivered by [`deliver_all`](crate::deliver_all) are led on, however many messages were sent
 /// before. A theorem: the call does nothing.
 pub fn deliveries_lead_on<T: Tape>()
-    ensures { DeliveriesLeadOn T.honest T.images }
+    ensures { DeliveriesLeadOn T.Tape }
 {
     // Theorem of the model: messages sent earlier only shift message numbers.
     earlier_messages::<Canon>();
@@ -30,18 +30,18 @@ pub fn deliveries_lead_on<T: Tape>()
 /// The empty run leads nodes to themselves; two runs in turn are one run; and messages sent need not be delivered. A theorem: the
 /// call does nothing.
 pub fn leading_goes_on<T: Tape>()
-    ensures still { NothingLeadsOn T.honest T.images }
-    ensures again { TwiceLeadsOn T.honest T.images }
-    ensures quiet { NothingIsSaid T.honest T.images }
-    ensures more { BothAreSaid T.honest T.images }
-    ensures lost { UnheardLeadsOn T.honest T.images }
+    ensures still { NothingLeadsOn T.Tape }
+    ensures again { TwiceLeadsOn T.Tape }
+    ensures quiet { NothingIsSaid T.Tape }
+    ensures more { BothAreSaid T.Tape }
+    ensures lost { UnheardLeadsOn T.Tape }
 {}
 
 /// Nodes led on from nodes that are reached from the model's start are reached. Over an honest tape that also holds for whatever
 /// bytes a crash leaves of the tapes that failed. A theorem: the call does nothing.
 pub fn reached_stays<T: Tape>()
-    ensures any { ReachedLeadsOn T.honest T.images }
-    ensures on_tape { ReachedOnTape T.honest T.images }
+    ensures any { ReachedLeadsOn T.Tape }
+    ensures on_tape { ReachedOnTape T.Tape }
 {}
 
 /// Nodes with all parts empty are the model's start. A theorem: the call does nothing.

@@ -67,6 +67,7 @@ mod progress;
 mod publishing;
 mod pump;
 mod receiving;
+mod rejection;
 mod round;
 mod running;
 mod same;
@@ -88,4 +89,5 @@ pub use leading::{
     reached_nodes_agree, reached_nodes_answer_alike, reached_stays, reopened_nodes_are_reached,
 };
 pub use publishing::{a_proposal_is_published, a_pump_delivers_alike, new_nodes_stay_new};
+pub use rejection::Rejection;
 pub use starting::{open_fresh, reopen};

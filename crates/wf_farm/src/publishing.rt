@@ -8,8 +8,8 @@ use wf_tape::Tape;
 /// pump to every node ([`Farm::pump`](crate::Farm::pump)), from whatever world of the model the nodes were. Where both went on until
 /// no message was left, and began in one world, they are as many, and leave one world. A theorem: the call does nothing.
 pub fn a_pump_delivers_alike<T: Tape>()
-    ensures exactly { DeliveredExactly T.honest T.content T.images }
-    ensures alike { PumpedAlike T.honest T.content T.images }
+    ensures exactly { DeliveredExactly T.Tape }
+    ensures alike { PumpedAlike T.Tape }
 {}
 
 /// If one of three new nodes proposes a definition, and [`deliver_all`](crate::deliver_all) delivers its messages, neither loses a
@@ -17,12 +17,12 @@ pub fn a_pump_delivers_alike<T: Tape>()
 /// deliveries. So they have in a new farm, if a pump to every node after the proposal doesn't stop early. A theorem: the call does
 /// nothing.
 pub fn a_proposal_is_published<T: Tape>()
-    ensures nodes { PublishedOnAll T.honest T.content T.images T.failed }
+    ensures nodes { PublishedOnAll T.Tape }
     ensures farm { PublishedByPump }
 {}
 
 /// New nodes of which one is asked to catch up, and its messages are delivered by [`deliver_all`](crate::deliver_all), are new still, if
 /// no node is halted afterwards, whatever was lost. A theorem: the call does nothing.
 pub fn new_nodes_stay_new<T: Tape>()
-    ensures { NewStayNew T.honest T.content T.images T.failed }
+    ensures { NewStayNew T.Tape }
 {}

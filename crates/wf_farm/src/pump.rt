@@ -3,7 +3,7 @@
 ghost use Rattle.std.specs.Prelude.{◌≡◌, ◌<◌, ◌≤◌, length, IfOk, IfErr};
 ghost use Rattle.wf_farm.specs.Agreement.{HistoriesGrow};
 ghost use Rattle.wf_farm.specs.Carrying.{IsMemory};
-ghost use Rattle.wf_farm.specs.Cluster.{AreMembers, KeepMembers};
+ghost use Rattle.wf_farm.specs.Cluster.{AreMembers, Between, HoldsIn, KeepMembers};
 ghost use Rattle.wf_farm.specs.Farm.{size};
 ghost use Rattle.wf_farm.specs.Progress.{HasCome, IsEnd, MayEnd};
 ghost use Rattle.wf_farm.specs.Pump.{IsPumped, IsPumpedPart};
@@ -83,9 +83,10 @@ impl Cluster {
         requires members { AreMembers self.old.places.items }
         requires some { 0 < length targets.now }
         requires within { first ≤ length self.old.sent.items }
-        ensures come { HasCome targets.now first result.0 self.old.places.items self.old.sent.items self.new.places.items self.new.sent.items }
+        ensures come { Between (HasCome targets.now first result.0) self.old self.new }
         ensures end { IsEnd first (length self.new.sent.items) result.0 result.1 }
-        ensures may { MayEnd targets.now first result.0 self.old.places.items self.old.sent.items result.1 }
+        ensures may { MayEnd targets.now first result.0 self.old.places.items self.old.sent.items
+            result.1 }
         ensures memory { C.faithful → IsForMemory result.1 }
         ensures members { KeepMembers self.old.places.items self.new.places.items }
     {

@@ -1,22 +1,22 @@
 //! Steps of, and deliveries to, the entries of a farm.
 
-ghost use Rattle.std.specs.Prelude.{◌≡◌, ◌<◌, ◌≤◌, ℕ, true, is_some, length, map, slice_get, None, Some, IfErr, IfOk, IsSome, OnErr};
+ghost use Rattle.std.specs.Prelude.{◌≡◌, ◌<◌, ◌≤◌, ℕ, true, is_some, length, slice_get, None, Some, IfErr, IfOk, IsSome, OnErr};
 ghost use Rattle.wf_codec.specs.Message.{view as view_message};
 ghost use Rattle.wf_def.specs.Definition.{Definition};
 ghost use Rattle.wf_model.specs.Table.{Action as ModelAction, Deliver};
-ghost use Rattle.wf_model.specs.World.{input_of};
 ghost use Rattle.wf_node.specs.Input.{view as view_input};
 ghost use Rattle.wf_farm.specs.Allocating.{TakesStep};
 ghost use Rattle.wf_farm.specs.Carrying.{ChangesByStep};
-ghost use Rattle.wf_farm.specs.Cluster.{AreMembers, IsActed, KeepMembers, StayShown};
+ghost use Rattle.wf_farm.specs.Cluster.{AreMembers, IsActed, KeepMembers, StayShown, input_in};
 ghost use Rattle.wf_farm.specs.Farm.{running_in};
-ghost use Rattle.wf_farm.specs.Place.{number_in};
+ghost use Rattle.wf_farm.specs.Place.{rejection_in};
 ghost use Rattle.wf_farm.specs.declared.carrier.CarrierFault.TheVariants as carriers;
 
 use crate::carrier::{Carrier, CarrierFault, carried};
-use crate::fault::refusal_number;
+use crate::fault::rejection_in;
 use crate::happening::{MOST_SAID, send};
 use crate::place::Place;
+use crate::rejection::Rejection;
 use crate::round::Receiver;
 use std::alloc::{AllocError, Global};
 use wf_codec::Message;
@@ -59,13 +59,15 @@ pub(crate) fn deliver_to<C: Carrier>(
     sent: &mut Vec<Message>,
     node: usize,
     number: usize,
-) -> Result<Option<u8>, CarrierFault>
+) -> Result<Option<Rejection>, CarrierFault>
     requires members { AreMembers places.old }
     ensures grows { length sent.old.items ≤ length sent.new.items }
-    ensures done { IfOk result (λ refused. IsActed node (Deliver number) refused places.old sent.old.items places.new sent.new.items) }
+    ensures done { IfOk result (λ why.
+        IsActed node (Deliver number) why places.old sent.old.items places.new sent.new.items) }
     ensures err { OnErr result (StayShown places.old sent.old.items places.new sent.new.items) }
     ensures taken { OnErr result (TakesStep node (Deliver number) places.old sent.old.items) }
-    ensures idle { ChangesByStep node (Deliver number) places.old sent.old.items carrier.old carrier.new }
+    ensures idle { ChangesByStep node (Deliver number) places.old sent.old.items carrier.old
+        carrier.new }
     ensures memory { C.faithful → IfErr result (λ fault. fault ≡ carriers.Memory) }
     ensures members { KeepMembers places.old places.new }
 {
@@ -88,11 +90,13 @@ fn take(
     sent: &mut Vec<Message>,
     node: usize,
     message: Message,
-) -> Result<Option<u8>, CarrierFault>
+) -> Result<Option<Rejection>, CarrierFault>
     requires members { AreMembers places.old }
     ensures grows { length sent.old.items ≤ length sent.new.items }
-    ensures done { (action : ModelAction Definition ℕ) → input_of (map view_message sent.old.items) action ≡ Some (Deliver (view_message message)) →
-        IfOk result (λ refused. IsActed node action refused places.old sent.old.items places.new sent.new.items) }
+    ensures done { (action : ModelAction Definition ℕ) →
+        input_in sent.old.items action ≡ Some (Deliver (view_message message)) →
+        IfOk result (λ why.
+        IsActed node action why places.old sent.old.items places.new sent.new.items) }
     ensures err { OnErr result (StayShown places.old sent.old.items places.new sent.new.items) }
     ensures memory { IfErr result (λ fault. fault ≡ carriers.Memory) }
     ensures members { KeepMembers places.old places.new }
@@ -112,11 +116,13 @@ pub(crate) fn step(
     sent: &mut Vec<Message>,
     node: usize,
     input: Input,
-) -> Result<Option<u8>, AllocError>
+) -> Result<Option<Rejection>, AllocError>
     requires members { AreMembers places.old }
     ensures grows { length sent.old.items ≤ length sent.new.items }
-    ensures done { (action : ModelAction Definition ℕ) → input_of (map view_message sent.old.items) action ≡ Some (view_input input) →
-        IfOk result (λ refused. IsActed node action refused places.old sent.old.items places.new sent.new.items) }
+    ensures done { (action : ModelAction Definition ℕ) →
+        input_in sent.old.items action ≡ Some (view_input input) →
+        IfOk result (λ why.
+        IsActed node action why places.old sent.old.items places.new sent.new.items) }
     ensures err { OnErr result (StayShown places.old sent.old.items places.new sent.new.items) }
     ensures runs { OnErr result (is_some (running_in (slice_get places.old node)) ≡ true) }
     ensures members { KeepMembers places.old places.new }
@@ -149,13 +155,13 @@ pub(crate) fn runs(places: &[Place], node: usize) -> bool
     }
 }
 
-/// The number of the table's rejection. Otherwise an allocation failed, since the tape of a node here doesn't fail.
-pub(crate) fn answer(fault: NodeFault) -> Result<Option<u8>, AllocError>
-    ensures number { IfOk result (λ number. number ≡ number_in fault) }
+/// The table's rejection. Otherwise an allocation failed, since the tape of a node here doesn't fail.
+pub(crate) fn answer(fault: NodeFault) -> Result<Option<Rejection>, AllocError>
+    ensures rejection { IfOk result (λ why. why ≡ rejection_in fault) }
     ensures some { IfOk result IsSome }
 {
-    match refusal_number(fault) {
-        Some(number) => Ok(Some(number)),
+    match rejection_in(fault) {
+        Some(why) => Ok(Some(why)),
         None => Err(AllocError),
     }
 }

@@ -41,8 +41,10 @@ pub(crate) trait Receiver<C>: Sized {
     ) -> Result<bool, CarrierFault>
         requires takes { takes receivers.old node }
         requires number { number < length sent.old.items }
-        ensures done { IfOk result (λ lost. delivered node number lost receivers.old sent.old.items receivers.new sent.new.items) }
-        ensures left { OnErr result (stays node number receivers.old sent.old.items receivers.new sent.new.items) }
+        ensures done { IfOk result (λ lost.
+            delivered node number lost receivers.old sent.old.items receivers.new sent.new.items) }
+        ensures left { OnErr result
+            (stays node number receivers.old sent.old.items receivers.new sent.new.items) }
         ensures memory { certain → IfErr result (λ fault. fault ≡ carriers.Memory) }
         ensures takes { (i : ℕ) → takes receivers.old i → takes receivers.new i }
         ensures grows { length sent.old.items ≤ length sent.new.items };
@@ -71,7 +73,8 @@ pub(crate) fn deliver_rounds<C, R: Receiver<C>>(
     requires some { 0 < round }
     requires within { first ≤ length sent.old.items }
     requires takes { (k : ℕ) → k < round → R.takes receivers.old (get_or targets.now k k) }
-    ensures ended { HaveEnded R.delivered R.stays targets.now round first receivers.old sent.old.items result.progress result.lost result.end receivers.new sent.new.items }
+    ensures ended { HaveEnded R.delivered R.stays targets.now round first receivers.old
+        sent.old.items result.progress result.lost result.end receivers.new sent.new.items }
     ensures end { IsEnd first (length sent.new.items) result.progress result.end }
     ensures counts { AreCounted round first result.progress result.lost (length sent.new.items) }
     ensures memory { R.certain → IsForMemory result.end }

@@ -26,7 +26,8 @@ impl Cluster {
         requires { n ≤ 64 }
         ensures size { IfOk result (λ cluster. length cluster.places.items ≡ n) }
         ensures members { IfOk result (λ cluster. AreMembers cluster.places.items) }
-        ensures shows { IfOk result (λ cluster. Shows cluster.places.items cluster.sent.items (start n)) }
+        ensures shows { IfOk result (λ cluster.
+            Shows cluster.places.items cluster.sent.items (start n)) }
         ensures sent { IfOk result (λ cluster. cluster.sent.items ≡ []) }
     {
         let mut places = Vec::new(alloc);
@@ -105,7 +106,8 @@ pub fn reopen(alloc: Global, node: Node<MemoryTape>, n: u8) -> Result<Node<Memor
     ensures again { IfOk result (IsReopened node.tape.bytes node) }
     ensures id { IfOk result (λ again. again.id ≡ node.id) }
     ensures n { IfOk result (λ again. again.n ≡ n) }
-    ensures kept { IfErr result (λ tape. node.halted ≡ false → AllStandFor (stored_of node) (IsImageOf tape)) }
+    ensures kept { IfErr result (λ tape.
+        node.halted ≡ false → AllStandFor (stored_of node) (IsImageOf tape)) }
 {
     // Theorem of the tape: it stands for exactly one stored part.
     records_are_read_one_way();

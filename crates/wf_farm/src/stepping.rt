@@ -22,7 +22,8 @@ impl Place {
     /// Performs a step of the node. A stopped node sends nothing. An error leaves the node unchanged.
     #[tactic(auto, using(crate::proofs::Steps::any_done, crate::proofs::Steps::any_denied, crate::proofs::Steps::any_few, crate::proofs::Steps::any_member, crate::proofs::Steps::stopped_steps, crate::proofs::Steps::same_member))]
     pub(crate) fn step(&mut self, alloc: Global, input: Input) -> Result<Vec<Message>, NodeFault>
-        ensures done { IfOk result (λ said. Steps (view input) self.old self.new (map view_message said.items)) }
+        ensures done { IfOk result (λ said.
+            Steps (view input) self.old self.new (map view_message said.items)) }
         ensures denied { IfErr result (DeniesStep (view input) self.old self.new) }
         ensures few { IfOk result (λ said. length said.items ≤ most_told) }
         ensures member { KeepsMember self.old self.new }

@@ -5,12 +5,13 @@ ghost use Rattle.wf_def.specs.Definition.{Definition};
 ghost use Rattle.wf_model.specs.Table.{Propose, Retry};
 ghost use Rattle.wf_model.specs.World as world;
 ghost use Rattle.wf_node.specs.Input.{view};
-ghost use Rattle.wf_farm.specs.Event.{view_action};
+ghost use Rattle.wf_model.specs.Action.{numbered};
 ghost use Rattle.wf_farm.specs.Place.{DeniesTear, KeepsMember, Tears, TellsWhyNot};
 
 use crate::event::Action;
 use crate::place::Place;
 use std::alloc::Global;
+use wf_canon::Canon;
 use wf_node::{Input, NodeFault};
 
 impl Place {
@@ -34,8 +35,8 @@ impl Place {
 
     /// The error with which a step would be rejected now; None if it would be done, or the node is stopped. Allocates nothing.
     #[tactic(auto, using(crate::proofs::Steps::tells_no_question, crate::proofs::Steps::tells_no_delivery))]
-    pub(crate) fn refusal(&self, action: &Action) -> Option<NodeFault>
-        ensures { TellsWhyNot self.now (view_action action.now) result }
+    pub(crate) fn refusal(&self, action: &Action<Canon, usize>) -> Option<NodeFault>
+        ensures { TellsWhyNot self.now (numbered action.now) result }
     {
         match action {
             Action::Propose(_) => self.proposal_refusal(),
@@ -47,7 +48,7 @@ impl Place {
 
     /// The error with which a proposal would be rejected now; None if it would start, or the node is stopped. Allocates nothing.
     #[tactic(auto, using(crate::proofs::Steps::tells_running, crate::proofs::Steps::tells_stopped))]
-    pub(crate) fn proposal_refusal(&self) -> Option<NodeFault>
+    fn proposal_refusal(&self) -> Option<NodeFault>
         ensures { (d : Definition) → TellsWhyNot self.now (Propose d) result }
     {
         match self {
@@ -59,7 +60,7 @@ impl Place {
     /// The error with which a retry of the running proposal would be rejected now; None if it would restart, or the node is
     /// stopped. Allocates nothing.
     #[tactic(auto, using(crate::proofs::Steps::tells_running, crate::proofs::Steps::tells_stopped))]
-    pub(crate) fn retry_refusal(&self) -> Option<NodeFault>
+    fn retry_refusal(&self) -> Option<NodeFault>
         ensures { TellsWhyNot self.now Retry result }
     {
         match self {

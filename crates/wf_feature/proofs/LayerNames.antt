@@ -7,18 +7,19 @@ use Rattle.std.proofs.lemmas.Bool.Decides.{same_from_decides}
 use Rattle.wf_def.specs.Text.{IsText}
 use Rattle.wf_def.specs.Limits.{IsLayerName}
 use Rattle.wf_feature.specs.Layers.{is_layer_name}
-use Rattle.wf_feature.proofs.Booleans.{both, not_so}
+use Rattle.std.proofs.lemmas.Bool.{and_from}
+use Rattle.wf_feature.proofs.Booleans.{not_true}
 
 pub named : (name : List ℕ) → IsLayerName name → is_layer_name name ≡ true
 unfolding is_layer_name
-named name is = both _ _ (le-leb 1 (length name) is.least) (ap not is.no_comma)
+named name is = and_from _ _ (le-leb 1 (length name) is.least) (ap not is.no_comma)
 
 pub is_name : (name : List ℕ) → IsText name → is_layer_name name ≡ true → IsLayerName name
 unfolding is_layer_name
 is_name name text so = record {
   is_text = text;
   least = leb-true 1 (length name) (first_so _ _ so);
-  no_comma = not_so _ (second_so _ _ so);
+  no_comma = not_true _ (second_so _ _ so);
 }
 
 pub tested : (name : List ℕ) (r : Bool) → IsText name → (IsTrue r ↔ IsLayerName name) → r ≡ is_layer_name name

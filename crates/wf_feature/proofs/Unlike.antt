@@ -7,7 +7,8 @@ use Rattle.std.proofs.lemmas.Bool.Decides.{same_from_decides, Decides-like}
 use Rattle.wf_def.specs.Definition.{LayerDefinition}
 use Rattle.wf_def.specs.Limits.{has_layer, layer_names}
 use Rattle.wf_block.specs.Distinct.{all_differ}
-use Rattle.wf_feature.proofs.Booleans.{neither, not_so}
+use Rattle.std.proofs.lemmas.Bool.{or_parts}
+use Rattle.wf_feature.proofs.Booleans.{not_true}
 
 abbrev pub Entry : Type 0
 Entry = List ℕ × LayerDefinition
@@ -31,17 +32,17 @@ pub differ-push : (layers : List Entry) (x : Entry) → all_differ (layer_names 
 unfolding all_differ
 differ-push [] x differ new = refl
 differ-push (y ∷ layers) x differ new =
-    let parts = neither (bytes_eq x.0 y.0) (has_layer layers x.0) new in
-    let once : has_layer layers y.0 ≡ false = not_so _ (first_so _ _ differ) in
+    let parts = or_parts (bytes_eq x.0 y.0) (has_layer layers x.0) new in
+    let once : has_layer layers y.0 ≡ false = not_true _ (first_so _ _ differ) in
     rw (has_layer-more layers x y.0, parts.0, once) (differ-push layers x (second_so _ _ differ) parts.1)
 
 -- none of the layers before one has its name
 other_name : (name : List ℕ) (before : List Entry) (x : Entry) (rest : List Entry) → has_layer (before ++ x ∷ rest) name ≡ false → bytes_eq name x.0 ≡ false
-other_name name [] x rest none = (neither (bytes_eq name x.0) (has_layer rest name) none).0
-other_name name (y ∷ before) x rest none = other_name name before x rest (neither (bytes_eq name y.0) (has_layer (before ++ x ∷ rest) name) none).1
+other_name name [] x rest none = (or_parts (bytes_eq name x.0) (has_layer rest name) none).0
+other_name name (y ∷ before) x rest none = other_name name before x rest (or_parts (bytes_eq name y.0) (has_layer (before ++ x ∷ rest) name) none).1
 
 pub differ-in : (before : List Entry) (x : Entry) (rest : List Entry) → all_differ (layer_names (before ++ x ∷ rest)) ≡ true → has_layer before x.0 ≡ false
 unfolding all_differ
 differ-in [] x rest differ = refl
 differ-in (y ∷ before) x rest differ =
-    rw (bytes_eq-comm x.0 y.0, other_name y.0 before x rest (not_so _ (first_so _ _ differ))) (differ-in before x rest (second_so _ _ differ))
+    rw (bytes_eq-comm x.0 y.0, other_name y.0 before x rest (not_true _ (first_so _ _ differ))) (differ-in before x rest (second_so _ _ differ))

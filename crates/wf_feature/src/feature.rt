@@ -61,7 +61,8 @@ impl FeatureOnce {
     /// Reads the arguments of a keyword that comes at most once, and stores them.
     #[tactic(auto, unfolding(crate::specs::Feature::feature_once))]
     fn take(&mut self, keyword: Token<'_>, parser: &mut Parser<'_>) -> Result<(), MapFault>
-        ensures { Gives (λ _. (self.new, parser.new)) result (feature_once self.old keyword.entry.text.now parser.old) }
+        ensures { Gives (λ _. (self.new, parser.new)) result
+            (feature_once self.old keyword.entry.text.now parser.old) }
     {
         let word = keyword.text;
         let place = keyword.place;

@@ -1,6 +1,6 @@
 -- A frame: a version byte, a kind byte, four bytes of length, and a body. A format says which kinds of frame there are, what each
 -- one's header and body are, and which versions are read.
-use Rattle.std.specs.Prelude.{◌≡◌, ℕ, ◌+◌, ◌<◌, ◌≤◌, ◌^◌, ◌⊎◌, nat_lt, Bool, true, List, [], ◌∷◌, length, take, Option, Some, None, Result, Ok, Err, if◌then◌else◌}
+use Rattle.std.specs.Prelude.{◌≡◌, ℕ, ◌+◌, ◌<◌, ◌≤◌, ◌^◌, ◌⊎◌, nat_lt, Bool, true, List, [], ◌∷◌, length, take, Option, Some, None, Result, Ok, Err, MatchResult, if◌then◌else◌}
 use Rattle.std.specs.Int.{w32, from_be_bytes}
 use Rattle.wf_ballot.specs.Frame.{frame}
 use Rattle.wf_frame.specs.declared.fault.FrameFault.{FrameFault}
@@ -56,6 +56,10 @@ kind_front format version (byte ∷ bytes) = length_front format (format.kind_wi
 unfoldable pub frame_front : {K : Type 0} → Format K → List ℕ → Result (K × List ℕ) FrameFault
 frame_front format [] = Err Short
 frame_front format (version ∷ bytes) = if format.is_read version then kind_front format version bytes else Err BadVersion
+
+-- the result of a function that splits a frame, mapped by view, is this kind and body, or this error
+abbrev pub IsSplitAs : {K X : Type 0} → (X → K × List ℕ) → Result X FrameFault → Result (K × List ℕ) FrameFault → Type 0
+IsSplitAs view result split = MatchResult result (λ x. split ≡ Ok (view x)) (λ fault. split ≡ Err fault)
 
 -- ---- part of a frame
 

@@ -1,5 +1,4 @@
-ghost use Rattle.std.specs.Prelude.{◌≡◌, MatchResult};
-ghost use Rattle.wf_frame.specs.Frame.{frame_front, kind_front, length_front, body_front};
+ghost use Rattle.wf_frame.specs.Frame.{frame_front, kind_front, length_front, body_front, IsSplitAs};
 
 use crate::fault::FrameFault;
 use crate::kind::FrameKind;
@@ -11,7 +10,7 @@ pub const HEADER_BYTES: usize = 6;
 /// there: the version, the kind, the body's length, whether the body is whole. What follows the frame isn't looked at.
 #[tactic(auto, unfolding(crate::specs::Frame::frame_front))]
 pub fn split_frame<K: FrameKind>(bytes: &[u8]) -> Result<(K, &[u8]), FrameFault>
-    ensures { MatchResult result (λ x. frame_front K.format bytes.now ≡ Ok (x.0, x.1.now)) (λ e. frame_front K.format bytes.now ≡ Err e) }
+    ensures { IsSplitAs (λ x. (x.0, x.1.now)) result (frame_front K.format bytes.now) }
 {
     match bytes {
         [] => Err(FrameFault::Short),
@@ -22,7 +21,7 @@ pub fn split_frame<K: FrameKind>(bytes: &[u8]) -> Result<(K, &[u8]), FrameFault>
 
 #[tactic(auto, unfolding(crate::specs::Frame::kind_front, crate::specs::Frame::length_front))]
 fn split_kind<K: FrameKind>(version: u8, bytes: &[u8]) -> Result<(K, &[u8]), FrameFault>
-    ensures { MatchResult result (λ x. kind_front K.format version bytes.now ≡ Ok (x.0, x.1.now)) (λ e. kind_front K.format version bytes.now ≡ Err e) }
+    ensures { IsSplitAs (λ x. (x.0, x.1.now)) result (kind_front K.format version bytes.now) }
 {
     match bytes {
         [] => Err(FrameFault::Short),
@@ -35,7 +34,7 @@ fn split_kind<K: FrameKind>(version: u8, bytes: &[u8]) -> Result<(K, &[u8]), Fra
 
 #[tactic(auto, unfolding(crate::specs::Frame::length_front))]
 fn split_length<K: FrameKind>(kind: K, bytes: &[u8]) -> Result<(K, &[u8]), FrameFault>
-    ensures { MatchResult result (λ x. length_front K.format (Some kind) bytes.now ≡ Ok (x.0, x.1.now)) (λ e. length_front K.format (Some kind) bytes.now ≡ Err e) }
+    ensures { IsSplitAs (λ x. (x.0, x.1.now)) result (length_front K.format (Some kind) bytes.now) }
 {
     match bytes {
         [a, b, c, d, rest @ ..] => {
@@ -47,7 +46,7 @@ fn split_length<K: FrameKind>(kind: K, bytes: &[u8]) -> Result<(K, &[u8]), Frame
 
 #[tactic(auto, unfolding(crate::specs::Frame::body_front))]
 fn split_body<K: FrameKind>(kind: K, length: usize, bytes: &[u8]) -> Result<(K, &[u8]), FrameFault>
-    ensures { MatchResult result (λ x. body_front K.format kind length bytes.now ≡ Ok (x.0, x.1.now)) (λ e. body_front K.format kind length bytes.now ≡ Err e) }
+    ensures { IsSplitAs (λ x. (x.0, x.1.now)) result (body_front K.format kind length bytes.now) }
 {
     if length > K::longest() {
         return Err(FrameFault::TooLong);

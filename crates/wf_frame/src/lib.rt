@@ -14,6 +14,7 @@
 #![tactic(auto)]
 
 mod fault;
+mod field;
 mod header;
 mod kind;
 mod law;
@@ -21,6 +22,7 @@ mod layout;
 mod writing;
 
 pub use fault::FrameFault;
+pub use field::{ballot_in_range, node_in_range, round_in_range, slot_in_range};
 pub use header::{HEADER_BYTES, split_frame};
 pub use kind::FrameKind;
 pub use law::{bodies_are_read, frames_are_read, none_begins_another};

@@ -17,7 +17,8 @@ pub fn put(out: &mut Vec<u8>, bytes: &[u8])
 pub fn put_header<K: FrameKind>(out: &mut Vec<u8>, kind: K, count: usize)
     requires room { vec_len out.old + header_length ≤ vec_capacity out.old }
     requires four_bytes { count < 2 ^ 32 }
-    ensures frame { (body : _) → length body ≡ count → out.new.items ++ body ≡ out.old.items ++ frame_of K.format kind body }
+    ensures frame { (body : _) → length body ≡ count →
+        out.new.items ++ body ≡ out.old.items ++ frame_of K.format kind body }
     ensures len { vec_len out.new ≡ vec_len out.old + header_length }
     ensures capacity { vec_capacity out.old ≤ vec_capacity out.new }
 {

@@ -1,65 +1,115 @@
--- From the pieces written to how writing broke off.
-use Rattle.std.proofs.Common.{◌≡◌, ◌∙◌, ◌+◌, ◌-◌, ◌≤◌, ◌^◌, ℕ, Bool, true, false, min, List, [], ◌++◌, length, take, refl, sym, subst, arith}
-use Rattle.std.specs.Prelude.{Option}
+-- From the pieces written to the whole, or to how writing broke off.
+use Rattle.std.proofs.Common.{◌≡◌, ◌∙◌, ◌+◌, ◌-◌, ◌≤◌, ◌^◌, ℕ, Bool, false, min, List, [], ◌++◌, length, take, refl, sym, ap, subst, subst₂, arith}
+use Rattle.std.specs.Prelude.{Some}
 use Rattle.std.specs.Io.KnownBytes.{Appends}
 use Rattle.std.proofs.lemmas.List.{take-append-le, length-append}
 use Rattle.std.proofs.Math.Seq.{take-append-add}
 use Rattle.wf_stream.specs.KnownLaws.{appends_none, appends_more}
-use Rattle.wf_stream.specs.Reading.{EndsByFailing}
-use Rattle.wf_http.specs.Breaking.{IsWriting}
+use Rattle.wf_stream.specs.Reading.{EndsByFailing, Rises}
+use Rattle.wf_stream.specs.declared.stream.Sink.{Ghosts as Sink}
+use Rattle.wf_http.specs.Breaking.{IsWriting, HasWritten, HasBroken, BreaksOff}
+use Rattle.wf_http.specs.Response.{WritesPart}
 use Rattle.wf_http.specs.declared.response.Progress.{Progress}
 
-module _ {K : Type 0} (written : K → Option (List ℕ)) (failures : K → ℕ) (fails : K → K → Type 0) where
+module _ {K : Type 0} (sinks : Sink K) where
   -- ---- piece by piece
 
   -- before the first piece
   pub writing_starts : (now : K) (progress : Progress) → progress ≡ record { written = 0; failed = false }
-      → IsWriting written failures fails now [] now progress.written progress.failed
+      → IsWriting sinks now [] now progress.written progress.failed
   writing_starts now progress start =
-      subst (λ (p : Progress). IsWriting written failures fails now [] now p.written p.failed) (sym start) (appends_none (written now), refl, refl)
+      subst (λ (p : Progress). IsWriting sinks now [] now p.written p.failed) (sym start)
+      (record { whole = appends_none (sinks.written now); calm = refl; counts = refl })
 
   -- a piece was written
-  pub writing_goes_on : (first old new : K) (bytes piece : List ℕ) (before after : ℕ) → Appends (written old) (written new) piece → failures new ≡ failures old
-      → after ≡ min (before + length piece) (2 ^ 64 - 1) → IsWriting written failures fails first bytes old before false
-      → IsWriting written failures fails first (bytes ++ piece) new after false
-  writing_goes_on first old new bytes piece before after appends calm more (so_far, still, counted) =
+  pub writing_goes_on : (first old new : K) (bytes piece : List ℕ) (before after : ℕ) → Appends (sinks.written old) (sinks.written new) piece
+      → sinks.failures new ≡ sinks.failures old → after ≡ min (before + length piece) (2 ^ 64 - 1)
+      → HasWritten sinks first bytes old before → HasWritten sinks first (bytes ++ piece) new after
+  writing_goes_on first old new bytes piece before after appends calm more so_far =
       let size = length-append bytes piece in
+      let counted = so_far.counts in
       let is : after ≡ min (length bytes + length piece) (2 ^ 64 - 1) = omega arith in
-      (appends_more (written first) (written old) (written new) bytes piece so_far appends, calm ∙ still, rw size is)
+      record {
+        whole = appends_more (sinks.written first) (sinks.written old) (sinks.written new) bytes piece so_far.whole appends;
+        calm = calm ∙ so_far.calm;
+        counts = rw size is;
+      }
 
   -- a piece broke off
-  pub writing_breaks : (first old new : K) (bytes piece : List ℕ) (before count after : ℕ) → count ≤ length piece
-      → EndsByFailing written failures fails (take count piece) old new → after ≡ min (before + count) (2 ^ 64 - 1)
-      → IsWriting written failures fails first bytes old before false → IsWriting written failures fails first (bytes ++ piece) new after true
-  writing_breaks first old new bytes piece before count after short ends more (so_far, still, counted) =
-      let size = length-append bytes piece in
-      let is_part = take-append-add bytes piece count in
-      record {
-        part = length bytes + count;
-        within = rw size (omega arith);
-        counts = omega arith;
-        ends = record {
-          before = ends.before;
-          appended = subst (λ bs. Appends (written first) (written ends.before) bs) (sym is_part)
-              (appends_more (written first) (written old) (written ends.before) bytes (take count piece) so_far ends.appended);
-          calm = ends.calm ∙ still;
-          failed = ends.failed;
-        };
-      }
+  module _ (first old new : K) (bytes piece : List ℕ) (before count after : ℕ) (short : count ≤ length piece)
+      (appends : Appends (sinks.written old) (sinks.written new) (take count piece)) (cause : Rises (sinks.failures old) (sinks.failures new))
+      (ends : EndsByFailing sinks.written sinks.failures sinks.fails (take count piece) old new) (more : after ≡ min (before + count) (2 ^ 64 - 1))
+      (so_far : HasWritten sinks first bytes old before) where
+    part_is : bytes ++ take count piece ≡ take (length bytes + count) (bytes ++ piece)
+    part_is = sym (take-append-add bytes piece count)
+
+    within : length bytes + count ≤ length (bytes ++ piece)
+    within = rw (length-append bytes piece) (omega (arith, short))
+
+    counted : after ≡ min (length bytes + count) (2 ^ 64 - 1)
+    counted = let counts = so_far.counts in omega (arith, counts, more)
+
+    broken_part : WritesPart (bytes ++ piece) (sinks.written first) (sinks.written new) after
+    broken_part = record {
+      part = length bytes + count;
+      within = within;
+      appends = subst (λ bs. Appends (sinks.written first) (sinks.written new) bs) part_is
+          (appends_more (sinks.written first) (sinks.written old) (sinks.written new) bytes (take count piece) so_far.whole appends);
+      counts = counted;
+    }
+
+    broken_last : BreaksOff sinks (bytes ++ piece) first new after
+    broken_last = record {
+      part = length bytes + count;
+      within = within;
+      counts = counted;
+      ends = record {
+        before = ends.before;
+        appended = subst (λ bs. Appends (sinks.written first) (sinks.written ends.before) bs) part_is
+            (appends_more (sinks.written first) (sinks.written old) (sinks.written ends.before) bytes (take count piece) so_far.whole ends.appended);
+        calm = ends.calm ∙ so_far.calm;
+        failed = ends.failed;
+      };
+    }
+
+    pub writing_breaks : HasBroken sinks first (bytes ++ piece) new after
+    writing_breaks = record {
+      part = broken_part;
+      cause = subst (λ n. Rises n (sinks.failures new)) so_far.calm cause;
+      last = broken_last;
+    }
 
   -- what broke off stays so
-  pub writing_stays : (first now : K) (bytes piece : List ℕ) (count : ℕ) → IsWriting written failures fails first bytes now count true
-      → IsWriting written failures fails first (bytes ++ piece) now count true
-  writing_stays first now bytes piece count broken =
-      let size = length-append bytes piece in
-      record {
-        part = broken.part;
-        within = let short = broken.within in rw size (omega arith);
-        counts = broken.counts;
-        ends = record {
-          before = broken.ends.before;
-          appended = subst (λ bs. Appends (written first) (written broken.ends.before) bs) (sym (take-append-le broken.part bytes piece broken.within)) broken.ends.appended;
-          calm = broken.ends.calm;
-          failed = broken.ends.failed;
-        };
-      }
+  module _ (first now : K) (bytes piece : List ℕ) (count : ℕ) (broken : HasBroken sinks first bytes now count) where
+    still_part : WritesPart (bytes ++ piece) (sinks.written first) (sinks.written now) count
+    still_part = record {
+      part = broken.part.part;
+      within = let short = broken.part.within in rw (length-append bytes piece) (omega (arith, short));
+      appends = subst (λ bs. Appends (sinks.written first) (sinks.written now) bs) (sym (take-append-le broken.part.part bytes piece broken.part.within)) broken.part.appends;
+      counts = broken.part.counts;
+    }
+
+    still_last : BreaksOff sinks (bytes ++ piece) first now count
+    still_last = record {
+      part = broken.last.part;
+      within = let short = broken.last.within in rw (length-append bytes piece) (omega (arith, short));
+      counts = broken.last.counts;
+      ends = record {
+        before = broken.last.ends.before;
+        appended = subst (λ bs. Appends (sinks.written first) (sinks.written broken.last.ends.before) bs)
+            (sym (take-append-le broken.last.part bytes piece broken.last.within)) broken.last.ends.appended;
+        calm = broken.last.ends.calm;
+        failed = broken.last.ends.failed;
+      };
+    }
+
+    pub writing_stays : HasBroken sinks first (bytes ++ piece) now count
+    writing_stays = record { part = still_part; cause = broken.cause; last = still_last }
+
+-- everything buffered from the start on is the bytes
+pub gathered_is : {K : Type 0} (sinks : Sink K) (first now : K) (before bytes gathered : List ℕ) (count : ℕ) (failed : Bool) → sinks.written first ≡ Some before
+    → sinks.written now ≡ Some gathered → before ≡ [] → failed ≡ false → IsWriting sinks first bytes now count failed → gathered ≡ bytes
+gathered_is sinks first now before bytes gathered count failed was is none whole writing =
+    let done = subst (λ (f : Bool). IsWriting sinks first bytes now count f) whole writing in
+    let appended : gathered ≡ before ++ bytes = subst₂ (λ old new. Appends old new bytes) was is done.whole in
+    appended ∙ ap (λ (b : List ℕ). b ++ bytes) none

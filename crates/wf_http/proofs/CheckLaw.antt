@@ -3,7 +3,8 @@ use Rattle.std.proofs.Common.{◌≡◌, ℕ, ◌≤◌, Bool, true, false, cond
 use Rattle.std.specs.Prelude.{nat_lt, Option, Some, None, IfSome}
 use Rattle.std.specs.Option.{option_or}
 use Rattle.std.proofs.lemmas.Bool.{ltb-false}
-use Rattle.wf_http.specs.Fields.{first_of, number}
+use Rattle.wf_text.specs.Number.{number_of_digits}
+use Rattle.wf_http.specs.Fields.{first_of}
 use Rattle.wf_http.specs.Checks.{most_body_bytes, check_coding, check_told, check_number, check_size, body_checks, first_failing}
 use Rattle.wf_http.specs.declared.refusal.Refusal.{Refusal}
 use Rattle.wf_http.specs.declared.refusal.Refusal.TheVariants as refusal
@@ -28,12 +29,12 @@ size_by_test : (n : ℕ) (over : Bool) → nat_lt most_body_bytes n ≡ over →
 size_by_test n false is none = ltb-false most_body_bytes n is
 size_by_test n true is none = let clash : Some refusal.ContentTooLarge ≡ None = none in cc
 
-size_within : (first : Option (List ℕ)) → check_size first ≡ None → IfSome first (λ digits. number digits ≤ most_body_bytes)
+size_within : (first : Option (List ℕ)) → check_size first ≡ None → IfSome first (λ digits. number_of_digits digits ≤ most_body_bytes)
 size_within None passes = tt
-size_within (Some digits) passes = size_by_test (number digits) (nat_lt most_body_bytes (number digits)) refl passes
+size_within (Some digits) passes = size_by_test (number_of_digits digits) (nat_lt most_body_bytes (number_of_digits digits)) refl passes
 
 -- a body that passes is within the limit
 pub size_passed : (codings lengths : List (List ℕ)) (first : Option (List ℕ)) → None ≡ first_failing (body_checks codings lengths) → first ≡ first_of lengths
-    → IfSome first (λ digits. number digits ≤ most_body_bytes)
+    → IfSome first (λ digits. number_of_digits digits ≤ most_body_bytes)
 size_passed codings lengths first none is =
     size_within first (rw is (last_passes (check_coding (first_of codings)) (check_told (first_of lengths)) (check_number (first_of lengths) lengths) (check_size (first_of lengths)) (sym none)))

@@ -1,5 +1,6 @@
 mod BodyLaw
 mod BreakingLaw
+mod BufferLaw
 mod CheckLaw
 mod FieldLaw
 mod HeadLaw

@@ -1,19 +1,16 @@
 -- Digits without leading zeros are the same iff they are one number.
 use Rattle.std.proofs.Common.{◌≡◌, ◌≢◌, ◌∙◌, ℕ, suc, ◌+◌, ◌*◌, ◌-◌, ◌<◌, ◌≤◌, Bool, true, false, ◌&&◌, cond, List, [], ◌∷◌, length, drop, bytes_eq, refl, sym, ap, subst, arith, inl, inr}
-use Rattle.std.specs.Prelude.{◌==◌, ◌⊎◌, fold, Some, None}
+use Rattle.std.specs.Prelude.{◌==◌, ◌⊎◌, Some, None}
 use Rattle.std.specs.Char.{is_ascii_digit}
 use Rattle.std.specs.List.{list_all, prefix_len}
 use Rattle.std.proofs.lemmas.Bool.{and_parts, leb-true, eqb-true, eqb-false, cases_lt, cases_order}
 use Rattle.std.proofs.lemmas.Bool.Decides.{same_from_decides, Decides-eqb}
 use Rattle.std.proofs.lemmas.Slice.Eq.{bytes_eq-Decides}
-use Rattle.wf_http.specs.Fields.{is_digits, is_zero, number, significant, first_of}
+use Rattle.wf_text.specs.Number.{number_of_digits, spelled_onto}
+use Rattle.wf_http.specs.Fields.{is_digits, is_zero, significant, first_of}
 
 abbrev AreDigits : List ℕ → Type 0
 AreDigits digits = list_all is_ascii_digit digits ≡ true
-
--- the number of the first digits, followed by the others
-abbrev onto : ℕ → List ℕ → ℕ
-onto n digits = fold (λ n digit. 10 * n + (digit - 48)) n digits
 
 record IsDigit (b : ℕ) : Type 0 where
   low : 48 ≤ b
@@ -25,15 +22,15 @@ digit b is = let both = and_parts _ _ is in record { low = leb-true 48 b both.0;
 -- ---- equally many digits
 
 -- the numbers are the same only for the same digits: the last digit is the remainder by ten
-same_digits : (xs ys : List ℕ) (n m : ℕ) → AreDigits xs → AreDigits ys → length xs ≡ length ys → onto n xs ≡ onto m ys → (n ≡ m) × (xs ≡ ys)
+same_digits : (xs ys : List ℕ) (n m : ℕ) → AreDigits xs → AreDigits ys → length xs ≡ length ys → spelled_onto n xs ≡ spelled_onto m ys → (n ≡ m) × (xs ≡ ys)
 same_digits [] [] n m xs_are ys_are size is = (is, refl)
 same_digits [] (y ∷ ys) n m xs_are ys_are size is = absurd (omega arith)
 same_digits (x ∷ xs) [] n m xs_are ys_are size is = absurd (omega arith)
 same_digits (x ∷ xs) (y ∷ ys) n m xs_are ys_are size is =
     let first = and_parts (is_ascii_digit x) (list_all is_ascii_digit xs) xs_are in
     let second = and_parts (is_ascii_digit y) (list_all is_ascii_digit ys) ys_are in
-    let rest = same_digits xs ys (10 * n + (x - 48)) (10 * m + (y - 48)) first.1 second.1 (omega arith) is in
-    let front : 10 * n + (x - 48) ≡ 10 * m + (y - 48) = rest.0 in
+    let rest = same_digits xs ys (n * 10 + (x - 48)) (m * 10 + (y - 48)) first.1 second.1 (omega arith) is in
+    let front : n * 10 + (x - 48) ≡ m * 10 + (y - 48) = rest.0 in
     let x_low : 48 ≤ x = (digit x first.0).low in
     let x_high : x ≤ 57 = (digit x first.0).high in
     let y_low : 48 ≤ y = (digit y second.0).low in
@@ -42,7 +39,7 @@ same_digits (x ∷ xs) (y ∷ ys) n m xs_are ys_are size is =
     (omega arith, ap (λ (b : ℕ). b ∷ xs) same ∙ ap (λ (bs : List ℕ). y ∷ bs) rest.1)
 
 -- a smaller number stays smaller when equally many digits follow
-less : (xs ys : List ℕ) (n m : ℕ) → AreDigits xs → AreDigits ys → length xs ≡ length ys → n < m → onto n xs < onto m ys
+less : (xs ys : List ℕ) (n m : ℕ) → AreDigits xs → AreDigits ys → length xs ≡ length ys → n < m → spelled_onto n xs < spelled_onto m ys
 less [] [] n m xs_are ys_are size front = front
 less [] (y ∷ ys) n m xs_are ys_are size front = absurd (omega arith)
 less (x ∷ xs) [] n m xs_are ys_are size front = absurd (omega arith)
@@ -50,18 +47,18 @@ less (x ∷ xs) (y ∷ ys) n m xs_are ys_are size front =
     let first = and_parts (is_ascii_digit x) (list_all is_ascii_digit xs) xs_are in
     let second = and_parts (is_ascii_digit y) (list_all is_ascii_digit ys) ys_are in
     let high : x ≤ 57 = (digit x first.0).high in
-    less xs ys (10 * n + (x - 48)) (10 * m + (y - 48)) first.1 second.1 (omega arith) (omega arith)
+    less xs ys (n * 10 + (x - 48)) (m * 10 + (y - 48)) first.1 second.1 (omega arith) (omega arith)
 
 -- ---- fewer digits
 
 -- digits are a smaller number than as many, or more, after a prefix
-below : (ys xs : List ℕ) (m : ℕ) → AreDigits xs → AreDigits ys → length xs ≤ length ys → 0 < m → onto 0 xs < onto m ys
+below : (ys xs : List ℕ) (m : ℕ) → AreDigits xs → AreDigits ys → length xs ≤ length ys → 0 < m → spelled_onto 0 xs < spelled_onto m ys
 below [] [] m xs_are ys_are short some = some
 below [] (x ∷ xs) m xs_are ys_are short some = absurd (omega arith)
 below (y ∷ ys) xs m xs_are ys_are short some =
     elim (cases_lt (length ys) (length xs)) [
       | inl full ↦ less xs (y ∷ ys) 0 m xs_are ys_are (omega arith) some
-      | inr more ↦ below ys xs (10 * m + (y - 48)) xs_are (and_parts (is_ascii_digit y) (list_all is_ascii_digit ys) ys_are).1 more (omega arith)
+      | inr more ↦ below ys xs (m * 10 + (y - 48)) xs_are (and_parts (is_ascii_digit y) (list_all is_ascii_digit ys) ys_are).1 more (omega arith)
     ]
 
 -- the digits begin with a zero
@@ -70,15 +67,15 @@ begins_with_zero [] = false
 begins_with_zero (b ∷ bs) = is_zero b
 
 -- fewer digits are a smaller number, if the others don't begin with a zero
-fewer : (xs ys : List ℕ) → AreDigits xs → AreDigits ys → begins_with_zero ys ≡ false → length xs < length ys → number xs < number ys
+fewer : (xs ys : List ℕ) → AreDigits xs → AreDigits ys → begins_with_zero ys ≡ false → length xs < length ys → number_of_digits xs < number_of_digits ys
 fewer xs [] xs_are ys_are no_zero short = absurd (omega arith)
 fewer xs (y ∷ ys) xs_are ys_are no_zero short =
     let first = and_parts (is_ascii_digit y) (list_all is_ascii_digit ys) ys_are in
     let low : 48 ≤ y = (digit y first.0).low in
     let other : y ≢ 48 = eqb-false y 48 no_zero in
-    below ys xs (10 * 0 + (y - 48)) xs_are first.1 (omega arith) (omega arith)
+    below ys xs (0 * 10 + (y - 48)) xs_are first.1 (omega arith) (omega arith)
 
-same_by_size : (xs ys : List ℕ) → AreDigits xs → AreDigits ys → begins_with_zero xs ≡ false → begins_with_zero ys ≡ false → number xs ≡ number ys
+same_by_size : (xs ys : List ℕ) → AreDigits xs → AreDigits ys → begins_with_zero xs ≡ false → begins_with_zero ys ≡ false → number_of_digits xs ≡ number_of_digits ys
     → (length xs ≡ length ys) ⊎ ((length xs < length ys) ⊎ (length ys < length xs)) → xs ≡ ys
 same_by_size xs ys xs_are ys_are xs_begin ys_begin is (inl size) = (same_digits xs ys 0 0 xs_are ys_are size is).1
 same_by_size xs ys xs_are ys_are xs_begin ys_begin is (inr (inl short)) = let unlike = fewer xs ys xs_are ys_are ys_begin short in absurd (omega arith)
@@ -90,7 +87,7 @@ same_by_size xs ys xs_are ys_are xs_begin ys_begin is (inr (inr short)) = let un
 record IsLeft (digits left : List ℕ) : Type 0 where
   are_digits : AreDigits left
   no_zero : begins_with_zero left ≡ false
-  same : number left ≡ number digits
+  same : number_of_digits left ≡ number_of_digits digits
 
 left_step : (d : ℕ) (ds : List ℕ) → AreDigits (d ∷ ds) → (first : Bool) → is_zero d ≡ first → IsLeft ds (significant ds) → IsLeft (d ∷ ds) (significant (d ∷ ds))
 left_step d ds are false is others =
@@ -101,9 +98,9 @@ left_step d ds are true is others =
     let one : prefix_len is_zero (d ∷ ds) ≡ suc (prefix_len is_zero ds) = ap (λ b. cond b (1 + prefix_len is_zero ds) 0) is ∙ omega arith in
     let rest : significant (d ∷ ds) ≡ significant ds = ap (λ n. drop n (d ∷ ds)) one in
     let byte : d ≡ 48 = eqb-true d 48 is in
-    let nothing : 0 ≡ 10 * 0 + (d - 48) = omega arith in
+    let nothing : 0 ≡ 0 * 10 + (d - 48) = omega arith in
     subst (λ left. IsLeft (d ∷ ds) left) (sym rest)
-    (record { are_digits = others.are_digits; no_zero = others.no_zero; same = others.same ∙ ap (λ n. onto n ds) nothing })
+    (record { are_digits = others.are_digits; no_zero = others.no_zero; same = others.same ∙ ap (λ n. spelled_onto n ds) nothing })
 
 significant_left : (digits : List ℕ) → AreDigits digits → IsLeft digits (significant digits)
 significant_left [] are = record { are_digits = refl; no_zero = refl; same = refl }
@@ -112,16 +109,16 @@ significant_left (d ∷ ds) are =
 
 -- ---- the theorem
 
-same_number : (xs ys : List ℕ) → AreDigits xs → AreDigits ys → bytes_eq (significant xs) (significant ys) ≡ (number xs == number ys)
+same_number : (xs ys : List ℕ) → AreDigits xs → AreDigits ys → bytes_eq (significant xs) (significant ys) ≡ (number_of_digits xs == number_of_digits ys)
 same_number xs ys xs_are ys_are =
     let first = significant_left xs xs_are in
     let second = significant_left ys ys_are in
     let bytes = bytes_eq-Decides (significant xs) (significant ys) in
-    same_from_decides {P = number xs ≡ number ys} (bytes_eq (significant xs) (significant ys)) (number xs == number ys) (
-      λ e. sym first.same ∙ ap (λ (ds : List ℕ). number ds) (bytes.0 e) ∙ second.same,
+    same_from_decides {P = number_of_digits xs ≡ number_of_digits ys} (bytes_eq (significant xs) (significant ys)) (number_of_digits xs == number_of_digits ys) (
+      λ e. sym first.same ∙ ap (λ (ds : List ℕ). number_of_digits ds) (bytes.0 e) ∙ second.same,
       λ is. bytes.1 (same_by_size (significant xs) (significant ys) first.are_digits second.are_digits first.no_zero second.no_zero
           (first.same ∙ is ∙ sym second.same) (cases_order (length (significant xs)) (length (significant ys)))),
-    ) (Decides-eqb (number xs) (number ys))
+    ) (Decides-eqb (number_of_digits xs) (number_of_digits ys))
 
 -- ---- the lengths of a body
 
@@ -130,12 +127,12 @@ digits_of [] is = refl
 digits_of (b ∷ bs) is = is
 
 same_numbers : (lengths : List (List ℕ)) (first : List ℕ) → is_digits first ≡ true → list_all is_digits lengths ≡ true
-    → list_all (λ value. bytes_eq (significant value) (significant first)) lengths ≡ list_all (λ value. number value == number first) lengths
+    → list_all (λ value. bytes_eq (significant value) (significant first)) lengths ≡ list_all (λ value. number_of_digits value == number_of_digits first) lengths
 same_numbers [] first is are = refl
 same_numbers (value ∷ lengths) first is are =
     let parts = and_parts (is_digits value) (list_all is_digits lengths) are in
     ap (λ t. t && list_all (λ other. bytes_eq (significant other) (significant first)) lengths) (same_number value first (digits_of value parts.0) (digits_of first is))
-    ∙ ap (λ t. (number value == number first) && t) (same_numbers lengths first is parts.1)
+    ∙ ap (λ t. (number_of_digits value == number_of_digits first) && t) (same_numbers lengths first is parts.1)
 
 first_is_digits : (lengths : List (List ℕ)) (first : List ℕ) → first_of lengths ≡ Some first → list_all is_digits lengths ≡ true → is_digits first ≡ true
 first_is_digits [] first told are = let clash : None ≡ Some first = told in cc
@@ -147,8 +144,8 @@ first_is_digits (value ∷ lengths) first told are =
 -- all lengths are digits, the same as the first one's leading zeros aside, iff they are one number
 pub numbers_agree : (lengths : List (List ℕ)) (first : List ℕ) (digits same : Bool) → first_of lengths ≡ Some first → digits ≡ list_all is_digits lengths
     → same ≡ list_all (λ value. bytes_eq (significant value) (significant first)) lengths
-    → (digits && same) ≡ (list_all is_digits lengths && list_all (λ value. number value == number first) lengths)
+    → (digits && same) ≡ (list_all is_digits lengths && list_all (λ value. number_of_digits value == number_of_digits first) lengths)
 numbers_agree lengths first true same told all alike =
     alike ∙ same_numbers lengths first (first_is_digits lengths first told (sym all)) (sym all)
-    ∙ ap (λ t. t && list_all (λ value. number value == number first) lengths) all
-numbers_agree lengths first false same told all alike = ap (λ t. t && list_all (λ value. number value == number first) lengths) all
+    ∙ ap (λ t. t && list_all (λ value. number_of_digits value == number_of_digits first) lengths) all
+numbers_agree lengths first false same told all alike = ap (λ t. t && list_all (λ value. number_of_digits value == number_of_digits first) lengths) all

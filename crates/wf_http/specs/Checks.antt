@@ -3,7 +3,8 @@ use Rattle.std.specs.Prelude.{ℕ, ◌==◌, Bool, ◌&&◌, nat_lt, List, [], �
 use Rattle.std.specs.List.{list_all}
 use Rattle.wf_http.specs.Head.{Head}
 use Rattle.wf_http.specs.Target.{path_of, resource_at, method_of, method_name}
-use Rattle.wf_http.specs.Fields.{values, first_of, is_digits, number}
+use Rattle.wf_text.specs.Number.{number_of_digits}
+use Rattle.wf_http.specs.Fields.{values, first_of, is_digits}
 use Rattle.wf_http.specs.declared.refusal.Refusal.{Refusal}
 use Rattle.wf_http.specs.declared.refusal.Refusal.TheVariants as refusal
 use Rattle.wf_http.specs.declared.resource.Resource.{Resource}
@@ -64,7 +65,7 @@ check_told (Some first) = None
 
 -- the lengths are written in digits, and are all the same number
 abbrev pub are_one_number : List ℕ → List (List ℕ) → Bool
-are_one_number first lengths = list_all is_digits lengths && list_all (λ length. number length == number first) lengths
+are_one_number first lengths = list_all is_digits lengths && list_all (λ length. number_of_digits length == number_of_digits first) lengths
 
 abbrev pub check_number : Option (List ℕ) → List (List ℕ) → Option Refusal
 check_number None lengths = None
@@ -73,7 +74,7 @@ check_number (Some first) lengths = if are_one_number first lengths then None el
 -- the number is within the limit
 abbrev pub check_size : Option (List ℕ) → Option Refusal
 check_size None = None
-check_size (Some first) = if nat_lt most_body_bytes (number first) then Some refusal.ContentTooLarge else None
+check_size (Some first) = if nat_lt most_body_bytes (number_of_digits first) then Some refusal.ContentTooLarge else None
 
 abbrev pub body_checks : List (List ℕ) → List (List ℕ) → List (Option Refusal)
 body_checks codings lengths =
@@ -82,7 +83,7 @@ body_checks codings lengths =
 -- the body's length
 abbrev pub body_length : Option (List ℕ) → ℕ
 body_length None = 0
-body_length (Some first) = number first
+body_length (Some first) = number_of_digits first
 
 -- ---- what is asked for
 

@@ -1,5 +1,5 @@
--- The header fields of a request (RFC 9110, section 5), and the number that a length means (section 8.6).
-use Rattle.std.specs.Prelude.{ℕ, ◌+◌, ◌*◌, ◌-◌, ◌==◌, Bool, false, List, [], ◌∷◌, drop, fold, map, filter, Option, Some, None}
+-- The header fields of a request (RFC 9110, section 5).
+use Rattle.std.specs.Prelude.{ℕ, ◌==◌, Bool, false, List, [], ◌∷◌, drop, map, filter, Option, Some, None}
 use Rattle.std.specs.List.{list_all, prefix_len}
 use Rattle.std.specs.Char.{is_ascii_digit}
 use Rattle.std.specs.Str.{str_eq_ignore_ascii_case}
@@ -16,10 +16,6 @@ values name fields = map (λ field. field.1) (filter (is_named name) fields)
 abbrev pub is_digits : List ℕ → Bool
 is_digits [] = false
 is_digits (byte ∷ bytes) = list_all is_ascii_digit (byte ∷ bytes)
-
--- the whole number with these digits, however many there are
-abbrev pub number : List ℕ → ℕ
-number digits = fold (λ n digit. 10 * n + (digit - 48)) 0 digits
 
 abbrev pub is_zero : ℕ → Bool
 is_zero digit = digit == 48

@@ -4,5 +4,4 @@ pub mod Fields
 pub mod Head
 pub mod Request
 pub mod Response
-pub mod RoomLaws
 pub mod Target

@@ -1,8 +1,7 @@
 -- The bytes of a response (RFC 9112, sections 4, 5, 6.2 and 9.6; RFC 9110, sections 8.3 and 10.2.1).
-use Rattle.std.specs.Prelude.{◌≡◌, ◌≤◌, ◌-◌, ◌^◌, ℕ, Bool, true, false, min, List, [], ◌++◌, length, take, decimal, codes, unwrap_or, Option, Some, None}
+use Rattle.std.specs.Prelude.{◌≡◌, ◌≤◌, ◌-◌, ◌^◌, ℕ, min, List, [], ◌++◌, length, take, decimal, codes, unwrap_or, Option, Some, None}
 use Rattle.std.specs.Io.KnownBytes.{Appends}
 use Rattle.http.specs.StatusCode.{code_digits, reason_phrase}
-use Rattle.wf_stream.specs.Reading.{Rises}
 use Rattle.wf_http.specs.Target.{method_name}
 use Rattle.wf_http.specs.declared.refusal.Allowed.{Allowed}
 
@@ -50,15 +49,3 @@ pub record WritesPart (bytes : List ℕ) (old new : Option (List ℕ)) (count : 
   pub within : part ≤ length bytes
   pub appends : Appends old new (take part bytes)
   pub counts : IsCount part count
-
--- ---- how the code writes: piece by piece, until one fails
-
--- all the bytes were appended; or, after a failure, a prefix of them
-abbrev pub IsProgress : Option (List ℕ) → List ℕ → Option (List ℕ) → ℕ → Bool → Type 0
-IsProgress start bytes now written false = Appends start now bytes × IsCount (length bytes) written
-IsProgress start bytes now written true = WritesPart bytes start now written
-
--- the writer's count of failures increased after a failure, and is unchanged otherwise
-abbrev pub CountsProgress : ℕ → ℕ → Bool → Type 0
-CountsProgress first now false = now ≡ first
-CountsProgress first now true = Rises first now

@@ -1,12 +1,14 @@
 //! The checks on a head.
 ghost use Rattle.std.specs.Prelude.{◌≡◌, ◌≤◌, ◌&&◌, Some, IfSome, option_map};
-ghost use Rattle.wf_http.specs.Fields.{first_of, number};
+ghost use Rattle.wf_text.specs.Number.{number_of_digits};
+ghost use Rattle.wf_http.specs.Fields.{first_of};
 ghost use Rattle.wf_http.specs.Checks.{most_body_bytes, codings_of, lengths_of, check_target, check_path, check_method, check_coding, check_told, are_one_number, check_number, check_size, head_checks, body_checks, body_length, publish_asked, asked_at, first_failing, judged};
 
-use crate::fields::{CONTENT_LENGTH, Fields, TRANSFER_ENCODING, number};
+use crate::fields::{CONTENT_LENGTH, Fields, TRANSFER_ENCODING};
 use crate::refusal::Refusal;
 use crate::resource::{Asked, Resource};
 use crate::target::{method_name, method_of, path_of, resource_at};
+use wf_text::digits::number_of_digits;
 
 /// The greatest length of a body, in bytes.
 pub const MOST_BODY_BYTES: usize = 131_072;
@@ -122,7 +124,7 @@ fn check_size(first: Option<&[u8]>) -> Option<Refusal>
     match first {
         None => None,
         Some(digits) => {
-            if number(digits) > MOST_BODY_BYTES as u64 {
+            if number_of_digits(digits) > MOST_BODY_BYTES as u64 {
                 Some(Refusal::ContentTooLarge)
             } else {
                 None
@@ -145,13 +147,13 @@ fn refuse_body(fields: &Fields<'_>) -> Option<Refusal>
 
 // The length of a body within the limit.
 fn body_length(first: Option<&[u8]>) -> usize
-    requires { IfSome
-        (option_map (λ value. value.now) first) (λ digits. number digits ≤ most_body_bytes) }
+    requires { IfSome (option_map (λ value. value.now) first)
+        (λ digits. number_of_digits digits ≤ most_body_bytes) }
     ensures { result ≡ body_length (option_map (λ value. value.now) first.entry) }
 {
     match first {
         None => 0,
-        Some(digits) => number(digits) as usize,
+        Some(digits) => number_of_digits(digits) as usize,
     }
 }
 

@@ -1,13 +1,13 @@
 //! The header fields of a request.
-ghost use Rattle.std.specs.Prelude.{◌≡◌, ◌≤◌, ◌^◌, ◌-◌, ◌&&◌, not, is_some, bytes_eq, min, length, map, find, option_map};
-ghost use Rattle.std.specs.Char.{is_ascii_digit};
+ghost use Rattle.std.specs.Prelude.{◌≡◌, ◌≤◌, ◌&&◌, not, is_some, bytes_eq, length, map, find, option_map};
 ghost use Rattle.std.specs.List.{list_all, prefix_len};
 ghost use Rattle.httparse.specs.Spans.{header_bytes};
-ghost use Rattle.wf_http.specs.Fields.{is_named, is_digits, is_zero, number, significant, values, first_of};
+ghost use Rattle.wf_http.specs.Fields.{is_named, is_digits, is_zero, significant, values, first_of};
 
 use crate::span::covered;
 use httparse::spans::HeaderSpan;
 use std::marker::Model;
+use wf_text::digits::are_digits;
 
 /// The name of the field with a body's transfer codings (RFC 9112, section 6.1).
 pub const TRANSFER_ENCODING: &[u8] = b"Transfer-Encoding";
@@ -15,19 +15,13 @@ pub const TRANSFER_ENCODING: &[u8] = b"Transfer-Encoding";
 /// The name of the field with a body's length (RFC 9110, section 8.6).
 pub const CONTENT_LENGTH: &[u8] = b"Content-Length";
 
-fn are_all_digits(bytes: &[u8]) -> bool
-    ensures { result ≡ list_all is_ascii_digit bytes.now }
-{
-    bytes.iter().all(|byte| byte.is_ascii_digit())
-}
-
 // Whether a value is one or more decimal digits.
 fn is_digits(value: &[u8]) -> bool
     ensures { result ≡ is_digits value.now }
 {
     match value {
         [] => false,
-        [_, ..] => are_all_digits(value),
+        [_, ..] => are_digits(value),
     }
 }
 
@@ -43,19 +37,6 @@ fn significant(digits: &[u8]) -> &[u8]
     ensures { result.now ≡ significant digits.now }
 {
     digits.split_at(count_zeros(digits)).1
-}
-
-/// The whole number with these digits, or `u64::MAX` if it is greater.
-pub fn number(digits: &[u8]) -> u64
-    ensures { result ≡ min (number digits.now) (2 ^ 64 - 1) }
-{
-    let mut number = 0u64;
-    for digit in digits {
-        number = number
-            .saturating_mul(10)
-            .saturating_add(u64::from(digit.saturating_sub(b'0')));
-    }
-    number
 }
 
 // Whether the field at a span has this name.

@@ -8,6 +8,7 @@ ghost use Rattle.wf_http.specs.Checks.{judged, most_body_bytes};
 ghost use Rattle.wf_http.specs.declared.fault.RequestFault.TheVariants.{ReadFailed, Memory};
 ghost use Rattle.wf_stream.specs.Reading.{Counts, ReadsPiece};
 
+use crate::buffer::append;
 use crate::check::{MOST_BODY_BYTES, judge};
 use crate::fault::RequestFault;
 use crate::fields::Fields;
@@ -78,16 +79,6 @@ fn ended(bytes: &[u8]) -> RequestFault
 // The bytes read while looking for a head, stored inline: allocates nothing.
 type HeadBytes = ArrayVec<u8, MOST_HEAD_BYTES>;
 
-// Appends a piece.
-#[tactic(auto, using(crate::specs::RoomLaws::has_room, crate::specs::RoomLaws::is_put, crate::specs::RoomLaws::pushed))]
-fn extend(bytes: &mut HeadBytes, piece: &[u8])
-    requires { length bytes.old.items + length piece.now ≤ most_head_bytes }
-    ensures items { bytes.new.items ≡ bytes.old.items ++ piece.now }
-    ensures size { length bytes.new.items ≡ length bytes.old.items + length piece.now }
-{
-    bytes.try_extend_from_slice(piece).unwrap();
-}
-
 // Reads once, at most as many bytes as there is room for, and appends them.
 #[tactic(auto, using(crate::proofs::HeadLaw::piece_kept, crate::proofs::HeadLaw::piece_taken))]
 fn read_on<S: Source>(source: &mut S, bytes: &mut HeadBytes) -> io::Result<usize>
@@ -105,7 +96,7 @@ fn read_on<S: Source>(source: &mut S, bytes: &mut HeadBytes) -> io::Result<usize
     let room = MOST_HEAD_BYTES - bytes.len();
     match source.read(&mut piece[..room]) {
         Ok(count) => {
-            extend(bytes, &piece[..count]);
+            append(bytes, &piece[..count]);
             Ok(count)
         }
         Err(error) => Err(error),

@@ -5,6 +5,7 @@
 //! - [`front::Front`] is the head of a request with the bytes read after it; [`check::judge`] checks a head; [`body::read_body`]
 //!   reads a body; [`request::Request`] combines these.
 //! - [`response::Response`] is a response, which writes itself.
+//! - [`buffer::append`] appends to bytes stored inline.
 //!
 //! **Model.** A request is its head, what the head asks for, and its body (`specs/Request.antt`); a response is its status, media
 //! type, allowed method and body (`specs/Response.antt`).
@@ -22,6 +23,7 @@
 #![tactic(auto)]
 
 pub mod body;
+pub mod buffer;
 pub mod check;
 pub mod fault;
 pub mod fields;

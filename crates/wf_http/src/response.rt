@@ -1,9 +1,9 @@
 //! Responses, and how they are written.
-ghost use Rattle.std.specs.Prelude.{◌≡◌, ◌≤◌, ◌++◌, ℕ, false, List, [], Option, length, take, IfOk, IfErr, OnOk, OnErr};
+ghost use Rattle.std.specs.Prelude.{◌≡◌, ◌≤◌, ◌++◌, ℕ, false, List, [], length, IfOk, IfErr, OnOk, OnErr};
 ghost use Rattle.std.specs.Io.KnownBytes.{Appends};
 ghost use Rattle.wf_stream.specs.Reading.{Rises};
 ghost use Rattle.wf_http.specs.Breaking.{BreaksOff, IsWriting};
-ghost use Rattle.wf_http.specs.Response.{reason, allow_line, head_bytes, response_bytes, IsCount, WritesPart, IsProgress, CountsProgress};
+ghost use Rattle.wf_http.specs.Response.{reason, allow_line, head_bytes, response_bytes, IsCount, WritesPart};
 
 use crate::gathered::Gathered;
 use crate::refusal::Allowed;
@@ -41,16 +41,9 @@ impl Progress {
 
 // Writes one more piece, unless the writer has failed.
 fn put<K: Sink>(sink: &mut K, progress: &mut Progress, piece: &[u8])
-    ensures written { (start : Option (List ℕ)) (bytes : List ℕ) →
-        IsProgress start bytes (K.written sink.old) progress.old.written progress.old.failed →
-        IsProgress start (bytes ++ piece.now)
-        (K.written sink.new) progress.new.written progress.new.failed }
-    ensures failures { (first : ℕ) → CountsProgress first (K.failures sink.old) progress.old.failed
-        → CountsProgress first (K.failures sink.new) progress.new.failed }
-    ensures last { (first : K) (bytes : List ℕ) →
-        IsWriting K.written K.failures K.fails first bytes
-        sink.old progress.old.written progress.old.failed →
-        IsWriting K.written K.failures K.fails first (bytes ++ piece.now)
+    ensures { (first : K) (bytes : List ℕ) →
+        IsWriting K.Sink first bytes sink.old progress.old.written progress.old.failed →
+        IsWriting K.Sink first (bytes ++ piece.now)
         sink.new progress.new.written progress.new.failed }
 {
     if progress.failed {
@@ -128,17 +121,9 @@ impl<'b> Response<'b> {
 
     // Writes the lines before the body.
     fn put_lines<K: Sink>(&self, sink: &mut K, progress: &mut Progress)
-        ensures written { (start : Option (List ℕ)) →
-            IsProgress start [] (K.written sink.old) progress.old.written progress.old.failed →
-            IsProgress start (head_bytes self.now)
-            (K.written sink.new) progress.new.written progress.new.failed }
-        ensures failures { (first : ℕ) →
-            CountsProgress first (K.failures sink.old) progress.old.failed →
-            CountsProgress first (K.failures sink.new) progress.new.failed }
-        ensures last { (first : K) →
-            IsWriting K.written K.failures K.fails first []
-            sink.old progress.old.written progress.old.failed →
-            IsWriting K.written K.failures K.fails first (head_bytes self.now)
+        ensures { (first : K) →
+            IsWriting K.Sink first [] sink.old progress.old.written progress.old.failed →
+            IsWriting K.Sink first (head_bytes self.now)
             sink.new progress.new.written progress.new.failed }
     {
         let mut digits = Buffer::new();
@@ -157,17 +142,9 @@ impl<'b> Response<'b> {
 
     // Writes the lines before the body, in one piece if they fit the buffer.
     fn put_head<K: Sink>(&self, sink: &mut K, progress: &mut Progress)
-        ensures written { (start : Option (List ℕ)) →
-            IsProgress start [] (K.written sink.old) progress.old.written progress.old.failed →
-            IsProgress start (head_bytes self.now)
-            (K.written sink.new) progress.new.written progress.new.failed }
-        ensures failures { (first : ℕ) →
-            CountsProgress first (K.failures sink.old) progress.old.failed →
-            CountsProgress first (K.failures sink.new) progress.new.failed }
-        ensures last { (first : K) →
-            IsWriting K.written K.failures K.fails first []
-            sink.old progress.old.written progress.old.failed →
-            IsWriting K.written K.failures K.fails first (head_bytes self.now)
+        ensures { (first : K) →
+            IsWriting K.Sink first [] sink.old progress.old.written progress.old.failed →
+            IsWriting K.Sink first (head_bytes self.now)
             sink.new progress.new.written progress.new.failed }
     {
         let mut head = Gathered::new();
@@ -191,8 +168,8 @@ impl<'b> Response<'b> {
         ensures calm { OnOk result (K.failures sink.new ≡ K.failures sink.old) }
         ensures cause { OnErr result (Rises (K.failures sink.old) (K.failures sink.new)) }
         // No call comes after one that failed.
-        ensures last { IfErr result (λ cut. BreaksOff K.written K.failures K.fails
-            (response_bytes self.now) sink.old sink.new cut.written) }
+        ensures last { IfErr result (λ cut.
+            BreaksOff K.Sink (response_bytes self.now) sink.old sink.new cut.written) }
     {
         let mut progress = Progress::start();
         self.put_head(sink, &mut progress);

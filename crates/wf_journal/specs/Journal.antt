@@ -5,6 +5,8 @@ use Rattle.wf_def.specs.Definition.{Definition}
 use Rattle.wf_journal.specs.declared.opening.OpenFault.{OpenFault}
 use Rattle.wf_journal.specs.declared.opening.OpenFault.TheVariants.{TapeFailed, BadRecord}
 use Rattle.wf_tape.specs.Tape.{IsOnlyImage, HasRisen}
+use Rattle.wf_tape.specs.Change.{inside}
+use Rattle.wf_tape.specs.declared.tape.Tape.{Ghosts as Tape}
 use Rattle.wf_journal.specs.Spelling.{Spells}
 use Rattle.wf_journal.specs.Records.{Splits, ReadsAs, AreRecords, AreWritten, IsBad}
 
@@ -75,19 +77,49 @@ pub record IsAdded (r : Record Definition) (old new : List ℕ) (images : List �
 
 -- at this byte offset, after whole records, the content is bad
 abbrev pub IsBadAt : List ℕ → ℕ → Type 0
-IsBadAt content place = (records : List (Record Definition)) × Splits content records (drop place content) × IsBad (drop place content)
+IsBadAt content offset = (records : List (Record Definition)) × Splits content records (drop offset content) × IsBad (drop offset content)
 
 -- a bad record is returned only if there is one at that byte offset
 abbrev pub IsWhereBad : OpenFault → List ℕ → Type 0
-IsWhereBad (BadRecord place) content = IsBadAt content place
+IsWhereBad (BadRecord offset) content = IsBadAt content offset
 IsWhereBad fault content = Unit {0}
 
 -- the error isn't a bad record
 abbrev pub IsNotBad : OpenFault → Type 0
-IsNotBad (BadRecord place) = ⊥
+IsNotBad (BadRecord offset) = ⊥
 IsNotBad fault = Unit {0}
 
 -- the tape's failure is returned only if the count of failures rose
 abbrev pub IsWhyFailed : OpenFault → ℕ → ℕ → Type 0
 IsWhyFailed TapeFailed before now = HasRisen before now
 IsWhyFailed fault before now = Unit {0}
+
+-- ---- the same of a tape
+
+-- the tape holds exactly these records, in whatever versions, all of them synced
+abbrev pub TapeHolds : {T : Type 0} → Tape T → T → List (Record Definition) → Type 0
+TapeHolds tapes tape records = HoldsRecords (tapes.content tape) (tapes.images tape) records
+
+-- the same, each as it is written
+abbrev pub TapeHoldsWritten : {T : Type 0} → Tape T → T → List (Record Definition) → Type 0
+TapeHoldsWritten tapes tape records = Holds (tapes.content tape) (tapes.images tape) records
+
+-- the tape holds only whole records, all of them synced
+abbrev pub TapeIsSettled : {T : Type 0} → Tape T → T → Type 0
+TapeIsSettled tapes tape = IsSettled (tapes.content tape) (tapes.images tape)
+
+-- each image of the tape reads as these records
+abbrev pub TapeReadsAs : {T : Type 0} → Tape T → T → List (Record Definition) → Type 0
+TapeReadsAs tapes tape records = AllReadAs (tapes.images tape) records
+
+-- the record's bytes were appended, and the content is the only image
+abbrev pub TapeGrows : {T : Type 0} → Record Definition → Tape T → T → T → Type 0
+TapeGrows r tapes old new = IsAdded r (tapes.content old) (tapes.content new) (tapes.images new)
+
+-- what a crash may leave after a call comes, by the step, from what one could leave before it
+abbrev pub LeavesBy : {T : Type 0} → (List ℕ → List ℕ → Type 0) → Tape T → T → T → Type 0
+LeavesBy step tapes old new = Follows step (tapes.images old) (tapes.images new)
+
+-- and so does what a crash inside the call could have left
+abbrev pub LeavesInsideBy : {T : Type 0} → (List ℕ → List ℕ → Type 0) → Tape T → T → T → Type 0
+LeavesInsideBy step tapes old new = Follows step (tapes.images old) (inside tapes old new)

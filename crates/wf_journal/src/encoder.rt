@@ -3,7 +3,7 @@ ghost use Rattle.wf_journal.specs.Record.{view, texts, HasText, IsRecord};
 ghost use Rattle.wf_journal.specs.Records.{AreWritten};
 ghost use Rattle.wf_journal.specs.Kind.{most_body_bytes};
 ghost use Rattle.wf_journal.specs.Version.{version_written};
-ghost use Rattle.wf_journal.specs.Spelling.{kind_of, header_of, body, spelling, Spells};
+ghost use Rattle.wf_journal.specs.Spelling.{kind_of, body, spelling, Spells};
 ghost use Rattle.wf_spelling.specs.Canon.{canon};
 
 use crate::decoder::HEADER_BYTES;
@@ -13,7 +13,7 @@ use crate::record::Record;
 use crate::version::Version;
 use std::alloc::{AllocError, Global};
 use wf_canon::Canon;
-use wf_frame::{put, put_header};
+use wf_frame::{ballot_in_range, put, put_header, round_in_range, slot_in_range};
 
 /// The record's encoding.
 pub fn encode(alloc: Global, entry: &Record) -> Result<Vec<u8>, AllocError>
@@ -40,9 +40,9 @@ fn push(out: &mut Vec<u8>, entry: &Record) -> Result<(), AllocError>
     ensures is_record { IsRecord (view entry.now) }
     ensures spelled { OnOk result (out.new.items ≡ out.old.items ++ spelling (view entry.now)) }
 {
-    let length = body_length(entry);
+    let (kind, length) = shape_of(entry);
     out.reserve(HEADER_BYTES + length)?;
-    put_header(out, written_header(entry), length);
+    put_header(out, written_header(kind), length);
     put_body(out, entry);
     Ok(())
 }
@@ -57,55 +57,46 @@ impl Record {
     pub fn length(&self) -> usize
         ensures { result ≡ length (spelling (view self.now)) }
     {
-        HEADER_BYTES + body_length(self)
+        HEADER_BYTES + shape_of(self).1
     }
 }
 
-/// The version and the kind of the record as it is written.
-fn written_header(entry: &Record) -> Header
-    ensures { result ≡ header_of version_written (texts (view entry.now)) }
+/// The header of a record of this kind as it is written.
+fn written_header(kind: Kind) -> Header
+    ensures { result ≡ record { version = version_written; kind = kind } }
 {
     Header {
         version: Version::written(),
-        kind: kind_of(entry),
+        kind,
     }
 }
 
-/// The record's kind.
-fn kind_of(entry: &Record) -> Kind
-    ensures { result ≡ kind_of (texts (view entry.now)) }
-{
-    match entry {
-        Record::Tried(_) => Kind::Tried,
-        Record::Promised(_, _) => Kind::Promised,
-        Record::Accepted(_, _, _) => Kind::Accepted,
-        Record::Published(_, _) => Kind::Published,
-    }
-}
-
-/// The number of bytes of the record's body.
+/// The record's kind, and the number of bytes of its body.
 #[tactic(auto, using(crate::proofs::Fields::body_has_length))]
-fn body_length(entry: &Record) -> usize
-    ensures value { result ≡ length (body (texts (view entry.now))) }
-    ensures most { result ≤ most_body_bytes }
+fn shape_of(entry: &Record) -> (Kind, usize)
+    ensures kind { result.0 ≡ kind_of (texts (view entry.now)) }
+    ensures length { result.1 ≡ length (body (texts (view entry.now))) }
+    ensures most { result.1 ≤ most_body_bytes }
     ensures is_record { IsRecord (view entry.now) }
 {
     match entry {
         Record::Tried(round) => {
-            let _ = round.number();
-            4
+            round_in_range(*round);
+            (Kind::Tried, 4)
         }
         Record::Promised(slot, ballot) => {
-            let _ = (slot.seq(), ballot.round());
-            7
+            slot_in_range(*slot);
+            ballot_in_range(*ballot);
+            (Kind::Promised, 7)
         }
         Record::Accepted(slot, ballot, canon) => {
-            let _ = (slot.seq(), ballot.round());
-            7 + text_length(canon)
+            slot_in_range(*slot);
+            ballot_in_range(*ballot);
+            (Kind::Accepted, 7 + text_length(canon))
         }
         Record::Published(slot, canon) => {
-            let _ = slot.seq();
-            2 + text_length(canon)
+            slot_in_range(*slot);
+            (Kind::Published, 2 + text_length(canon))
         }
     }
 }

@@ -4,10 +4,11 @@ ghost use Rattle.std.specs.Prelude.{◌≡◌, ◌≢◌, ◌≤◌, ◌<◌, �
 ghost use Rattle.wf_tape.specs.declared.fault.TapeFault.TheVariants.{Memory};
 ghost use Rattle.wf_journal.specs.Record.{view};
 ghost use Rattle.wf_journal.specs.Records.{length_of};
-ghost use Rattle.wf_tape.specs.Tape.{IsOnlyImage, IsUnchanged, LeavesNoOther, LeavesOldOr, Elapses, HasCause};
+ghost use Rattle.wf_tape.specs.Tape.{IsOnlyImage, LeavesOldOr, HasCause};
+ghost use Rattle.wf_tape.specs.Change.{inside, Stays, StaysInside, GoesOn};
 ghost use Rattle.wf_journal.specs.Front.{HasRead};
 ghost use Rattle.wf_journal.specs.OpenFault.{open_fault};
-ghost use Rattle.wf_journal.specs.Journal.{HoldsRecords, AllReadAs, Follows, ReadsSame, IsWhereBad, IsNotBad, IsWhyFailed};
+ghost use Rattle.wf_journal.specs.Journal.{TapeHolds, TapeReadsAs, LeavesBy, LeavesInsideBy, ReadsSame, IsWhereBad, IsNotBad, IsWhyFailed};
 
 use crate::journal::Journal;
 use crate::opening::OpenFault;
@@ -46,12 +47,12 @@ impl<T: Tape> Found<T> {
         ensures records { IfOk result (λ x. HasRead x.0.bytes (map view x.1.items) x.0.front) }
         ensures size { IfOk result (λ x. length_of (map view x.1.items) < 2 ^ 64) }
         ensures content { T.honest → IfOk result (λ x. x.0.bytes ≡ T.content tape) }
-        ensures unchanged { T.honest → IfOk result (λ x. IsUnchanged (T.content tape) (T.content x.0.tape) (T.images tape) (T.images x.0.tape)) }
-        ensures unchanged_err { T.honest → IfErr result (λ e. IsUnchanged (T.content tape) (T.content e.0) (T.images tape) (T.images e.0)) }
-        ensures time { T.honest → IfOk result (λ x. Elapses (T.moment tape) (T.moment x.0.tape) (T.left_since tape) (T.left_since x.0.tape)) }
-        ensures time_err { T.honest → IfErr result (λ e. Elapses (T.moment tape) (T.moment e.0) (T.left_since tape) (T.left_since e.0)) }
-        ensures inside { T.honest → IfOk result (λ x. LeavesNoOther (T.images tape) (T.left_since x.0.tape (T.moment tape))) }
-        ensures inside_err { T.honest → IfErr result (λ e. LeavesNoOther (T.images tape) (T.left_since e.0 (T.moment tape))) }
+        ensures unchanged { T.honest → IfOk result (λ x. Stays T.Tape tape x.0.tape) }
+        ensures unchanged_err { T.honest → IfErr result (λ e. Stays T.Tape tape e.0) }
+        ensures time { T.honest → IfOk result (λ x. GoesOn T.Tape tape x.0.tape) }
+        ensures time_err { T.honest → IfErr result (λ e. GoesOn T.Tape tape e.0) }
+        ensures inside { T.honest → IfOk result (λ x. StaysInside T.Tape tape x.0.tape) }
+        ensures inside_err { T.honest → IfErr result (λ e. StaysInside T.Tape tape e.0) }
         ensures bad { T.honest → IfErr result (λ e. IsWhereBad e.1 (T.content tape)) }
         ensures later { IfOk result (λ x. T.failed tape ≤ T.failed x.0.tape) }
         ensures failed { IfErr result (λ e. IsWhyFailed e.1 (T.failed tape) (T.failed e.0)) }
@@ -74,19 +75,27 @@ impl<T: Tape> Found<T> {
     /// tape, unchanged unless the tape itself failed. A tape that won't fail still won't, and doesn't.
     pub fn settle(self) -> Result<Journal<T>, (T, OpenFault)>
         ensures running { IfOk result (λ journal. journal.halted ≡ false) }
-        ensures synced { T.honest → (records : _) → HasRead self.bytes records self.front → IfOk result (λ journal. HoldsRecords (T.content journal.tape) (T.images journal.tape) records) }
-        ensures reads { T.honest → (records : _) → HasRead self.bytes records self.front → IfOk result (λ journal. AllReadAs (T.images journal.tape) records) }
-        ensures images { T.honest → IfOk result (λ journal. Follows ReadsSame (T.images self.tape) (T.images journal.tape)) }
-        ensures images_err { T.honest → IfErr result (λ e. Follows ReadsSame (T.images self.tape) (T.images e.0)) }
-        ensures unchanged { T.honest → IfErr result (λ e. e.1 ≢ OpenFault.TapeFailed → IsUnchanged (T.content self.tape) (T.content e.0) (T.images self.tape) (T.images e.0)) }
-        ensures time { T.honest → IfOk result (λ journal. Elapses (T.moment self.tape) (T.moment journal.tape) (T.left_since self.tape) (T.left_since journal.tape)) }
-        ensures time_err { T.honest → IfErr result (λ e. Elapses (T.moment self.tape) (T.moment e.0) (T.left_since self.tape) (T.left_since e.0)) }
-        ensures inside { T.honest → IfOk result (λ journal. Follows ReadsSame (T.images self.tape) (T.left_since journal.tape (T.moment self.tape))) }
-        ensures inside_err { T.honest → IfErr result (λ e. Follows ReadsSame (T.images self.tape) (T.left_since e.0 (T.moment self.tape))) }
+        ensures synced { T.honest → (records : _) → HasRead self.bytes records self.front →
+            IfOk result (λ journal. TapeHolds T.Tape journal.tape records) }
+        ensures reads { T.honest → (records : _) → HasRead self.bytes records self.front →
+            IfOk result (λ journal. TapeReadsAs T.Tape journal.tape records) }
+        ensures images { T.honest →
+            IfOk result (λ journal. LeavesBy ReadsSame T.Tape self.tape journal.tape) }
+        ensures images_err { T.honest →
+            IfErr result (λ e. LeavesBy ReadsSame T.Tape self.tape e.0) }
+        ensures unchanged { T.honest →
+            IfErr result (λ e. e.1 ≢ OpenFault.TapeFailed → Stays T.Tape self.tape e.0) }
+        ensures time { T.honest → IfOk result (λ journal. GoesOn T.Tape self.tape journal.tape) }
+        ensures time_err { T.honest → IfErr result (λ e. GoesOn T.Tape self.tape e.0) }
+        ensures inside { T.honest →
+            IfOk result (λ journal. LeavesInsideBy ReadsSame T.Tape self.tape journal.tape) }
+        ensures inside_err { T.honest →
+            IfErr result (λ e. LeavesInsideBy ReadsSame T.Tape self.tape e.0) }
         ensures not_bad { IfErr result (λ e. IsNotBad e.1) }
         ensures later { IfErr result (λ e. T.failed self.tape ≤ T.failed e.0) }
         ensures failed { IfErr result (λ e. IsWhyFailed e.1 (T.failed self.tape) (T.failed e.0)) }
-        ensures sturdy { T.never_fails self.tape → IfOk result (λ journal. T.never_fails journal.tape) }
+        ensures sturdy { T.never_fails self.tape →
+            IfOk result (λ journal. T.never_fails journal.tape) }
         ensures sturdy_err { T.never_fails self.tape → IfErr result (λ e. T.never_fails e.0) }
         ensures sound { T.never_fails self.tape → IfErr result (λ e. e.1 ≢ OpenFault.TapeFailed) }
     {
@@ -115,12 +124,15 @@ impl<T: Tape> Found<T> {
 /// Keeps the first bytes of the content, and syncs them.
 fn settle<T: Tape>(tape: &mut T, bytes: &[u8], front: usize) -> Result<(), TapeFault>
     requires within { front ≤ length bytes.now }
-    ensures ok { T.honest → OnOk result (T.content tape.old ≡ bytes.now → T.content tape.new ≡ take front bytes.now) }
+    ensures ok { T.honest →
+        OnOk result (T.content tape.old ≡ bytes.now → T.content tape.new ≡ take front bytes.now) }
     ensures only { T.honest → OnOk result (IsOnlyImage (T.content tape.new) (T.images tape.new)) }
-    ensures images { T.honest → LeavesOldOr (take front bytes.now) (T.images tape.old) (T.images tape.new) }
-    ensures memory { T.honest → IsErrOf result Memory → IsUnchanged (T.content tape.old) (T.content tape.new) (T.images tape.old) (T.images tape.new) }
-    ensures time { T.honest → Elapses (T.moment tape.old) (T.moment tape.new) (T.left_since tape.old) (T.left_since tape.new) }
-    ensures inside { T.honest → LeavesOldOr (take front bytes.now) (T.images tape.old) (T.left_since tape.new (T.moment tape.old)) }
+    ensures images { T.honest →
+        LeavesOldOr (take front bytes.now) (T.images tape.old) (T.images tape.new) }
+    ensures memory { T.honest → IsErrOf result Memory → Stays T.Tape tape.old tape.new }
+    ensures time { T.honest → GoesOn T.Tape tape.old tape.new }
+    ensures inside { T.honest →
+        LeavesOldOr (take front bytes.now) (T.images tape.old) (inside T.Tape tape.old tape.new) }
     ensures cause { HasCause (T.failed tape.old) (T.failed tape.new) result }
     ensures sturdy { T.never_fails tape.old → T.never_fails tape.new }
     ensures sound { T.never_fails tape.old → IfErr result (λ fault. fault ≢ TapeFault.Device) }

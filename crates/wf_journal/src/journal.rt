@@ -5,9 +5,10 @@ ghost use Rattle.wf_tape.specs.declared.fault.TapeFault.TheVariants.{Memory};
 ghost use Rattle.wf_journal.specs.Record.{view};
 ghost use Rattle.wf_journal.specs.Records.{IsTapeOf};
 ghost use Rattle.wf_journal.specs.Spelling.{spelling};
-ghost use Rattle.wf_tape.specs.Tape.{IsOnlyImage, IsUnchanged, IsExtended, IsCutShort, LeavesOldOrCut, Elapses, HasCause, HasRisen, IsNotMemory};
+ghost use Rattle.wf_tape.specs.Tape.{IsOnlyImage, IsExtended, IsCutShort, LeavesOldOrCut, HasCause, IsNotMemory};
+ghost use Rattle.wf_tape.specs.Change.{inside, Stays, GoesOn, HasFailed};
 ghost use Rattle.wf_tape.specs.MemoryTape.{with_fuse};
-ghost use Rattle.wf_journal.specs.Journal.{HoldsRecords, IsSettled, Follows, ReadsSame, ReadsOneMore, ReadsSameOrOneMore, IsAdded, IsWhereBad, IsWhyFailed};
+ghost use Rattle.wf_journal.specs.Journal.{TapeHolds, TapeIsSettled, TapeGrows, LeavesBy, LeavesInsideBy, ReadsSame, ReadsOneMore, ReadsSameOrOneMore, IsWhereBad, IsWhyFailed};
 
 use crate::encoder::encode;
 use crate::found::Found;
@@ -28,13 +29,13 @@ pub struct Journal<T: Tape> {
 
 impl<T: Tape> Model for Journal<T> {
     ghost use Rattle.std.specs.Prelude.{◌≡◌, false};
-    ghost use Rattle.wf_journal.specs.Journal.{Journal, IsSettled};
+    ghost use Rattle.wf_journal.specs.Journal.{Journal, TapeIsSettled};
 
     ghost Value = { Journal T };
 
     ghost view = { λ j. record { tape = j.tape; halted = j.halted } };
 
-    ghost invariant = { λ j. T.honest → j.halted ≡ false → IsSettled (T.content j.tape) (T.images j.tape) };
+    ghost invariant = { λ j. T.honest → j.halted ≡ false → TapeIsSettled T.Tape j.tape };
 }
 
 impl<T: Tape> Journal<T> {
@@ -44,15 +45,20 @@ impl<T: Tape> Journal<T> {
     #[tactic(auto, using(crate::proofs::Settling::followed_on, crate::proofs::Settling::unchanged_on, crate::proofs::Settling::why_failed_on, crate::proofs::Settling::not_bad_anywhere))]
     pub fn open(alloc: Global, tape: T) -> Result<(Journal<T>, Vec<Record>), (T, OpenFault)>
         ensures running { IfOk result (λ x. x.0.halted ≡ false) }
-        ensures records { T.honest → IfOk result (λ x. (rest : _) × IsTapeOf (T.content tape) (map view x.1.items) rest) }
-        ensures synced { T.honest → IfOk result (λ x. HoldsRecords (T.content x.0.tape) (T.images x.0.tape) (map view x.1.items)) }
-        ensures images { T.honest → IfOk result (λ x. Follows ReadsSame (T.images tape) (T.images x.0.tape)) }
-        ensures images_err { T.honest → IfErr result (λ e. Follows ReadsSame (T.images tape) (T.images e.0)) }
-        ensures time { T.honest → IfOk result (λ x. Elapses (T.moment tape) (T.moment x.0.tape) (T.left_since tape) (T.left_since x.0.tape)) }
-        ensures time_err { T.honest → IfErr result (λ e. Elapses (T.moment tape) (T.moment e.0) (T.left_since tape) (T.left_since e.0)) }
-        ensures inside { T.honest → IfOk result (λ x. Follows ReadsSame (T.images tape) (T.left_since x.0.tape (T.moment tape))) }
-        ensures inside_err { T.honest → IfErr result (λ e. Follows ReadsSame (T.images tape) (T.left_since e.0 (T.moment tape))) }
-        ensures unchanged { T.honest → IfErr result (λ e. e.1 ≢ OpenFault.TapeFailed → IsUnchanged (T.content tape) (T.content e.0) (T.images tape) (T.images e.0)) }
+        ensures records { T.honest →
+            IfOk result (λ x. (rest : _) × IsTapeOf (T.content tape) (map view x.1.items) rest) }
+        ensures synced { T.honest →
+            IfOk result (λ x. TapeHolds T.Tape x.0.tape (map view x.1.items)) }
+        ensures images { T.honest → IfOk result (λ x. LeavesBy ReadsSame T.Tape tape x.0.tape) }
+        ensures images_err { T.honest → IfErr result (λ e. LeavesBy ReadsSame T.Tape tape e.0) }
+        ensures time { T.honest → IfOk result (λ x. GoesOn T.Tape tape x.0.tape) }
+        ensures time_err { T.honest → IfErr result (λ e. GoesOn T.Tape tape e.0) }
+        ensures inside { T.honest →
+            IfOk result (λ x. LeavesInsideBy ReadsSame T.Tape tape x.0.tape) }
+        ensures inside_err { T.honest →
+            IfErr result (λ e. LeavesInsideBy ReadsSame T.Tape tape e.0) }
+        ensures unchanged { T.honest →
+            IfErr result (λ e. e.1 ≢ OpenFault.TapeFailed → Stays T.Tape tape e.0) }
         ensures bad { T.honest → IfErr result (λ e. IsWhereBad e.1 (T.content tape)) }
         ensures failed { IfErr result (λ e. IsWhyFailed e.1 (T.failed tape) (T.failed e.0)) }
         ensures sturdy { T.never_fails tape → IfOk result (λ x. T.never_fails x.0.tape) }
@@ -73,7 +79,7 @@ impl<T: Tape> Journal<T> {
 
     /// The journal of a tape that holds only whole records, all of them synced.
     pub(crate) fn over(tape: T) -> Journal<T>
-        requires { T.honest → IsSettled (T.content tape) (T.images tape) }
+        requires { T.honest → TapeIsSettled T.Tape tape }
         ensures { result ≡ record { tape = tape; halted = false } }
     {
         Journal {
@@ -88,19 +94,27 @@ impl<T: Tape> Journal<T> {
     #[tactic(auto, using(crate::proofs::Settling::same_or_more, crate::proofs::Settling::same_kept, crate::proofs::Settling::now_more, crate::proofs::Settling::settled_more, crate::proofs::Settling::settled_same))]
     pub fn add(&mut self, alloc: Global, entry: &Record) -> Result<(), AddFault>
         requires { self.old.halted ≡ false }
-        ensures ok { T.honest → OnOk result (IsAdded (view entry.now) (T.content self.old.tape) (T.content self.new.tape) (T.images self.new.tape)) }
-        ensures one_more { T.honest → OnOk result (Follows (ReadsOneMore (view entry.now)) (T.images self.old.tape) (T.images self.new.tape)) }
-        ensures images { T.honest → Follows (ReadsSameOrOneMore (view entry.now)) (T.images self.old.tape) (T.images self.new.tape) }
-        ensures time { T.honest → Elapses (T.moment self.old.tape) (T.moment self.new.tape) (T.left_since self.old.tape) (T.left_since self.new.tape) }
-        ensures inside { T.honest → Follows (ReadsSameOrOneMore (view entry.now)) (T.images self.old.tape) (T.left_since self.new.tape (T.moment self.old.tape)) }
+        ensures ok { T.honest →
+            OnOk result (TapeGrows (view entry.now) T.Tape self.old.tape self.new.tape) }
+        ensures one_more { T.honest → OnOk result
+            (LeavesBy (ReadsOneMore (view entry.now)) T.Tape self.old.tape self.new.tape) }
+        ensures images { T.honest →
+            LeavesBy (ReadsSameOrOneMore (view entry.now)) T.Tape self.old.tape self.new.tape }
+        ensures time { T.honest → GoesOn T.Tape self.old.tape self.new.tape }
+        ensures inside { T.honest → LeavesInsideBy
+            (ReadsSameOrOneMore (view entry.now)) T.Tape self.old.tape self.new.tape }
         ensures running { OnOk result (self.new.halted ≡ false) }
-        ensures failed { IsErrOf result AddFault.TapeFailed → HasRisen (T.failed self.old.tape) (T.failed self.new.tape) }
-        ensures part { T.honest → IsErrOf result AddFault.TapeFailed → IsExtended (T.content self.old.tape) (spelling (view entry.now)) (T.content self.new.tape) }
+        ensures failed { IsErrOf result AddFault.TapeFailed →
+            HasFailed T.Tape self.old.tape self.new.tape }
+        ensures part { T.honest → IsErrOf result AddFault.TapeFailed → IsExtended
+            (T.content self.old.tape) (spelling (view entry.now)) (T.content self.new.tape) }
         ensures halted { IsErrOf result AddFault.TapeFailed → self.new.halted ≡ true }
-        ensures memory { T.honest → IsErrOf result AddFault.Memory → IsUnchanged (T.content self.old.tape) (T.content self.new.tape) (T.images self.old.tape) (T.images self.new.tape) }
+        ensures memory { T.honest → IsErrOf result AddFault.Memory →
+            Stays T.Tape self.old.tape self.new.tape }
         ensures still_running { IsErrOf result AddFault.Memory → self.new.halted ≡ false }
         ensures sturdy { T.never_fails self.old.tape → T.never_fails self.new.tape }
-        ensures sound { T.never_fails self.old.tape → IfErr result (λ fault. fault ≢ AddFault.TapeFailed) }
+        ensures sound { T.never_fails self.old.tape →
+            IfErr result (λ fault. fault ≢ AddFault.TapeFailed) }
     {
         // The theorem: maps with equal texts are equal, so no record reads as another.
         one_text_one_map();
@@ -120,7 +134,7 @@ impl<T: Tape> Journal<T> {
     /// Whether the tape failed. Then no record can be written until the journal is opened again.
     pub fn is_halted(&self) -> bool
         ensures value { result ≡ self.now.halted }
-        ensures settled { T.honest → self.now.halted ≡ false → IsSettled (T.content self.now.tape) (T.images self.now.tape) }
+        ensures settled { T.honest → self.now.halted ≡ false → TapeIsSettled T.Tape self.now.tape }
     {
         self.halted
     }
@@ -128,7 +142,7 @@ impl<T: Tape> Journal<T> {
     /// The tape. Unless the journal is halted, an honest one holds only whole records, all of them synced.
     pub fn tape(&self) -> &T
         ensures value { result.now ≡ self.now.tape }
-        ensures settled { T.honest → self.now.halted ≡ false → IsSettled (T.content self.now.tape) (T.images self.now.tape) }
+        ensures settled { T.honest → self.now.halted ≡ false → TapeIsSettled T.Tape self.now.tape }
     {
         &self.tape
     }
@@ -157,11 +171,14 @@ impl Journal<MemoryTape> {
 fn write<T: Tape>(tape: &mut T, bytes: &[u8]) -> Result<(), TapeFault>
     ensures ok { T.honest → OnOk result (T.content tape.new ≡ T.content tape.old ++ bytes.now) }
     ensures only { T.honest → OnOk result (IsOnlyImage (T.content tape.new) (T.images tape.new)) }
-    ensures part { T.honest → OnErr result (IsExtended (T.content tape.old) bytes.now (T.content tape.new)) }
-    ensures images { T.honest → IsNotMemory result → IsCutShort (T.content tape.old ++ bytes.now) (T.images tape.old) (T.images tape.new) }
-    ensures memory { T.honest → IsErrOf result Memory → IsUnchanged (T.content tape.old) (T.content tape.new) (T.images tape.old) (T.images tape.new) }
-    ensures time { T.honest → Elapses (T.moment tape.old) (T.moment tape.new) (T.left_since tape.old) (T.left_since tape.new) }
-    ensures inside { T.honest → LeavesOldOrCut (T.content tape.old ++ bytes.now) (T.images tape.old) (T.left_since tape.new (T.moment tape.old)) }
+    ensures part { T.honest →
+        OnErr result (IsExtended (T.content tape.old) bytes.now (T.content tape.new)) }
+    ensures images { T.honest → IsNotMemory result →
+        IsCutShort (T.content tape.old ++ bytes.now) (T.images tape.old) (T.images tape.new) }
+    ensures memory { T.honest → IsErrOf result Memory → Stays T.Tape tape.old tape.new }
+    ensures time { T.honest → GoesOn T.Tape tape.old tape.new }
+    ensures inside { T.honest → LeavesOldOrCut
+        (T.content tape.old ++ bytes.now) (T.images tape.old) (inside T.Tape tape.old tape.new) }
     ensures cause { HasCause (T.failed tape.old) (T.failed tape.new) result }
     ensures sturdy { T.never_fails tape.old → T.never_fails tape.new }
     ensures sound { T.never_fails tape.old → IfErr result (λ fault. fault ≢ TapeFault.Device) }

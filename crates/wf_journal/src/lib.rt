@@ -1,8 +1,9 @@
 //! The records of a node on its tape, and the journal that adds them.
 //!
-//! Model: a `Record` is that of wf_model, with definitions (`specs/Record.antt`); its encoding is that of `specs/Spelling.antt`. The
-//! records of bytes are the longest list of whole records that the bytes begin with (`specs/Records.antt`). A `Journal` is its tape,
-//! and whether it is halted.
+//! Model: a `Record` is that of wf_model, with definitions (`specs/Record.antt`); its encoding is that of `specs/Spelling.antt`.
+//! In contracts a record is called `entry`, since `record` is one of their words; nothing else on a tape is called so. The records
+//! of bytes are the longest list of whole records that the bytes begin with (`specs/Records.antt`). A `Journal` is its tape, and
+//! whether it is halted.
 //!
 //! Records are written in the second version. Those of the first, whose texts are shorter, are read as the same records, and a tape
 //! may hold both (`specs/Version.antt`): no encoding begins another, whatever their versions.

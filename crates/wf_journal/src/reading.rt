@@ -36,7 +36,8 @@ pub fn read_records(alloc: Global, bytes: &[u8]) -> Result<(Vec<Record>, usize),
 
 /// Appends the record at the front of the bytes to the records, and returns its length.
 fn read_next(alloc: Global, records: &mut Vec<Record>, bytes: &[u8]) -> Result<usize, RecordFault>
-    ensures ok { IfOk result (λ n. TakesOne bytes.now n (map view records.old.items) (map view records.new.items)) }
+    ensures ok { IfOk result (λ n.
+        TakesOne bytes.now n (map view records.old.items) (map view records.new.items)) }
     ensures err { IfErr result (λ _. records.new.items ≡ records.old.items) }
     ensures torn { IsErrOf result RecordFault.Torn → bytes.now ≢ [] → IsTorn bytes.now }
     ensures none_yet { IsErrOf result RecordFault.Torn → BeginsWithNone bytes.now }

@@ -2,8 +2,8 @@
 
 ghost use Rattle.std.specs.Prelude.{◌≡◌, ◌≢◌, false, true, map, IfErr, OnOk, OnErr, IsErrOf};
 ghost use Rattle.wf_journal.specs.Record.{view};
-ghost use Rattle.wf_tape.specs.Tape.{IsUnchanged, Elapses, HasRisen};
-ghost use Rattle.wf_journal.specs.Journal.{Holds, Follows, IsSameOrRecords, IsSameOrReads};
+ghost use Rattle.wf_tape.specs.Change.{Stays, GoesOn, HasFailed};
+ghost use Rattle.wf_journal.specs.Journal.{TapeHoldsWritten, LeavesBy, LeavesInsideBy, IsSameOrRecords, IsSameOrReads};
 
 use crate::encoder::encode_all;
 use crate::journal::Journal;
@@ -14,25 +14,33 @@ use wf_tape::{Tape, TapeFault};
 
 impl<T: Tape> Journal<T> {
     /// Replaces all records by these, in one call of the tape: after Ok it holds exactly them, synced, each as it is written, whatever
-    /// version it was read in. After a failure of the tape
-    /// the journal is halted until it is opened again, since the tape holds the records from before or these. A crash at each
-    /// moment inside the call leaves one of the two as well. A tape that won't fail still won't, and doesn't.
+    /// version it was read in. After a failure of the tape the journal is halted until it is opened again, since the tape holds the
+    /// records from before or these. A crash at each moment inside the call leaves one of the two as well. A tape that won't fail
+    /// still won't, and doesn't.
     #[tactic(auto, using(crate::proofs::Settling::holds_written, crate::proofs::Settling::follows_replaced, crate::proofs::Settling::follows_failed, crate::proofs::Settling::follows_unchanged, crate::proofs::Settling::failed_content, crate::proofs::Settling::failed_images, crate::proofs::Settling::unchanged_images, crate::proofs::Settling::settled_written, crate::proofs::Settling::settled_same))]
     pub fn rewrite(&mut self, alloc: Global, records: &[Record]) -> Result<(), AddFault>
         requires { self.old.halted ≡ false }
-        ensures ok { T.honest → OnOk result (Holds (T.content self.new.tape) (T.images self.new.tape) (map view records.now)) }
-        ensures content_err { T.honest → OnErr result (IsSameOrRecords (map view records.now) (T.content self.old.tape) (T.content self.new.tape)) }
-        ensures images_err { T.honest → OnErr result (Follows (IsSameOrRecords (map view records.now)) (T.images self.old.tape) (T.images self.new.tape)) }
-        ensures images { T.honest → Follows (IsSameOrReads (map view records.now)) (T.images self.old.tape) (T.images self.new.tape) }
-        ensures time { T.honest → Elapses (T.moment self.old.tape) (T.moment self.new.tape) (T.left_since self.old.tape) (T.left_since self.new.tape) }
-        ensures inside { T.honest → Follows (IsSameOrReads (map view records.now)) (T.images self.old.tape) (T.left_since self.new.tape (T.moment self.old.tape)) }
+        ensures ok { T.honest →
+            OnOk result (TapeHoldsWritten T.Tape self.new.tape (map view records.now)) }
+        ensures content_err { T.honest → OnErr result (IsSameOrRecords
+            (map view records.now) (T.content self.old.tape) (T.content self.new.tape)) }
+        ensures images_err { T.honest → OnErr result (LeavesBy
+            (IsSameOrRecords (map view records.now)) T.Tape self.old.tape self.new.tape) }
+        ensures images { T.honest →
+            LeavesBy (IsSameOrReads (map view records.now)) T.Tape self.old.tape self.new.tape }
+        ensures time { T.honest → GoesOn T.Tape self.old.tape self.new.tape }
+        ensures inside { T.honest → LeavesInsideBy
+            (IsSameOrReads (map view records.now)) T.Tape self.old.tape self.new.tape }
         ensures running { OnOk result (self.new.halted ≡ false) }
-        ensures failed { IsErrOf result AddFault.TapeFailed → HasRisen (T.failed self.old.tape) (T.failed self.new.tape) }
+        ensures failed { IsErrOf result AddFault.TapeFailed →
+            HasFailed T.Tape self.old.tape self.new.tape }
         ensures halted { IsErrOf result AddFault.TapeFailed → self.new.halted ≡ true }
-        ensures memory { T.honest → IsErrOf result AddFault.Memory → IsUnchanged (T.content self.old.tape) (T.content self.new.tape) (T.images self.old.tape) (T.images self.new.tape) }
+        ensures memory { T.honest → IsErrOf result AddFault.Memory →
+            Stays T.Tape self.old.tape self.new.tape }
         ensures still_running { IsErrOf result AddFault.Memory → self.new.halted ≡ false }
         ensures sturdy { T.never_fails self.old.tape → T.never_fails self.new.tape }
-        ensures sound { T.never_fails self.old.tape → IfErr result (λ fault. fault ≢ AddFault.TapeFailed) }
+        ensures sound { T.never_fails self.old.tape →
+            IfErr result (λ fault. fault ≢ AddFault.TapeFailed) }
     {
         let Ok(bytes) = encode_all(alloc, records) else {
             return Err(AddFault::Memory);

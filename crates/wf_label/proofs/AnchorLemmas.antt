@@ -5,8 +5,8 @@ use Rattle.std.proofs.lemmas.List.Sums.{fold_push}
 use Rattle.std.specs.Int.{int_min, int_max}
 use Rattle.std.specs.List.{fold}
 use Rattle.wf_def.specs.declared.point.Point.{Point}
-use Rattle.wf_paint.specs.Place.{PlaceValue}
-use Rattle.wf_paint.specs.View.{ViewValue, place_of}
+use Rattle.wf_paint.specs.Position.{PositionValue}
+use Rattle.wf_paint.specs.View.{ViewValue, position_of}
 use Rattle.wf_label.specs.Anchor.{bounds_of, shown_x, shown_y}
 use Rattle.wf_label.specs.declared.bounds.Bounds.{Bounds}
 
@@ -24,7 +24,7 @@ side_more pick shown first points i x d before after within here so_far is =
     ∙ fold_more pick shown first points i d within
 
 -- the next box, where each of its sides is that of the box so far or of the next point
-pub record IsWidened (before after : Bounds) (p : PlaceValue) : Type 0 where
+pub record IsWidened (before after : Bounds) (p : PositionValue) : Type 0 where
   pub left : after.left ≡ int_min before.left p.x
   pub right : after.right ≡ int_max before.right p.x
   pub bottom : after.bottom ≡ int_min before.bottom p.y
@@ -32,7 +32,7 @@ pub record IsWidened (before after : Bounds) (p : PlaceValue) : Type 0 where
 
 -- the box around the first points, widened by the next one
 pub bounds_more : (view : ViewValue) (first : Point) (points : List Point) (i : ℕ) (x d : Point) (before after : Bounds) → i < length points → x ≡ get_or points i d →
-    before ≡ bounds_of view first (take i points) → IsWidened before after (place_of view x) → after ≡ bounds_of view first (take (i + 1) points)
+    before ≡ bounds_of view first (take i points) → IsWidened before after (position_of view x) → after ≡ bounds_of view first (take (i + 1) points)
 bounds_more view first points i x d before after within here so_far is j = record {
   left = side_more int_min (shown_x view) (shown_x view first) points i x d before.left after.left within here (ap (λ (b : Bounds). b.left) so_far) is.left j;
   right = side_more int_max (shown_x view) (shown_x view first) points i x d before.right after.right within here (ap (λ (b : Bounds). b.right) so_far) is.right j;

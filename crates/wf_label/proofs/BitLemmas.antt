@@ -14,7 +14,7 @@ use Rattle.std.proofs.lemmas.Option.{slice_get_past, slice_get_read}
 use Rattle.wf_def.specs.declared.color.Color.{Color}
 use Rattle.wf_paint.specs.Exact.{plus, difference, is_less}
 use Rattle.wf_paint.specs.Pixmap.{PixmapValue}
-use Rattle.wf_label.specs.Colored.{IsColored, is_between, is_in, bit_at, is_bit, is_in_bits, bit_frame, one_bit, row_bits, character_bits}
+use Rattle.wf_label.specs.Colored.{IsColored, is_between, is_in, bit_at, is_bit, is_in_bits, bit_box, one_bit, row_bits, character_bits}
 use Rattle.wf_label.specs.Glyph.{glyph}
 use Rattle.wf_label.specs.Ink.{steps, inks, inks_at, inks_bit, inks_steps, has_bit, row_up}
 use Rattle.wf_label.specs.Limit.{cell_height, cell_width, glyph_height, glyph_width}
@@ -82,8 +82,8 @@ one_at across up (Some a) None = by_first (a == across) where
   by_first false = refl
 one_at across up (Some a) (Some b) = refl
 
-pub in_one_bit : (label : PlacedValue) (across up k m : ℕ) → 0 < label.scale → is_in_bits label (one_bit across up) k m ≡ is_in (bit_frame label across up) k m
-unfolding is_in_bits is_in bit_frame
+pub in_one_bit : (label : PlacedValue) (across up k m : ℕ) → 0 < label.scale → is_in_bits label (one_bit across up) k m ≡ is_in (bit_box label across up) k m
+unfolding is_in_bits is_in bit_box
 in_one_bit label across up k m some =
     rw (span_bit label.left label.scale across k some, span_bit label.bottom label.scale up m some) (sym (one_at across up (bit_at label.scale label.left k) (bit_at label.scale label.bottom m)))
 
@@ -125,34 +125,34 @@ no_more_bits row column far = grind (arith, nat_tests)
 
 -- the first columns of the row
 abbrev pub row_so_far : ℕ → ℕ → ℕ → ℕ → ℕ → ℕ → Bool
-row_so_far place up row column a b = nat_lt (a % cell_width) column && row_bits place up row a b
+row_so_far index up row column a b = nat_lt (a % cell_width) column && row_bits index up row a b
 
-pub row_none : (place up row a b : ℕ) → row_so_far place up row 0 a b ≡ false
-row_none place up row a b = grind (arith, nat_tests)
+pub row_none : (index up row a b : ℕ) → row_so_far index up row 0 a b ≡ false
+row_none index up row a b = grind (arith, nat_tests)
 
 pub cell_split : (a : ℕ) → cell_width * (a / cell_width) + a % cell_width ≡ a
 cell_split a = omega arith
 
-pub row_bit : (place up row column a b : ℕ) → column < cell_width → has_bit row column ≡ true →
-    row_so_far place up row (column + 1) a b ≡ (row_so_far place up row column a b || one_bit (cell_width * place + column) up a b)
-row_bit place up row column a b inside set = elim (cases_order (a % cell_width) column) [
+pub row_bit : (index up row column a b : ℕ) → column < cell_width → has_bit row column ≡ true →
+    row_so_far index up row (column + 1) a b ≡ (row_so_far index up row column a b || one_bit (cell_width * index + column) up a b)
+row_bit index up row column a b inside set = elim (cases_order (a % cell_width) column) [
   | inl same ↦
       let here : has_bit row (a % cell_width) ≡ true = ap (has_bit row) same ∙ set in
-      let test : (a == cell_width * place + column) ≡ (a / cell_width == place) = grind (arith, nat_tests) in
+      let test : (a == cell_width * index + column) ≡ (a / cell_width == index) = grind (arith, nat_tests) in
       grind (arith, nat_tests)
   | inr apart ↦
-      let test : (a == cell_width * place + column) ≡ false = ne_eqb a (cell_width * place + column) (λ e. omega arith) in
+      let test : (a == cell_width * index + column) ≡ false = ne_eqb a (cell_width * index + column) (λ e. omega arith) in
       grind (arith, nat_tests)
 ]
 
-pub row_gap : (place up row column a b : ℕ) → has_bit row column ≡ false → row_so_far place up row (column + 1) a b ≡ row_so_far place up row column a b
-row_gap place up row column a b clear = elim (cases_order (a % cell_width) column) [
+pub row_gap : (index up row column a b : ℕ) → has_bit row column ≡ false → row_so_far index up row (column + 1) a b ≡ row_so_far index up row column a b
+row_gap index up row column a b clear = elim (cases_order (a % cell_width) column) [
   | inl same ↦ let here : has_bit row (a % cell_width) ≡ false = ap (has_bit row) same ∙ clear in grind (arith, nat_tests)
   | inr apart ↦ grind (arith, nat_tests)
 ]
 
-pub row_all : (place up row a b : ℕ) → row_bits place up row a b ≡ row_so_far place up row glyph_width a b
-row_all place up row a b = elim (cases_order (a % cell_width) glyph_width) [
+pub row_all : (index up row a b : ℕ) → row_bits index up row a b ≡ row_so_far index up row glyph_width a b
+row_all index up row a b = elim (cases_order (a % cell_width) glyph_width) [
   | inl same ↦ let here : has_bit row (a % cell_width) ≡ false = no_more_bits row (a % cell_width) (omega arith) in grind (arith, nat_tests)
   | inr apart ↦ elim apart [
     | inl less ↦ grind (arith, nat_tests)
@@ -175,22 +175,22 @@ outside_empty c up column outside = ap (λ (row : ℕ). has_bit row column) (row
 
 -- the first rows of the character
 abbrev pub character_so_far : ℕ → ℕ → ℕ → ℕ → ℕ → Bool
-character_so_far place c up a b = nat_lt b up && character_bits place c a b
+character_so_far index c up a b = nat_lt b up && character_bits index c a b
 
-pub character_none : (place c a b : ℕ) → character_so_far place c 1 a b ≡ false
-character_none place c a zero = let empty = outside_empty c 0 (a % cell_width) refl in grind (arith, nat_tests)
-character_none place c a (suc b) = grind (arith, nat_tests)
+pub character_none : (index c a b : ℕ) → character_so_far index c 1 a b ≡ false
+character_none index c a zero = let empty = outside_empty c 0 (a % cell_width) refl in grind (arith, nat_tests)
+character_none index c a (suc b) = grind (arith, nat_tests)
 
-pub character_row : (place c up row a b : ℕ) → row ≡ row_up (glyph c) up → character_so_far place c (up + 1) a b ≡ (character_so_far place c up a b || row_bits place up row a b)
-character_row place c up row a b is = elim (cases_order b up) [
+pub character_row : (index c up row a b : ℕ) → row ≡ row_up (glyph c) up → character_so_far index c (up + 1) a b ≡ (character_so_far index c up a b || row_bits index up row a b)
+character_row index c up row a b is = elim (cases_order b up) [
   | inl same ↦
       let here : has_bit row (a % cell_width) ≡ has_bit (row_up (glyph c) b) (a % cell_width) = ap (λ (r : ℕ). has_bit r (a % cell_width)) (is ∙ ap (row_up (glyph c)) (sym same)) in
       grind (arith, nat_tests)
   | inr apart ↦ grind (arith, nat_tests)
 ]
 
-pub character_all : (place c a b : ℕ) → character_bits place c a b ≡ character_so_far place c cell_height a b
-character_all place c a b = elim (cases_lt b cell_height) [
+pub character_all : (index c a b : ℕ) → character_bits index c a b ≡ character_so_far index c cell_height a b
+character_all index c a b = elim (cases_lt b cell_height) [
   | inl low ↦ grind (arith, nat_tests)
   | inr high ↦
       let outside : (nat_le 1 b && nat_le b glyph_height) ≡ false = grind (arith, nat_tests) in
@@ -216,16 +216,16 @@ text_character text n c a b is = elim (cases_order (a / cell_width) n) [
 ]
 
 -- which character an item of the numbered text is
-pub record IsNumbered (text : List ℕ) (i place c : ℕ) : Type 0 where
-  pub place_is : place ≡ i
+pub record IsNumbered (text : List ℕ) (i index c : ℕ) : Type 0 where
+  pub index_is : index ≡ i
   pub character_is : slice_get text i ≡ Some c
 
-pub numbered : (text : List ℕ) (i place c : ℕ) → i < length (enumerate_from 0 text) → (place, c) ≡ get_or (enumerate_from 0 text) i (place, c) → IsNumbered text i place c
-numbered text i place c within here =
+pub numbered : (text : List ℕ) (i index c : ℕ) → i < length (enumerate_from 0 text) → (index, c) ≡ get_or (enumerate_from 0 text) i (index, c) → IsNumbered text i index c
+numbered text i index c within here =
     let inside : i < length text = omega (arith, length-enumerate_from 0 text) in
-    let pair : (let p : ℕ × ℕ = (place, c) in p) ≡ (0 + i, get_or text i c) = here ∙ get_or-enumerate_from 0 text i (place, c) inside in
-    let first : place ≡ 0 + i = ap (λ (p : ℕ × ℕ). p.0) pair in
-    record { place_is = omega (arith, first); character_is = slice_get_read text (length text) i c refl inside (ap (λ (p : ℕ × ℕ). p.1) pair) }
+    let pair : (let p : ℕ × ℕ = (index, c) in p) ≡ (0 + i, get_or text i c) = here ∙ get_or-enumerate_from 0 text i (index, c) inside in
+    let first : index ≡ 0 + i = ap (λ (p : ℕ × ℕ). p.0) pair in
+    record { index_is = omega (arith, first); character_is = slice_get_read text (length text) i c refl inside (ap (λ (p : ℕ × ℕ). p.1) pair) }
 
 -- all characters: the bits that the text inks
 abbrev pub text_bits : List ℕ → ℕ → ℕ → Bool

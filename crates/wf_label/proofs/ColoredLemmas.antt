@@ -8,7 +8,7 @@ use Rattle.std.proofs.Math.Nat.{mul-le-mul, mul_comm, mul-zero, zero-mul}
 use Rattle.wf_def.specs.declared.color.Color.{Color}
 use Rattle.wf_paint.specs.Pixmap.{PixmapValue, IsSet, pixel_at, column_of, row_of}
 use Rattle.wf_label.specs.Colored.{IsColored, IsCut, is_between, is_in, is_in_row}
-use Rattle.wf_label.specs.declared.frame.Frame.{Frame}
+use Rattle.wf_label.specs.declared.pixel_box.PixelBox.{PixelBox}
 
 -- ---- one after another
 
@@ -126,16 +126,16 @@ IsRun-in_row row left end color a b here most run = record { width = run.width; 
       let above : i / a.width < a.height = div_below i a.width a.height wide (omega (arith, mul_comm a.width a.height)) in
       let split : i / a.width * a.width + i % a.width ≡ i = omega (arith, mul_comm (i / a.width) a.width) in
       let same_line : (i / a.width == line) ≡ (a.height - 1 - i / a.width == row) = grind (arith, nat_tests) in
-      let by_place = run_in_row (i / a.width) (i % a.width) line a.width left end inside most in
+      let by_index = run_in_row (i / a.width) (i % a.width) line a.width left end inside most in
       run.pixels i within
       ∙ ap (λ (shows : Bool). cond shows color (pixel_at a.bytes i))
       (ap (λ (n : ℕ). nat_le (line * a.width + left) n && nat_lt n (line * a.width + end)) (sym split)
-      ∙ by_place ∙ ap (λ (shows : Bool). shows && (nat_le left (i % a.width) && nat_lt (i % a.width) end)) same_line)
+      ∙ by_index ∙ ap (λ (shows : Bool). shows && (nat_le left (i % a.width) && nat_lt (i % a.width) end)) same_line)
 
 -- ---- a box
 
 -- rows of a box, from its lowest to before another
-abbrev pub in_rows : Frame → ℕ → ℕ → ℕ → ℕ → Bool
+abbrev pub in_rows : PixelBox → ℕ → ℕ → ℕ → ℕ → Bool
 in_rows f bottom row k m = is_between f.left f.right k && (nat_le bottom m && nat_lt m row)
 
 pub IsCut-same : (most width cut : ℕ) (z side : ℤ) → most ≡ width → z ≡ side → IsCut most cut z → IsCut width cut side
@@ -147,7 +147,7 @@ between_cuts most first end low high k begins ends within =
     let past : not (nat_lt k first) ≡ nat_le first k = grind (arith, nat_tests) in
     rw (← begins k within, ← ends k within, past) refl
 
-module _ (f : Frame) (left right bottom top : ℕ) (color : Color) (a b c : PixmapValue) (begins : IsCut a.width left f.left) (ends : IsCut a.width right f.right) where
+module _ (f : PixelBox) (left right bottom top : ℕ) (color : Color) (a b c : PixmapValue) (begins : IsCut a.width left f.left) (ends : IsCut a.width right f.right) where
   -- one row more
   pub rows_next : (row : ℕ) → bottom ≤ row → IsColored (in_rows f bottom row) color a b → IsColored (is_in_row row left right) color b c → IsColored (in_rows f bottom (row + 1)) color a c
   unfolding is_in_row

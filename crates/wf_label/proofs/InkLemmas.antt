@@ -36,11 +36,11 @@ IsInked-more label labels a b c before drawn = record {
 }
 
 -- the same by the code's labels, of which the one before this index is drawn
-pub label_drawn : (labels : List Placed) (place : ℕ) (d : Placed) (a b c : PixmapValue) → 0 < place → place ≤ length labels → IsInked (placed_values (drop place labels)) a b →
-    IsColored (λ column row. inks (placed_value (get_or labels (place - 1) d)) (pos column) (pos row)) (get_or labels (place - 1) d).color b c →
-    IsInked (placed_values (drop (place - 1) labels)) a c
-label_drawn labels place d a b c some within before drawn =
-    let next : place - 1 + 1 ≡ place = omega arith in
-    let here : drop (place - 1) labels ≡ get_or labels (place - 1) d ∷ drop place labels =
-    drop_more labels (place - 1) d (omega arith) ∙ ap (λ (n : ℕ). get_or labels (place - 1) d ∷ drop n labels) next in
-    rw here (IsInked-more (placed_value (get_or labels (place - 1) d)) (placed_values (drop place labels)) a b c before drawn)
+pub label_drawn : (labels : List Placed) (index : ℕ) (d : Placed) (a b c : PixmapValue) → 0 < index → index ≤ length labels → IsInked (placed_values (drop index labels)) a b →
+    IsColored (λ column row. inks (placed_value (get_or labels (index - 1) d)) (pos column) (pos row)) (get_or labels (index - 1) d).color b c →
+    IsInked (placed_values (drop (index - 1) labels)) a c
+label_drawn labels index d a b c some within before drawn =
+    let next : index - 1 + 1 ≡ index = omega arith in
+    let here : drop (index - 1) labels ≡ get_or labels (index - 1) d ∷ drop index labels =
+    drop_more labels (index - 1) d (omega arith) ∙ ap (λ (n : ℕ). get_or labels (index - 1) d ∷ drop n labels) next in
+    rw here (IsInked-more (placed_value (get_or labels (index - 1) d)) (placed_values (drop index labels)) a b c before drawn)

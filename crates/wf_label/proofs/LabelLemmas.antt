@@ -68,24 +68,24 @@ module _ {X W Y : Type 0} (value : W → Y) (at_item : X → Option Y) (xs : Lis
 
 -- ---- the layers from the last to the first
 
-layers_more : {Y : Type 0} (labels_at : ℕ → List Y) (layers : List ℕ) (place d : ℕ) → 0 < place → place ≤ length layers →
-    flat_map labels_at (reverse (drop (place - 1) layers)) ≡ flat_map labels_at (reverse (drop place layers)) ++ labels_at (get_or layers (place - 1) d)
-layers_more {Y} labels_at layers place d some within =
-    let next : place - 1 + 1 ≡ place = omega arith in
-    let here : drop (place - 1) layers ≡ get_or layers (place - 1) d ∷ drop place layers =
-    drop_more layers (place - 1) d (omega arith) ∙ ap (λ (n : ℕ). get_or layers (place - 1) d ∷ drop n layers) next in
+layers_more : {Y : Type 0} (labels_at : ℕ → List Y) (layers : List ℕ) (index d : ℕ) → 0 < index → index ≤ length layers →
+    flat_map labels_at (reverse (drop (index - 1) layers)) ≡ flat_map labels_at (reverse (drop index layers)) ++ labels_at (get_or layers (index - 1) d)
+layers_more {Y} labels_at layers index d some within =
+    let next : index - 1 + 1 ≡ index = omega arith in
+    let here : drop (index - 1) layers ≡ get_or layers (index - 1) d ∷ drop index layers =
+    drop_more layers (index - 1) d (omega arith) ∙ ap (λ (n : ℕ). get_or layers (index - 1) d ∷ drop n layers) next in
     ap (λ (l : List ℕ). flat_map labels_at (reverse l)) here
-    ∙ ap (flat_map labels_at) (reverse-append (get_or layers (place - 1) d ∷ []) (drop place layers))
-    ∙ flat_map-append labels_at (reverse (drop place layers)) (get_or layers (place - 1) d ∷ [])
-    ∙ ap (λ (l : List Y). flat_map labels_at (reverse (drop place layers)) ++ l) (append-nil (labels_at (get_or layers (place - 1) d)))
+    ∙ ap (flat_map labels_at) (reverse-append (get_or layers (index - 1) d ∷ []) (drop index layers))
+    ∙ flat_map-append labels_at (reverse (drop index layers)) (get_or layers (index - 1) d ∷ [])
+    ∙ ap (λ (l : List Y). flat_map labels_at (reverse (drop index layers)) ++ l) (append-nil (labels_at (get_or layers (index - 1) d)))
 
-pub layer_pushed : {Y : Type 0} (labels_at : ℕ → List Y) (layers : List ℕ) (place d : ℕ) (old so_far after : List Y) → 0 < place → place ≤ length layers →
-    so_far ≡ old ++ flat_map labels_at (reverse (drop place layers)) → after ≡ so_far ++ labels_at (get_or layers (place - 1) d) →
-    after ≡ old ++ flat_map labels_at (reverse (drop (place - 1) layers))
-layer_pushed {Y} labels_at layers place d old so_far after some within before pushed =
-    pushed ∙ ap (λ (l : List Y). l ++ labels_at (get_or layers (place - 1) d)) before
-    ∙ append_assoc old (flat_map labels_at (reverse (drop place layers))) (labels_at (get_or layers (place - 1) d))
-    ∙ ap (λ (l : List Y). old ++ l) (sym (layers_more labels_at layers place d some within))
+pub layer_pushed : {Y : Type 0} (labels_at : ℕ → List Y) (layers : List ℕ) (index d : ℕ) (old so_far after : List Y) → 0 < index → index ≤ length layers →
+    so_far ≡ old ++ flat_map labels_at (reverse (drop index layers)) → after ≡ so_far ++ labels_at (get_or layers (index - 1) d) →
+    after ≡ old ++ flat_map labels_at (reverse (drop (index - 1) layers))
+layer_pushed {Y} labels_at layers index d old so_far after some within before pushed =
+    pushed ∙ ap (λ (l : List Y). l ++ labels_at (get_or layers (index - 1) d)) before
+    ∙ append_assoc old (flat_map labels_at (reverse (drop index layers))) (labels_at (get_or layers (index - 1) d))
+    ∙ ap (λ (l : List Y). old ++ l) (sym (layers_more labels_at layers index d some within))
 
 -- ---- one priority of what the walk met
 

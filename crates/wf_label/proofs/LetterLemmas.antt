@@ -10,8 +10,8 @@ use Rattle.std.proofs.lemmas.Option.{slice_get_past}
 use Rattle.wf_def.specs.declared.color.Color.{Color}
 use Rattle.wf_paint.specs.Exact.{plus, is_less}
 use Rattle.wf_paint.specs.Pixmap.{pixel_at, column_of, row_of}
-use Rattle.wf_label.specs.Colored.{is_between, is_in, bit_at, is_bit, is_in_bits, bit_frame, one_bit}
-use Rattle.wf_label.specs.Frame.{frame_of, text_height, text_width}
+use Rattle.wf_label.specs.Colored.{is_between, is_in, bit_at, is_bit, is_in_bits, bit_box, one_bit}
+use Rattle.wf_label.specs.PixelBox.{box_of, text_height, text_width}
 use Rattle.wf_label.specs.Glyph.{glyph}
 use Rattle.wf_label.specs.Ink.{has_bit, ink_of, inked, inks, inks_bit, row_up}
 use Rattle.wf_label.specs.Limit.{cell_height, cell_width, glyph_height, glyph_width}
@@ -54,24 +54,24 @@ within_columns row across set = elim (cases_lt across glyph_width) [
 ]
 
 -- the index of a character lies within the text
-within_text : (text : List ℕ) (place c : ℕ) → slice_get text place ≡ Some c → place < length text
-within_text text place c is = elim (cases_lt place (length text)) [
+within_text : (text : List ℕ) (index c : ℕ) → slice_get text index ≡ Some c → index < length text
+within_text text index c is = elim (cases_lt index (length text)) [
   | inl inside ↦ inside
-  | inr past ↦ absurd (true≢false (ap is_some (sym is ∙ slice_get_past text place past)))
+  | inr past ↦ absurd (true≢false (ap is_some (sym is ∙ slice_get_past text index past)))
 ]
 
 -- ---- one label
 
 module _ (label : PlacedValue) (column row : ℕ) (some : 0 < label.scale) where
   -- the pixel lies in the square of its bit
-  in_its_bit : (a b : ℕ) → bit_at label.scale label.left column ≡ Some a → bit_at label.scale label.bottom row ≡ Some b → is_in (bit_frame label a b) column row ≡ true
+  in_its_bit : (a b : ℕ) → bit_at label.scale label.left column ≡ Some a → bit_at label.scale label.bottom row ≡ Some b → is_in (bit_box label a b) column row ≡ true
   unfolding is_in_bits
   in_its_bit a b wide high =
       let here : is_bit (one_bit a b) (bit_at label.scale label.left column) (bit_at label.scale label.bottom row) ≡ true =
       rw (wide, high) (and_from (a == a) (b == b) (eq-eqb a a refl) (eq-eqb b b refl)) in
       sym (in_one_bit label a b column row some) ∙ here
 
-  set_bit : (a b : ℕ) (found : Option ℕ) → slice_get (chars label.text) (a / cell_width) ≡ found → inks_bit found (a % cell_width) b ≡ true → is_in (bit_frame label a b) column row ≡ true → IsInSetBit label column row
+  set_bit : (a b : ℕ) (found : Option ℕ) → slice_get (chars label.text) (a / cell_width) ≡ found → inks_bit found (a % cell_width) b ≡ true → is_in (bit_box label a b) column row ≡ true → IsInSetBit label column row
   set_bit a b None is never inside = absurd (true≢false (sym never))
   set_bit a b (Some c) is set inside =
       let rows = within_rows c b (a % cell_width) set in
@@ -82,7 +82,7 @@ module _ (label : PlacedValue) (column row : ℕ) (some : 0 < label.scale) where
       let across : cell_width * (a / cell_width) + a % cell_width ≡ a = cell_split a in
       let up : glyph_height - (glyph_height - b) ≡ b = omega (arith, rows.1) in
       record {
-        place = a / cell_width;
+        index = a / cell_width;
         character = c;
         stands = is;
         line = glyph_height - b;
@@ -103,27 +103,27 @@ module _ (label : PlacedValue) (column row : ℕ) (some : 0 < label.scale) where
 
   module _ (bit : IsInSetBit label column row) where
     -- the text sets this bit
-    bit_set : text_bits (chars label.text) (cell_width * bit.place + bit.across) (glyph_height - bit.line) ≡ true
+    bit_set : text_bits (chars label.text) (cell_width * bit.index + bit.across) (glyph_height - bit.line) ≡ true
     bit_set =
-        let place : (cell_width * bit.place + bit.across) / cell_width ≡ bit.place = omega (arith, bit.wide) in
-        let across : (cell_width * bit.place + bit.across) % cell_width ≡ bit.across = omega (arith, bit.wide) in
+        let index : (cell_width * bit.index + bit.across) / cell_width ≡ bit.index = omega (arith, bit.wide) in
+        let across : (cell_width * bit.index + bit.across) % cell_width ≡ bit.across = omega (arith, bit.wide) in
         let line : glyph_height - (glyph_height - bit.line) ≡ bit.line = omega (arith, bit.high) in
         let row_is : row_up (glyph bit.character) (glyph_height - bit.line) ≡ slice_index (glyph bit.character) bit.line =
         row_up-inside (glyph bit.character) (glyph_height - bit.line) (omega (arith, bit.high)) (omega arith) ∙ ap (slice_index (glyph bit.character)) line in
         let value : has_bit (slice_index (glyph bit.character) bit.line) bit.across ≡ true =
         bit_value (slice_index (glyph bit.character) bit.line) bit.across bit.wide ∙ eq-eqb _ 1 bit.set in
-        rw (place, across, bit.stands) (ap (λ (r : ℕ). has_bit r bit.across) row_is ∙ value)
+        rw (index, across, bit.stands) (ap (λ (r : ℕ). has_bit r bit.across) row_is ∙ value)
 
     bit_inks : inks label (pos column) (pos row) ≡ true
     unfolding is_in_bits
     bit_inks = inks_in_bits label column row some
-        ∙ by_bits (bit_at label.scale label.left column) (bit_at label.scale label.bottom row) (in_one_bit label (cell_width * bit.place + bit.across) (glyph_height - bit.line) column row some ∙ bit.inside) where
-          by_bits : (x y : Option ℕ) → is_bit (one_bit (cell_width * bit.place + bit.across) (glyph_height - bit.line)) x y ≡ true → is_bit (text_bits (chars label.text)) x y ≡ true
+        ∙ by_bits (bit_at label.scale label.left column) (bit_at label.scale label.bottom row) (in_one_bit label (cell_width * bit.index + bit.across) (glyph_height - bit.line) column row some ∙ bit.inside) where
+          by_bits : (x y : Option ℕ) → is_bit (one_bit (cell_width * bit.index + bit.across) (glyph_height - bit.line)) x y ≡ true → is_bit (text_bits (chars label.text)) x y ≡ true
           by_bits None y never = absurd (true≢false (sym never))
           by_bits (Some a) None never = absurd (true≢false (sym never))
           by_bits (Some a) (Some b) one =
-              let parts = and_parts (a == cell_width * bit.place + bit.across) (b == glyph_height - bit.line) one in
-              let across : a ≡ cell_width * bit.place + bit.across = eqb-true a (cell_width * bit.place + bit.across) parts.0 in
+              let parts = and_parts (a == cell_width * bit.index + bit.across) (b == glyph_height - bit.line) one in
+              let across : a ≡ cell_width * bit.index + bit.across = eqb-true a (cell_width * bit.index + bit.across) parts.0 in
               let up : b ≡ glyph_height - bit.line = eqb-true b (glyph_height - bit.line) parts.1 in
               rw (across, up) bit_set
 
@@ -141,17 +141,17 @@ in_wider_span first from size whole k fits inside = grind (arith, ints)
 bits_fit : (scale bit bits : ℕ) → bit < bits → scale * bit + scale ≤ scale * bits
 bits_fit scale bit bits within = omega (arith, mul-le-mul_left {m = bit + 1} {n = bits} scale (omega arith))
 
-set_bit_in_box : (label : PlacedValue) (column row : ℕ) → IsInSetBit label column row → is_in (frame_of label) column row ≡ true
-unfolding is_in bit_frame frame_of text_width text_height
+set_bit_in_box : (label : PlacedValue) (column row : ℕ) → IsInSetBit label column row → is_in (box_of label) column row ≡ true
+unfolding is_in bit_box box_of text_width text_height
 set_bit_in_box label column row bit =
-    let a : ℕ = cell_width * bit.place + bit.across in
+    let a : ℕ = cell_width * bit.index + bit.across in
     let b : ℕ = glyph_height - bit.line in
     let size : ℕ = length (chars label.text) in
-    let place : bit.place < size = within_text (chars label.text) bit.place bit.character bit.stands in
+    let index : bit.index < size = within_text (chars label.text) bit.index bit.character bit.stands in
     let parts = and_parts
     (is_between (plus label.left (pos (label.scale * a))) (plus (plus label.left (pos (label.scale * a))) (pos label.scale)) column)
     (is_between (plus label.bottom (pos (label.scale * b))) (plus (plus label.bottom (pos (label.scale * b))) (pos label.scale)) row) bit.inside in
-    let wide : label.scale * a + label.scale ≤ cell_width * label.scale * size = omega (arith, bits_fit label.scale a (cell_width * size) (omega (arith, bit.wide, place))) in
+    let wide : label.scale * a + label.scale ≤ cell_width * label.scale * size = omega (arith, bits_fit label.scale a (cell_width * size) (omega (arith, bit.wide, index))) in
     let high : label.scale * b + label.scale ≤ cell_height * label.scale = omega (arith, bits_fit label.scale b cell_height (omega arith)) in
     and_from _ _
     (in_wider_span label.left (label.scale * a) label.scale (cell_width * label.scale * size) column wide parts.0)
@@ -168,7 +168,7 @@ unfolding is_taken inked ink_of
 not_inked [] below column row all free = refl
 not_inked (label ∷ labels) below column row all free =
     let some : 0 < label.scale = All-head (λ (l : PlacedValue). 0 < l.scale) label labels all in
-    let parts = or_parts (is_in (frame_of label) column row) (is_taken labels column row) free in
+    let parts = or_parts (is_in (box_of label) column row) (is_taken labels column row) free in
     let none : inks label (pos column) (pos row) ≡ false =
     false_from_ne_true (inks label (pos column) (pos row)) (λ here. true≢false (sym (letters_stay_in_their_box label column row some here) ∙ parts.0)) in
     inked-first label labels below (pos column) (pos row)

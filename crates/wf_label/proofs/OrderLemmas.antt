@@ -182,39 +182,39 @@ walked_within definition view layers limits =
 -- ---- what the definition lists
 
 -- a label with its priority only
-abbrev without_place : RankedLabel → CandidateValue
-without_place label = record { priority = label.priority; label = label.label }
+abbrev without_ranks : RankedLabel → CandidateValue
+without_ranks label = record { priority = label.priority; label = label.label }
 
 abbrev label_of_ranked : RankedLabel → PlacedValue
 label_of_ranked ranked = ranked.label
 
-one_candidate : (number k : ℕ) (found : Option CandidateValue) (rest : List RankedLabel) → map without_place (cons_option (option_map (ranked number k) found) rest) ≡ cons_option found (map without_place rest)
+one_candidate : (number k : ℕ) (found : Option CandidateValue) (rest : List RankedLabel) → map without_ranks (cons_option (option_map (ranked number k) found) rest) ≡ cons_option found (map without_ranks rest)
 one_candidate number k None rest = refl
 one_candidate number k (Some c) rest = refl
 
 features_walked : (view : ViewValue) (number k : ℕ) (layer : LayerDefinition) (features : List FeatureDefinition) →
-    map without_place (filter_map (ranked_label view number layer) (enumerate_from k features)) ≡ filter_map (candidate_of view layer) features
+    map without_ranks (filter_map (ranked_label view number layer) (enumerate_from k features)) ≡ filter_map (candidate_of view layer) features
 unfolding ranked_label
 features_walked view number k layer [] = refl
 features_walked view number k layer (feature ∷ features) =
     one_candidate number k (candidate_of view layer feature) (filter_map (ranked_label view number layer) (enumerate_from (k + 1) features))
     ∙ ap (cons_option (candidate_of view layer feature)) (features_walked view number (k + 1) layer features)
 
-entry_walked : (view : ViewValue) (number : ℕ) (entry : Option (List ℕ × LayerDefinition)) → map without_place (ranked_labels view number entry) ≡ entry_candidates view entry
+entry_walked : (view : ViewValue) (number : ℕ) (entry : Option (List ℕ × LayerDefinition)) → map without_ranks (ranked_labels view number entry) ≡ entry_candidates view entry
 unfolding layer_candidates
 entry_walked view number None = refl
 entry_walked view number (Some entry) = features_walked view number 0 entry.1 entry.1.features
 
 layers_walked : (definition : Definition) (view : ViewValue) (number : ℕ) (layers : List ℕ) →
-    map without_place (walked_from definition view number layers) ≡ flat_map (λ i. entry_candidates view (slice_get definition.layers i)) (reverse layers)
+    map without_ranks (walked_from definition view number layers) ≡ flat_map (λ i. entry_candidates view (slice_get definition.layers i)) (reverse layers)
 layers_walked definition view number [] = refl
 layers_walked definition view number (i ∷ layers) =
     let entries : ℕ → List CandidateValue = λ n. entry_candidates view (slice_get definition.layers n) in
     let front = walked_from definition view (number + 1) layers in
     let last = ranked_labels view number (slice_get definition.layers i) in
-    ap (map without_place) (walked_more definition view number i layers)
-    ∙ map-append without_place front last
-    ∙ ap (λ (l : List CandidateValue). l ++ map without_place last) (layers_walked definition view (number + 1) layers)
+    ap (map without_ranks) (walked_more definition view number i layers)
+    ∙ map-append without_ranks front last
+    ∙ ap (λ (l : List CandidateValue). l ++ map without_ranks last) (layers_walked definition view (number + 1) layers)
     ∙ ap (λ (l : List CandidateValue). flat_map entries (reverse layers) ++ l) (entry_walked view number (slice_get definition.layers i))
     ∙ sym (flat_map-reverse_more entries i layers)
 
@@ -225,11 +225,11 @@ one_chosen true label rest found same = ap (λ (l : List PlacedValue). label.lab
 one_chosen false label rest found same = same
 
 -- the labels of a priority
-level_chosen : (priority : ℕ) (labels : List RankedLabel) → chosen priority (map without_place labels) ≡ map label_of_ranked (filter (λ label. label.priority == priority) labels)
+level_chosen : (priority : ℕ) (labels : List RankedLabel) → chosen priority (map without_ranks labels) ≡ map label_of_ranked (filter (λ label. label.priority == priority) labels)
 unfolding chosen
 level_chosen priority [] = refl
 level_chosen priority (label ∷ labels) =
-    one_chosen (label.priority == priority) label (filter (λ other. other.priority == priority) labels) (chosen priority (map without_place labels)) (level_chosen priority labels)
+    one_chosen (label.priority == priority) label (filter (λ other. other.priority == priority) labels) (chosen priority (map without_ranks labels)) (level_chosen priority labels)
 
 module _ (definition : Definition) (layers : List ℕ) (view : ViewValue) where
   abbrev walked : List RankedLabel

@@ -29,10 +29,10 @@ IsStrictlySortedBy-append {K} R (x ∷ xs) ys first second apart =
 -- ---- one order
 
 contains_cases : {K : Type 0} (x z : K) (xs : List K) → Contains (x ∷ xs) z → (x ≡ z) ⊎ Contains xs z
-contains_cases {K} x z xs there = by_place there.0 there.1 there.2 where
-  by_place : (k : ℕ) → k < length (x ∷ xs) → get_or (x ∷ xs) k z ≡ z → (x ≡ z) ⊎ Contains xs z
-  by_place zero within is = inl is
-  by_place (suc k) within is = inr (k, omega arith, is)
+contains_cases {K} x z xs there = by_index there.0 there.1 there.2 where
+  by_index : (k : ℕ) → k < length (x ∷ xs) → get_or (x ∷ xs) k z ≡ z → (x ≡ z) ⊎ Contains xs z
+  by_index zero within is = inl is
+  by_index (suc k) within is = inr (k, omega arith, is)
 
 module _ {K : Type 0} {R : K → K → Ordering} (o : IsTotalOrder R) where
   -- neither of two items is before the other

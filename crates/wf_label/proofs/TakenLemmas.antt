@@ -13,11 +13,11 @@ use Rattle.std.specs.List.{All, list_any}
 use Rattle.wf_paint.specs.Exact.{plus, difference, is_less}
 use Rattle.wf_paint.specs.View.{ViewValue}
 use Rattle.wf_label.specs.Colored.{IsCut, is_between, is_in}
-use Rattle.wf_label.specs.Frame.{frame_of, is_whole_in, overlap, spans_overlap, widened}
+use Rattle.wf_label.specs.PixelBox.{box_of, is_whole_in, overlap, spans_overlap, widened}
 use Rattle.wf_label.specs.Placed.{PlacedValue, placed_value, placed_values}
 use Rattle.wf_label.specs.declared.placed.Placed.{Placed}
 use Rattle.wf_label.specs.Taken.{IsSolid, IsShown, IsTaken, IsMet, IsMarkedWithin, is_taken, is_marked}
-use Rattle.wf_label.specs.declared.frame.Frame.{Frame}
+use Rattle.wf_label.specs.declared.pixel_box.PixelBox.{PixelBox}
 
 -- ---- two boxes
 
@@ -41,13 +41,13 @@ unfolding spans_overlap is_between is_less
 spans_meet a b c d k first second = grind (arith, ints)
 
 -- what a box that lies whole in the view means for each side
-record IsWithin (view : ViewValue) (f : Frame) : Type 0 where
+record IsWithin (view : ViewValue) (f : PixelBox) : Type 0 where
   left : is_less f.left (pos 0) ≡ false
   right : is_less (pos view.width) f.right ≡ false
   bottom : is_less f.bottom (pos 0) ≡ false
   top : is_less (pos view.height) f.top ≡ false
 
-within_from : (view : ViewValue) (f : Frame) → is_whole_in view f ≡ true → IsWithin view f
+within_from : (view : ViewValue) (f : PixelBox) → is_whole_in view f ≡ true → IsWithin view f
 unfolding is_whole_in
 within_from view f whole =
     let three = and_parts (not (is_less f.left (pos 0)) && not (is_less (pos view.width) f.right) && not (is_less f.bottom (pos 0))) (not (is_less (pos view.height) f.top)) whole in
@@ -56,7 +56,7 @@ within_from view f whole =
     record { left = not-true _ one.0; right = not-true _ one.1; bottom = not-true _ two.1; top = not-true _ three.1 }
 
 -- boxes that overlap have a pixel of the view in common, where one of them lies whole in it
-record IsShared (view : ViewValue) (f g : Frame) : Type 0 where
+record IsShared (view : ViewValue) (f g : PixelBox) : Type 0 where
   column : ℕ
   row : ℕ
   wide : column < view.width
@@ -64,7 +64,7 @@ record IsShared (view : ViewValue) (f g : Frame) : Type 0 where
   first : is_in f column row ≡ true
   second : is_in g column row ≡ true
 
-shared_pixel : (view : ViewValue) (f g : Frame) → IsSolid f → IsSolid g → is_whole_in view g ≡ true → overlap f g ≡ true → IsShared view f g
+shared_pixel : (view : ViewValue) (f g : PixelBox) → IsSolid f → IsSolid g → is_whole_in view g ≡ true → overlap f g ≡ true → IsShared view f g
 unfolding overlap is_in
 shared_pixel view f g solid also whole meets =
     let both = and_parts (spans_overlap f.left f.right g.left g.right) (spans_overlap f.bottom f.top g.bottom g.top) meets in
@@ -73,7 +73,7 @@ shared_pixel view f g solid also whole meets =
     let y = common_pixel f.bottom f.top g.bottom g.top view.height solid.high also.high both.1 sides.bottom sides.top in
     record { column = x.pixel; row = y.pixel; wide = x.within; high = y.within; first = and_from _ _ x.first y.first; second = and_from _ _ x.second y.second }
 
-pixel_meets : (f g : Frame) (k m : ℕ) → is_in f k m ≡ true → is_in g k m ≡ true → overlap f g ≡ true
+pixel_meets : (f g : PixelBox) (k m : ℕ) → is_in f k m ≡ true → is_in g k m ≡ true → overlap f g ≡ true
 unfolding overlap is_in
 pixel_meets f g k m here there =
     let one = and_parts (is_between f.left f.right k) (is_between f.bottom f.top m) here in
@@ -84,27 +84,27 @@ moved_apart : (n : ℕ) (a b : ℤ) → is_less a b ≡ true → is_less (differ
 unfolding is_less difference plus
 moved_apart n a b less = grind (arith, ints)
 
-pub widened_solid : (by : ℕ) (f : Frame) → IsSolid f → IsSolid (widened by f)
+pub widened_solid : (by : ℕ) (f : PixelBox) → IsSolid f → IsSolid (widened by f)
 unfolding widened
 widened_solid by f solid = record { wide = moved_apart by f.left f.right solid.wide; high = moved_apart by f.bottom f.top solid.high }
 
 -- ---- a box and those of labels
 
-abbrev meets_one : Frame → List PlacedValue → Bool
-meets_one f placed = list_any (λ other. overlap f (frame_of other)) placed
+abbrev meets_one : PixelBox → List PlacedValue → Bool
+meets_one f placed = list_any (λ other. overlap f (box_of other)) placed
 
 -- the box doesn't overlap a label's box of which it holds no pixel of the view
-one_apart : (view : ViewValue) (f : Frame) (o : PlacedValue) → IsSolid f → IsShown view o →
-    ((k m : ℕ) → k < view.width → m < view.height → is_in f k m ≡ true → is_in (frame_of o) k m ≡ false) → overlap f (frame_of o) ≡ false
-one_apart view f o solid shown free = by_test (overlap f (frame_of o)) refl where
-  by_test : (t : Bool) → overlap f (frame_of o) ≡ t → t ≡ false
+one_apart : (view : ViewValue) (f : PixelBox) (o : PlacedValue) → IsSolid f → IsShown view o →
+    ((k m : ℕ) → k < view.width → m < view.height → is_in f k m ≡ true → is_in (box_of o) k m ≡ false) → overlap f (box_of o) ≡ false
+one_apart view f o solid shown free = by_test (overlap f (box_of o)) refl where
+  by_test : (t : Bool) → overlap f (box_of o) ≡ t → t ≡ false
   by_test true meets =
-      let at = shared_pixel view f (frame_of o) solid shown.solid shown.whole meets in
+      let at = shared_pixel view f (box_of o) solid shown.solid shown.whole meets in
       absurd (both_ways _ (free at.column at.row at.wide at.high at.first) at.second)
   by_test false apart = refl
 
 -- a box in which no pixel of the view is taken overlaps no label's box
-none_met : (view : ViewValue) (f : Frame) (placed : List PlacedValue) → IsSolid f → All (IsShown view) placed →
+none_met : (view : ViewValue) (f : PixelBox) (placed : List PlacedValue) → IsSolid f → All (IsShown view) placed →
     ((k m : ℕ) → k < view.width → m < view.height → is_in f k m ≡ true → is_taken placed k m ≡ false) → meets_one f placed ≡ false
 unfolding is_taken
 none_met view f [] solid shown free = refl
@@ -113,15 +113,15 @@ none_met view f (o ∷ placed) solid shown free =
     (none_met view f placed solid (All-tail (IsShown view) o placed shown) (λ k m wide high inside. (or_parts _ _ (free k m wide high inside)).1))
 
 -- a box in which a pixel is taken overlaps a label's box
-some_met : (f : Frame) (placed : List PlacedValue) (k m : ℕ) → is_in f k m ≡ true → is_taken placed k m ≡ true → meets_one f placed ≡ true
+some_met : (f : PixelBox) (placed : List PlacedValue) (k m : ℕ) → is_in f k m ≡ true → is_taken placed k m ≡ true → meets_one f placed ≡ true
 unfolding is_taken
 some_met f [] k m inside taken = absurd (false≢true taken)
-some_met f (o ∷ placed) k m inside taken = elim (or_cases (is_in (frame_of o) k m) (is_taken placed k m) taken) [
-  | inl here ↦ or_left (overlap f (frame_of o)) (meets_one f placed) (pixel_meets f (frame_of o) k m inside here)
-  | inr later ↦ or_right (overlap f (frame_of o)) (meets_one f placed) (some_met f placed k m inside later)
+some_met f (o ∷ placed) k m inside taken = elim (or_cases (is_in (box_of o) k m) (is_taken placed k m) taken) [
+  | inl here ↦ or_left (overlap f (box_of o)) (meets_one f placed) (pixel_meets f (box_of o) k m inside here)
+  | inr later ↦ or_right (overlap f (box_of o)) (meets_one f placed) (some_met f placed k m inside later)
 ]
 
-module _ (view : ViewValue) (f : Frame) (placed : List PlacedValue) (marks : List ℕ) (solid : IsSolid f) (taken : IsTaken view placed marks) where
+module _ (view : ViewValue) (f : PixelBox) (placed : List PlacedValue) (marks : List ℕ) (solid : IsSolid f) (taken : IsTaken view placed marks) where
   pub free_meets : ((k m : ℕ) → k < view.width → m < view.height → is_in f k m ≡ true → is_marked marks (m * view.width + k) ≡ false) → false ≡ meets_one f placed
   free_meets free = sym (none_met view f placed solid taken.shown (λ k m wide high inside. sym (taken.each k m wide high) ∙ free k m wide high inside))
 
@@ -136,18 +136,18 @@ module _ (view : ViewValue) (f : Frame) (placed : List PlacedValue) (marks : Lis
 
 -- ---- indices marked
 
-module _ (marks old : List ℕ) (start place n : ℕ) (some : start ≤ place) (within : place < length marks) where
+module _ (marks old : List ℕ) (start index n : ℕ) (some : start ≤ index) (within : index < length marks) where
   -- one index more
-  pub marked_more : is_marked marks n ≡ ((nat_le start n && nat_lt n place) || is_marked old n) → is_marked (set marks place 1) n ≡ ((nat_le start n && nat_lt n (place + 1)) || is_marked old n)
+  pub marked_more : is_marked marks n ≡ ((nat_le start n && nat_lt n index) || is_marked old n) → is_marked (set marks index 1) n ≡ ((nat_le start n && nat_lt n (index + 1)) || is_marked old n)
   unfolding is_marked
-  marked_more so_far = elim (cases_eq n place) [
+  marked_more so_far = elim (cases_eq n index) [
     | inl same ↦
-        let one : get_or (set marks place 1) n 0 ≡ 1 = ap (λ (i : ℕ). get_or (set marks place 1) i 0) same ∙ get_or-set_same marks place 1 0 within in
-        let in_it : (nat_le start n && nat_lt n (place + 1)) ≡ true = grind (arith, nat_tests) in
+        let one : get_or (set marks index 1) n 0 ≡ 1 = ap (λ (i : ℕ). get_or (set marks index 1) i 0) same ∙ get_or-set_same marks index 1 0 within in
+        let in_it : (nat_le start n && nat_lt n (index + 1)) ≡ true = grind (arith, nat_tests) in
         rw (one, in_it) refl
     | inr apart ↦
-        let other : get_or (set marks place 1) n 0 ≡ get_or marks n 0 = get_or-set_other marks place n 1 0 apart in
-        let alike : (nat_le start n && nat_lt n (place + 1)) ≡ (nat_le start n && nat_lt n place) = grind (arith, nat_tests) in
+        let other : get_or (set marks index 1) n 0 ≡ get_or marks n 0 = get_or-set_other marks index n 1 0 apart in
+        let alike : (nat_le start n && nat_lt n (index + 1)) ≡ (nat_le start n && nat_lt n index) = grind (arith, nat_tests) in
         rw (other, alike) so_far
   ]
 
@@ -159,19 +159,19 @@ marked : (marks : List ℕ) (n : ℕ) → 0 < get_or marks n 0 → is_marked mar
 unfolding is_marked
 marked marks n some = grind (arith, nat_tests)
 
-pub greatest_none : (marks : List ℕ) (start place most : ℕ) → (most ≡ 0 → (n : ℕ) → start ≤ n → n < place → is_marked marks n ≡ false) →
-    max (get_or marks place 0) most ≡ 0 → (n : ℕ) → start ≤ n → n < place + 1 → is_marked marks n ≡ false
-greatest_none marks start place most so_far none n from before = elim (cases_eq n place) [
+pub greatest_none : (marks : List ℕ) (start index most : ℕ) → (most ≡ 0 → (n : ℕ) → start ≤ n → n < index → is_marked marks n ≡ false) →
+    max (get_or marks index 0) most ≡ 0 → (n : ℕ) → start ≤ n → n < index + 1 → is_marked marks n ≡ false
+greatest_none marks start index most so_far none n from before = elim (cases_eq n index) [
   | inl same ↦ let zero_here : get_or marks n 0 ≡ 0 = ap (λ (i : ℕ). get_or marks i 0) same ∙ omega (arith, none) in unmarked marks n zero_here
   | inr apart ↦ so_far (omega (arith, none)) n from (omega arith)
 ]
 
-pub greatest_some : (marks : List ℕ) (start place most : ℕ) → start ≤ place → (0 < most → IsMarkedWithin marks start place) → 0 < max (get_or marks place 0) most → IsMarkedWithin marks start (place + 1)
-greatest_some marks start place most from so_far some = elim (cases_lt 0 (get_or marks place 0)) [
-  | inl here ↦ record { place = place; from = from; before = omega arith; marked = marked marks place here }
+pub greatest_some : (marks : List ℕ) (start index most : ℕ) → start ≤ index → (0 < most → IsMarkedWithin marks start index) → 0 < max (get_or marks index 0) most → IsMarkedWithin marks start (index + 1)
+greatest_some marks start index most from so_far some = elim (cases_lt 0 (get_or marks index 0)) [
+  | inl here ↦ record { index = index; from = from; before = omega arith; marked = marked marks index here }
   | inr none ↦
       let earlier = so_far (omega (arith, some, none)) in
-      record { place = earlier.place; from = earlier.from; before = omega (arith, earlier.before); marked = earlier.marked }
+      record { index = earlier.index; from = earlier.from; before = omega (arith, earlier.before); marked = earlier.marked }
 ]
 
 -- ---- rows marked
@@ -182,7 +182,7 @@ row_within row height width end size here most whole =
     let all : (row + 1) * width ≤ height * width = mul-le-mul below (same_width width) in
     omega (arith, mul_comm height width)
 
-module _ (f : Frame) (left right bottom top width height : ℕ) (begins : IsCut width left f.left) (ends : IsCut width right f.right) (most : right ≤ width) where
+module _ (f : PixelBox) (left right bottom top width height : ℕ) (begins : IsCut width left f.left) (ends : IsCut width right f.right) (most : right ≤ width) where
   -- one row more is marked
   pub row_marked : (row k m : ℕ) (new before old : Bool) → bottom ≤ row → k < width → before ≡ (in_rows f bottom row k m || old) →
       new ≡ ((nat_le (row * width + left) (m * width + k) && nat_lt (m * width + k) (row * width + right)) || before) → new ≡ (in_rows f bottom (row + 1) k m || old)
@@ -215,7 +215,7 @@ module _ (f : Frame) (left right bottom top width height : ℕ) (begins : IsCut 
         let rows : (nat_le bottom m && nat_lt m row) ≡ true = grind (arith, nat_tests, both.1) in
         so_far k m inside high (and_from (is_between f.left f.right k) (nat_le bottom m && nat_lt m row) both.0 rows)
 
-module _ (f : Frame) (bottom top width height : ℕ) (low : IsCut height bottom f.bottom) (high : IsCut height top f.top) where
+module _ (f : PixelBox) (bottom top width height : ℕ) (low : IsCut height bottom f.bottom) (high : IsCut height top f.top) where
   pub rows_are_in : (row k m : ℕ) → row ≡ max top bottom → m < height → is_in f k m ≡ in_rows f bottom row k m
   unfolding is_in
   rows_are_in row k m last within =
@@ -223,12 +223,12 @@ module _ (f : Frame) (bottom top width height : ℕ) (low : IsCut height bottom 
       ap (λ (there : Bool). is_between f.left f.right k && there) (between_cuts height bottom top f.bottom f.top m low high within ∙ up)
 
 -- a marked index in a row of the box is a pixel that the box overlaps
-pub row_met : (view : ViewValue) (f : Frame) (marks : List ℕ) (left right bottom top row : ℕ) → IsCut view.width left f.left → IsCut view.width right f.right → IsCut view.height bottom f.bottom → IsCut view.height top f.top →
+pub row_met : (view : ViewValue) (f : PixelBox) (marks : List ℕ) (left right bottom top row : ℕ) → IsCut view.width left f.left → IsCut view.width right f.right → IsCut view.height bottom f.bottom → IsCut view.height top f.top →
     right ≤ view.width → top ≤ view.height → bottom ≤ row → row < top → IsMarkedWithin marks (row * view.width + left) (row * view.width + right) → IsMet view f marks
 unfolding is_in
 row_met view f marks left right bottom top row begins ends low high wide tall above below at =
-    let k = at.place - row * view.width in
-    let split : row * view.width + k ≡ at.place = omega (arith, at.from) in
+    let k = at.index - row * view.width in
+    let split : row * view.width + k ≡ at.index = omega (arith, at.from) in
     let from : left ≤ k = omega (arith, at.from) in
     let before : k < right = omega (arith, at.before, at.from) in
     let inside : k < view.width = omega arith in
@@ -260,10 +260,10 @@ IsTaken-none view marks zeros = record {
   each = λ k m wide high. rw zeros (unmarked (replicate (view.width * view.height) 0) (m * view.width + k) (zero_at (view.width * view.height) (m * view.width + k)));
 }
 
-taken-push : (placed : List PlacedValue) (label : PlacedValue) (k m : ℕ) → is_taken (placed ++ label ∷ []) k m ≡ (is_in (frame_of label) k m || is_taken placed k m)
+taken-push : (placed : List PlacedValue) (label : PlacedValue) (k m : ℕ) → is_taken (placed ++ label ∷ []) k m ≡ (is_in (box_of label) k m || is_taken placed k m)
 unfolding is_taken
 taken-push [] label k m = refl
-taken-push (o ∷ placed) label k m = ap (λ (t : Bool). is_in (frame_of o) k m || t) (taken-push placed label k m) ∙ turned (is_in (frame_of o) k m) (is_in (frame_of label) k m) (is_taken placed k m) where
+taken-push (o ∷ placed) label k m = ap (λ (t : Bool). is_in (box_of o) k m || t) (taken-push placed label k m) ∙ turned (is_in (box_of o) k m) (is_in (box_of label) k m) (is_taken placed k m) where
   turned : (a b c : Bool) → (a || (b || c)) ≡ (b || (a || c))
   turned true true c = refl
   turned true false c = refl
@@ -271,22 +271,22 @@ taken-push (o ∷ placed) label k m = ap (λ (t : Bool). is_in (frame_of o) k m 
   turned false false c = refl
 
 pub IsTaken-more : (view : ViewValue) (placed : List PlacedValue) (label : PlacedValue) (old new : List ℕ) → IsShown view label → IsTaken view placed old → length new ≡ length old →
-    ((k m : ℕ) → k < view.width → m < view.height → is_marked new (m * view.width + k) ≡ (is_in (frame_of label) k m || is_marked old (m * view.width + k))) → IsTaken view (placed ++ label ∷ []) new
+    ((k m : ℕ) → k < view.width → m < view.height → is_marked new (m * view.width + k) ≡ (is_in (box_of label) k m || is_marked old (m * view.width + k))) → IsTaken view (placed ++ label ∷ []) new
 IsTaken-more view placed label old new one taken same marked_too = record {
   size = same ∙ taken.size;
   shown = All-push (IsShown view) placed label taken.shown one;
   each = λ k m wide high.
-      marked_too k m wide high ∙ ap (λ (t : Bool). is_in (frame_of label) k m || t) (taken.each k m wide high) ∙ sym (taken-push placed label k m);
+      marked_too k m wide high ∙ ap (λ (t : Bool). is_in (box_of label) k m || t) (taken.each k m wide high) ∙ sym (taken-push placed label k m);
 }
 
 -- what the greatest of all bytes means
-pub greatest_within : (marks : List ℕ) (start end place : ℕ) → place ≡ max end start → IsMarkedWithin marks start place → IsMarkedWithin marks start end
-greatest_within marks start end place last at = record { place = at.place; from = at.from; before = omega (arith, at.before, at.from); marked = at.marked }
+pub greatest_within : (marks : List ℕ) (start end index : ℕ) → index ≡ max end start → IsMarkedWithin marks start index → IsMarkedWithin marks start end
+greatest_within marks start end index last at = record { index = at.index; from = at.from; before = omega (arith, at.before, at.from); marked = at.marked }
 
 -- the same by the code's labels and its bytes, which were lent out of a list of this length
 pub taken_lent : (view : ViewValue) (placed after : List Placed) (label : Placed) (old new : List ℕ) (n : ℕ) (rest : List ℕ) → after ≡ placed ++ label ∷ [] → length new ≡ n → length new ≡ length old →
     IsShown view (placed_value label) → IsTaken view (placed_values placed) old →
-    ((k m : ℕ) → k < view.width → m < view.height → is_marked new (m * view.width + k) ≡ (is_in (frame_of (placed_value label)) k m || is_marked old (m * view.width + k))) →
+    ((k m : ℕ) → k < view.width → m < view.height → is_marked new (m * view.width + k) ≡ (is_in (box_of (placed_value label)) k m || is_marked old (m * view.width + k))) →
     IsTaken view (placed_values after) (take n (new ++ rest))
 taken_lent view placed after label old new n rest pushed whole same one taken marked_too =
     rw (take_at new rest n whole, pushed, map_push placed_value placed label) (IsTaken-more view (placed_values placed) (placed_value label) old new one taken same marked_too)

@@ -14,7 +14,7 @@ use Rattle.std.specs.Str.{IsUtf8, chars, all_scalars, encode_utf8_all}
 use Rattle.wf_def.specs.Attribute.{attribute, attribute_values}
 use Rattle.wf_def.specs.Limit.{most_text_bytes}
 use Rattle.wf_def.specs.Text.{IsText, is_text}
-use Rattle.wf_label.specs.Frame.{text_width}
+use Rattle.wf_label.specs.PixelBox.{text_width}
 use Rattle.wf_label.specs.Limit.{cell_width}
 
 -- ---- what a text is
@@ -117,21 +117,21 @@ pieces_short (b ∷ bytes) = by_test (is_semicolon b) (pieces_short bytes) refl 
 
 -- ---- a value
 
-at_place : {X : Type 0} (P : X → Type 0) (xs : List X) (i : ℕ) (x : X) → AllByRecursion P xs → slice_get xs i ≡ Some x → P x
-at_place P [] i x all here = absurd cc
-at_place P (y ∷ ys) zero x all here = let same : y ≡ x = cc in subst P same all.0
-at_place P (y ∷ ys) (suc i) x all here = at_place P ys i x all.1 here
+at_index : {X : Type 0} (P : X → Type 0) (xs : List X) (i : ℕ) (x : X) → AllByRecursion P xs → slice_get xs i ≡ Some x → P x
+at_index P [] i x all here = absurd cc
+at_index P (y ∷ ys) zero x all here = let same : y ≡ x = cc in subst P same all.0
+at_index P (y ∷ ys) (suc i) x all here = at_index P ys i x all.1 here
 
 -- what a feature's value is
 pub record IsShortText (value values : List ℕ) : Type 0 where
   pub utf8 : IsUtf8 value
   pub short : length value ≤ length values
 
-piece_of_a_text : (values value : List ℕ) (place : Option ℕ) → IsUtf8 values → option_and_then (slice_get (attribute_values values)) place ≡ Some value → IsShortText value values
+piece_of_a_text : (values value : List ℕ) (index : Option ℕ) → IsUtf8 values → option_and_then (slice_get (attribute_values values)) index ≡ Some value → IsShortText value values
 piece_of_a_text values value None is here = absurd cc
 piece_of_a_text values value (Some i) is here = record {
-  utf8 = at_place IsUtf8 (attribute_values values) i value (rw (← is.1.1) (pieces_utf8 is.0 is.1.0)) here;
-  short = at_place (λ piece. length piece ≤ length values) (attribute_values values) i value (pieces_short values) here;
+  utf8 = at_index IsUtf8 (attribute_values values) i value (rw (← is.1.1) (pieces_utf8 is.0 is.1.0)) here;
+  short = at_index (λ piece. length piece ≤ length values) (attribute_values values) i value (pieces_short values) here;
 }
 
 -- a feature's value under a name is UTF-8, and no longer than all its values

@@ -6,7 +6,7 @@ use Rattle.wf_def.specs.declared.point.Point.{Point}
 use Rattle.wf_paint.specs.Exact.{plus, quotient}
 use Rattle.wf_paint.specs.Limit.{pixel_side}
 use Rattle.wf_paint.specs.Near.{IsNear}
-use Rattle.wf_paint.specs.View.{ViewValue, place_of}
+use Rattle.wf_paint.specs.View.{ViewValue, position_of}
 use Rattle.wf_label.specs.declared.anchor.Anchor.{Anchor}
 use Rattle.wf_label.specs.declared.bounds.Bounds.{Bounds}
 
@@ -21,10 +21,10 @@ greatest first rest = fold int_max first rest
 
 -- where a point is shown on each axis, in sixteenths of a pixel
 abbrev pub shown_x : ViewValue → Point → ℤ
-shown_x view p = (place_of view p).x
+shown_x view p = (position_of view p).x
 
 abbrev pub shown_y : ViewValue → Point → ℤ
-shown_y view p = (place_of view p).y
+shown_y view p = (position_of view p).y
 
 -- from the least to the greatest of what is shown on each axis
 abbrev pub bounds_of : ViewValue → Point → List Point → Bounds
@@ -43,7 +43,7 @@ middle low high = quotient (plus low high) (pos 2)
 
 -- the pixel that holds a position on an axis
 unfoldable pub pixel_of : ℤ → ℤ
-pixel_of place = quotient place (pos pixel_side)
+pixel_of position = quotient position (pos pixel_side)
 
 -- the pixel in the middle of a box
 abbrev pub middle_of : Bounds → Anchor

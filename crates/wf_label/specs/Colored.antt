@@ -8,7 +8,7 @@ use Rattle.wf_label.specs.Glyph.{glyph}
 use Rattle.wf_label.specs.Ink.{steps, has_bit, row_up}
 use Rattle.wf_label.specs.Limit.{cell_width}
 use Rattle.wf_label.specs.Placed.{PlacedValue}
-use Rattle.wf_label.specs.declared.frame.Frame.{Frame}
+use Rattle.wf_label.specs.declared.pixel_box.PixelBox.{PixelBox}
 
 -- the pixels that the function names by column and row, rows counted upward, got the colour, and every other has its old one
 pub record IsColored (shown : ℕ → ℕ → Bool) (color : Color) (old new : PixmapValue) : Type 0 where
@@ -24,8 +24,8 @@ unfoldable pub is_between : ℤ → ℤ → ℕ → Bool
 is_between first end pixel = not (is_less (pos pixel) first) && is_less (pos pixel) end
 
 -- the pixel lies in the box
-unfoldable pub is_in : Frame → ℕ → ℕ → Bool
-is_in f column row = is_between f.left f.right column && is_between f.bottom f.top row
+unfoldable pub is_in : PixelBox → ℕ → ℕ → Bool
+is_in b column row = is_between b.left b.right column && is_between b.bottom b.top row
 
 -- the pixel lies in this row, from a column to before another
 unfoldable pub is_in_row : ℕ → ℕ → ℕ → ℕ → ℕ → Bool
@@ -52,8 +52,8 @@ unfoldable pub is_in_bits : PlacedValue → (ℕ → ℕ → Bool) → ℕ → �
 is_in_bits label bits column row = is_bit bits (bit_at label.scale label.left column) (bit_at label.scale label.bottom row)
 
 -- the box of one bit
-unfoldable pub bit_frame : PlacedValue → ℕ → ℕ → Frame
-bit_frame label across up = record {
+unfoldable pub bit_box : PlacedValue → ℕ → ℕ → PixelBox
+bit_box label across up = record {
   left = plus label.left (pos (label.scale * across));
   right = plus (plus label.left (pos (label.scale * across))) (pos label.scale);
   bottom = plus label.bottom (pos (label.scale * up));
@@ -66,8 +66,8 @@ one_bit across up k m = k == across && m == up
 
 -- the bits of one row of a character
 abbrev pub row_bits : ℕ → ℕ → ℕ → ℕ → ℕ → Bool
-row_bits place up row k m = m == up && (k / cell_width == place && has_bit row (k % cell_width))
+row_bits index up row k m = m == up && (k / cell_width == index && has_bit row (k % cell_width))
 
 -- the bits of a character
 abbrev pub character_bits : ℕ → ℕ → ℕ → ℕ → Bool
-character_bits place c k m = k / cell_width == place && has_bit (row_up (glyph c) m) (k % cell_width)
+character_bits index c k m = k / cell_width == index && has_bit (row_up (glyph c) m) (k % cell_width)

@@ -11,7 +11,7 @@ use Rattle.wf_paint.specs.Exact.{plus, difference}
 use Rattle.wf_paint.specs.Operation.{class_at}
 use Rattle.wf_paint.specs.View.{ViewValue}
 use Rattle.wf_label.specs.Anchor.{anchor_of}
-use Rattle.wf_label.specs.Frame.{text_width, text_height}
+use Rattle.wf_label.specs.PixelBox.{text_width, text_height}
 use Rattle.wf_label.specs.Placed.{PlacedValue, scale_of}
 use Rattle.wf_label.specs.declared.anchor.Anchor.{Anchor}
 

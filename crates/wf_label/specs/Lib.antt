@@ -1,7 +1,7 @@
 pub mod Limit
 pub mod Glyph
 pub mod Placed
-pub mod Frame
+pub mod PixelBox
 pub mod Anchor
 pub mod Label
 pub mod Placing

@@ -2,13 +2,13 @@
 use Rattle.std.specs.Prelude.{◌≡◌, ℕ, ◌<◌, Bool, false, not, ◌&&◌, ◌||◌, List, [], ◌∷◌, ◌++◌, length, get_or, take, if◌then◌else◌}
 use Rattle.std.specs.List.{list_any, items_where_true}
 use Rattle.wf_paint.specs.View.{ViewValue}
-use Rattle.wf_label.specs.Frame.{frame_of, is_whole_in, meets}
+use Rattle.wf_label.specs.PixelBox.{box_of, is_whole_in, meets}
 use Rattle.wf_label.specs.Placed.{PlacedValue}
 
 -- the label may be placed after those of `before`: its box lies whole in the view, and either it is forced or its widened box has
 -- no pixel in common with a box of theirs
 unfoldable pub stands : ViewValue → List PlacedValue → PlacedValue → Bool
-stands view before label = is_whole_in view (frame_of label) && (label.force || not (list_any (meets label) before))
+stands view before label = is_whole_in view (box_of label) && (label.force || not (list_any (meets label) before))
 
 -- A set of labels, as a mark for each label in label order: true for its members. It is the placed set where each label is a
 -- member iff it may be placed after the members among the labels before it.

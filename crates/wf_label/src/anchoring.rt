@@ -9,7 +9,7 @@ use crate::bounds::Bounds;
 use wf_def::feature::Part;
 use wf_def::point::Point;
 use wf_paint::limits::PIXEL_SIDE;
-use wf_paint::place::Place;
+use wf_paint::position::Position;
 use wf_paint::view::View;
 
 /// The pixel in the middle of the box around the points of the first part, as the view shows them; none where there is no point.
@@ -39,41 +39,41 @@ fn bounds_of(view: &View, first: &Point, rest: &[Point]) -> Bounds
     ensures value { result ≡ bounds_of view.now first.now rest.now }
     ensures within { IsBounds result }
 {
-    let mut bounds = about(view.place(first));
+    let mut bounds = about(view.position(first));
     for point in rest {
-        bounds = widened(bounds, view.place(point));
+        bounds = widened(bounds, view.position(point));
     }
     bounds
 }
 
 /// The box around one position.
-fn about(place: Place) -> Bounds
+fn about(position: Position) -> Bounds
     ensures value { result
-        ≡ record { left = place.x; right = place.x; bottom = place.y; top = place.y } }
+        ≡ record { left = position.x; right = position.x; bottom = position.y; top = position.y } }
     ensures within { IsBounds result }
 {
     Bounds {
-        left: place.x(),
-        right: place.x(),
-        bottom: place.y(),
-        top: place.y(),
+        left: position.x(),
+        right: position.x(),
+        bottom: position.y(),
+        top: position.y(),
     }
 }
 
 /// The smallest box around this box and one more position.
-fn widened(bounds: Bounds, place: Place) -> Bounds
+fn widened(bounds: Bounds, position: Position) -> Bounds
     requires { IsBounds bounds }
-    ensures left { result.left ≡ int_min bounds.left place.x }
-    ensures right { result.right ≡ int_max bounds.right place.x }
-    ensures bottom { result.bottom ≡ int_min bounds.bottom place.y }
-    ensures top { result.top ≡ int_max bounds.top place.y }
+    ensures left { result.left ≡ int_min bounds.left position.x }
+    ensures right { result.right ≡ int_max bounds.right position.x }
+    ensures bottom { result.bottom ≡ int_min bounds.bottom position.y }
+    ensures top { result.top ≡ int_max bounds.top position.y }
     ensures within { IsBounds result }
 {
     Bounds {
-        left: lesser(bounds.left, place.x()),
-        right: greater(bounds.right, place.x()),
-        bottom: lesser(bounds.bottom, place.y()),
-        top: greater(bounds.top, place.y()),
+        left: lesser(bounds.left, position.x()),
+        right: greater(bounds.right, position.x()),
+        bottom: lesser(bounds.bottom, position.y()),
+        top: greater(bounds.top, position.y()),
     }
 }
 
@@ -122,10 +122,10 @@ fn middle(low: i64, high: i64) -> i64
 
 /// The pixel that holds a position on one axis.
 #[tactic(auto, unfolding(crate::specs::Anchor::pixel_of, wf_paint::specs::Exact::quotient))]
-fn pixel_of(place: i64) -> i64
-    requires { IsNear place }
-    ensures value { result ≡ pixel_of place }
+fn pixel_of(position: i64) -> i64
+    requires { IsNear position }
+    ensures value { result ≡ pixel_of position }
     ensures within { IsNear result }
 {
-    place.div_euclid(PIXEL_SIDE)
+    position.div_euclid(PIXEL_SIDE)
 }

@@ -74,8 +74,8 @@ fn walk<'a>(
         (λ walked. candidate_values walked.items ≡ walk map.now layers.now view.now) }
 {
     let mut walked = Vec::new(alloc);
-    for place in (0..layers.len()).rev() {
-        let (_, layer) = map.layer(layers[place]);
+    for index in (0..layers.len()).rev() {
+        let (_, layer) = map.layer(layers[index]);
         push_layer(&mut walked, view, layer)?;
     }
     Ok(walked)

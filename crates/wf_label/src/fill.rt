@@ -3,18 +3,18 @@ ghost use Rattle.std.specs.Prelude.{◌≡◌, ◌≤◌, ◌<◌, ℕ, pos, nat
 ghost use Rattle.wf_paint.specs.Exact.{is_less};
 ghost use Rattle.wf_label.specs.Colored.{IsColored, IsCut, is_in, is_in_row};
 
-use crate::frame::Frame;
+use crate::pixel_box::PixelBox;
 use wf_def::color::Color;
 use wf_paint::pixmap::Pixmap;
 
 /// Gives the pixels of the picture that lie in the box the colour.
-pub(crate) fn fill(pixmap: &mut Pixmap, frame: &Frame, color: Color)
-    ensures { IsColored (is_in frame.now) color pixmap.old pixmap.new }
+pub(crate) fn fill(pixmap: &mut Pixmap, pixel_box: &PixelBox, color: Color)
+    ensures { IsColored (is_in pixel_box.now) color pixmap.old pixmap.new }
 {
-    let left = cut(frame.left, pixmap.width());
-    let right = cut(frame.right, pixmap.width());
-    let bottom = cut(frame.bottom, pixmap.height());
-    let top = cut(frame.top, pixmap.height());
+    let left = cut(pixel_box.left, pixmap.width());
+    let right = cut(pixel_box.right, pixmap.width());
+    let bottom = cut(pixel_box.bottom, pixmap.height());
+    let top = cut(pixel_box.top, pixmap.height());
     for row in bottom..top.max(bottom) {
         fill_row(pixmap, row, left, right, color);
     }

@@ -1,25 +1,25 @@
 //! Boxes of labels: where they are, and whether they lie in the view.
 ghost use Rattle.std.specs.Prelude.{◌≡◌, ◌≤◌, ◌+◌, ◌^◌, ◌<◌, length, pos, nat_abs};
 ghost use Rattle.wf_paint.specs.Exact.{plus, difference, is_less};
-ghost use Rattle.wf_label.specs.Frame.{IsFrame, frame_of, is_whole_in, widened};
+ghost use Rattle.wf_label.specs.PixelBox.{IsPixelBox, box_of, is_whole_in, widened};
 ghost use Rattle.wf_label.specs.Placed.{placed_value};
 ghost use Rattle.wf_label.specs.Taken.{IsSolid};
 
-use crate::frame::Frame;
+use crate::pixel_box::PixelBox;
 use crate::placed::Placed;
 use crate::text::{text_height, text_width};
 use wf_paint::view::View;
 
 /// The box of a label.
-#[tactic(auto, unfolding(crate::specs::Frame::frame_of))]
-pub(crate) fn frame_of(label: &Placed) -> Frame
-    ensures value { result ≡ frame_of (placed_value label.now) }
-    ensures within { IsFrame result }
+#[tactic(auto, unfolding(crate::specs::PixelBox::box_of))]
+pub(crate) fn box_of(label: &Placed) -> PixelBox
+    ensures value { result ≡ box_of (placed_value label.now) }
+    ensures within { IsPixelBox result }
     ensures solid { 0 < length label.now.text.now → IsSolid result }
 {
     let left = i128::from(label.left);
     let bottom = i128::from(label.bottom);
-    Frame {
+    PixelBox {
         left,
         right: plus(left, text_width(label.scale, label.text)),
         bottom,
@@ -48,28 +48,28 @@ fn minus(side: i128, by: u8) -> i128
 }
 
 /// The box with `by` pixels more on each side.
-#[tactic(auto, unfolding(crate::specs::Frame::widened))]
-pub(crate) fn widened(by: u8, frame: &Frame) -> Frame
-    requires { IsFrame frame.now }
-    ensures { result ≡ widened by frame.now }
+#[tactic(auto, unfolding(crate::specs::PixelBox::widened))]
+pub(crate) fn widened(by: u8, pixel_box: &PixelBox) -> PixelBox
+    requires { IsPixelBox pixel_box.now }
+    ensures { result ≡ widened by pixel_box.now }
 {
-    Frame {
-        left: minus(frame.left, by),
-        right: plus(frame.right, u128::from(by)),
-        bottom: minus(frame.bottom, by),
-        top: plus(frame.top, u128::from(by)),
+    PixelBox {
+        left: minus(pixel_box.left, by),
+        right: plus(pixel_box.right, u128::from(by)),
+        bottom: minus(pixel_box.bottom, by),
+        top: plus(pixel_box.top, u128::from(by)),
     }
 }
 
 /// Whether the box lies whole in the view.
-#[tactic(auto, unfolding(crate::specs::Frame::is_whole_in))]
-pub(crate) fn is_whole_in(view: &View, frame: &Frame) -> bool
-    ensures { result ≡ is_whole_in view.now frame.now }
+#[tactic(auto, unfolding(crate::specs::PixelBox::is_whole_in))]
+pub(crate) fn is_whole_in(view: &View, pixel_box: &PixelBox) -> bool
+    ensures { result ≡ is_whole_in view.now pixel_box.now }
 {
-    !is_less(frame.left, 0)
-        && !is_less(i128::from(view.width()), frame.right)
-        && !is_less(frame.bottom, 0)
-        && !is_less(i128::from(view.height()), frame.top)
+    !is_less(pixel_box.left, 0)
+        && !is_less(i128::from(view.width()), pixel_box.right)
+        && !is_less(pixel_box.bottom, 0)
+        && !is_less(i128::from(view.height()), pixel_box.top)
 }
 
 /// Whether one side lies before another.

@@ -1,15 +1,15 @@
 //! The labels that are placed.
 ghost use Rattle.std.specs.Prelude.{◌≡◌, ◌<◌, ◌++◌, ◌∷◌, [], true, length, IfOk, OnOk};
 ghost use Rattle.std.specs.List.{All, list_any};
-ghost use Rattle.wf_label.specs.Frame.{overlap, frame_of};
+ghost use Rattle.wf_label.specs.PixelBox.{overlap, box_of};
 ghost use Rattle.wf_label.specs.Label.{candidates};
 ghost use Rattle.wf_label.specs.Placed.{placed_value, placed_values};
 ghost use Rattle.wf_label.specs.Placing.{IsPlacing, joined, stands};
 ghost use Rattle.wf_label.specs.Taken.{IsShown, IsSolid, IsTaken};
 
 use crate::candidates::candidates;
-use crate::frame::Frame;
-use crate::overlap::{frame_of, is_whole_in, widened};
+use crate::overlap::{box_of, is_whole_in, widened};
+use crate::pixel_box::PixelBox;
 use crate::placed::Placed;
 use crate::taken::{mark, meets_marked};
 use std::alloc::{AllocError, Global};
@@ -102,12 +102,12 @@ fn add<'a>(placing: &mut Placing<'a>, view: &View, label: &Placed<'a>) -> Result
         (IsTaken view.now (placed_values placing.new.placed.items) placing.new.marks.items) }
 {
     placing.placed.push(*label)?;
-    mark(&mut placing.marks, view, &frame_of(label));
+    mark(&mut placing.marks, view, &box_of(label));
     Ok(())
 }
 
 /// Whether the label may be placed, given the labels placed before it.
-#[tactic(auto, unfolding(crate::specs::Placing::stands, crate::specs::Frame::meets))]
+#[tactic(auto, unfolding(crate::specs::Placing::stands, crate::specs::PixelBox::meets))]
 fn stands(placing: &Placing, view: &View, label: &Placed) -> bool
     requires text { 0 < length label.now.text.now }
     requires taken { IsTaken view.now
@@ -116,18 +116,18 @@ fn stands(placing: &Placing, view: &View, label: &Placed) -> bool
         ≡ stands view.now (placed_values placing.now.placed.items) (placed_value label.now) }
     ensures shown { result ≡ true → IsShown view.now (placed_value label.now) }
 {
-    let frame = frame_of(label);
-    is_whole_in(view, &frame)
-        && (label.force || !meets_any(placing, view, &widened(label.buffer, &frame)))
+    let pixel_box = box_of(label);
+    is_whole_in(view, &pixel_box)
+        && (label.force || !meets_any(placing, view, &widened(label.buffer, &pixel_box)))
 }
 
 /// Whether the box has a pixel in common with the box of one of the labels placed so far.
-fn meets_any(placing: &Placing, view: &View, frame: &Frame) -> bool
-    requires solid { IsSolid frame.now }
+fn meets_any(placing: &Placing, view: &View, pixel_box: &PixelBox) -> bool
+    requires solid { IsSolid pixel_box.now }
     requires taken { IsTaken view.now
         (placed_values placing.now.placed.items) placing.now.marks.items }
     ensures { result ≡ list_any
-        (λ other. overlap frame.now (frame_of other)) (placed_values placing.now.placed.items) }
+        (λ other. overlap pixel_box.now (box_of other)) (placed_values placing.now.placed.items) }
 {
-    meets_marked(&placing.marks, view, frame)
+    meets_marked(&placing.marks, view, pixel_box)
 }

@@ -5,7 +5,7 @@ ghost use Rattle.wf_paint.specs.View.{IsView};
 ghost use Rattle.wf_label.specs.Taken.{IsMarkedWithin, IsMet, is_marked};
 
 use crate::fill::cut;
-use crate::frame::Frame;
+use crate::pixel_box::PixelBox;
 use wf_paint::view::View;
 
 /// The columns and rows of a view that a box covers: `left` to before `right`, `bottom` to before `top`.
@@ -18,20 +18,20 @@ struct Block {
 }
 
 /// The part of the box that lies in the view.
-fn block_of(view: &View, frame: &Frame) -> Block
-    ensures left { IsCut view.now.width result.left frame.now.left }
-    ensures right { IsCut view.now.width result.right frame.now.right }
-    ensures bottom { IsCut view.now.height result.bottom frame.now.bottom }
-    ensures top { IsCut view.now.height result.top frame.now.top }
+fn block_of(view: &View, pixel_box: &PixelBox) -> Block
+    ensures left { IsCut view.now.width result.left pixel_box.now.left }
+    ensures right { IsCut view.now.width result.right pixel_box.now.right }
+    ensures bottom { IsCut view.now.height result.bottom pixel_box.now.bottom }
+    ensures top { IsCut view.now.height result.top pixel_box.now.top }
     ensures wide { result.right ≤ view.now.width }
     ensures tall { result.top ≤ view.now.height }
     ensures begins { result.left ≤ view.now.width }
     ensures within { IsView view.now }
 {
-    let left = cut(frame.left, view.width());
-    let right = cut(frame.right, view.width());
-    let bottom = cut(frame.bottom, view.height());
-    let top = cut(frame.top, view.height());
+    let left = cut(pixel_box.left, view.width());
+    let right = cut(pixel_box.right, view.width());
+    let bottom = cut(pixel_box.bottom, view.height());
+    let top = cut(pixel_box.top, view.height());
     Block {
         left: left as usize,
         right: right as usize,
@@ -42,14 +42,14 @@ fn block_of(view: &View, frame: &Frame) -> Block
 
 /// Marks the pixels of the view that lie in the box. `marks` has a byte a pixel, row by row from the bottom; a marked pixel's
 /// byte isn't 0.
-pub(crate) fn mark(marks: &mut [u8], view: &View, frame: &Frame)
+pub(crate) fn mark(marks: &mut [u8], view: &View, pixel_box: &PixelBox)
     requires { length marks.old ≡ view.now.width * view.now.height }
     ensures { (column row : ℕ) → column < view.now.width →
         row < view.now.height → is_marked marks.new (row * view.now.width + column)
-        ≡ (is_in frame.now column row || is_marked marks.old (row * view.now.width + column)) }
+        ≡ (is_in pixel_box.now column row || is_marked marks.old (row * view.now.width + column)) }
 {
     let width = view.width() as usize;
-    let block = block_of(view, frame);
+    let block = block_of(view, pixel_box);
     for row in block.bottom..block.top.max(block.bottom) {
         mark_run(marks, row * width + block.left, row * width + block.right);
     }
@@ -58,24 +58,24 @@ pub(crate) fn mark(marks: &mut [u8], view: &View, frame: &Frame)
 /// Marks the indices from `start` to before `end`.
 fn mark_run(marks: &mut [u8], start: usize, end: usize)
     requires { end ≤ length marks.old }
-    ensures { (place : ℕ) → is_marked marks.new place
-        ≡ ((nat_le start place && nat_lt place end) || is_marked marks.old place) }
+    ensures { (index : ℕ) → is_marked marks.new index
+        ≡ ((nat_le start index && nat_lt index end) || is_marked marks.old index) }
 {
-    for place in start..end.max(start) {
-        marks[place] = 1;
+    for index in start..end.max(start) {
+        marks[index] = 1;
     }
 }
 
 /// Whether a marked pixel of the view lies in the box.
-pub(crate) fn meets_marked(marks: &[u8], view: &View, frame: &Frame) -> bool
+pub(crate) fn meets_marked(marks: &[u8], view: &View, pixel_box: &PixelBox) -> bool
     requires { length marks.now ≡ view.now.width * view.now.height }
     ensures free { result ≡ false → (column row : ℕ) →
-        column < view.now.width → row < view.now.height → is_in frame.now column row ≡ true →
+        column < view.now.width → row < view.now.height → is_in pixel_box.now column row ≡ true →
         is_marked marks.now (row * view.now.width + column) ≡ false }
-    ensures met { result ≡ true → IsMet view.now frame.now marks.now }
+    ensures met { result ≡ true → IsMet view.now pixel_box.now marks.now }
 {
     let width = view.width() as usize;
-    let block = block_of(view, frame);
+    let block = block_of(view, pixel_box);
     for row in block.bottom..block.top.max(block.bottom) {
         if greatest(marks, row * width + block.left, row * width + block.right) > 0 {
             return true;
@@ -89,12 +89,12 @@ pub(crate) fn meets_marked(marks: &[u8], view: &View, frame: &Frame) -> bool
 fn greatest(marks: &[u8], start: usize, end: usize) -> u8
     requires { end ≤ length marks.now }
     ensures none { result ≡ 0 →
-        (place : ℕ) → start ≤ place → place < end → is_marked marks.now place ≡ false }
+        (index : ℕ) → start ≤ index → index < end → is_marked marks.now index ≡ false }
     ensures some { 0 < result → IsMarkedWithin marks.now start end }
 {
     let mut most = 0;
-    for place in start..end.max(start) {
-        most = marks[place].max(most);
+    for index in start..end.max(start) {
+        most = marks[index].max(most);
     }
     most
 }

@@ -2,7 +2,7 @@
 ghost use Rattle.std.specs.Prelude.{◌≡◌, ◌≤◌, ◌^◌, length};
 ghost use Rattle.std.specs.Str.{chars, IsUtf8};
 ghost use Rattle.wf_def.specs.Limit.{most_text_bytes};
-ghost use Rattle.wf_label.specs.Frame.{text_width, text_height};
+ghost use Rattle.wf_label.specs.PixelBox.{text_width, text_height};
 ghost use Rattle.wf_label.specs.Label.{text_of};
 ghost use Rattle.wf_label.specs.Placed.{scale_of};
 
@@ -42,7 +42,7 @@ fn character_count(text: &str) -> usize
 }
 
 /// How wide the text is in letters of a size, in pixels.
-#[tactic(auto, unfolding(crate::specs::Frame::text_width))]
+#[tactic(auto, unfolding(crate::specs::PixelBox::text_width))]
 pub(crate) fn text_width(size: LabelSize, text: &str) -> u128
     ensures value { result ≡ text_width (scale_of size) text.now }
     ensures most { result ≤ 2 ^ 80 }
@@ -60,7 +60,7 @@ pub(crate) fn short_width(size: LabelSize, text: &str) -> u32
 }
 
 /// How high a text is in letters of a size, in pixels.
-#[tactic(auto, unfolding(crate::specs::Frame::text_height))]
+#[tactic(auto, unfolding(crate::specs::PixelBox::text_height))]
 pub(crate) fn text_height(size: LabelSize) -> u32
     ensures { result ≡ text_height (scale_of size) }
 {

@@ -5,7 +5,7 @@ use Rattle.wf_model.specs.Stored.{Stored}
 use Rattle.wf_model.specs.Working.{Working}
 use Rattle.wf_model.specs.Table as table
 use Rattle.wf_model.specs.Table.{Action}
-use Rattle.wf_model.specs.World.{Node, World, Event, Propose, Retry, CatchUp, Deliver, Stop, Restart, Torn, Kept, Turn, delivered, input_of, stored_after, with_node, after_turn, after_torn, stop_running, after_stop, restart_stopped, after_restart, turn_of, turn, happens, steps}
+use Rattle.wf_model.specs.World.{Node, World, Event, Act, Stop, Restart, Torn, Kept, Turn, delivered, input_of, stored_after, with_node, after_turn, after_torn, stop_running, after_stop, restart_stopped, after_restart, turn_of, turn, happens, steps}
 use Rattle.wf_law.specs.Earlier.{sent_before, raised_action, raised_event, raised, EarlierMessages}
 
 -- an element after a prefix, by its index in the whole list
@@ -85,10 +85,7 @@ module _ {V : Type 0} (earlier : List (Message V)) where
 
     happens_before : (w : World V) (event : Event V) → happens same (sent_before earlier w) (raised_event (length earlier) event) ≡ sent_before earlier (happens same w event)
     unfolding happens raised_event raised_action sent_before
-    happens_before w (Propose i d) = acted_before w i (table.Propose d)
-    happens_before w (Retry i) = acted_before w i table.Retry
-    happens_before w (CatchUp i) = acted_before w i table.CatchUp
-    happens_before w (Deliver i k) = acted_before w i (table.Deliver k)
+    happens_before w (Act i action) = acted_before w i action
     happens_before w (Stop i) = after_stop_before w i (slice_get w.nodes i)
     happens_before w (Restart i) = after_restart_before w i (slice_get w.nodes i)
     happens_before w (Torn i action kept) = tore_before w i action kept

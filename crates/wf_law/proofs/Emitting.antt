@@ -189,7 +189,7 @@ answers_ask i working [] answers m h = absurd h
 answers_ask i working (a ∷ rest) answers m (inl e) = subst (IsOwnAsk i working) (sym e) (answer_asks i working a answers.0)
 answers_ask i working (a ∷ rest) answers m (inr h) = answers_ask i working rest answers.1 m h
 
--- ---- published entries are sent
+-- ---- published definitions are sent
 
 -- the messages are Chosen, each of what is chosen
 abbrev pub IsTold : {V : Type 0} → ℕ → List (Message V) → Message V → Type 0

@@ -6,7 +6,7 @@ use Rattle.wf_model.specs.Stored.{Stored, Record, Tried, Promised, Accepted, Pub
 use Rattle.wf_model.specs.Working.{Working, at_start}
 use Rattle.wf_model.specs.Table as table
 use Rattle.wf_model.specs.Table.{Row, store}
-use Rattle.wf_model.specs.World.{Node, World, Event, Propose, Retry, CatchUp, Deliver, Stop, Restart, Torn, Kept, Before, After, Turn, stored_after, kept_part, with_node, after_turn, after_torn, stop_running, after_stop, restart_stopped, after_restart, turn, happens, steps, start, after}
+use Rattle.wf_model.specs.World.{Node, World, Event, Act, Stop, Restart, Torn, Kept, Before, After, Turn, stored_after, kept_part, with_node, after_turn, after_torn, stop_running, after_stop, restart_stopped, after_restart, turn, happens, steps, start, after}
 use Rattle.wf_model.specs.Chosen.{history_of, history}
 use Rattle.wf_model.specs.StepsLaws.{steps_in_turn}
 use Rattle.wf_law.specs.Laws.{IsBeginning}
@@ -100,10 +100,7 @@ module _ {V : Type 0} (w : World V) (i : ℕ) where
 module _ {V : Type 0} (same : V → V → Bool) (n : ℕ) where
   happens_grows : (w : World V) (event : Event V) → WorldFacts n w → (j : ℕ) → IsBeginning (history w j) (history (happens same w event) j)
   unfolding happens
-  happens_grows w (Propose i d) facts = turn_grows w i n (turn same w i (table.Propose d)) (turn_facts same n w facts i (table.Propose d))
-  happens_grows w (Retry i) facts = turn_grows w i n (turn same w i table.Retry) (turn_facts same n w facts i table.Retry)
-  happens_grows w (CatchUp i) facts = turn_grows w i n (turn same w i table.CatchUp) (turn_facts same n w facts i table.CatchUp)
-  happens_grows w (Deliver i k) facts = turn_grows w i n (turn same w i (table.Deliver k)) (turn_facts same n w facts i (table.Deliver k))
+  happens_grows w (Act i action) facts = turn_grows w i n (turn same w i action) (turn_facts same n w facts i action)
   happens_grows w (Stop i) facts = after_stop_grows w i (slice_get w.nodes i) refl
   happens_grows w (Restart i) facts = after_restart_grows w i (slice_get w.nodes i) refl
   happens_grows w (Torn i action kept) facts = torn_grows w i n kept (turn same w i action) (turn_facts same n w facts i action)

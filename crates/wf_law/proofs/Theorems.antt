@@ -8,7 +8,7 @@ use Rattle.wf_model.specs.Fits.{NotBelow}
 use Rattle.wf_model.specs.Working.{Proposing, Idle, Running, Won, Overtaken, Working}
 use Rattle.wf_model.specs.Table as table
 use Rattle.wf_model.specs.Table.{Action, store}
-use Rattle.wf_model.specs.World.{Node, World, Event, Propose, Retry, CatchUp, Deliver, Stop, Restart, Torn, Kept, Turn, stored_after, with_node, after_turn, after_torn, stop_running, after_stop, restart_stopped, after_restart, turn, happens, after}
+use Rattle.wf_model.specs.World.{Node, World, Event, Act, Stop, Restart, Torn, Kept, Turn, stored_after, with_node, after_turn, after_torn, stop_running, after_stop, restart_stopped, after_restart, turn, happens, after}
 use Rattle.wf_model.specs.Chosen.{IsIn, IsChosen, history_of, history, definition}
 use Rattle.wf_law.specs.Laws.{ballots_of, IsTried, Proposes, node_of, AsksForItself, OwnBallotsIn, OwnBallots, IsBound, KeptPromisesIn, KeptPromises, PromisedMajorityIn, PromisedMajority, AgreementIn, Agreement}
 use Rattle.wf_law.proofs.Facts.{MessageFacts, StoredFacts, IsRunningAt, IsOwnAsk}
@@ -120,10 +120,7 @@ module _ {V : Type 0} (w : World V) (i : ℕ) where
 module _ {V : Type 0} (same : V → V → Bool) (n : ℕ) (w : World V) (facts : WorldFacts n w) where
   asked_by : (event : Event V) (m : Message V) → IsIn m (drop (length w.sent) (happens same w event).sent) → AsksForItself (happens same w event) (node_of event) m
   unfolding happens
-  asked_by (Propose i d) m is_new = asked_by_turn w i n (turn same w i (table.Propose d)) (turn_facts same n w facts i (table.Propose d)) m is_new
-  asked_by (Retry i) m is_new = asked_by_turn w i n (turn same w i table.Retry) (turn_facts same n w facts i table.Retry) m is_new
-  asked_by (CatchUp i) m is_new = asked_by_turn w i n (turn same w i table.CatchUp) (turn_facts same n w facts i table.CatchUp) m is_new
-  asked_by (Deliver i k) m is_new = asked_by_turn w i n (turn same w i (table.Deliver k)) (turn_facts same n w facts i (table.Deliver k)) m is_new
+  asked_by (Act i action) m is_new = asked_by_turn w i n (turn same w i action) (turn_facts same n w facts i action) m is_new
   asked_by (Stop i) m is_new = silent w i (after_stop w i (slice_get w.nodes i)) m (after_stop_sends w i (slice_get w.nodes i)) is_new
   asked_by (Restart i) m is_new = silent w i (after_restart w i (slice_get w.nodes i)) m (after_restart_sends w i (slice_get w.nodes i)) is_new
   asked_by (Torn i action kept) m is_new = silent w i (after_torn w i kept (turn same w i action)) m (torn_sends w i kept (turn same w i action)) is_new

@@ -9,7 +9,7 @@ use Rattle.wf_model.specs.Stored.{Stored, nothing_stored, definition_at}
 use Rattle.wf_model.specs.Working.{Working, at_start}
 use Rattle.wf_model.specs.Table as table
 use Rattle.wf_model.specs.Table.{Action, Input, refusal, row, store}
-use Rattle.wf_model.specs.World.{Node, World, Event, Propose, Retry, CatchUp, Deliver, Stop, Restart, Torn, Kept, Before, After, Turn, delivered, input_of, stored_after, kept_part, with_node, after_turn, after_torn, stop_running, after_stop, restart_stopped, after_restart, turn_running, turn_of, turn, happens, steps, start, after}
+use Rattle.wf_model.specs.World.{Node, World, Event, Act, Stop, Restart, Torn, Kept, Before, After, Turn, delivered, input_of, stored_after, kept_part, with_node, after_turn, after_torn, stop_running, after_stop, restart_stopped, after_restart, turn_running, turn_of, turn, happens, steps, start, after}
 use Rattle.wf_law.proofs.Members.{member-found}
 use Rattle.wf_law.proofs.Facts.{MessageFacts, StoredFacts, WorkingFacts, NodeFacts, RowFacts}
 use Rattle.wf_law.proofs.Emitting.{emit_messages, emit_own, emit_other, working_other}
@@ -279,10 +279,7 @@ module _ {V : Type 0} (n : ℕ) (w : World V) (facts : WorldFacts n w) (i : ℕ)
 module _ {V : Type 0} (same : V → V → Bool) (n : ℕ) where
   pub happens_facts : (w : World V) (event : Event V) → WorldFacts n w → WorldFacts n (happens same w event)
   unfolding happens
-  happens_facts w (Propose i d) facts = after_turn_facts n w facts i (turn same w i (table.Propose d)) (turn_facts same n w facts i (table.Propose d))
-  happens_facts w (Retry i) facts = after_turn_facts n w facts i (turn same w i table.Retry) (turn_facts same n w facts i table.Retry)
-  happens_facts w (CatchUp i) facts = after_turn_facts n w facts i (turn same w i table.CatchUp) (turn_facts same n w facts i table.CatchUp)
-  happens_facts w (Deliver i k) facts = after_turn_facts n w facts i (turn same w i (table.Deliver k)) (turn_facts same n w facts i (table.Deliver k))
+  happens_facts w (Act i action) facts = after_turn_facts n w facts i (turn same w i action) (turn_facts same n w facts i action)
   happens_facts w (Stop i) facts = after_stop_facts n w facts i (slice_get w.nodes i) refl
   happens_facts w (Restart i) facts = after_restart_facts n w facts i (slice_get w.nodes i) refl
   happens_facts w (Torn i action kept) facts = after_torn_facts n w facts i kept (turn same w i action) (turn_facts same n w facts i action)

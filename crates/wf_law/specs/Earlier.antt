@@ -18,10 +18,7 @@ raised_action many table.CatchUp = table.CatchUp
 raised_action many (table.Deliver k) = table.Deliver (many + k)
 
 unfoldable pub raised_event : {V : Type 0} → ℕ → Event V → Event V
-raised_event many (world.Propose i d) = world.Propose i d
-raised_event many (world.Retry i) = world.Retry i
-raised_event many (world.CatchUp i) = world.CatchUp i
-raised_event many (world.Deliver i k) = world.Deliver i (many + k)
+raised_event many (world.Act i action) = world.Act i (raised_action many action)
 raised_event many (world.Stop i) = world.Stop i
 raised_event many (world.Restart i) = world.Restart i
 raised_event many (world.Torn i action kept) = world.Torn i (raised_action many action) kept

@@ -54,10 +54,7 @@ pub record Proposes {V : Type 0} (w : World V) (i s : ℕ) (b : Ballot) : Type 0
 
 -- the node that an event is about
 abbrev pub node_of : {V : Type 0} → Event V → ℕ
-node_of (world.Propose i d) = i
-node_of (world.Retry i) = i
-node_of (world.CatchUp i) = i
-node_of (world.Deliver i k) = i
+node_of (world.Act i action) = i
 node_of (world.Stop i) = i
 node_of (world.Restart i) = i
 node_of (world.Torn i action kept) = i

@@ -14,8 +14,8 @@ pub const MOST_TOLD: u16 = 8;
 /// The map definitions that a node published, one for each update sequence from 1 on. Sequence 0 is the empty map. Nothing is
 /// ever removed from it or changed in it.
 pub struct History {
-    // The first is the definition of slot 1.
-    entries: Vec<Canon>,
+    // The first is that of slot 1.
+    definitions: Vec<Canon>,
     // The map of sequence 0.
     first: MapDef,
 }
@@ -23,8 +23,8 @@ pub struct History {
 // Written by hand: callers then prove one call where they drop a history, not one for each part.
 impl Drop for History {
     fn drop(self) {
-        let History { entries, first } = self;
-        drop(entries);
+        let History { definitions, first } = self;
+        drop(definitions);
         drop(first);
     }
 }
@@ -36,11 +36,11 @@ impl Model for History {
     ghost Value = { History };
 
     ghost view = { λ h. record {
-      definitions = h.entries.items;
-      has_room = nat_lt (vec_len h.entries) (vec_capacity h.entries);
+      definitions = h.definitions.items;
+      has_room = nat_lt (vec_len h.definitions) (vec_capacity h.definitions);
     } };
 
-    ghost invariant = { λ h. IsHistory h.first h.entries.items };
+    ghost invariant = { λ h. IsHistory h.first h.definitions.items };
 }
 
 impl History {
@@ -58,7 +58,7 @@ impl History {
         ensures { IfOk result (λ history. history.definitions ≡ []) }
     {
         Ok(History {
-            entries: Vec::new(alloc),
+            definitions: Vec::new(alloc),
             first: MapDef::empty(alloc)?,
         })
     }
@@ -68,7 +68,7 @@ impl History {
         ensures value { result ≡ length self.now.definitions }
         ensures in_range { IsSequence result }
     {
-        Seq::new(self.entries.len() as u16).unwrap()
+        Seq::new(self.definitions.len() as u16).unwrap()
     }
 
     /// The next slot; None if the last one is published. A node that catches up asks for it.
@@ -76,7 +76,7 @@ impl History {
         ensures open { IsSome result ↔ (length self.now.definitions < last_sequence) }
         ensures value { IfSome result (λ slot. slot ≡ next_of self.now.definitions) }
     {
-        Slot::new(self.entries.len() as u16 + 1)
+        Slot::new(self.definitions.len() as u16 + 1)
     }
 
     /// The map of a sequence, the empty one for 0; None above the published ones.
@@ -90,7 +90,7 @@ impl History {
             let _ = self.first.extent();
             return Some(&self.first);
         }
-        let canon = self.entry(seq.number())?;
+        let canon = self.definition(seq.number())?;
         Some(canon.def())
     }
 
@@ -98,22 +98,23 @@ impl History {
     pub fn canon(&self, slot: Slot) -> Option<&Canon>
         ensures { option_copied result ≡ definition_at self.now.definitions slot }
     {
-        self.entry(slot.number())
+        self.definition(slot.number())
     }
 
     // The definition of the sequence of this number, which must not be 0.
-    fn entry(&self, number: u16) -> Option<&Canon>
+    fn definition(&self, number: u16) -> Option<&Canon>
         requires { 1 ≤ number }
         ensures { option_copied result ≡ definition_at self.now.definitions number }
     {
-        self.entries.get(number as usize - 1)
+        self.definitions.get(number as usize - 1)
     }
 
     /// Chosen with the definition that is published at the slot, if there is one: the answer to a Prepare or an Accept of a
     /// published slot. Allocation can fail only for a published slot.
     #[tactic(auto, using(crate::proofs::Told::told_published, crate::proofs::Told::told_unpublished, crate::proofs::Told::is_published))]
     pub fn chosen(&self, slot: Slot) -> Result<Option<Message>, AllocError>
-        ensures row { IfOk result (λ message. option_to_list (option_map view_message message) ≡ told self.now.definitions slot) }
+        ensures row { IfOk result (λ message.
+            option_to_list (option_map view_message message) ≡ told self.now.definitions slot) }
         ensures memory { OnErr result (slot ≤ length self.now.definitions) }
     {
         match self.canon(slot) {
@@ -125,7 +126,8 @@ impl History {
     /// Answers `Ask(slot)`: Chosen for each published slot from this one on, at most eight. Allocation can fail only if there is
     /// something to send.
     pub fn answer_ask(&self, alloc: Global, slot: Slot) -> Result<Vec<Message>, AllocError>
-        ensures row { IfOk result (λ messages. map view_message messages.items ≡ told_from self.now.definitions slot most_told) }
+        ensures row { IfOk result (λ messages.
+            map view_message messages.items ≡ told_from self.now.definitions slot most_told) }
         ensures memory { OnErr result (slot ≤ length self.now.definitions) }
     {
         let mut messages = Vec::new(alloc);
@@ -138,11 +140,12 @@ impl History {
     // Appends Chosen for the sequence of this number, if that is published.
     #[tactic(auto, using(crate::proofs::Told::told_of_no_slot, crate::proofs::Told::none_more, crate::proofs::Told::one_more, crate::proofs::Told::published_where_told))]
     fn tell(&self, number: u16, messages: &mut Vec<Message>) -> Result<(), AllocError>
-        ensures ok { OnOk result (map view_message messages.new.items ≡ map view_message messages.old.items ++ told self.now.definitions number) }
+        ensures ok { OnOk result (map view_message messages.new.items ≡
+            map view_message messages.old.items ++ told self.now.definitions number) }
         ensures memory { OnErr result (number ≤ length self.now.definitions) }
     {
         // The list is no longer than there are slots: a number that isn't a slot's has no definition.
-        let _ = &self.entries;
+        let _ = &self.definitions;
         let Some(slot) = Slot::new(number) else {
             return Ok(());
         };
@@ -156,8 +159,10 @@ impl History {
     /// the result says why. Allocation can fail only for the next slot, and only if there is no room; an error changes nothing.
     pub fn learn(&mut self, slot: Slot, canon: Canon) -> Result<Learned, AllocError>
         ensures learned { IfOk result (λ learned. learned ≡ learned_at self.old.definitions slot) }
-        ensures grown { OnOk result (self.new.definitions ≡ with_chosen self.old.definitions slot canon) }
-        ensures row { IfOk result (λ learned. IsChosenRow self.old.definitions slot canon self.new.definitions learned) }
+        ensures grown { OnOk result
+            (self.new.definitions ≡ with_chosen self.old.definitions slot canon) }
+        ensures row { IfOk result (λ learned.
+            IsChosenRow self.old.definitions slot canon self.new.definitions learned) }
         ensures other { slot ≢ next_of self.old.definitions → self.new ≡ self.old }
         ensures err { OnErr result (self.new ≡ self.old) }
         ensures memory { OnErr result (slot ≡ next_of self.old.definitions) }
@@ -193,7 +198,7 @@ impl History {
         requires open { length self.old.definitions < last_sequence }
         ensures { self.new.definitions ≡ self.old.definitions ++ canon ∷ [] }
     {
-        self.entries.push_reserved(canon);
+        self.definitions.push_reserved(canon);
     }
 
     /// Makes room for one more definition: the next `learn` allocates nothing.
@@ -202,6 +207,6 @@ impl History {
         ensures err { OnErr result (self.new ≡ self.old) }
         ensures room { HasRoom self.old → IsOk result }
     {
-        self.entries.reserve(1)
+        self.definitions.reserve(1)
     }
 }

@@ -19,7 +19,7 @@ use Rattle.clap.specs.declared.parser.matches.ArgMatches.TheViews.{out-SubComman
 use Rattle.clap.specs.declared.parser.matches.ArgMatches.{ArgMatches}
 use Rattle.clap.specs.declared.parser.matches.Found.{Found}
 use Rattle.clap.specs.declared.parser.matches.SubCommand.{SubCommand}
-use Rattle.wf_line.specs.CommandLine.{Asks, IsCacheOf, IsCapsOf, IsDrawOf, IsRejection, IsServeOf, IsServiceOf, IsTapeOf, program, rejections}
+use Rattle.wf_line.specs.CommandLine.{Asks, IsCacheBy, IsCapsOf, IsDrawOf, IsRejection, IsServeOf, IsServiceOf, IsTapeOf, program, rejections}
 use Rattle.wf_line.specs.Line.{IsInRange}
 use Rattle.wf_line.specs.declared.line.Line.{Line}
 use Rattle.wf_service.specs.Service.{IsService}
@@ -95,7 +95,7 @@ none_listed None None rows has named none = λ l asks. asks
 none_listed None (Some p) rows has named none = tape_asks_of p rows (let is : p.1 ≡ rows = cc in is) (let is : p.0 ≡ codes "tape" = cc in is) none
 
 -- the numbers of the line that is asked for are in range
-cache_in_range : (word : Option Text) (kept : ℕ) → IsCacheOf word kept → (1 ≤ kept) × (kept ≤ most_kept)
+cache_in_range : (word : Option Text) (kept : ℕ) → IsCacheBy word kept → (1 ≤ kept) × (kept ≤ most_kept)
 cache_in_range None kept is = (omega (arith, is), omega (arith, is))
 cache_in_range (Some word) kept is = (is.low, is.high)
 

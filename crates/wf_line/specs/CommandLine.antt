@@ -2,9 +2,13 @@
 use Rattle.std.specs.Prelude.{◌≡◌, ◌⊎◌, ℕ, option_map, ◌==◌, not, Bool, List, [], ◌∷◌, Option, Some, None, false, true, codes, pos}
 use Rattle.clap.specs.Faults.{fault_of}
 use Rattle.clap.specs.Kinds.{IsAmong}
-use Rattle.clap.specs.Walk.{Row, Rule, Text, first_of}
-use Rattle.clap.specs.Simple.{App, Shape, new_rule, new_shape, subcommand_of}
+use Rattle.clap.specs.Matches.{found_of}
+use Rattle.clap.specs.Walk.{Row, Rule, Text, first_of, rows_of}
+use Rattle.clap.specs.Simple.{App, Shape, app_of, new_rule, new_shape, shape_of, subcommand_of}
 use Rattle.clap.specs.Takes.{takes}
+use Rattle.clap.specs.declared.builder.command.Command.{Command}
+use Rattle.clap.specs.declared.builder.command.Command.TheViews.{out-Command}
+use Rattle.clap.specs.declared.parser.matches.ArgMatches.{ArgMatches}
 use Rattle.clap.specs.declared.error.kind.ErrorKind.{ErrorKind}
 use Rattle.clap.specs.declared.error.kind.ErrorKind.TheVariants.{OutOfMemory, ValueValidation}
 use Rattle.clap.specs.declared.builder.value_parser.ValueParser.TheVariants.{Signed}
@@ -91,6 +95,10 @@ cache_rule = record (new_rule (codes "cache")) { long = Some (codes "cache"); va
 abbrev pub state_rule : Rule
 state_rule = record (new_rule (codes "state")) { long = Some (codes "state"); value_names = 1 }
 
+-- `serve`, without its optional arguments
+abbrev pub required_serve_shape : Shape
+required_serve_shape = record (new_shape (codes "serve")) { rules = nodes_rule ∷ port_rule ∷ requests_rule ∷ [] }
+
 -- `serve`
 abbrev pub serve_shape : Shape
 serve_shape = record (new_shape (codes "serve")) { rules = nodes_rule ∷ port_rule ∷ requests_rule ∷ cache_rule ∷ state_rule ∷ [] }
@@ -107,7 +115,21 @@ program = record {
   subs = caps_shape ∷ draw_shape ∷ canon_shape ∷ run_shape ∷ wire_shape ∷ tape_shape ∷ serve_shape ∷ [];
 }
 
+-- ---- the commands as they are built
+
+-- the command has this shape, and no argument that is its subcommands' too
+abbrev pub IsOfShape : Shape → Command → Type 0
+IsOfShape shape command = (shape_of command ≡ shape) × ((out-Command command).has_globals ≡ false)
+
+-- the command is the program's, with these subcommands so far
+abbrev pub HasSubcommands : List Shape → Command → Type 0
+HasSubcommands shapes command = app_of command ≡ record program { subs = shapes }
+
 -- ---- the line that is asked for
+
+-- the arguments parsed for a command, each with its name
+abbrev pub rows_in : ArgMatches → List Row
+rows_in found = rows_of (found_of found)
 
 -- The line is `caps` with the number that an argument spells, and this query.
 abbrev pub IsCapsLine : Text → Text → Line → Type 0
@@ -160,17 +182,21 @@ IsNumberOf rows id least most number = (word : Text) × (first_of id rows ≡ So
 abbrev pub default_cache : ℕ
 default_cache = 16
 
--- the number of pictures to keep, by the parsed argument if there is one
-abbrev pub IsCacheOf : Option Text → ℕ → Type 0
-IsCacheOf None kept = kept ≡ default_cache
-IsCacheOf (Some word) kept = IsNumber word 1 most_kept kept
+-- the number of pictures to keep, by an argument if there is one
+abbrev pub IsCacheBy : Option Text → ℕ → Type 0
+IsCacheBy None kept = kept ≡ default_cache
+IsCacheBy (Some word) kept = IsNumber word 1 most_kept kept
+
+-- the same by the parsed arguments
+abbrev pub IsCacheOf : List Row → ℕ → Type 0
+IsCacheOf rows kept = IsCacheBy (first_of (codes "cache") rows) kept
 
 -- The service is that of the parsed arguments.
 pub record IsServiceOf (rows : List Row) (service : Service) : Type 0 where
   pub nodes : IsNumberOf rows (codes "nodes") 1 most_nodes service.nodes
   pub port : IsNumberOf rows (codes "port") 0 last_port service.port
   pub requests : IsNumberOf rows (codes "requests") 0 most_requests service.requests
-  pub cache : IsCacheOf (first_of (codes "cache") rows) service.cache
+  pub cache : IsCacheOf rows service.cache
   pub state : option_map (λ s. s.now) service.state ≡ first_of (codes "state") rows
 
 -- The line is `serve` with the service of the parsed arguments.

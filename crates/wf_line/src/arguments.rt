@@ -1,11 +1,10 @@
 //! Parses the command line.
-ghost use Rattle.std.specs.Prelude.{◌≡◌, ◌∷◌, [], ℕ, IfErr, IfNone, IfOk, IfSome, codes, false, map};
-ghost use Rattle.clap.specs.Matches.{found_of};
+ghost use Rattle.std.specs.Prelude.{◌≡◌, ◌∷◌, [], ℕ, IfErr, IfNone, IfOk, IfSome, false, map};
 ghost use Rattle.clap.specs.Simple.{app_of, shape_of, subcommand_of, subcommand_rows_of};
 ghost use Rattle.clap.specs.Values.{kind_of};
-ghost use Rattle.clap.specs.Walk.{first_of, rows_of, rule_of};
+ghost use Rattle.clap.specs.Walk.{rule_of};
 ghost use Rattle.clap.specs.declared.builder.command.Command.TheViews.{out-Command};
-ghost use Rattle.wf_line.specs.CommandLine.{Asks, IsCacheOf, IsCapsOf, IsDrawOf, IsNumberOf, IsRejection, IsServeOf, IsServiceOf, IsTapeOf, IsWhyRejected, PlainCanonIsAsked, PlainCapsIsAsked, PlainDrawIsAsked, PlainRunIsAsked, PlainTapeIsAsked, PlainWireIsAsked, program, caps_shape, draw_shape, canon_shape, run_shape, wire_shape, tape_shape, serve_shape, sequence_rule, query_rule, file_rule, nodes_rule, port_rule, requests_rule, cache_rule, state_rule};
+ghost use Rattle.wf_line.specs.CommandLine.{Asks, HasSubcommands, IsCacheOf, IsCapsOf, IsDrawOf, IsNumberOf, IsOfShape, IsRejection, IsServeOf, IsServiceOf, IsTapeOf, IsWhyRejected, PlainCanonIsAsked, PlainCapsIsAsked, PlainDrawIsAsked, PlainRunIsAsked, PlainTapeIsAsked, PlainWireIsAsked, program, caps_shape, draw_shape, canon_shape, run_shape, wire_shape, tape_shape, required_serve_shape, serve_shape, rows_in, sequence_rule, query_rule, file_rule, nodes_rule, port_rule, requests_rule, cache_rule, state_rule};
 ghost use Rattle.wf_line.specs.Line.{IsInRange, IsNumber, IsSequence};
 ghost use Rattle.wf_line.specs.declared.line.Line.{Line};
 ghost use Rattle.wf_service.specs.declared.service.Service.{Service};
@@ -123,7 +122,7 @@ fn file_argument<'a>(alloc: Global) -> Arg<'a>
 
 // `caps SEQ QUERY`.
 fn caps_command<'a>(alloc: Global) -> Result<Command<'a>, AllocError>
-    ensures { IfOk result (λ command. (shape_of command ≡ caps_shape) × ((out-Command command).has_globals ≡ false)) }
+    ensures { IfOk result (IsOfShape caps_shape) }
 {
     Command::new(alloc, "caps")
         .about("Answers a WMS request about the mapfile on standard input")
@@ -134,7 +133,7 @@ fn caps_command<'a>(alloc: Global) -> Result<Command<'a>, AllocError>
 
 // `draw QUERY`.
 fn draw_command<'a>(alloc: Global) -> Result<Command<'a>, AllocError>
-    ensures { IfOk result (λ command. (shape_of command ≡ draw_shape) × ((out-Command command).has_globals ≡ false)) }
+    ensures { IfOk result (IsOfShape draw_shape) }
 {
     Command::new(alloc, "draw")
         .about("Previews the mapfile on standard input: answers a WMS request, GetMap included")
@@ -174,7 +173,7 @@ fn wire_command<'a>(alloc: Global) -> Command<'a>
 
 // `tape FILE`.
 fn tape_command<'a>(alloc: Global) -> Result<Command<'a>, AllocError>
-    ensures { IfOk result (λ command. (shape_of command ≡ tape_shape) × ((out-Command command).has_globals ≡ false)) }
+    ensures { IfOk result (IsOfShape tape_shape) }
 {
     Command::new(alloc, "tape")
         .about("Lists the records of a node's tape, and where it is torn or bad")
@@ -246,7 +245,7 @@ fn state_argument<'a>(alloc: Global) -> Arg<'a>
 
 // `serve`, without its optional arguments.
 fn farm_command<'a>(alloc: Global) -> Result<Command<'a>, AllocError>
-    ensures { IfOk result (λ command. (shape_of command ≡ record serve_shape { rules = nodes_rule ∷ port_rule ∷ requests_rule ∷ [] }) × ((out-Command command).has_globals ≡ false)) }
+    ensures { IfOk result (IsOfShape required_serve_shape) }
 {
     Command::new(alloc, "serve")
         .about("Serves a farm over HTTP, one connection after the other")
@@ -258,7 +257,7 @@ fn farm_command<'a>(alloc: Global) -> Result<Command<'a>, AllocError>
 
 // `serve --nodes N --port P --requests K --cache C --state DIR`.
 fn serve_command<'a>(alloc: Global) -> Result<Command<'a>, AllocError>
-    ensures { IfOk result (λ command. (shape_of command ≡ serve_shape) × ((out-Command command).has_globals ≡ false)) }
+    ensures { IfOk result (IsOfShape serve_shape) }
 {
     farm_command(alloc)?
         .arg(cache_argument(alloc))?
@@ -267,7 +266,7 @@ fn serve_command<'a>(alloc: Global) -> Result<Command<'a>, AllocError>
 
 // The program with its first command only.
 fn first_command<'a>(alloc: Global) -> Result<Command<'a>, AllocError>
-    ensures { IfOk result (λ command. app_of command ≡ record program { subs = caps_shape ∷ [] }) }
+    ensures { IfOk result (HasSubcommands (caps_shape ∷ [])) }
 {
     let caps = caps_command(alloc)?;
     Command::new(alloc, "wfarm")
@@ -280,7 +279,7 @@ fn first_command<'a>(alloc: Global) -> Result<Command<'a>, AllocError>
 
 // The commands about a mapfile.
 fn mapfile_commands<'a>(alloc: Global) -> Result<Command<'a>, AllocError>
-    ensures { IfOk result (λ command. app_of command ≡ record program { subs = caps_shape ∷ draw_shape ∷ canon_shape ∷ [] }) }
+    ensures { IfOk result (HasSubcommands (caps_shape ∷ draw_shape ∷ canon_shape ∷ [])) }
 {
     let draw = draw_command(alloc)?;
     first_command(alloc)?
@@ -290,7 +289,8 @@ fn mapfile_commands<'a>(alloc: Global) -> Result<Command<'a>, AllocError>
 
 // The commands about an input.
 fn input_commands<'a>(alloc: Global) -> Result<Command<'a>, AllocError>
-    ensures { IfOk result (λ command. app_of command ≡ record program { subs = caps_shape ∷ draw_shape ∷ canon_shape ∷ run_shape ∷ wire_shape ∷ [] }) }
+    ensures { IfOk result (HasSubcommands
+        (caps_shape ∷ draw_shape ∷ canon_shape ∷ run_shape ∷ wire_shape ∷ [])) }
 {
     mapfile_commands(alloc)?
         .subcommand(run_command(alloc))?
@@ -299,7 +299,8 @@ fn input_commands<'a>(alloc: Global) -> Result<Command<'a>, AllocError>
 
 // The commands about an input or a file.
 fn reading_commands<'a>(alloc: Global) -> Result<Command<'a>, AllocError>
-    ensures { IfOk result (λ command. app_of command ≡ record program { subs = caps_shape ∷ draw_shape ∷ canon_shape ∷ run_shape ∷ wire_shape ∷ tape_shape ∷ [] }) }
+    ensures { IfOk result (HasSubcommands
+        (caps_shape ∷ draw_shape ∷ canon_shape ∷ run_shape ∷ wire_shape ∷ tape_shape ∷ [])) }
 {
     let tape = tape_command(alloc)?;
     input_commands(alloc)?.subcommand(tape)
@@ -343,8 +344,8 @@ fn sequence(word: &str) -> Option<u16>
 // The `caps` line of the parsed arguments.
 #[tactic(auto, using(crate::proofs::Named::word_in_row))]
 fn caps<'a>(found: &ArgMatches<'a>) -> Option<Line<'a>>
-    ensures some { IfSome result (IsCapsOf (rows_of (found_of found.now))) }
-    ensures none { IfNone result ((line : Line) → ¬ (IsCapsOf (rows_of (found_of found.now)) line)) }
+    ensures some { IfSome result (IsCapsOf (rows_in found.now)) }
+    ensures none { IfNone result ((line : Line) → ¬ (IsCapsOf (rows_in found.now) line)) }
 {
     let word = found.get_str("SEQ")?;
     let query = found.get_str("QUERY")?;
@@ -355,8 +356,8 @@ fn caps<'a>(found: &ArgMatches<'a>) -> Option<Line<'a>>
 // The `draw` line of the parsed arguments.
 #[tactic(auto, using(crate::proofs::Named::word_in_row))]
 fn draw<'a>(found: &ArgMatches<'a>) -> Option<Line<'a>>
-    ensures some { IfSome result (IsDrawOf (rows_of (found_of found.now))) }
-    ensures none { IfNone result ((line : Line) → ¬ (IsDrawOf (rows_of (found_of found.now)) line)) }
+    ensures some { IfSome result (IsDrawOf (rows_in found.now)) }
+    ensures none { IfNone result ((line : Line) → ¬ (IsDrawOf (rows_in found.now) line)) }
 {
     let word = found.get_str("QUERY")?;
     Some(Line::Draw { query: word })
@@ -365,8 +366,8 @@ fn draw<'a>(found: &ArgMatches<'a>) -> Option<Line<'a>>
 // The `tape` line of the parsed arguments.
 #[tactic(auto, using(crate::proofs::Named::word_in_row))]
 fn tape<'a>(found: &ArgMatches<'a>) -> Option<Line<'a>>
-    ensures some { IfSome result (IsTapeOf (rows_of (found_of found.now))) }
-    ensures none { IfNone result ((line : Line) → ¬ (IsTapeOf (rows_of (found_of found.now)) line)) }
+    ensures some { IfSome result (IsTapeOf (rows_in found.now)) }
+    ensures none { IfNone result ((line : Line) → ¬ (IsTapeOf (rows_in found.now) line)) }
 {
     let word = found.get_str("FILE")?;
     Some(Line::Tape { file: word })
@@ -386,8 +387,9 @@ fn number(word: &str, least: u32, most: u32) -> Option<u32>
 // The number parsed for an option.
 #[tactic(auto, using(crate::proofs::Named::word_in_row))]
 fn number_of<'a>(found: &ArgMatches<'a>, id: &str, least: u32, most: u32) -> Option<u32>
-    ensures some { IfSome result (IsNumberOf (rows_of (found_of found.now)) id.now least most) }
-    ensures none { IfNone result ((number : ℕ) → ¬ (IsNumberOf (rows_of (found_of found.now)) id.now least most number)) }
+    ensures some { IfSome result (IsNumberOf (rows_in found.now) id.now least most) }
+    ensures none { IfNone result
+        ((number : ℕ) → ¬ (IsNumberOf (rows_in found.now) id.now least most number)) }
 {
     let word = found.get_str(id)?;
     number(word, least, most)
@@ -396,8 +398,8 @@ fn number_of<'a>(found: &ArgMatches<'a>, id: &str, least: u32, most: u32) -> Opt
 // The number of pictures to keep, by the parsed arguments.
 #[tactic(auto, using(crate::proofs::Named::word_in_row))]
 fn cache<'a>(found: &ArgMatches<'a>) -> Option<u32>
-    ensures some { IfSome result (IsCacheOf (first_of (codes "cache") (rows_of (found_of found.now)))) }
-    ensures none { IfNone result ((kept : ℕ) → ¬ (IsCacheOf (first_of (codes "cache") (rows_of (found_of found.now))) kept)) }
+    ensures some { IfSome result (IsCacheOf (rows_in found.now)) }
+    ensures none { IfNone result ((kept : ℕ) → ¬ (IsCacheOf (rows_in found.now) kept)) }
 {
     match found.get_str("cache") {
         Some(word) => number(word, 1, 64),
@@ -408,8 +410,9 @@ fn cache<'a>(found: &ArgMatches<'a>) -> Option<u32>
 // What to serve, by the parsed arguments.
 #[tactic(auto, using(crate::proofs::Named::word_in_row))]
 fn service<'a>(found: &ArgMatches<'a>) -> Option<Service<'a>>
-    ensures some { IfSome result (IsServiceOf (rows_of (found_of found.now))) }
-    ensures none { IfNone result ((service : Service) → ¬ (IsServiceOf (rows_of (found_of found.now)) service)) }
+    ensures some { IfSome result (IsServiceOf (rows_in found.now)) }
+    ensures none { IfNone result
+        ((service : Service) → ¬ (IsServiceOf (rows_in found.now) service)) }
 {
     let nodes = number_of(found, "nodes", 1, 64)?;
     let port = number_of(found, "port", 0, 65_535)?;
@@ -426,8 +429,8 @@ fn service<'a>(found: &ArgMatches<'a>) -> Option<Service<'a>>
 
 // The `serve` line of the parsed arguments.
 fn serve<'a>(found: &ArgMatches<'a>) -> Option<Line<'a>>
-    ensures some { IfSome result (IsServeOf (rows_of (found_of found.now))) }
-    ensures none { IfNone result ((line : Line) → ¬ (IsServeOf (rows_of (found_of found.now)) line)) }
+    ensures some { IfSome result (IsServeOf (rows_in found.now)) }
+    ensures none { IfNone result ((line : Line) → ¬ (IsServeOf (rows_in found.now) line)) }
 {
     let service = service(found)?;
     Some(Line::Serve(service))
@@ -459,9 +462,11 @@ pub fn line<'a, S: AsStr>(alloc: Global, words: &'a [S]) -> Result<Line<'a>, Err
     ensures range { IfOk result IsInRange }
     ensures asked { IfOk result (Asks (subcommand_of program (map S.text words.entry.now))) }
     // Arguments that ask for a line are rejected only if an allocation fails.
-    ensures rejected { IfErr result (λ error. IsWhyRejected (map S.text words.entry.now) (kind_of error)) }
+    ensures rejected { IfErr result
+        (λ error. IsWhyRejected (map S.text words.entry.now) (kind_of error)) }
     // The error's kind is the parser's.
-    ensures kind { IfErr result (λ error. IsRejection (map S.text words.entry.now) (kind_of error)) }
+    ensures kind { IfErr result
+        (λ error. IsRejection (map S.text words.entry.now) (kind_of error)) }
 {
     let matches = command(alloc)?.try_get_matches_from(words)?;
     let asked = asked(&matches);

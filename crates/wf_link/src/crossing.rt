@@ -28,10 +28,14 @@ pub fn cross<K: Sink, S: Source>(
     sink: &mut K,
     source: &mut S,
 ) -> Result<Message, CarrierFault>
-    ensures written { OnOk result (Appends (K.written sink.old) (K.written sink.new) (spelling (view message.now))) }
-    ensures part { OnErr result (AppendsPart (K.written sink.old) (K.written sink.new) (spelling (view message.now))) }
-    ensures arrived { IfOk result (λ arrived. ComesOut (view message.now) (S.left source.old) (S.left source.new) (view arrived)) }
-    ensures same { IfOk result (λ arrived. IsSentIfLooped (view message.now) (S.left source.old) (view arrived)) }
+    ensures written { OnOk result
+        (Appends (K.written sink.old) (K.written sink.new) (spelling (view message.now))) }
+    ensures part { OnErr result
+        (AppendsPart (K.written sink.old) (K.written sink.new) (spelling (view message.now))) }
+    ensures arrived { IfOk result (λ arrived.
+        ComesOut (view message.now) (S.left source.old) (S.left source.new) (view arrived)) }
+    ensures same { IfOk result (λ arrived.
+        IsSentIfLooped (view message.now) (S.left source.old) (view arrived)) }
 {
     // The theorems: the bytes of a stream determine its messages, and an encoding has at least one byte.
     streams_split_one_way();
@@ -59,9 +63,13 @@ pub fn cut_off<K: Sink, S: Source>(
     sink: &mut K,
     source: &mut S,
 ) -> Result<(), CarrierFault>
-    ensures written { OnOk result (Appends (K.written sink.old) (K.written sink.new) (front_of (view message.now) count)) }
-    ensures part { OnErr result (AppendsPart (K.written sink.old) (K.written sink.new) (front_of (view message.now) count)) }
-    ensures none { OnOk result (NoneComesOut (front_of (view message.now) count) (S.left source.old) (S.left source.new)) }
+    ensures written { OnOk result
+        (Appends (K.written sink.old) (K.written sink.new) (front_of (view message.now) count)) }
+    ensures part { OnErr result
+        (AppendsPart (K.written sink.old) (K.written sink.new)
+        (front_of (view message.now) count)) }
+    ensures none { OnOk result
+        (NoneComesOut (front_of (view message.now) count) (S.left source.old) (S.left source.new)) }
 {
     let bytes = match encoded(alloc, message) {
         Ok(bytes) => bytes,
@@ -104,7 +112,8 @@ fn pass_all<K: Sink, S: Source>(
 ) -> Result<Arrival, CarrierFault>
     ensures written { OnOk result (Appends (K.written sink.old) (K.written sink.new) bytes.now) }
     ensures part { OnErr result (AppendsPart (K.written sink.old) (K.written sink.new) bytes.now) }
-    ensures arrived { IfOk result (λ arrival. HaveArrived (length bytes.now) (S.left source.old) (S.left source.new) arrival) }
+    ensures arrived { IfOk result (λ arrival.
+        HaveArrived (length bytes.now) (S.left source.old) (S.left source.new) arrival) }
 {
     let mut arrival = nothing(alloc);
     match pass_each(alloc, bytes, sink, source, &mut arrival) {
@@ -127,7 +136,8 @@ fn pass_each<K: Sink, S: Source>(
 ) -> Result<(), CarrierFault>
     ensures written { OnOk result (Appends (K.written sink.old) (K.written sink.new) bytes.now) }
     ensures part { OnErr result (AppendsPart (K.written sink.old) (K.written sink.new) bytes.now) }
-    ensures arrives { OnOk result (Arrives (length bytes.now) (S.left source.old) (S.left source.new) arrival.old arrival.new) }
+    ensures arrives { OnOk result (Arrives
+        (length bytes.now) (S.left source.old) (S.left source.new) arrival.old arrival.new) }
 {
     let mut rest = bytes;
     while !rest.is_empty() {
@@ -151,7 +161,8 @@ fn pass<K: Sink, S: Source>(
 ) -> Result<(), CarrierFault>
     ensures written { OnOk result (Appends (K.written sink.old) (K.written sink.new) piece.now) }
     ensures part { OnErr result (AppendsPart (K.written sink.old) (K.written sink.new) piece.now) }
-    ensures arrives { OnOk result (Arrives (length piece.now) (S.left source.old) (S.left source.new) arrival.old arrival.new) }
+    ensures arrives { OnOk result (Arrives
+        (length piece.now) (S.left source.old) (S.left source.new) arrival.old arrival.new) }
 {
     match write_all(sink, piece) {
         Ok(()) => receive(alloc, piece.len(), source, arrival),

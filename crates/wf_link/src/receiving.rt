@@ -35,7 +35,8 @@ pub fn receive<S: Source>(
     source: &mut S,
     arrival: &mut Arrival,
 ) -> Result<(), CarrierFault>
-    ensures { OnOk result (Arrives count (S.left source.old) (S.left source.new) arrival.old arrival.new) }
+    ensures { OnOk result
+        (Arrives count (S.left source.old) (S.left source.new) arrival.old arrival.new) }
 {
     let mut received = 0;
     while received < count {
@@ -56,7 +57,8 @@ fn receive_some<S: Source>(
     arrival: &mut Arrival,
 ) -> Result<usize, CarrierFault>
     requires { 0 < room }
-    ensures arrives { IfOk result (λ some. Arrives some (S.left source.old) (S.left source.new) arrival.old arrival.new) }
+    ensures arrives { IfOk result (λ some.
+        Arrives some (S.left source.old) (S.left source.new) arrival.old arrival.new) }
     ensures some { IfOk result (λ some. 0 < some) }
     ensures within { IfOk result (λ some. some ≤ room) }
 {
@@ -96,7 +98,8 @@ fn take(arrival: &mut Arrival, piece: &[u8]) -> Result<(), CarrierFault>
 /// Appends the messages that came out.
 #[tactic(auto, using(crate::proofs::Arrived::kept))]
 fn keep(messages: &mut Vec<Message>, mut more: Vec<Message>) -> Result<(), CarrierFault>
-    ensures { OnOk result (map view messages.new.items ≡ map view messages.old.items ++ map view more.items) }
+    ensures { OnOk result
+        (map view messages.new.items ≡ map view messages.old.items ++ map view more.items) }
 {
     let kept = messages.append(&mut more);
     drop(more);
@@ -108,7 +111,8 @@ fn keep(messages: &mut Vec<Message>, mut more: Vec<Message>) -> Result<(), Carri
 
 /// The message that arrived, if it is one, and nothing behind it.
 pub fn only_message(arrival: Arrival) -> Result<Message, CarrierFault>
-    ensures { (bytes : List ℕ) → HasReceived bytes arrival → IfOk result (λ message. Reads bytes (view message ∷ []) []) }
+    ensures { (bytes : List ℕ) → HasReceived bytes arrival →
+        IfOk result (λ message. Reads bytes (view message ∷ []) []) }
 {
     let Arrival { inbox, messages } = arrival;
     let rest = inbox.kept();
@@ -141,7 +145,8 @@ fn only(mut messages: Vec<Message>) -> Result<Message, CarrierFault>
 /// Err: a message arrived.
 #[tactic(auto, using(crate::proofs::Arrived::none_came_out))]
 pub fn no_message(arrival: Arrival) -> Result<(), CarrierFault>
-    ensures { (bytes : List ℕ) → HasReceived bytes arrival → OnOk result ((rest : List ℕ) × Reads bytes [] rest) }
+    ensures { (bytes : List ℕ) → HasReceived bytes arrival →
+        OnOk result ((rest : List ℕ) × Reads bytes [] rest) }
 {
     let count = arrival.messages.len();
     drop(arrival);

@@ -43,7 +43,8 @@ fn before(alloc: Global, bytes: &[u8], offset: usize) -> Result<Vec<Record>, All
 
 /// The records of bytes that nothing or a torn record follows, as a node reads them.
 fn read(alloc: Global, bytes: &[u8]) -> Result<Vec<Record>, OpenFault>
-    ensures read { IfOk result (λ records. (rest : _) × IsTapeOf bytes.now (map view records.items) rest) }
+    ensures read { IfOk result (λ records. (rest : _) ×
+        IsTapeOf bytes.now (map view records.items) rest) }
     ensures size { IfOk result (λ records. length_of (map view records.items) < 2 ^ 64) }
     ensures bad { IfErr result (λ fault. IsWhereBad fault bytes.now) }
     ensures sound { IsErrOf result OpenFault.TapeFailed → ⊥ }

@@ -1,7 +1,6 @@
 //! The lines of a listing.
-ghost use Rattle.std.specs.Prelude.{◌≡◌, ◌++◌, OnOk};
-ghost use Rattle.std.specs.String.{string_bytes};
-ghost use Rattle.wf_listing.specs.Listing.{accepted_line, left_line, promised_line, published_line, record_line, rest_line, tried_line};
+ghost use Rattle.std.specs.Prelude.{OnOk};
+ghost use Rattle.wf_listing.specs.Listing.{Prints, accepted_line, left_line, promised_line, published_line, record_line, rest_line, tried_line};
 ghost use Rattle.wf_journal.specs.Record.{view};
 
 use crate::rest::Rest;
@@ -12,7 +11,7 @@ use wf_journal::Record;
 
 /// Appends the line of the record at a byte offset.
 pub(crate) fn push_record(out: &mut String, offset: usize, entry: &Record) -> Result<(), AllocError>
-    ensures { OnOk result (string_bytes out.new ≡ string_bytes out.old ++ record_line offset (view entry.now)) }
+    ensures { OnOk result (Prints out.old out.new (record_line offset (view entry.now))) }
 {
     match entry {
         Record::Tried(round) => push_tried(out, offset, *round),
@@ -26,7 +25,7 @@ pub(crate) fn push_record(out: &mut String, offset: usize, entry: &Record) -> Re
 
 // One function for each kind: a line alone is proved in less time.
 fn push_tried(out: &mut String, offset: usize, round: Round) -> Result<(), AllocError>
-    ensures { OnOk result (string_bytes out.new ≡ string_bytes out.old ++ tried_line offset round) }
+    ensures { OnOk result (Prints out.old out.new (tried_line offset round)) }
 {
     writeln!(out, "{offset} tried {round}")
 }
@@ -37,7 +36,7 @@ fn push_promised(
     slot: Slot,
     ballot: Ballot,
 ) -> Result<(), AllocError>
-    ensures { OnOk result (string_bytes out.new ≡ string_bytes out.old ++ promised_line offset slot ballot) }
+    ensures { OnOk result (Prints out.old out.new (promised_line offset slot ballot)) }
 {
     writeln!(out, "{offset} promised {slot} ballot {ballot}")
 }
@@ -49,7 +48,7 @@ fn push_accepted(
     ballot: Ballot,
     length: usize,
 ) -> Result<(), AllocError>
-    ensures { OnOk result (string_bytes out.new ≡ string_bytes out.old ++ accepted_line offset slot ballot length) }
+    ensures { OnOk result (Prints out.old out.new (accepted_line offset slot ballot length)) }
 {
     writeln!(
         out,
@@ -63,7 +62,7 @@ fn push_published(
     slot: Slot,
     length: usize,
 ) -> Result<(), AllocError>
-    ensures { OnOk result (string_bytes out.new ≡ string_bytes out.old ++ published_line offset slot length) }
+    ensures { OnOk result (Prints out.old out.new (published_line offset slot length)) }
 {
     writeln!(out, "{offset} published {slot} text {length}")
 }
@@ -75,7 +74,7 @@ pub(crate) fn push_rest(
     count: usize,
     rest: Rest,
 ) -> Result<(), AllocError>
-    ensures { OnOk result (string_bytes out.new ≡ string_bytes out.old ++ rest_line offset count rest) }
+    ensures { OnOk result (Prints out.old out.new (rest_line offset count rest)) }
 {
     match rest {
         Rest::Nothing => writeln!(out, "{offset} end"),
@@ -85,7 +84,7 @@ pub(crate) fn push_rest(
 }
 
 fn push_left(out: &mut String, offset: usize, words: &str, count: usize) -> Result<(), AllocError>
-    ensures { OnOk result (string_bytes out.new ≡ string_bytes out.old ++ left_line offset words.now count) }
+    ensures { OnOk result (Prints out.old out.new (left_line offset words.now count)) }
 {
     writeln!(out, "{offset} {words}, {count} bytes")
 }

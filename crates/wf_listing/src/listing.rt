@@ -1,7 +1,7 @@
 //! The listing of a tape's bytes.
 ghost use Rattle.std.specs.Prelude.{◌≡◌, ◌++◌, ◌<◌, ◌^◌, [], IfOk, OnOk, map};
 ghost use Rattle.std.specs.String.{string_bytes};
-ghost use Rattle.wf_listing.specs.Listing.{AreFound, IsListing, record_lines, rest_of};
+ghost use Rattle.wf_listing.specs.Listing.{AreFound, IsListing, Prints, record_lines, rest_of};
 ghost use Rattle.wf_journal.specs.Record.{view};
 ghost use Rattle.wf_journal.specs.Records.{length_of};
 
@@ -68,7 +68,7 @@ fn push_all(
 fn push_records(out: &mut String, records: &[Record]) -> Result<usize, AllocError>
     requires { length_of (map view records.now) < 2 ^ 64 }
     ensures end { IfOk result (λ end. end ≡ length_of (map view records.now)) }
-    ensures lines { OnOk result (string_bytes out.new ≡ string_bytes out.old ++ record_lines 0 (map view records.now)) }
+    ensures lines { OnOk result (Prints out.old out.new (record_lines 0 (map view records.now))) }
 {
     let mut offset = 0;
     for entry in records {

@@ -1,4 +1,3 @@
 pub mod Texts
-pub mod Booleans
 pub mod Counted
 pub mod RejectionLaw

@@ -17,7 +17,7 @@ use Rattle.wf_token.specs.Token.{Token}
 use Rattle.wf_block.specs.Grammar.{text}
 use Rattle.wf_mapfile.specs.Layer.{processing}
 use Rattle.wf_block.specs.Reading.{Gives}
-use Rattle.wf_mapfile.proofs.Booleans.{both, or_right}
+use Rattle.std.proofs.lemmas.Bool.{and_from, or_right}
 
 -- what fails for the whole fails for a part
 fails_too : (a b : Bool) → not a ≡ true → (b ≡ true → a ≡ true) → not b ≡ true
@@ -29,7 +29,7 @@ any_behind test xs ys any = list_any-append test xs ys ∙ or_right (list_any te
 
 quotes_behind : (xs ys : List ℕ) → has_both_quotes ys ≡ true → has_both_quotes (xs ++ ys) ≡ true
 quotes_behind xs ys quotes =
-    both _ _ (any_behind (λ b. b == 34) xs ys (first_so _ _ quotes)) (any_behind (λ b. b == 39) xs ys (second_so _ _ quotes))
+    and_from _ _ (any_behind (λ b. b == 34) xs ys (first_so _ _ quotes)) (any_behind (λ b. b == 39) xs ys (second_so _ _ quotes))
 
 -- a text cut at the beginning of a character
 behind : (xs ys : List ℕ) → IsUtf8 xs → IsUtf8 ys → is_text (xs ++ ys) ≡ true → is_text ys ≡ true
@@ -41,7 +41,7 @@ behind xs ys front back may =
     let shorter : nat_le (length ys) most_text_bytes ≡ true = within xs ys short in
     let each : (list_all is_text_character (chars xs) && list_all is_text_character (chars ys)) ≡ true =
     sym (list_all-append is_text_character (chars xs) (chars ys)) ∙ ap (list_all is_text_character) (sym (chars-append xs ys front)) ∙ second_so _ _ first in
-    both _ _ (both _ _ (both _ _ shorter (is_utf8-from_IsUtf8 ys back)) (second_so _ _ each))
+    and_from _ _ (and_from _ _ (and_from _ _ shorter (is_utf8-from_IsUtf8 ys back)) (second_so _ _ each))
     (fails_too (has_both_quotes (xs ++ ys)) (has_both_quotes ys) (second_so _ _ may) (quotes_behind xs ys))
   where
     within : (xs ys : List ℕ) → nat_le (length (xs ++ ys)) most_text_bytes ≡ true → nat_le (length ys) most_text_bytes ≡ true

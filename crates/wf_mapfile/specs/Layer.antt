@@ -1,5 +1,5 @@
 -- LAYER: a layer with its name.
-use Rattle.std.specs.Prelude.{ℕ, ◌-◌, if◌then◌else◌, List, [], ◌∷◌, take, drop, codes, Option, Some, None, sum_by, unwrap_or}
+use Rattle.std.specs.Prelude.{ℕ, Bool, ◌-◌, if◌then◌else◌, List, [], ◌∷◌, take, drop, codes, Option, Some, None, sum_by, unwrap_or}
 use Rattle.std.specs.Str.{str_eq_ignore_ascii_case}
 use Rattle.wf_def.specs.Definition.{LayerDefinition}
 use Rattle.wf_def.specs.Layer as def
@@ -35,11 +35,15 @@ layer_kinds =
 unfoldable pub layer_kind : List Token → Option (LayerKind × List Token)
 layer_kind tokens = chosen layer_kinds tokens
 
+-- the text begins with `ITEMS=`, in any letter case
+abbrev pub begins_items : List ℕ → Bool
+begins_items text = str_eq_ignore_ascii_case (take 6 text) (codes "ITEMS=")
+
 -- the names of the features' attributes: what follows `ITEMS=` in a text
 unfoldable pub processing : List Token → Option (List ℕ × List Token)
 processing tokens = do
   x ← text tokens
-  if str_eq_ignore_ascii_case (take 6 x.0) (codes "ITEMS=") then Some (drop 6 x.0, x.1) else None
+  if begins_items x.0 then Some (drop 6 x.0, x.1) else None
 
 -- a layer's name that none of the layers before it has
 unfoldable pub new_name : List (List ℕ × LayerDefinition) → List Token → Option (List ℕ × List Token)

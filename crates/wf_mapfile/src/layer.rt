@@ -1,10 +1,9 @@
 //! LAYER: features of one kind, and how they are drawn.
-ghost use Rattle.std.specs.Prelude.{◌≡◌, ◌≤◌, ◌+◌, [], None, Some, IfOk, IfSome, MatchOption, MatchResult, OnOk, codes, drop, is_some, take, true, false, length, nat_lt, sum_by, unwrap_or};
-ghost use Rattle.std.specs.Str.{str_eq_ignore_ascii_case};
+ghost use Rattle.std.specs.Prelude.{◌≡◌, ◌≤◌, ◌+◌, [], None, Some, IfOk, IfSome, MatchOption, MatchResult, OnOk, drop, is_some, take, true, false, length, nat_lt, sum_by, unwrap_or};
 ghost use Rattle.wf_def.specs.Layer as def;
 ghost use Rattle.wf_def.specs.Limits.{has_layer, points_of_feature};
-ghost use Rattle.wf_mapfile.specs.Layer.{features_left, layer, layer_dropped, layer_kind, layer_name, layer_of, layer_once, new_name, no_layer, points_left, processing};
-ghost use Rattle.wf_block.specs.Reading.{Gives, is_memory};
+ghost use Rattle.wf_mapfile.specs.Layer.{begins_items, features_left, layer, layer_dropped, layer_kind, layer_name, layer_of, layer_once, new_name, no_layer, points_left, processing};
+ghost use Rattle.wf_block.specs.Reading.{Gives, Passes};
 ghost use Rattle.wf_block.specs.Steps.{again};
 ghost use Rattle.wf_class.specs.Class.{class};
 ghost use Rattle.wf_feature.specs.Feature.{feature};
@@ -76,7 +75,9 @@ impl Slots for LayerReading<'_> {
 impl LayerSlots {
     /// Reads a class and appends it to those before, if there is room for it.
     fn take_class(&mut self, parser: &mut Parser<'_>) -> Result<(), MapFault>
-        ensures read { Gives (λ _. (self.new, parser.new)) result (again most_classes self.old.classes class (λ more. record self.old { classes = more }) parser.old) }
+        ensures read { Gives (λ _. (self.new, parser.new)) result
+            (again most_classes self.old.classes class (λ more. record self.old { classes = more })
+            parser.old) }
         ensures features { OnOk result (self.new.features ≡ self.old.features) }
         ensures single { OnOk result (self.new.single ≡ self.old.single) }
     {
@@ -94,9 +95,12 @@ impl LayerSlots {
         left: usize,
         parser: &mut Parser<'_>,
     ) -> Result<usize, MapFault>
-        ensures read { Gives (λ _. (self.new, parser.new)) result (again most self.old.features (feature left) (λ more. record self.old { features = more }) parser.old) }
+        ensures read { Gives (λ _. (self.new, parser.new)) result
+            (again most self.old.features (feature left)
+            (λ more. record self.old { features = more }) parser.old) }
         ensures room { OnOk result (length self.new.features ≤ most) }
-        ensures counted { IfOk result (λ points. sum_by points_of_feature self.new.features ≡ sum_by points_of_feature self.old.features + points) }
+        ensures counted { IfOk result (λ points. sum_by points_of_feature self.new.features ≡
+            sum_by points_of_feature self.old.features + points) }
         ensures fits { IfOk result (λ points. points ≤ left) }
         ensures single { OnOk result (self.new.single ≡ self.old.single) }
     {
@@ -109,7 +113,7 @@ impl LayerSlots {
 
 /// Rejects another feature if there are `most` already.
 fn feature_room(features: &Features, most: usize) -> Result<(), MapFault>
-    ensures { MatchResult result (λ _. nat_lt (length features.now) most ≡ true) (λ e. (nat_lt (length features.now) most ≡ false) × (is_memory e ≡ false)) }
+    ensures { Passes (nat_lt (length features.now) most) result }
 {
     if features.as_slice().len() >= most {
         return Err(MapFault::TooMany);
@@ -119,7 +123,7 @@ fn feature_room(features: &Features, most: usize) -> Result<(), MapFault>
 
 /// Rejects another class if there is no room for it.
 fn class_room(classes: &Classes) -> Result<(), MapFault>
-    ensures { MatchResult result (λ _. nat_lt (length classes.now) most_classes ≡ true) (λ e. (nat_lt (length classes.now) most_classes ≡ false) × (is_memory e ≡ false)) }
+    ensures { Passes (nat_lt (length classes.now) most_classes) result }
 {
     if classes.is_full() {
         return Err(MapFault::TooMany);
@@ -138,8 +142,10 @@ impl LayerOnce {
         others: &Layers,
     ) -> Result<(), MapFault>
         requires new { IfSome self.old.name (λ name. has_layer others.now name ≡ false) }
-        ensures read { Gives (λ _. (self.new, parser.new)) result (layer_once others.now self.old keyword.entry.text.now parser.old) }
-        ensures new { OnOk result (IfSome self.new.name (λ name. has_layer others.now name ≡ false)) }
+        ensures read { Gives (λ _. (self.new, parser.new)) result
+            (layer_once others.now self.old keyword.entry.text.now parser.old) }
+        ensures new { OnOk result
+            (IfSome self.new.name (λ name. has_layer others.now name ≡ false)) }
     {
         let word = keyword.text;
         let place = keyword.place;
@@ -166,7 +172,8 @@ impl LayerDropped {
     /// Reads the arguments of a dropped keyword, and stores that it came.
     #[tactic(auto, unfolding(crate::specs::Layer::layer_dropped))]
     fn take(&mut self, keyword: Token<'_>, parser: &mut Parser<'_>) -> Result<(), MapFault>
-        ensures { Gives (λ _. (self.new, parser.new)) result (layer_dropped self.old keyword.entry.text.now parser.old) }
+        ensures { Gives (λ _. (self.new, parser.new)) result
+            (layer_dropped self.old keyword.entry.text.now parser.old) }
     {
         let word = keyword.text;
         let place = keyword.place;
@@ -230,7 +237,8 @@ impl LayerOnce {
         requires kind { is_some self.kind ≡ true }
         ensures name { IfOk result (λ head. self.name ≡ Some head.name) }
         ensures kind { IfOk result (λ head. self.kind ≡ Some head.kind) }
-        ensures title { IfOk result (λ head. head.title ≡ unwrap_or (unwrap_or self.metadata no_metadata).title head.name) }
+        ensures title { IfOk result
+            (λ head. head.title ≡ unwrap_or (unwrap_or self.metadata no_metadata).title head.name) }
         ensures class_item { IfOk result (λ head. head.class_item ≡ unwrap_or self.class_item []) }
         ensures label_item { IfOk result (λ head. head.label_item ≡ unwrap_or self.label_item []) }
         ensures items { IfOk result (λ head. head.items ≡ unwrap_or self.items []) }
@@ -282,7 +290,8 @@ fn texts_or_empty(
     second: Option<Text>,
     third: Option<Text>,
 ) -> Result<(Text, Text, Text), AllocError>
-    ensures { IfOk result (λ texts. texts ≡ (unwrap_or first [], unwrap_or second [], unwrap_or third [])) }
+    ensures { IfOk result (λ texts. texts ≡
+        (unwrap_or first [], unwrap_or second [], unwrap_or third [])) }
 {
     let first = match text_or_empty(alloc, first) {
         Ok(first) => first,
@@ -323,7 +332,9 @@ struct LayerHead {
 impl LayerHead {
     /// The layer with these classes and features, and its name.
     fn with(self, classes: Classes, features: Features) -> Result<(LayerName, Layer), MapFault>
-        ensures { MatchResult result (λ l. (def.layer_of self.kind self.title self.class_item self.label_item self.items classes features ≡ Some l.1) × (l.0 ≡ self.name)) (λ _. def.layer_of self.kind self.title self.class_item self.label_item self.items classes features ≡ None) }
+        ensures { let layer = def.layer_of
+            self.kind self.title self.class_item self.label_item self.items classes features in
+            MatchResult result (λ l. (layer ≡ Some l.1) × (l.0 ≡ self.name)) (λ _. layer ≡ None) }
     {
         let LayerHead {
             name,
@@ -349,13 +360,15 @@ impl LayerReading<'_> {
     /// The layer that was read, with its name and the number of its points.
     #[tactic(auto, using(crate::proofs::Counted::layer_counted))]
     fn filled(self, alloc: Global) -> Result<LayerRead, MapFault>
-        requires name { IfSome self.slots.single.name (λ name. has_layer self.others.now name ≡ false) }
+        requires name { IfSome self.slots.single.name
+            (λ name. has_layer self.others.now name ≡ false) }
         requires features { length self.slots.features ≤ features_left self.others.now }
         requires counted { self.points ≡ sum_by points_of_feature self.slots.features }
         requires points { self.points ≤ points_left self.others.now }
         ensures read { Gives (λ l. (l.name, l.layer)) result (layer_of self.entry.slots) }
         ensures new { IfOk result (λ l. has_layer self.entry.others.now l.name ≡ false) }
-        ensures features { IfOk result (λ l. length l.layer.features ≤ features_left self.entry.others.now) }
+        ensures features { IfOk result
+            (λ l. length l.layer.features ≤ features_left self.entry.others.now) }
         ensures counted { IfOk result (λ l. l.points ≡ sum_by points_of_feature l.layer.features) }
         ensures points { IfOk result (λ l. l.points ≤ points_left self.entry.others.now) }
     {
@@ -397,7 +410,8 @@ fn title_or(metadata: Option<Metadata>, name: &Text) -> Result<Text, AllocError>
 /// has at most as many features and points as are left for the map.
 #[tactic(auto, unfolding(crate::specs::Layer::layer))]
 pub fn read_layer(parser: &mut Parser<'_>, others: &Layers) -> Result<LayerRead, MapFault>
-    ensures read { Gives (λ l. ((l.name, l.layer), parser.new)) result (layer others.now parser.old) }
+    ensures read { Gives (λ l. ((l.name, l.layer), parser.new)) result
+        (layer others.now parser.old) }
     ensures new { IfOk result (λ l. has_layer others.now l.name ≡ false) }
     ensures features { IfOk result (λ l. length l.layer.features ≤ features_left others.now) }
     ensures counted { IfOk result (λ l. l.points ≡ sum_by points_of_feature l.layer.features) }
@@ -469,7 +483,8 @@ fn read_attribute_names(parser: &mut Parser<'_>) -> Result<Text, MapFault>
 /// What follows `ITEMS=`, in any letter case, at the front.
 #[tactic(auto, using(crate::proofs::Texts::cut_take, crate::proofs::Texts::cut_drop))]
 fn names_of(bytes: &[u8]) -> Option<&[u8]>
-    ensures { MatchOption result (str_eq_ignore_ascii_case (take 6 bytes.now) (codes "ITEMS=") ≡ false) (λ names. (str_eq_ignore_ascii_case (take 6 bytes.now) (codes "ITEMS=") ≡ true) × (names.now ≡ drop 6 bytes.now)) }
+    ensures { MatchOption result (begins_items bytes.now ≡ false)
+        (λ names. (begins_items bytes.now ≡ true) × (names.now ≡ drop 6 bytes.now)) }
 {
     let (mark, names) = bytes.split_at(bytes.len().min(6));
     if is_name(mark, "ITEMS=") {

@@ -1,7 +1,7 @@
 //! MAP: a map's definition.
-ghost use Rattle.std.specs.Prelude.{◌≡◌, [], None, IfOk, MatchResult, true, false, codes, length, nat_lt, unwrap_or};
+ghost use Rattle.std.specs.Prelude.{◌≡◌, [], None, IfOk, codes, length, nat_lt, unwrap_or};
 ghost use Rattle.wf_mapfile.specs.Map.{definition, extent, map, map_dropped, map_of, map_once, no_map, projection, projection_named, two_numbers};
-ghost use Rattle.wf_block.specs.Reading.{Gives, is_memory};
+ghost use Rattle.wf_block.specs.Reading.{Gives, Passes};
 ghost use Rattle.wf_metadata.specs.Web.{no_metadata};
 ghost use Rattle.wf_def.specs.Limit.{most_layers};
 
@@ -62,7 +62,8 @@ impl MapOnce {
     /// Reads the arguments of a keyword that comes at most once, and stores them.
     #[tactic(auto, unfolding(crate::specs::Map::map_once))]
     fn take(&mut self, keyword: Token<'_>, parser: &mut Parser<'_>) -> Result<(), MapFault>
-        ensures { Gives (λ _. (self.new, parser.new)) result (map_once self.old keyword.entry.text.now parser.old) }
+        ensures { Gives (λ _. (self.new, parser.new)) result
+            (map_once self.old keyword.entry.text.now parser.old) }
     {
         let word = keyword.text;
         let place = keyword.place;
@@ -85,7 +86,8 @@ impl MapDropped {
     /// Reads the arguments of a dropped keyword, and stores that it came.
     #[tactic(auto, unfolding(crate::specs::Map::map_dropped))]
     fn take(&mut self, keyword: Token<'_>, parser: &mut Parser<'_>) -> Result<(), MapFault>
-        ensures { Gives (λ _. (self.new, parser.new)) result (map_dropped self.old keyword.entry.text.now parser.old) }
+        ensures { Gives (λ _. (self.new, parser.new)) result
+            (map_dropped self.old keyword.entry.text.now parser.old) }
     {
         let word = keyword.text;
         let place = keyword.place;
@@ -110,7 +112,7 @@ impl MapDropped {
 
 /// Rejects another layer if there is no room for it.
 fn layer_room(layers: &Layers) -> Result<(), MapFault>
-    ensures { MatchResult result (λ _. nat_lt (length layers.now) most_layers ≡ true) (λ e. (nat_lt (length layers.now) most_layers ≡ false) × (is_memory e ≡ false)) }
+    ensures { Passes (nat_lt (length layers.now) most_layers) result }
 {
     if layers.is_full() {
         return Err(MapFault::TooMany);
@@ -196,7 +198,11 @@ struct Service {
 impl Service {
     /// The texts of the service of a map of this name, with defaults for absent ones.
     fn new(alloc: Global, name: &Text, web: Option<Metadata>) -> Result<Self, AllocError>
-        ensures { IfOk result (λ s. s ≡ record { title = unwrap_or (unwrap_or web no_metadata).title name.now; abstract_text = unwrap_or (unwrap_or web no_metadata).abstract_text []; address = unwrap_or (unwrap_or web no_metadata).address (codes "http://localhost/wms?") }) }
+        ensures { let said = unwrap_or web no_metadata in IfOk result (λ s. s ≡ record {
+          title = unwrap_or said.title name.now;
+          abstract_text = unwrap_or said.abstract_text [];
+          address = unwrap_or said.address (codes "http://localhost/wms?");
+        }) }
     {
         let Metadata {
             title,

@@ -33,7 +33,8 @@ pub fn read(alloc: Global, bytes: &[u8]) -> Result<MapDef, MapFault>
     // Over that length nothing else is checked.
     ensures too_long { longest_mapfile < length bytes.now → result ≡ Err MapFault.TooLong }
     // Otherwise, bytes that aren't UTF-8 are rejected for that, before anything is read.
-    ensures not_utf8 { length bytes.now ≤ longest_mapfile → is_utf8 bytes.now ≡ false → IsNotUtf8 result }
+    ensures not_utf8 { length bytes.now ≤ longest_mapfile → is_utf8 bytes.now ≡ false →
+        IsNotUtf8 result }
     // A returned map is what the bytes mean.
     ensures meant { IfOk result (λ map. Means bytes.now map) }
     // An error other than allocation failure is returned only if the bytes mean no map.
@@ -49,9 +50,12 @@ pub fn read(alloc: Global, bytes: &[u8]) -> Result<MapDef, MapFault>
 #[tactic(auto, unfolding(crate::specs::Meaning::meaning))]
 fn read_meaning(alloc: Global, bytes: &[u8]) -> Result<MapDef, MapFault>
     ensures too_long { longest_mapfile < length bytes.now → result ≡ Err MapFault.TooLong }
-    ensures not_utf8 { length bytes.now ≤ longest_mapfile → is_utf8 bytes.now ≡ false → result ≡ Err (MapFault.NotUtf8 (utf8_valid_len bytes.now)) }
+    ensures not_utf8 { length bytes.now ≤ longest_mapfile → is_utf8 bytes.now ≡ false →
+        result ≡ Err (MapFault.NotUtf8 (utf8_valid_len bytes.now)) }
     ensures meaning { Gives (λ map. map) result (meaning bytes.now) }
-    ensures told { IfErr result (λ fault. is_memory fault ≡ false → length bytes.now ≤ longest_mapfile → is_utf8 bytes.now ≡ true → (file : List TokenValue) → tokens bytes.now ≡ Some file → IsErrorOf file fault) }
+    ensures told { IfErr result (λ fault. is_memory fault ≡ false →
+        length bytes.now ≤ longest_mapfile → is_utf8 bytes.now ≡ true → (file : List TokenValue) →
+        tokens bytes.now ≡ Some file → IsErrorOf file fault) }
 {
     if bytes.len() > MOST_MAPFILE_BYTES {
         return Err(MapFault::TooLong);
@@ -69,7 +73,9 @@ fn read_meaning(alloc: Global, bytes: &[u8]) -> Result<MapDef, MapFault>
 /// Rejects bytes that aren't UTF-8.
 fn check_utf8(bytes: &[u8]) -> Result<(), MapFault>
     ensures ok { OnOk result (is_utf8 bytes.now ≡ true) }
-    ensures err { OnErr result ((is_utf8 bytes.now ≡ false) × (result ≡ Err (MapFault.NotUtf8 (utf8_valid_len bytes.now)))) }
+    ensures err { OnErr result
+        ((is_utf8 bytes.now ≡ false) ×
+        (result ≡ Err (MapFault.NotUtf8 (utf8_valid_len bytes.now)))) }
 {
     match str::from_utf8(bytes) {
         Ok(_) => Ok(()),

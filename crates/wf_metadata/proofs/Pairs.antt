@@ -13,7 +13,8 @@ use Rattle.wf_block.specs.Grammar.{◌>>=◌, text, end}
 use Rattle.wf_metadata.specs.Metadata.{pairs, all_differ, value_at, kept, metadata}
 use Rattle.wf_metadata.specs.Pairs.{keep, new_pair, collect}
 use Rattle.wf_metadata.specs.Web.{no_metadata}
-use Rattle.wf_metadata.proofs.Booleans.{neither, not_so}
+use Rattle.std.proofs.lemmas.Bool.{or_parts}
+use Rattle.wf_text.specs.Booleans.{not_true}
 use Rattle.wf_metadata.proofs.Options.{bind_assoc, bind_same, bind_none}
 
 abbrev Pair : Type 0
@@ -138,7 +139,7 @@ absent : (key : List ℕ) (all : List Pair) → list_any (bytes_eq key) (keys_of
 unfolding value_at
 absent key [] none = refl
 absent key (pair ∷ others) none =
-    let parts = neither (bytes_eq key pair.0) (list_any (bytes_eq key) (keys_of others)) none in
+    let parts = or_parts (bytes_eq key pair.0) (list_any (bytes_eq key) (keys_of others)) none in
     rw (bytes_eq-comm pair.0 key, parts.0) (absent key others parts.1)
 
 -- a key that comes once has one value
@@ -155,7 +156,7 @@ last_at-value_at : (key : List ℕ) (all : List Pair) → all_differ (keys_of al
 unfolding all_differ value_at
 last_at-value_at key [] differ slot = refl
 last_at-value_at key (pair ∷ others) differ slot =
-    last_at-pair key slot pair others (not_so _ (first_so _ _ differ)) (last_at-value_at key others (second_so _ _ differ)) (bytes_eq pair.0 key) refl
+    last_at-pair key slot pair others (not_true _ (first_so _ _ differ)) (last_at-value_at key others (second_so _ _ differ)) (bytes_eq pair.0 key) refl
 
 -- a pair goes to at most one slot, since the keys of the slots are distinct
 unlike : (key a b : List ℕ) → bytes_eq a b ≡ false → bytes_eq key a ≡ true → bytes_eq key b ≡ false

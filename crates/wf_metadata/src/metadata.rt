@@ -68,7 +68,8 @@ fn read_pairs(
     keys: &mut HashSet<String>,
     kept: &mut Metadata,
 ) -> Result<(), MapFault>
-    ensures { Gives (λ _. (kept.new, parser.new)) result (collect (λ key. contains_text keys.old key) kept.old (length parser.old) parser.old) }
+    ensures { Gives (λ _. (kept.new, parser.new)) result
+        (collect (λ key. contains_text keys.old key) kept.old (length parser.old) parser.old) }
 {
     for _ in 0..parser.len() {
         if parser.is_at_end() {
@@ -87,7 +88,8 @@ fn read_new_pair(
     parser: &mut Parser<'_>,
     keys: &HashSet<String>,
 ) -> Result<(String, Text), MapFault>
-    ensures { Gives (λ pair. ((string_bytes pair.0, pair.1), parser.new)) result (new_pair (λ key. contains_text keys.now key) parser.old) }
+    ensures { Gives (λ pair. ((string_bytes pair.0, pair.1), parser.new)) result
+        (new_pair (λ key. contains_text keys.now key) parser.old) }
 {
     let place = parser.place();
     let text = parser.text_there()?;

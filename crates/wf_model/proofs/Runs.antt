@@ -6,9 +6,9 @@ use Rattle.wf_model.specs.Message.{Prepare, Promise, Accept, Accepted, Nack, Cho
 use Rattle.wf_model.specs.Stored.{nothing_stored, published, next_sequence, definition_at, put, raised, with_record}
 use Rattle.wf_model.specs.Working.{at_start, nobody, and_node, better, better_each, carried, proposed, same_ballot, same_phase, is_at, is_in_window, leading_at}
 use Rattle.wf_model.specs.Table.{Busy, SequenceFull, RoundsFull, NothingToRetry, store, quiet, says, stores, with_proposal, rounds_full, round_known, refuse_round, refuse_proposal, refuse_retry, refusal, begin_at, ask_votes, lead, propose_by, on_propose, on_retry, on_catch_up, told_of, told, told_from, on_ask, votes_from, promise_to, prepare_open, on_prepare, votes_at, vote_for, accept_open, on_accept, hears, with_promise, asking_votes, leadership_of, promised, on_promise, with_vote, on_nack, ended, ends, after_publishing, voted, on_accepted, on_chosen, on_message, row}
-use Rattle.wf_model.specs.World.{refusal_running, refusal_of, refused_at, refused, Propose, Retry, CatchUp, Before, After, delivered, input_of, stored_after, kept_part, with_node, after_turn, after_torn, stop_running, after_stop, restart_stopped, after_restart, turn_running, turn_of, turn, happens, steps, start, after}
+use Rattle.wf_model.specs.World.{refusal_running, refusal_of, refused_at, refused, propose, retry, catch_up, Before, After, delivered, input_of, stored_after, kept_part, with_node, after_turn, after_torn, stop_running, after_stop, restart_stopped, after_restart, turn_running, turn_of, turn, happens, steps, start, after}
 use Rattle.wf_model.specs.Chosen.{history_of, history, definition}
-use Rattle.wf_model.specs.Examples.{full_history, full_rounds, only, a, b, empty, same_map, last_leader, histories, Runs, PublishedAt, OvertakenAt, standing_by, standing_of, standing, run, Leaves, none, just, to_each, pump, thrice_back, alone, three_pumped, two_of_four, three_of_four, half_accepted, comes_back, taken_over, voted_once, late_accept, two_told, old_accept, outrun, behind, catches_up, new_round, repeated, torn, torn_then, two_led, four_led, fifth_prepared, led_too_low, led_again, told_ahead, leader_restarts, sent_from, ballot, vote, no_votes}
+use Rattle.wf_model.specs.Examples.{full_history, full_rounds, only, a, b, empty, same_map, last_leader, histories, Runs, PublishedAt, OvertakenAt, standing_by, standing_of, standing, run, Leaves, LeavesEach, none, just, to_each, pump, thrice_back, alone, three_pumped, two_of_four, three_of_four, half_accepted, comes_back, taken_over, voted_once, late_accept, two_told, old_accept, outrun, behind, catches_up, new_round, repeated, torn, torn_then, two_led, four_led, fifth_prepared, led_too_low, led_again, told_ahead, leader_restarts, sent_from, ballot, vote, no_votes}
 
 -- unfolds all definitions that a run computes with
 abbrev computed : ℕ
@@ -23,15 +23,15 @@ pub alone_stands : standing (run 1 alone) 0 ≡ PublishedAt 1
 unfolding computed
 alone_stands = refl
 
-pub three_leave : Leaves 3 three_pumped (just a ∷ just a ∷ just a ∷ []) 9
+pub three_leave : LeavesEach 3 three_pumped (just a) 9
 unfolding computed
 three_leave = (refl, refl)
 
-pub two_of_four_leave : Leaves 4 two_of_four (none ∷ none ∷ none ∷ none ∷ []) 3
+pub two_of_four_leave : LeavesEach 4 two_of_four none 3
 unfolding computed
 two_of_four_leave = (refl, refl)
 
-pub three_of_four_leave : Leaves 4 three_of_four (just a ∷ just a ∷ just a ∷ just a ∷ []) 10
+pub three_of_four_leave : LeavesEach 4 three_of_four (just a) 10
 unfolding computed
 three_of_four_leave = (refl, refl)
 
@@ -43,11 +43,11 @@ pub taken_over_leaves : Leaves 3 taken_over (none ∷ none ∷ just a ∷ []) 12
 unfolding computed
 taken_over_leaves = (refl, refl)
 
-pub repeated_leaves : Leaves 3 repeated (just a ∷ just a ∷ just a ∷ []) 27
+pub repeated_leaves : LeavesEach 3 repeated (just a) 27
 unfolding computed
 repeated_leaves = (refl, refl)
 
-pub voted_once_leaves : Leaves 3 voted_once (none ∷ none ∷ none ∷ []) 6
+pub voted_once_leaves : LeavesEach 3 voted_once none 6
 unfolding computed
 voted_once_leaves = (refl, refl)
 
@@ -75,7 +75,7 @@ pub outrun_asks : sent_from (run 3 outrun) 4 ≡ Prepare 1 (ballot 1 0) ∷ Nack
 unfolding computed
 outrun_asks = refl
 
-pub behind_leaves : Leaves 3 behind ((a ∷ b ∷ a ∷ []) ∷ (a ∷ b ∷ a ∷ []) ∷ (a ∷ b ∷ a ∷ []) ∷ []) 20
+pub behind_leaves : LeavesEach 3 behind (a ∷ b ∷ a ∷ []) 20
 unfolding computed
 behind_leaves = (refl, refl)
 
@@ -83,7 +83,7 @@ pub behind_asks : sent_from (run 3 behind) 17 ≡ Ask 2 ∷ Chosen 2 b ∷ Chose
 unfolding computed
 behind_asks = refl
 
-pub catches_up_leaves : Leaves 3 catches_up (just a ∷ just a ∷ just a ∷ []) 9
+pub catches_up_leaves : LeavesEach 3 catches_up (just a) 9
 unfolding computed
 catches_up_leaves = (refl, refl)
 
@@ -91,11 +91,11 @@ pub catches_up_asks : sent_from (run 3 catches_up) 7 ≡ Ask 1 ∷ Chosen 1 a �
 unfolding computed
 catches_up_asks = refl
 
-pub caught_up : happens same_map (only full_history) (CatchUp 0) ≡ only full_history
+pub caught_up : happens same_map (only full_history) (catch_up 0) ≡ only full_history
 unfolding computed
 caught_up = refl
 
-pub new_round_leaves : Leaves 2 new_round (none ∷ none ∷ []) 6
+pub new_round_leaves : LeavesEach 2 new_round none 6
 unfolding computed
 new_round_leaves = (refl, refl)
 
@@ -103,11 +103,11 @@ pub new_round_asks : sent_from (run 2 new_round) 3 ≡ Accept 1 (ballot 1 1) b �
 unfolding computed
 new_round_asks = refl
 
-pub torn_before : Leaves 3 (torn_then Before 3) (just a ∷ just a ∷ just a ∷ []) 12
+pub torn_before : LeavesEach 3 (torn_then Before 3) (just a) 12
 unfolding computed
 torn_before = (refl, refl)
 
-pub torn_after : Leaves 3 (torn_then After 2) (just a ∷ just a ∷ just a ∷ []) 11
+pub torn_after : LeavesEach 3 (torn_then After 2) (just a) 11
 unfolding computed
 torn_after = (refl, refl)
 
@@ -131,43 +131,43 @@ pub taken_over_definition : definition empty (run 3 taken_over) 2 1 ≡ Some a
 unfolding computed
 taken_over_definition = refl
 
-pub torn_before_sent : Leaves 3 (torn Before) (none ∷ none ∷ none ∷ []) 3
+pub torn_before_sent : LeavesEach 3 (torn Before) none 3
 unfolding computed
 torn_before_sent = (refl, refl)
 
-pub torn_after_sent : Leaves 3 (torn After) (none ∷ none ∷ none ∷ []) 2
+pub torn_after_sent : LeavesEach 3 (torn After) none 2
 unfolding computed
 torn_after_sent = (refl, refl)
 
-pub refused_busy : refused (run 1 (Propose 0 a ∷ [])) (Propose 0 b) ≡ Some Busy
+pub refused_busy : refused (run 1 (propose 0 a ∷ [])) (propose 0 b) ≡ Some Busy
 unfolding computed
 refused_busy = refl
 
-pub refused_busy_unchanged : run 1 (Propose 0 a ∷ Propose 0 b ∷ []) ≡ run 1 (Propose 0 a ∷ [])
+pub refused_busy_unchanged : run 1 (propose 0 a ∷ propose 0 b ∷ []) ≡ run 1 (propose 0 a ∷ [])
 unfolding computed
 refused_busy_unchanged = refl
 
-pub refused_nothing : refused (run 1 []) (Retry 0) ≡ Some NothingToRetry
+pub refused_nothing : refused (run 1 []) (retry 0) ≡ Some NothingToRetry
 unfolding computed
 refused_nothing = refl
 
-pub refused_nothing_unchanged : run 1 (Retry 0 ∷ []) ≡ run 1 []
+pub refused_nothing_unchanged : run 1 (retry 0 ∷ []) ≡ run 1 []
 unfolding computed
 refused_nothing_unchanged = refl
 
-pub refused_sequences : refused (only full_history) (Propose 0 a) ≡ Some SequenceFull
+pub refused_sequences : refused (only full_history) (propose 0 a) ≡ Some SequenceFull
 unfolding computed
 refused_sequences = refl
 
-pub refused_sequences_unchanged : happens same_map (only full_history) (Propose 0 a) ≡ only full_history
+pub refused_sequences_unchanged : happens same_map (only full_history) (propose 0 a) ≡ only full_history
 unfolding computed
 refused_sequences_unchanged = refl
 
-pub refused_rounds : refused (only full_rounds) (Propose 0 a) ≡ Some RoundsFull
+pub refused_rounds : refused (only full_rounds) (propose 0 a) ≡ Some RoundsFull
 unfolding computed
 refused_rounds = refl
 
-pub refused_rounds_unchanged : happens same_map (only full_rounds) (Propose 0 a) ≡ only full_rounds
+pub refused_rounds_unchanged : happens same_map (only full_rounds) (propose 0 a) ≡ only full_rounds
 unfolding computed
 refused_rounds_unchanged = refl
 
@@ -175,15 +175,15 @@ pub two_led_asks : sent_from (run 3 two_led) 9 ≡ Accept 2 (ballot 1 0) a ∷ A
 unfolding computed
 two_led_asks = refl
 
-pub four_led_leave : Leaves 3 four_led ((a ∷ a ∷ a ∷ a ∷ []) ∷ (a ∷ a ∷ a ∷ a ∷ []) ∷ (a ∷ a ∷ a ∷ a ∷ []) ∷ []) 24
+pub four_led_leave : LeavesEach 3 four_led (a ∷ a ∷ a ∷ a ∷ []) 24
 unfolding computed
 four_led_leave = (refl, refl)
 
-pub fifth_prepared_leaves : Leaves 3 fifth_prepared ((a ∷ a ∷ a ∷ a ∷ a ∷ []) ∷ (a ∷ a ∷ a ∷ a ∷ a ∷ []) ∷ (a ∷ a ∷ a ∷ a ∷ a ∷ []) ∷ []) 33
+pub fifth_prepared_leaves : LeavesEach 3 fifth_prepared (a ∷ a ∷ a ∷ a ∷ a ∷ []) 33
 unfolding computed
 fifth_prepared_leaves = (refl, refl)
 
-pub led_too_low_leaves : Leaves 3 led_too_low ((a ∷ b ∷ []) ∷ (a ∷ b ∷ []) ∷ (a ∷ b ∷ []) ∷ []) 22
+pub led_too_low_leaves : LeavesEach 3 led_too_low (a ∷ b ∷ []) 22
 unfolding computed
 led_too_low_leaves = (refl, refl)
 
@@ -191,7 +191,7 @@ pub led_too_low_stands : standing (run 3 led_too_low) 0 ≡ Runs
 unfolding computed
 led_too_low_stands = refl
 
-pub led_again_leaves : Leaves 3 led_again ((a ∷ b ∷ a ∷ []) ∷ (a ∷ b ∷ a ∷ []) ∷ (a ∷ b ∷ a ∷ []) ∷ []) 31
+pub led_again_leaves : LeavesEach 3 led_again (a ∷ b ∷ a ∷ []) 31
 unfolding computed
 led_again_leaves = (refl, refl)
 
@@ -210,6 +210,6 @@ pub leader_restarts_asks : sent_from (run 3 leader_restarts) 9 ≡ Prepare 2 (ba
 unfolding computed
 leader_restarts_asks = refl
 
-pub last_leader_proposes : refused last_leader (Propose 0 a) ≡ None
+pub last_leader_proposes : refused last_leader (propose 0 a) ≡ None
 unfolding computed
 last_leader_proposes = refl

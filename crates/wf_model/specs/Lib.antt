@@ -3,6 +3,8 @@ pub mod Stored
 pub mod Working
 pub mod Table
 pub mod World
+pub mod Action
+pub mod Kept
 pub mod Chosen
 pub mod Examples
 pub mod Fits

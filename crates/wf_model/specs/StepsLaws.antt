@@ -3,9 +3,8 @@ use Rattle.std.proofs.Common.{◌≡◌, ℕ, Bool, List, [], ◌∷◌, ◌++�
 use Rattle.std.proofs.lemmas.Option.{none-some}
 use Rattle.wf_model.specs.Stored.{Stored}
 use Rattle.wf_model.specs.Working.{Working}
-use Rattle.wf_model.specs.Table as table
-use Rattle.wf_model.specs.Table.{Action, Input, Refusal, refusal}
-use Rattle.wf_model.specs.World.{Node, World, Event, Propose, Retry, CatchUp, Deliver, Stop, Restart, Torn, Kept, input_of, refusal_running, refusal_of, refused_at, refused, after_turn, after_torn, turn_running, turn_of, turn, happens, steps}
+use Rattle.wf_model.specs.Table.{Action, Input, Refusal}
+use Rattle.wf_model.specs.World.{Node, World, Event, Act, Stop, Restart, Torn, Kept, input_of, refusal_running, refusal_of, refused_at, refused, after_turn, after_torn, turn_running, turn_of, turn, happens, steps}
 use Rattle.wf_model.specs.Steps.{StepsInTurn, RefusedChangesNothing}
 
 module _ {V : Type 0} (same : V → V → Bool) where
@@ -43,10 +42,7 @@ module _ {V : Type 0} (same : V → V → Bool) where
 
     left : (event : Event V) → refused w event ≡ Some why → happens same w event ≡ w
     unfolding refused happens
-    left (Propose i d) e = step_left i (table.Propose d) e
-    left (Retry i) e = step_left i table.Retry e
-    left (CatchUp i) e = step_left i table.CatchUp e
-    left (Deliver i k) e = step_left i (table.Deliver k) e
+    left (Act i action) e = step_left i action e
     left (Stop i) e = absurd (none-some why e)
     left (Restart i) e = absurd (none-some why e)
     left (Torn i action kept) e = torn_left i action kept e

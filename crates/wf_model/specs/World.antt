@@ -24,13 +24,23 @@ pub data Kept : Type 0 where
 -- What may happen to the node of that number: a step; a stop and a restart; a crash within a step. A delivery names a sent
 -- message by its number, so none can be invented; a message may be delivered late, repeatedly, in any order, or never.
 pub data Event (V : Type 0) : Type 0 where
-  Propose : (node : ℕ) (definition : V) → Event V
-  Retry : (node : ℕ) → Event V
-  CatchUp : (node : ℕ) → Event V
-  Deliver : (node number : ℕ) → Event V
+  Act : (node : ℕ) (action : Action V ℕ) → Event V
   Stop : (node : ℕ) → Event V
   Restart : (node : ℕ) → Event V
   Torn : (node : ℕ) (action : Action V ℕ) (kept : Kept) → Event V
+
+-- the four steps as events
+abbrev pub propose : {V : Type 0} → ℕ → V → Event V
+propose i d = Act i (table.Propose d)
+
+abbrev pub retry : {V : Type 0} → ℕ → Event V
+retry i = Act i table.Retry
+
+abbrev pub catch_up : {V : Type 0} → ℕ → Event V
+catch_up i = Act i table.CatchUp
+
+abbrev pub deliver : {V : Type 0} → ℕ → ℕ → Event V
+deliver i k = Act i (table.Deliver k)
 
 -- a step that has an effect: its node's stored state before it, and its transition
 pub record Turn (V : Type 0) : Type 0 where
@@ -73,10 +83,7 @@ refused_at w i action = refusal_of (slice_get w.nodes i) (input_of w.sent action
 
 -- the rejection of an event's step, also if the step crashes; None if it isn't rejected
 unfoldable pub refused : {V : Type 0} → World V → Event V → Option Refusal
-refused w (Propose i d) = refused_at w i (table.Propose d)
-refused w (Retry i) = refused_at w i table.Retry
-refused w (CatchUp i) = refused_at w i table.CatchUp
-refused w (Deliver i k) = refused_at w i (table.Deliver k)
+refused w (Act i action) = refused_at w i action
 refused w (Stop i) = None
 refused w (Restart i) = None
 refused w (Torn i action kept) = refused_at w i action
@@ -132,10 +139,7 @@ module _ {V : Type 0} (same : V → V → Bool) where
   turn w i action = turn_of (length w.nodes) i (slice_get w.nodes i) (input_of w.sent action)
 
   unfoldable pub happens : World V → Event V → World V
-  happens w (Propose i d) = after_turn w i (turn w i (table.Propose d))
-  happens w (Retry i) = after_turn w i (turn w i table.Retry)
-  happens w (CatchUp i) = after_turn w i (turn w i table.CatchUp)
-  happens w (Deliver i k) = after_turn w i (turn w i (table.Deliver k))
+  happens w (Act i action) = after_turn w i (turn w i action)
   happens w (Stop i) = after_stop w i (slice_get w.nodes i)
   happens w (Restart i) = after_restart w i (slice_get w.nodes i)
   happens w (Torn i action kept) = after_torn w i kept (turn w i action)

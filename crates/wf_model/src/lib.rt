@@ -12,21 +12,28 @@
 //! majority has promised proposes at these four sequences without asking for promises again.
 //!
 //! **Promises.** Each transition's record fits the stored state, whatever the messages are, and no transition sends more than
-//! eight messages. A fold of records leaves no vote of a published sequence, and no vote above the promise.
-//! Running two lists of events in turn is running their concatenation, and a rejected event changes nothing. Example runs, proved
-//! by computing them, leave the expected worlds.
+//! eight messages. A fold of records leaves no vote of a published sequence, and no vote above the promise. Running two lists of
+//! events in turn is running their concatenation, and a rejected event changes nothing. Example runs, proved by computing them,
+//! leave the expected worlds.
 //!
-//! **Not here.** Code, and the theorem of agreement, which is `wf_law`'s.
+//! **Not here.** Code, except two types that the crates above share, [`Action`] and [`Kept`]; the theorem of agreement, which is
+//! `wf_law`'s.
 #![tactic(auto)]
+
+pub mod action;
+pub mod kept;
 
 ghost use Rattle.std.specs.Prelude.{◌≡◌, [], ◌∷◌, None, Some};
 ghost use Rattle.wf_model.specs.Chosen.{definition};
-ghost use Rattle.wf_model.specs.Examples.{a, alone, b, ballot, behind, catches_up, comes_back, empty, fifth_prepared, four_led, full_history, full_rounds, just, last_leader, late_accept, leader_restarts, led_again, led_too_low, new_round, no_votes, none, old_accept, only, outrun, repeated, run, same_map, sent_from, standing, taken_over, three_of_four, three_pumped, told_ahead, torn, torn_then, two_led, two_of_four, two_told, vote, voted_once, Leaves, OvertakenAt, PublishedAt, Runs};
+ghost use Rattle.wf_model.specs.Examples.{a, alone, b, ballot, behind, catches_up, comes_back, empty, fifth_prepared, four_led, full_history, full_rounds, just, last_leader, late_accept, leader_restarts, led_again, led_too_low, new_round, no_votes, none, old_accept, only, outrun, repeated, run, same_map, sent_from, standing, taken_over, three_of_four, three_pumped, told_ahead, torn, torn_then, two_led, two_of_four, two_told, vote, voted_once, Leaves, LeavesEach, OvertakenAt, PublishedAt, Runs};
 ghost use Rattle.wf_model.specs.Fits.{FoldsAreOpen, RecordsFit, RowsAreShort, VotesArePromised};
 ghost use Rattle.wf_model.specs.Message.{Accept, Accepted, Ask, Chosen, Nack, Prepare, Promise};
 ghost use Rattle.wf_model.specs.Steps.{RefusedChangesNothing, StepsInTurn};
 ghost use Rattle.wf_model.specs.Table.{Busy, NothingToRetry, RoundsFull, SequenceFull};
-ghost use Rattle.wf_model.specs.World.{happens, refused, After, Before, CatchUp, Propose, Retry};
+ghost use Rattle.wf_model.specs.World.{happens, refused, After, Before, catch_up, propose, retry};
+
+pub use action::Action;
+pub use kept::Kept;
 
 /// Each transition's record fits its node's stored state: a record that publishes is of the next sequence. A running proposal is
 /// for the next sequence, and remains so.
@@ -64,9 +71,9 @@ pub fn refused_changes_nothing<V>()
 pub fn majorities()
     ensures one { Leaves 1 alone (just a ∷ []) 5 }
     ensures proposal { standing (run 1 alone) 0 ≡ PublishedAt 1 }
-    ensures three { Leaves 3 three_pumped (just a ∷ just a ∷ just a ∷ []) 9 }
-    ensures two_of_four { Leaves 4 two_of_four (none ∷ none ∷ none ∷ none ∷ []) 3 }
-    ensures three_of_four { Leaves 4 three_of_four (just a ∷ just a ∷ just a ∷ just a ∷ []) 10 }
+    ensures three { LeavesEach 3 three_pumped (just a) 9 }
+    ensures two_of_four { LeavesEach 4 two_of_four none 3 }
+    ensures three_of_four { LeavesEach 4 three_of_four (just a) 10 }
 {}
 
 /// A proposer stops when it alone has voted, another node's definition is published, and the first comes back and is sent it. A
@@ -75,8 +82,9 @@ pub fn stopped_proposer()
     ensures leaves { Leaves 3 comes_back (just b ∷ none ∷ just b ∷ []) 14 }
     ensures proposal { standing (run 3 comes_back) 0 ≡ OvertakenAt 1 }
     ensures definition { definition empty (run 3 comes_back) 0 1 ≡ Some b }
-    ensures new_round { Leaves 2 new_round (none ∷ none ∷ []) 6 }
-    ensures asked { sent_from (run 2 new_round) 3 ≡ Accept 1 (ballot 1 1) b ∷ Accepted 1 1 (ballot 1 1) ∷ Prepare 1 (ballot 2 1) ∷ [] }
+    ensures new_round { LeavesEach 2 new_round none 6 }
+    ensures asked { sent_from (run 2 new_round) 3 ≡
+        Accept 1 (ballot 1 1) b ∷ Accepted 1 1 (ballot 1 1) ∷ Prepare 1 (ballot 2 1) ∷ [] }
 {}
 
 /// A node voted for the first proposer's definition, so the second, to which the vote is reported, publishes that definition. Of
@@ -87,7 +95,8 @@ pub fn reported_vote()
     ensures other { standing (run 3 taken_over) 0 ≡ Runs }
     ensures definition { definition empty (run 3 taken_over) 2 1 ≡ Some a }
     ensures two { sent_from (run 3 two_told) 14 ≡
-        Promise 2 1 (ballot 2 0) (Some (vote 1 1 b) ∷ None ∷ None ∷ None ∷ []) ∷ Promise 0 1 (ballot 2 0) (Some (vote 1 0 a) ∷ None ∷ None ∷ None ∷ []) ∷
+        Promise 2 1 (ballot 2 0) (Some (vote 1 1 b) ∷ None ∷ None ∷ None ∷ []) ∷
+        Promise 0 1 (ballot 2 0) (Some (vote 1 0 a) ∷ None ∷ None ∷ None ∷ []) ∷
         Accept 1 (ballot 2 0) b ∷ [] }
 {}
 
@@ -95,18 +104,20 @@ pub fn reported_vote()
 /// votes. The fifth needs new promises. At the last round too a leader's proposal isn't rejected.
 pub fn four_sequences_led()
     ensures second { sent_from (run 3 two_led) 9 ≡
-        Accept 2 (ballot 1 0) a ∷ Accepted 0 2 (ballot 1 0) ∷ Accepted 1 2 (ballot 1 0) ∷ Accepted 2 2 (ballot 1 0) ∷ Chosen 2 a ∷ [] }
-    ensures fourth { Leaves 3 four_led ((a ∷ a ∷ a ∷ a ∷ []) ∷ (a ∷ a ∷ a ∷ a ∷ []) ∷ (a ∷ a ∷ a ∷ a ∷ []) ∷ []) 24 }
-    ensures fifth { Leaves 3 fifth_prepared ((a ∷ a ∷ a ∷ a ∷ a ∷ []) ∷ (a ∷ a ∷ a ∷ a ∷ a ∷ []) ∷ (a ∷ a ∷ a ∷ a ∷ a ∷ []) ∷ []) 33 }
-    ensures last_round { refused last_leader (Propose 0 a) ≡ None }
+        Accept 2 (ballot 1 0) a ∷
+        Accepted 0 2 (ballot 1 0) ∷ Accepted 1 2 (ballot 1 0) ∷ Accepted 2 2 (ballot 1 0) ∷
+        Chosen 2 a ∷ [] }
+    ensures fourth { LeavesEach 3 four_led (a ∷ a ∷ a ∷ a ∷ []) 24 }
+    ensures fifth { LeavesEach 3 fifth_prepared (a ∷ a ∷ a ∷ a ∷ a ∷ []) 33 }
+    ensures last_round { refused last_leader (propose 0 a) ≡ None }
 {}
 
 /// Another node makes a proposal meanwhile: the leader's next Accept is below what the nodes promised since, and is rejected. Its
 /// proposal runs until a retry takes a higher round. A leader that stops loses its leadership.
 pub fn leadership_ends()
-    ensures rejected { Leaves 3 led_too_low ((a ∷ b ∷ []) ∷ (a ∷ b ∷ []) ∷ (a ∷ b ∷ []) ∷ []) 22 }
+    ensures rejected { LeavesEach 3 led_too_low (a ∷ b ∷ []) 22 }
     ensures runs { standing (run 3 led_too_low) 0 ≡ Runs }
-    ensures retried { Leaves 3 led_again ((a ∷ b ∷ a ∷ []) ∷ (a ∷ b ∷ a ∷ []) ∷ (a ∷ b ∷ a ∷ []) ∷ []) 31 }
+    ensures retried { LeavesEach 3 led_again (a ∷ b ∷ a ∷ []) 31 }
     ensures stopped { sent_from (run 3 leader_restarts) 9 ≡ Prepare 2 (ballot 2 0) ∷ [] }
 {}
 
@@ -114,9 +125,12 @@ pub fn leadership_ends()
 /// another definition there.
 pub fn reported_votes_ahead()
     ensures asked { sent_from (run 3 told_ahead) 9 ≡
-        Prepare 1 (ballot 1 2) ∷ Promise 2 1 (ballot 1 2) no_votes ∷ Promise 1 1 (ballot 1 2) (Some (vote 1 0 a) ∷ Some (vote 1 0 b) ∷ None ∷ None ∷ []) ∷
-        Accept 1 (ballot 1 2) a ∷ Accepted 1 1 (ballot 1 2) ∷ Accepted 2 1 (ballot 1 2) ∷ Chosen 1 a ∷
-        Accept 2 (ballot 1 2) b ∷ Accepted 1 2 (ballot 1 2) ∷ Accepted 2 2 (ballot 1 2) ∷ Chosen 2 b ∷ [] }
+        Prepare 1 (ballot 1 2) ∷ Promise 2 1 (ballot 1 2) no_votes ∷
+        Promise 1 1 (ballot 1 2) (Some (vote 1 0 a) ∷ Some (vote 1 0 b) ∷ None ∷ None ∷ []) ∷
+        Accept 1 (ballot 1 2) a ∷
+        Accepted 1 1 (ballot 1 2) ∷ Accepted 2 1 (ballot 1 2) ∷ Chosen 1 a ∷
+        Accept 2 (ballot 1 2) b ∷
+        Accepted 1 2 (ballot 1 2) ∷ Accepted 2 2 (ballot 1 2) ∷ Chosen 2 b ∷ [] }
     ensures proposal { standing (run 3 told_ahead) 2 ≡ OvertakenAt 2 }
 {}
 
@@ -125,47 +139,53 @@ pub fn reported_votes_ahead()
 /// rejected likewise; its proposer's next attempt is above the promise's round.
 pub fn refused_ballots()
     ensures leaves { Leaves 3 late_accept (none ∷ just b ∷ none ∷ []) 13 }
-    ensures accept { sent_from (run 3 late_accept) 11 ≡ Accepted 0 1 (ballot 1 0) ∷ Nack 2 1 (ballot 1 0) (ballot 1 1) ∷ [] }
-    ensures again { sent_from (run 3 old_accept) 16 ≡ Accept 1 (ballot 2 0) b ∷ Nack 0 1 (ballot 1 0) (ballot 2 0) ∷ [] }
-    ensures prepare { sent_from (run 3 outrun) 4 ≡ Prepare 1 (ballot 1 0) ∷ Nack 2 1 (ballot 1 0) (ballot 3 1) ∷ Prepare 1 (ballot 4 0) ∷ [] }
+    ensures accept { sent_from (run 3 late_accept) 11 ≡
+        Accepted 0 1 (ballot 1 0) ∷ Nack 2 1 (ballot 1 0) (ballot 1 1) ∷ [] }
+    ensures again { sent_from (run 3 old_accept) 16 ≡
+        Accept 1 (ballot 2 0) b ∷ Nack 0 1 (ballot 1 0) (ballot 2 0) ∷ [] }
+    ensures prepare { sent_from (run 3 outrun) 4 ≡
+        Prepare 1 (ballot 1 0) ∷ Nack 2 1 (ballot 1 0) (ballot 3 1) ∷ Prepare 1 (ballot 4 0) ∷ [] }
 {}
 
 /// A node that missed two sequences asks for the first of them, is sent both, and publishes them in order. A node that missed all
 /// catches up by asking, and asks for nothing once the last sequence is published.
 pub fn node_behind()
-    ensures leaves { Leaves 3 behind ((a ∷ b ∷ a ∷ []) ∷ (a ∷ b ∷ a ∷ []) ∷ (a ∷ b ∷ a ∷ []) ∷ []) 20 }
+    ensures leaves { LeavesEach 3 behind (a ∷ b ∷ a ∷ []) 20 }
     ensures asked { sent_from (run 3 behind) 17 ≡ Ask 2 ∷ Chosen 2 b ∷ Chosen 3 a ∷ [] }
-    ensures caught_up { Leaves 3 catches_up (just a ∷ just a ∷ just a ∷ []) 9 }
+    ensures caught_up { LeavesEach 3 catches_up (just a) 9 }
     ensures caught_up_by { sent_from (run 3 catches_up) 7 ≡ Ask 1 ∷ Chosen 1 a ∷ [] }
-    ensures full { happens same_map (only full_history) (CatchUp 0) ≡ only full_history }
+    ensures full { happens same_map (only full_history) (catch_up 0) ≡ only full_history }
 {}
 
 /// Messages that are repeated, late or reordered are answered, and change nothing that is published. An Accept that arrives twice
 /// is answered twice, and its node's vote isn't counted twice.
 pub fn repeated_messages()
-    ensures leaves { Leaves 3 repeated (just a ∷ just a ∷ just a ∷ []) 27 }
-    ensures voted_once { Leaves 3 voted_once (none ∷ none ∷ none ∷ []) 6 }
-    ensures answers { sent_from (run 3 voted_once) 4 ≡ Accepted 0 1 (ballot 1 0) ∷ Accepted 0 1 (ballot 1 0) ∷ [] }
+    ensures leaves { LeavesEach 3 repeated (just a) 27 }
+    ensures voted_once { LeavesEach 3 voted_once none 6 }
+    ensures answers { sent_from (run 3 voted_once) 4 ≡
+        Accepted 0 1 (ballot 1 0) ∷ Accepted 0 1 (ballot 1 0) ∷ [] }
 {}
 
 /// A crash within a step, after its record was stored or before: either way the node answers again, or not at all, and a second
 /// attempt publishes.
 pub fn torn_step()
-    ensures after_sent { Leaves 3 (torn After) (none ∷ none ∷ none ∷ []) 2 }
-    ensures after_leaves { Leaves 3 (torn_then After 2) (just a ∷ just a ∷ just a ∷ []) 11 }
-    ensures before_sent { Leaves 3 (torn Before) (none ∷ none ∷ none ∷ []) 3 }
-    ensures before_leaves { Leaves 3 (torn_then Before 3) (just a ∷ just a ∷ just a ∷ []) 12 }
+    ensures after_sent { LeavesEach 3 (torn After) none 2 }
+    ensures after_leaves { LeavesEach 3 (torn_then After 2) (just a) 11 }
+    ensures before_sent { LeavesEach 3 (torn Before) none 3 }
+    ensures before_leaves { LeavesEach 3 (torn_then Before 3) (just a) 12 }
 {}
 
 /// A running node rejects another proposal, a node without one has nothing to retry, and no proposal begins past sequence 4,096
 /// or round 4,294,967,295. A rejected step changes nothing.
 pub fn refused_steps()
-    ensures busy { refused (run 1 (Propose 0 a ∷ [])) (Propose 0 b) ≡ Some Busy }
-    ensures busy_unchanged { run 1 (Propose 0 a ∷ Propose 0 b ∷ []) ≡ run 1 (Propose 0 a ∷ []) }
-    ensures nothing { refused (run 1 []) (Retry 0) ≡ Some NothingToRetry }
-    ensures nothing_unchanged { run 1 (Retry 0 ∷ []) ≡ run 1 [] }
-    ensures sequences { refused (only full_history) (Propose 0 a) ≡ Some SequenceFull }
-    ensures sequences_unchanged { happens same_map (only full_history) (Propose 0 a) ≡ only full_history }
-    ensures rounds { refused (only full_rounds) (Propose 0 a) ≡ Some RoundsFull }
-    ensures rounds_unchanged { happens same_map (only full_rounds) (Propose 0 a) ≡ only full_rounds }
+    ensures busy { refused (run 1 (propose 0 a ∷ [])) (propose 0 b) ≡ Some Busy }
+    ensures busy_unchanged { run 1 (propose 0 a ∷ propose 0 b ∷ []) ≡ run 1 (propose 0 a ∷ []) }
+    ensures nothing { refused (run 1 []) (retry 0) ≡ Some NothingToRetry }
+    ensures nothing_unchanged { run 1 (retry 0 ∷ []) ≡ run 1 [] }
+    ensures sequences { refused (only full_history) (propose 0 a) ≡ Some SequenceFull }
+    ensures sequences_unchanged { happens same_map (only full_history) (propose 0 a) ≡
+        only full_history }
+    ensures rounds { refused (only full_rounds) (propose 0 a) ≡ Some RoundsFull }
+    ensures rounds_unchanged { happens same_map (only full_rounds) (propose 0 a) ≡
+        only full_rounds }
 {}

@@ -22,12 +22,13 @@ use Rattle.wf_node.specs.declared.fault.NodeFault.{NodeFault}
 use Rattle.wf_node.specs.declared.fault.NodeFault.TheVariants.{Memory}
 use Rattle.wf_node.specs.Act.{IsAct, IsChange, IsRefusedOr, IsReply}
 use Rattle.wf_node.specs.Fault.{refused_by}
-use Rattle.wf_node.specs.Kept as keeping
-use Rattle.wf_node.specs.Kept.{Kept}
+use Rattle.wf_node.specs.StoredPart as keeping
+use Rattle.wf_node.specs.StoredPart.{StoredPart}
 use Rattle.wf_node.specs.Memory.{TakesMemory, ByEntry, ByMessages}
 use Rattle.wf_node.specs.Proposed.{fault_of}
 use Rattle.wf_node.specs.Parts.{Parts, stored_of}
 use Rattle.wf_node.proofs.Replies.{change_as, change_from, memory_changes, says_changes}
+use Rattle.wf_tape.specs.declared.tape.Tape.{Ghosts as Tape}
 
 -- the table's transition of an input at the parts of a node
 abbrev pub row_at : Parts → Proposer → Input Definition → Row Definition
@@ -40,41 +41,41 @@ row_fits parts proposer input given fit for_next is =
     subst (λ r. Fits (stored_of parts) r.entry) (sym is)
     (fit definition_eq proposer.nodes proposer.node (stored_of parts) (working_of proposer) input for_next).fits
 
-module _ {T : Type 0} (honest : Type 0) (content : T → List ℕ) (images : T → List ℕ → Type 0) (inside : T → T → List ℕ → Type 0) (failures : T → ℕ) (sturdy : T → Type 0) where
+module _ {T : Type 0} (tapes : Tape T) where
   -- an input that the table doesn't reject
   pub act_done : {A : Type 0} (input : Input Definition) (given : Row Definition) (journal journal_after : Journal T) (parts parts_after : Parts) (proposer proposer_after : Proposer)
       (result : Result (Vec Message A) NodeFault) → refusal (stored_of parts) (working_of proposer) input ≡ None → given ≡ row_at parts proposer input →
-      IsChange honest content images inside failures sturdy given journal parts proposer result journal_after parts_after proposer_after →
-      IsAct honest content images inside failures sturdy input journal parts proposer result journal_after parts_after proposer_after
+      IsChange tapes given journal parts proposer result journal_after parts_after proposer_after →
+      IsAct tapes input journal parts proposer result journal_after parts_after proposer_after
   act_done input given journal journal_after parts parts_after proposer proposer_after result none is change =
-      subst (λ why. IsRefusedOr honest content images inside failures sturdy why (row_at parts proposer input) journal parts proposer result journal_after parts_after proposer_after) (sym none)
-      (change_as honest content images inside failures sturdy given (row_at parts proposer input) journal journal_after parts parts_after proposer proposer_after result is change)
+      subst (λ why. IsRefusedOr tapes why (row_at parts proposer input) journal parts proposer result journal_after parts_after proposer_after) (sym none)
+      (change_as tapes given (row_at parts proposer input) journal journal_after parts parts_after proposer proposer_after result is change)
 
   -- an input that only sends messages
   pub act_says : {A : Type 0} (input : Input Definition) (messages : List (model.Message Definition)) (journal : Journal T) (parts : Parts) (proposer : Proposer)
       (result : Result (Vec Message A) NodeFault) → refusal (stored_of parts) (working_of proposer) input ≡ None → journal.halted ≡ false →
       row_at parts proposer input ≡ says (working_of proposer) messages → IsReply messages result →
-      IsAct honest content images inside failures sturdy input journal parts proposer result journal parts proposer
+      IsAct tapes input journal parts proposer result journal parts proposer
   act_says input messages journal parts proposer result none running is reply =
-      subst (λ why. IsRefusedOr honest content images inside failures sturdy why (row_at parts proposer input) journal parts proposer result journal parts proposer) (sym none)
-      (says_changes honest content images inside failures sturdy (row_at parts proposer input) messages journal parts proposer result running is reply)
+      subst (λ why. IsRefusedOr tapes why (row_at parts proposer input) journal parts proposer result journal parts proposer) (sym none)
+      (says_changes tapes (row_at parts proposer input) messages journal parts proposer result running is reply)
 
   -- an input that the table rejects
   pub act_refused : {A : Type 0} (input : Input Definition) (why : Refusal) (journal : Journal T) (parts : Parts) (proposer : Proposer)
       (result : Result (Vec Message A) NodeFault) → refusal (stored_of parts) (working_of proposer) input ≡ Some why → refused_by result ≡ Some why →
-      IsAct honest content images inside failures sturdy input journal parts proposer result journal parts proposer
+      IsAct tapes input journal parts proposer result journal parts proposer
   act_refused input why journal parts proposer result some answered =
-      subst (λ x. IsRefusedOr honest content images inside failures sturdy x (row_at parts proposer input) journal parts proposer result journal parts proposer) (sym some)
+      subst (λ x. IsRefusedOr tapes x (row_at parts proposer input) journal parts proposer result journal parts proposer) (sym some)
       (answered, refl, record { parts = refl; proposer = refl })
 
   -- an input for which allocation failed
   pub act_short : {A : Type 0} (input : Input Definition) (journal : Journal T) (parts parts_after : Parts) (proposer : Proposer)
       (result : Result (Vec Message A) NodeFault) → refusal (stored_of parts) (working_of proposer) input ≡ None → journal.halted ≡ false → result ≡ Err Memory → parts_after ≡ parts →
       TakesMemory (row_at parts proposer input) →
-      IsAct honest content images inside failures sturdy input journal parts proposer result journal parts_after proposer
+      IsAct tapes input journal parts proposer result journal parts_after proposer
   act_short input journal parts parts_after proposer result none running short same takes =
-      subst (λ why. IsRefusedOr honest content images inside failures sturdy why (row_at parts proposer input) journal parts proposer result journal parts_after proposer) (sym none)
-      (memory_changes honest content images inside failures sturdy (row_at parts proposer input) journal parts parts_after proposer result short running same takes)
+      subst (λ why. IsRefusedOr tapes why (row_at parts proposer input) journal parts proposer result journal parts_after proposer) (sym none)
+      (memory_changes tapes (row_at parts proposer input) journal parts parts_after proposer result short running same takes)
 
 -- a delivered message is never rejected, and its transition is the message's
 pub delivered : (stored : Stored Definition) (working : Working Definition) (message : model.Message Definition) → refusal stored working (Deliver message) ≡ None
@@ -112,34 +113,34 @@ pub stored_takes : (input : Input Definition) (given : Working Definition → Ro
 stored_takes input given parts proposer stores is =
     ByEntry (subst (λ r. IsSome r.entry) is (stores (working_of proposer)))
 
-module _ {T : Type 0} (honest : Type 0) (content : T → List ℕ) (images : T → List ℕ → Type 0) (inside : T → T → List ℕ → Type 0) (failures : T → ℕ) (sturdy : T → Type 0) where
+module _ {T : Type 0} (tapes : Tape T) where
   -- the acceptor's answer is made
   pub act_given : {A : Type 0} (input : Input Definition) (given : Working Definition → Row Definition) (answer : Answer) (journal journal_after : Journal T) (parts made parts_after : Parts) (proposer proposer_after : Proposer)
       (result : Result (Vec Message A) NodeFault) → refusal (stored_of parts) (working_of proposer) input ≡ None → keeping.IsRow given answer → given (working_of proposer) ≡ row_at parts proposer input → made ≡ parts →
-      IsChange honest content images inside failures sturdy (answered.row_of answer (working_of proposer)) journal made proposer result journal_after parts_after proposer_after →
-      IsAct honest content images inside failures sturdy input journal parts proposer result journal_after parts_after proposer_after
+      IsChange tapes (answered.row_of answer (working_of proposer)) journal made proposer result journal_after parts_after proposer_after →
+      IsAct tapes input journal parts proposer result journal_after parts_after proposer_after
   act_given input given answer journal journal_after parts made parts_after proposer proposer_after result none is_row is same change =
       let answered_row = answered.row_of answer (working_of proposer) in
-      act_done honest content images inside failures sturdy input answered_row journal journal_after parts parts_after proposer proposer_after result none (is_row (working_of proposer) ∙ is)
-      (change_from honest content images inside failures sturdy answered_row journal journal_after parts made parts_after proposer proposer_after result same change)
+      act_done tapes input answered_row journal journal_after parts parts_after proposer proposer_after result none (is_row (working_of proposer) ∙ is)
+      (change_from tapes answered_row journal journal_after parts made parts_after proposer proposer_after result same change)
 
   proposer_refuses : (A : Type 0) (input : Input Definition) (why : held.Refusal) (journal : Journal T) (parts : Parts) (proposer : Proposer) →
       refusal_of why ≡ refusal (stored_of parts) (working_of proposer) input → journal.halted ≡ false →
       (why ≡ held_case.Memory → TakesMemory (row_at parts proposer input)) →
-      IsAct honest content images inside failures sturdy {A = A} input journal parts proposer (Err (fault_of why)) journal parts proposer
-  proposer_refuses A input held_case.Busy journal parts proposer is running takes = act_refused honest content images inside failures sturdy input _ journal parts proposer _ (sym is) refl
-  proposer_refuses A input held_case.Nothing journal parts proposer is running takes = act_refused honest content images inside failures sturdy input _ journal parts proposer _ (sym is) refl
-  proposer_refuses A input held_case.RoundsFull journal parts proposer is running takes = act_refused honest content images inside failures sturdy input _ journal parts proposer _ (sym is) refl
+      IsAct tapes {A = A} input journal parts proposer (Err (fault_of why)) journal parts proposer
+  proposer_refuses A input held_case.Busy journal parts proposer is running takes = act_refused tapes input _ journal parts proposer _ (sym is) refl
+  proposer_refuses A input held_case.Nothing journal parts proposer is running takes = act_refused tapes input _ journal parts proposer _ (sym is) refl
+  proposer_refuses A input held_case.RoundsFull journal parts proposer is running takes = act_refused tapes input _ journal parts proposer _ (sym is) refl
   proposer_refuses A input held_case.Memory journal parts proposer is running takes =
-      act_short honest content images inside failures sturdy input journal parts parts proposer _ (sym is) running refl refl (takes refl)
+      act_short tapes input journal parts parts proposer _ (sym is) running refl refl (takes refl)
 
   -- the proposer's rejection is returned, or allocation failed
   pub act_proposer_refuses : (A : Type 0) (input : Input Definition) (why : held.Refusal) (fault : NodeFault) (journal : Journal T) (parts : Parts) (proposer : Proposer) →
       fault ≡ fault_of why → refusal_of why ≡ refusal (stored_of parts) (working_of proposer) input → journal.halted ≡ false →
       (why ≡ held_case.Memory → TakesMemory (row_at parts proposer input)) →
-      IsAct honest content images inside failures sturdy {A = A} input journal parts proposer (Err fault) journal parts proposer
+      IsAct tapes {A = A} input journal parts proposer (Err fault) journal parts proposer
   act_proposer_refuses A input why fault journal parts proposer same is running takes =
-      subst (λ f. IsAct honest content images inside failures sturdy {A = A} input journal parts proposer (Err f) journal parts proposer) (sym same)
+      subst (λ f. IsAct tapes {A = A} input journal parts proposer (Err f) journal parts proposer) (sym same)
       (proposer_refuses A input why journal parts proposer is running takes)
 
   abbrev error_or : {A E : Type 0} → E → Result A E → E
@@ -150,9 +151,9 @@ module _ {T : Type 0} (honest : Type 0) (content : T → List ℕ) (images : T �
   pub act_sends : (A B : Type 0) (input : Input Definition) (why : held.Refusal) (fault : NodeFault) (journal : Journal T) (parts : Parts) (proposer : Proposer) →
       fault ≡ fault_of why → refusal (stored_of parts) (working_of proposer) input ≡ None → journal.halted ≡ false →
       Sends (row_at parts proposer input) × ◌≡◌ {A = Result B held.Refusal} (Err why) (Err held_case.Memory) →
-      IsAct honest content images inside failures sturdy {A = A} input journal parts proposer (Err fault) journal parts proposer
+      IsAct tapes {A = A} input journal parts proposer (Err fault) journal parts proposer
   act_sends A B input why fault journal parts proposer same none running short =
-      act_short honest content images inside failures sturdy input journal parts parts proposer (Err fault) none running
+      act_short tapes input journal parts parts proposer (Err fault) none running
       (ap Err (same ∙ ap fault_of (ap (error_or held_case.Memory) short.1))) refl (ByMessages short.0)
 
 -- ---- transitions and rejections of the other inputs

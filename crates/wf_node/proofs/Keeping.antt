@@ -19,7 +19,7 @@ use Rattle.wf_acceptor.specs.Answer as answers
 use Rattle.wf_acceptor.specs.Answer.{Answers}
 use Rattle.wf_acceptor.specs.declared.answer.Answer.{Answer}
 use Rattle.wf_node.specs.Parts.{Parts, stored_of}
-use Rattle.wf_node.specs.Kept.{IsRow, Stores, IsRoomFor, tried_after, definitions_after}
+use Rattle.wf_node.specs.StoredPart.{IsRow, Stores, IsRoomFor, tried_after, definitions_after}
 
 -- the stored part, of a tried round, an acceptor's part and a history
 abbrev pub parts_of : ℕ → Part → List Definition → Parts

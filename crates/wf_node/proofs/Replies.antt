@@ -20,7 +20,9 @@ use Rattle.wf_node.specs.Act.{IsChange, IsReply}
 use Rattle.wf_node.specs.Memory.{TakesMemory, ByEntry, ByMessages}
 use Rattle.wf_node.specs.Parts.{Parts, stored_of}
 use Rattle.wf_node.specs.Storing.{bytes_of, IsTornAt, IsWritten, IsSpared, IsBroken, IsStoredBy, IsWrite}
+use Rattle.wf_tape.specs.Change.{inside}
 use Rattle.wf_node.proofs.Folding.{stored_none, stored_by, torn_at, cut_at}
+use Rattle.wf_tape.specs.declared.tape.Tape.{Ghosts as Tape}
 
 -- No call was made: what could have been left at a moment from now on is what could be left now.
 torn_stays : (entry : Option (Record Definition)) (images : List ℕ → Type 0) → IsTornAt entry images images
@@ -29,24 +31,24 @@ torn_stays entry images stored fits stands image left = inl (stands image left)
 pub unchanged : (content : List ℕ) (images : List ℕ → Type 0) → IsUnchanged content content images images
 unchanged content images = record { content = refl; kept = λ image is. is; no_other = λ image is. is }
 
-module _ {T : Type 0} (honest : Type 0) (content : T → List ℕ) (images : T → List ℕ → Type 0) (inside : T → T → List ℕ → Type 0) (failures : T → ℕ) (sturdy : T → Type 0) where
+module _ {T : Type 0} (tapes : Tape T) where
   -- nothing is written
-  pub written_none : (entry : Option (Record Definition)) (journal : Journal T) → entry ≡ None → journal.halted ≡ false → IsWritten honest content images inside failures sturdy entry journal journal
+  pub written_none : (entry : Option (Record Definition)) (journal : Journal T) → entry ≡ None → journal.halted ≡ false → IsWritten tapes entry journal journal
   written_none entry journal none running = record {
     running = running;
-    grown = λ h. sym (ap (λ e. content journal.tape ++ bytes_of e) none ∙ append-nil (content journal.tape));
-    stored = λ h. subst (λ e. IsStoredBy e (images journal.tape) (images journal.tape)) (sym none) (stored_none (images journal.tape));
-    moments = λ h. torn_stays entry (inside journal.tape journal.tape);
+    grown = λ h. sym (ap (λ e. tapes.content journal.tape ++ bytes_of e) none ∙ append-nil (tapes.content journal.tape));
+    stored = λ h. subst (λ e. IsStoredBy e (tapes.images journal.tape) (tapes.images journal.tape)) (sym none) (stored_none (tapes.images journal.tape));
+    moments = λ h. torn_stays entry (inside tapes journal.tape journal.tape);
     still = λ sound. sound;
   }
 
-  pub spared : (journal : Journal T) → journal.halted ≡ false → IsSpared honest content images inside failures sturdy journal journal
-  spared journal running = record { running = running; same = λ h. unchanged (content journal.tape) (images journal.tape); still = λ sound. sound }
+  pub spared : (journal : Journal T) → journal.halted ≡ false → IsSpared tapes journal journal
+  spared journal running = record { running = running; same = λ h. unchanged (tapes.content journal.tape) (tapes.images journal.tape); still = λ sound. sound }
 
   -- The transition stores nothing and leaves the working part unchanged: it only sends messages.
   pub reply_changes : {A : Type 0} (the_row : Row Definition) (journal : Journal T) (parts : Parts) (proposer : Proposer) (result : Result (Vec Message A) NodeFault) →
       journal.halted ≡ false → the_row.entry ≡ None → the_row.working ≡ working_of proposer → IsReply the_row.messages result →
-      IsChange honest content images inside failures sturdy the_row journal parts proposer result journal parts proposer
+      IsChange tapes the_row journal parts proposer result journal parts proposer
   unfolding store
   reply_changes the_row journal parts proposer (Ok given) running entry working reply = (
     written_none the_row.entry journal entry running,
@@ -59,7 +61,7 @@ module _ {T : Type 0} (honest : Type 0) (content : T → List ℕ) (images : T �
     },
   )
   reply_changes the_row journal parts proposer (Err Memory) running entry working reply =
-      (spared journal running, record { parts = refl; proposer = refl }, ByMessages reply, λ h. torn_stays the_row.entry (inside journal.tape journal.tape))
+      (spared journal running, record { parts = refl; proposer = refl }, ByMessages reply, λ h. torn_stays the_row.entry (inside tapes journal.tape journal.tape))
   reply_changes the_row journal parts proposer (Err TapeFailed) running entry working reply = absurd reply
   reply_changes the_row journal parts proposer (Err Busy) running entry working reply = absurd reply
   reply_changes the_row journal parts proposer (Err SequenceFull) running entry working reply = absurd reply
@@ -70,35 +72,35 @@ module _ {T : Type 0} (honest : Type 0) (content : T → List ℕ) (images : T �
   -- a transition that sends these messages
   pub says_changes : {A : Type 0} (the_row : Row Definition) (messages : List (model.Message Definition)) (journal : Journal T) (parts : Parts) (proposer : Proposer) (result : Result (Vec Message A) NodeFault) →
       journal.halted ≡ false → the_row ≡ says (working_of proposer) messages → IsReply messages result →
-      IsChange honest content images inside failures sturdy the_row journal parts proposer result journal parts proposer
+      IsChange tapes the_row journal parts proposer result journal parts proposer
   unfolding says
   says_changes the_row messages journal parts proposer result running is reply =
-      subst (λ r. IsChange honest content images inside failures sturdy r journal parts proposer result journal parts proposer) (sym is)
+      subst (λ r. IsChange tapes r journal parts proposer result journal parts proposer) (sym is)
       (reply_changes (says (working_of proposer) messages) journal parts proposer result running refl refl reply)
 
   -- Allocation failure leaves the parts unchanged.
   pub memory_changes : {A : Type 0} (the_row : Row Definition) (journal : Journal T) (parts parts_after : Parts) (proposer : Proposer) (result : Result (Vec Message A) NodeFault) →
       result ≡ Err Memory → journal.halted ≡ false → parts_after ≡ parts → TakesMemory the_row →
-      IsChange honest content images inside failures sturdy the_row journal parts proposer result journal parts_after proposer
+      IsChange tapes the_row journal parts proposer result journal parts_after proposer
   memory_changes the_row journal parts parts_after proposer result short running same takes =
-      subst (λ r. IsChange honest content images inside failures sturdy the_row journal parts proposer r journal parts_after proposer) (sym short)
-      (spared journal running, record { parts = same; proposer = refl }, takes, λ h. torn_stays the_row.entry (inside journal.tape journal.tape))
+      subst (λ r. IsChange tapes the_row journal parts proposer r journal parts_after proposer) (sym short)
+      (spared journal running, record { parts = same; proposer = refl }, takes, λ h. torn_stays the_row.entry (inside tapes journal.tape journal.tape))
 
   -- A change by one transition is a change by an equal one.
   pub change_as : {A : Type 0} (given wanted : Row Definition) (journal journal_after : Journal T) (parts parts_after : Parts) (proposer proposer_after : Proposer)
       (result : Result (Vec Message A) NodeFault) → given ≡ wanted →
-      IsChange honest content images inside failures sturdy given journal parts proposer result journal_after parts_after proposer_after →
-      IsChange honest content images inside failures sturdy wanted journal parts proposer result journal_after parts_after proposer_after
+      IsChange tapes given journal parts proposer result journal_after parts_after proposer_after →
+      IsChange tapes wanted journal parts proposer result journal_after parts_after proposer_after
   change_as given wanted journal journal_after parts parts_after proposer proposer_after result is change =
-      subst (λ r. IsChange honest content images inside failures sturdy r journal parts proposer result journal_after parts_after proposer_after) is change
+      subst (λ r. IsChange tapes r journal parts proposer result journal_after parts_after proposer_after) is change
 
   -- A change from parts that are equal.
   pub change_from : {A : Type 0} (the_row : Row Definition) (journal journal_after : Journal T) (parts same parts_after : Parts) (proposer proposer_after : Proposer)
       (result : Result (Vec Message A) NodeFault) → same ≡ parts →
-      IsChange honest content images inside failures sturdy the_row journal same proposer result journal_after parts_after proposer_after →
-      IsChange honest content images inside failures sturdy the_row journal parts proposer result journal_after parts_after proposer_after
+      IsChange tapes the_row journal same proposer result journal_after parts_after proposer_after →
+      IsChange tapes the_row journal parts proposer result journal_after parts_after proposer_after
   change_from the_row journal journal_after parts same parts_after proposer proposer_after result is change =
-      subst (λ p. IsChange honest content images inside failures sturdy the_row journal p proposer result journal_after parts_after proposer_after) is change
+      subst (λ p. IsChange tapes the_row journal p proposer result journal_after parts_after proposer_after) is change
 
   entry_taken : (entry : Option (Record Definition)) → (entry ≡ None → ⊥) → IsSome entry
   entry_taken None some = absurd (some refl)
@@ -106,8 +108,8 @@ module _ {T : Type 0} (honest : Type 0) (content : T → List ℕ) (images : T �
 
   -- If writing the record fails, the parts are unchanged.
   pub write_fails : (A B : Type 0) (the_row : Row Definition) (journal journal_after : Journal T) (parts parts_after : Parts) (proposer : Proposer)
-      (fault : NodeFault) → parts_after ≡ parts → IsWrite honest content images inside failures sturdy {A = B} the_row.entry journal (Err fault) journal_after →
-      IsChange honest content images inside failures sturdy {A = A} the_row journal parts proposer (Err fault) journal_after parts_after proposer
+      (fault : NodeFault) → parts_after ≡ parts → IsWrite tapes {A = B} the_row.entry journal (Err fault) journal_after →
+      IsChange tapes {A = A} the_row journal parts proposer (Err fault) journal_after parts_after proposer
   write_fails A B the_row journal journal_after parts parts_after proposer Memory same write =
       (write.0, record { parts = same; proposer = refl }, ByEntry (entry_taken the_row.entry write.1), write.2)
   write_fails A B the_row journal journal_after parts parts_after proposer TapeFailed same write = (write, record { parts = same; proposer = refl })
@@ -119,47 +121,47 @@ module _ {T : Type 0} (honest : Type 0) (content : T → List ℕ) (images : T �
 
   -- One more record is on the tape, or it is there or not.
   pub written : (r : Record Definition) (journal journal_after : Journal T) → journal_after.halted ≡ false →
-      (honest → IsAdded r (content journal.tape) (content journal_after.tape) (images journal_after.tape)) →
-      (honest → Follows (ReadsOneMore r) (images journal.tape) (images journal_after.tape)) →
-      (honest → Follows (ReadsSameOrOneMore r) (inside journal.tape journal.tape) (inside journal.tape journal_after.tape)) → (sturdy journal.tape → sturdy journal_after.tape) →
-      IsWritten honest content images inside failures sturdy (Some r) journal journal_after
+      (tapes.honest → IsAdded r (tapes.content journal.tape) (tapes.content journal_after.tape) (tapes.images journal_after.tape)) →
+      (tapes.honest → Follows (ReadsOneMore r) (tapes.images journal.tape) (tapes.images journal_after.tape)) →
+      (tapes.honest → Follows (ReadsSameOrOneMore r) (inside tapes journal.tape journal.tape) (inside tapes journal.tape journal_after.tape)) → (tapes.never_fails journal.tape → tapes.never_fails journal_after.tape) →
+      IsWritten tapes (Some r) journal journal_after
   written r journal journal_after running added more each still = record {
     running = running;
-    grown = λ h. let is = added h in is.content ∙ ap (λ bytes. content journal.tape ++ bytes) is.spells.spelled;
-    stored = λ h. stored_by r (images journal.tape) (images journal_after.tape) (more h);
-    moments = λ h. torn_at r (inside journal.tape journal.tape) (inside journal.tape journal_after.tape) (each h);
+    grown = λ h. let is = added h in is.content ∙ ap (λ bytes. tapes.content journal.tape ++ bytes) is.spells.spelled;
+    stored = λ h. stored_by r (tapes.images journal.tape) (tapes.images journal_after.tape) (more h);
+    moments = λ h. torn_at r (inside tapes journal.tape journal.tape) (inside tapes journal.tape journal_after.tape) (each h);
     still = still;
   }
 
-  pub broken : (r : Record Definition) (journal journal_after : Journal T) → journal_after.halted ≡ true → HasRisen (failures journal.tape) (failures journal_after.tape) →
-      (honest → IsExtended (content journal.tape) (spelling r) (content journal_after.tape)) →
-      (honest → Follows (ReadsSameOrOneMore r) (images journal.tape) (images journal_after.tape)) →
-      (honest → Follows (ReadsSameOrOneMore r) (inside journal.tape journal.tape) (inside journal.tape journal_after.tape)) → (sturdy journal.tape → ⊥) →
-      IsBroken honest content images inside failures sturdy (Some r) journal journal_after
+  pub broken : (r : Record Definition) (journal journal_after : Journal T) → journal_after.halted ≡ true → HasRisen (tapes.failed journal.tape) (tapes.failed journal_after.tape) →
+      (tapes.honest → IsExtended (tapes.content journal.tape) (spelling r) (tapes.content journal_after.tape)) →
+      (tapes.honest → Follows (ReadsSameOrOneMore r) (tapes.images journal.tape) (tapes.images journal_after.tape)) →
+      (tapes.honest → Follows (ReadsSameOrOneMore r) (inside tapes journal.tape journal.tape) (inside tapes journal.tape journal_after.tape)) → (tapes.never_fails journal.tape → ⊥) →
+      IsBroken tapes (Some r) journal journal_after
   broken r journal journal_after halted risen part either each weak = record {
     entry_is = refl;
     halted = halted;
     risen = risen;
     part = part;
-    torn = λ h. torn_at r (images journal.tape) (images journal_after.tape) (either h);
-    cut = λ h. cut_at r (images journal.tape) (images journal_after.tape) (either h);
-    moments = λ h. torn_at r (inside journal.tape journal.tape) (inside journal.tape journal_after.tape) (each h);
+    torn = λ h. torn_at r (tapes.images journal.tape) (tapes.images journal_after.tape) (either h);
+    cut = λ h. cut_at r (tapes.images journal.tape) (tapes.images journal_after.tape) (either h);
+    moments = λ h. torn_at r (inside tapes journal.tape journal.tape) (inside tapes journal.tape journal_after.tape) (each h);
     weak = weak;
   }
 
   pub spared_some : (r : Record Definition) (journal journal_after : Journal T) → journal_after.halted ≡ false →
-      (honest → IsUnchanged (content journal.tape) (content journal_after.tape) (images journal.tape) (images journal_after.tape)) →
-      (honest → Follows (ReadsSameOrOneMore r) (inside journal.tape journal.tape) (inside journal.tape journal_after.tape)) → (sturdy journal.tape → sturdy journal_after.tape) →
-      IsSpared honest content images inside failures sturdy journal journal_after × (Some r ≡ None → ⊥) × (honest → IsTornAt (Some r) (inside journal.tape journal.tape) (inside journal.tape journal_after.tape))
+      (tapes.honest → IsUnchanged (tapes.content journal.tape) (tapes.content journal_after.tape) (tapes.images journal.tape) (tapes.images journal_after.tape)) →
+      (tapes.honest → Follows (ReadsSameOrOneMore r) (inside tapes journal.tape journal.tape) (inside tapes journal.tape journal_after.tape)) → (tapes.never_fails journal.tape → tapes.never_fails journal_after.tape) →
+      IsSpared tapes journal journal_after × (Some r ≡ None → ⊥) × (tapes.honest → IsTornAt (Some r) (inside tapes journal.tape journal.tape) (inside tapes journal.tape journal_after.tape))
   spared_some r journal journal_after running same each still =
-      (record { running = running; same = same; still = still }, λ e. none-some r (sym e), λ h. torn_at r (inside journal.tape journal.tape) (inside journal.tape journal_after.tape) (each h))
+      (record { running = running; same = same; still = still }, λ e. none-some r (sym e), λ h. torn_at r (inside tapes journal.tape journal.tape) (inside tapes journal.tape journal_after.tape) (each h))
 
   -- the proposer's result is committed, and its record applied
   pub performed : {A : Type 0} (next : Next) (journal journal_after : Journal T) (parts made parts_after : Parts) (proposer proposer_after : Proposer) (entry : Option tape.Record) (messages : Vec Message A) →
-      IsWritten honest content images inside failures sturdy (option_map view next.entry) journal journal_after → made ≡ parts → entry ≡ next.entry →
+      IsWritten tapes (option_map view next.entry) journal journal_after → made ≡ parts → entry ≡ next.entry →
       stored_of parts_after ≡ store (stored_of made) (option_map view entry) →
       working_of proposer_after ≡ (row_of proposer next).working → proposer_after.node ≡ proposer.node → proposer_after.nodes ≡ proposer.nodes → messages.items ≡ next.messages →
-      IsChange honest content images inside failures sturdy (row_of proposer next) journal parts proposer (Ok messages) journal_after parts_after proposer_after
+      IsChange tapes (row_of proposer next) journal parts proposer (Ok messages) journal_after parts_after proposer_after
   performed next journal journal_after parts made parts_after proposer proposer_after entry messages on_tape same given applied working node nodes sent = (
     on_tape,
     record {

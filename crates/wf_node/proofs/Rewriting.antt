@@ -1,5 +1,5 @@
 -- The node after its journal was rewritten.
-use Rattle.std.proofs.Common.{◌≡◌, ℕ, false, List, Result, Ok, Err, IfErr, refl, sym, subst}
+use Rattle.std.proofs.Common.{◌≡◌, false, List, Result, Ok, Err, IfErr, refl, sym, subst}
 use Rattle.wf_def.specs.Definition.{Definition}
 use Rattle.wf_model.specs.Fits.{FoldsAreOpen, VotesArePromised}
 use Rattle.wf_model.specs.Stored.{Stored, Record}
@@ -8,22 +8,23 @@ use Rattle.wf_journal.specs.Journal.{Journal}
 use Rattle.wf_node.specs.declared.fault.NodeFault.{NodeFault}
 use Rattle.wf_node.specs.declared.fault.NodeFault.TheVariants.{Memory, Busy, SequenceFull, RoundsFull, Halted, TapeFailed, Nothing}
 use Rattle.wf_node.specs.Images.{AllStandFor}
-use Rattle.wf_node.specs.Kept as keeping
-use Rattle.wf_node.specs.Kept.{Kept}
+use Rattle.wf_node.specs.StoredPart as keeping
+use Rattle.wf_node.specs.StoredPart.{StoredPart}
 use Rattle.wf_node.specs.Node.{IsNode, view_of}
 use Rattle.wf_node.specs.Shortening.{IsShortening, shortened}
 use Rattle.wf_node.specs.Storing.{IsReplacement}
 use Rattle.wf_node.proofs.Shortened.{stands_on}
+use Rattle.wf_tape.specs.declared.tape.Tape.{Ghosts as Tape}
 
-module _ {T : Type 0} (honest : Type 0) (content : T → List ℕ) (images : T → List ℕ → Type 0) (inside : T → T → List ℕ → Type 0) (failures : T → ℕ) (sturdy : T → Type 0) where
+module _ {T : Type 0} (tapes : Tape T) where
   -- Whatever is returned, each image stands for the stored part.
   replacement_stands : {A : Type 0} (result : Result A NodeFault) (stored : Stored Definition) (journal after : Journal T) → FoldsAreOpen Definition → VotesArePromised Definition →
-      IsReplacement honest content images inside failures sturdy (shortened stored) journal result after → honest → AllStandFor stored (images journal.tape) → AllStandFor stored (images after.tape)
+      IsReplacement tapes (shortened stored) journal result after → tapes.honest → AllStandFor stored (tapes.images journal.tape) → AllStandFor stored (tapes.images after.tape)
   replacement_stands (Ok x) stored journal after are_open are_promised replaced h stands =
-      stands_on are_open are_promised stored (images journal.tape) (images after.tape) (replaced.follows h) stands
+      stands_on are_open are_promised stored (tapes.images journal.tape) (tapes.images after.tape) (replaced.follows h) stands
   replacement_stands (Err Memory) stored journal after are_open are_promised spared h stands = λ image left. stands image ((spared.same h).no_other image left)
   replacement_stands (Err TapeFailed) stored journal after are_open are_promised half h stands =
-      stands_on are_open are_promised stored (images journal.tape) (images after.tape) (half.follows h) stands
+      stands_on are_open are_promised stored (tapes.images journal.tape) (tapes.images after.tape) (half.follows h) stands
   replacement_stands (Err Busy) stored journal after are_open are_promised never h stands = absurd never
   replacement_stands (Err SequenceFull) stored journal after are_open are_promised never h stands = absurd never
   replacement_stands (Err RoundsFull) stored journal after are_open are_promised never h stands = absurd never
@@ -32,7 +33,7 @@ module _ {T : Type 0} (honest : Type 0) (content : T → List ℕ) (images : T �
 
   -- A tape that won't fail still won't, and doesn't.
   pub replacement_sturdy : {A : Type 0} (result : Result A NodeFault) (records : List (Record Definition)) (journal after : Journal T) →
-      IsReplacement honest content images inside failures sturdy records journal result after → sturdy journal.tape → sturdy after.tape × IfErr result (λ fault. fault ≡ TapeFailed → ⊥)
+      IsReplacement tapes records journal result after → tapes.never_fails journal.tape → tapes.never_fails after.tape × IfErr result (λ fault. fault ≡ TapeFailed → ⊥)
   replacement_sturdy (Ok x) records journal after replaced sound = (replaced.still sound, tt)
   replacement_sturdy (Err Memory) records journal after spared sound = (spared.still sound, λ e. absurd (cc e))
   replacement_sturdy (Err TapeFailed) records journal after half sound = absurd (half.weak sound)
@@ -43,21 +44,21 @@ module _ {T : Type 0} (honest : Type 0) (content : T → List ℕ) (images : T �
   replacement_sturdy (Err Nothing) records journal after never sound = absurd never
 
   -- So the node's invariant holds.
-  pub rewriting_keeps : {A : Type 0} (journal after : Journal T) (kept kept_after : Kept) (proposer proposer_after : Proposer) (result : Result A NodeFault) →
-      FoldsAreOpen Definition → VotesArePromised Definition → IsNode honest images journal kept proposer → journal.halted ≡ false →
-      IsReplacement honest content images inside failures sturdy (shortened (keeping.stored_of kept)) journal result after → kept_after ≡ kept → proposer_after ≡ proposer →
-      IsNode honest images after kept_after proposer_after
+  pub rewriting_keeps : {A : Type 0} (journal after : Journal T) (kept kept_after : StoredPart) (proposer proposer_after : Proposer) (result : Result A NodeFault) →
+      FoldsAreOpen Definition → VotesArePromised Definition → IsNode tapes journal kept proposer → journal.halted ≡ false →
+      IsReplacement tapes (shortened (keeping.stored_of kept)) journal result after → kept_after ≡ kept → proposer_after ≡ proposer →
+      IsNode tapes after kept_after proposer_after
   rewriting_keeps journal after kept kept_after proposer proposer_after result are_open are_promised node running replaced same_kept same_proposer =
-      subst (λ (p : Proposer). IsNode honest images after kept_after p) (sym same_proposer)
-      (subst (λ (k : Kept). IsNode honest images after k proposer) (sym same_kept) (record {
+      subst (λ (p : Proposer). IsNode tapes after kept_after p) (sym same_proposer)
+      (subst (λ (k : StoredPart). IsNode tapes after k proposer) (sym same_kept) (record {
         same_node = node.same_node;
         for_next = node.for_next;
         stands = λ h still. replacement_stands result (keeping.stored_of kept) journal after are_open are_promised replaced h (node.stands h running);
       }))
 
-  shortens_by : {A : Type 0} (journal after : Journal T) (kept : Kept) (proposer : Proposer) (result : Result A NodeFault) →
-      IsReplacement honest content images inside failures sturdy (shortened (keeping.stored_of kept)) journal result after → (honest → AllStandFor (keeping.stored_of kept) (images after.tape)) →
-      IsShortening honest content images failures (view_of journal kept.parts proposer) result (view_of after kept.parts proposer)
+  shortens_by : {A : Type 0} (journal after : Journal T) (kept : StoredPart) (proposer : Proposer) (result : Result A NodeFault) →
+      IsReplacement tapes (shortened (keeping.stored_of kept)) journal result after → (tapes.honest → AllStandFor (keeping.stored_of kept) (tapes.images after.tape)) →
+      IsShortening tapes (view_of journal kept.parts proposer) result (view_of after kept.parts proposer)
   shortens_by journal after kept proposer (Ok x) replaced stands = record {
     running = λ e. absurd (cc e);
     refused = refl;
@@ -100,12 +101,12 @@ module _ {T : Type 0} (honest : Type 0) (content : T → List ℕ) (images : T �
   shortens_by journal after kept proposer (Err Halted) never stands = absurd never
   shortens_by journal after kept proposer (Err Nothing) never stands = absurd never
 
-  pub shortens : {A : Type 0} (journal after : Journal T) (kept kept_after : Kept) (proposer proposer_after : Proposer) (result : Result A NodeFault) →
-      FoldsAreOpen Definition → VotesArePromised Definition → IsNode honest images journal kept proposer → journal.halted ≡ false →
-      IsReplacement honest content images inside failures sturdy (shortened (keeping.stored_of kept)) journal result after → kept_after ≡ kept → proposer_after ≡ proposer →
-      IsShortening honest content images failures (view_of journal kept.parts proposer) result (view_of after kept_after.parts proposer_after)
+  pub shortens : {A : Type 0} (journal after : Journal T) (kept kept_after : StoredPart) (proposer proposer_after : Proposer) (result : Result A NodeFault) →
+      FoldsAreOpen Definition → VotesArePromised Definition → IsNode tapes journal kept proposer → journal.halted ≡ false →
+      IsReplacement tapes (shortened (keeping.stored_of kept)) journal result after → kept_after ≡ kept → proposer_after ≡ proposer →
+      IsShortening tapes (view_of journal kept.parts proposer) result (view_of after kept_after.parts proposer_after)
   shortens journal after kept kept_after proposer proposer_after result are_open are_promised node running replaced same_kept same_proposer =
-      subst (λ (p : Proposer). IsShortening honest content images failures (view_of journal kept.parts proposer) result (view_of after kept_after.parts p)) (sym same_proposer)
-      (subst (λ (k : Kept). IsShortening honest content images failures (view_of journal kept.parts proposer) result (view_of after k.parts proposer)) (sym same_kept)
+      subst (λ (p : Proposer). IsShortening tapes (view_of journal kept.parts proposer) result (view_of after kept_after.parts p)) (sym same_proposer)
+      (subst (λ (k : StoredPart). IsShortening tapes (view_of journal kept.parts proposer) result (view_of after k.parts proposer)) (sym same_kept)
       (shortens_by journal after kept proposer result replaced
       (λ h. replacement_stands result (keeping.stored_of kept) journal after are_open are_promised replaced h (node.stands h running))))

@@ -5,7 +5,7 @@ use Rattle.wf_model.specs.Working.{Leadership}
 use Rattle.wf_proposer.specs.Working as held
 use Rattle.wf_proposer.specs.Working.{leading_of}
 use Rattle.wf_proposer.specs.declared.working.Proposing.{Proposing}
-use Rattle.wf_proposer.specs.declared.working.Proposing.TheVariants.{Idle, Preparing, Accepting, Published, Overtaken}
+use Rattle.wf_proposer.specs.declared.working.Proposing.TheVariants.{Idle, Preparing, Accepting, Won, Overtaken}
 use Rattle.wf_proposer.specs.declared.working.Working.{Working}
 use Rattle.wf_node.specs.Working as node_working
 use Rattle.wf_node.specs.Working.{shown, shown_proposing}
@@ -14,7 +14,7 @@ proposing_shown : (leadership : Option (Leadership Definition)) (p : Proposing) 
 proposing_shown leadership Idle = refl
 proposing_shown leadership (Preparing p best) = refl
 proposing_shown leadership (Accepting p) = refl
-proposing_shown leadership (Published s) = refl
+proposing_shown leadership (Won s) = refl
 proposing_shown leadership (Overtaken s) = refl
 
 pub working_shown : (w : Working) → node_working.working_of (shown w) ≡ held.working_of w

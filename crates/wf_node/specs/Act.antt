@@ -14,21 +14,23 @@ use Rattle.wf_proposer.specs.Proposer.{Proposer, runs_for, working_of}
 use Rattle.wf_journal.specs.Journal.{Journal}
 use Rattle.wf_journal.specs.declared.record.Record as tape
 use Rattle.wf_journal.specs.declared.record.Record.TheVariants as tape_case
+use Rattle.wf_node.specs.declared.machine.Machine.{Machine}
 use Rattle.wf_node.specs.declared.fault.NodeFault.{NodeFault}
 use Rattle.wf_node.specs.declared.fault.NodeFault.TheVariants.{Memory, Busy, SequenceFull, RoundsFull, Halted, TapeFailed, Nothing}
 use Rattle.wf_node.specs.Fault.{refused_by}
-use Rattle.wf_node.specs.Kept as keeping
-use Rattle.wf_node.specs.Kept.{Kept}
+use Rattle.wf_node.specs.StoredPart as keeping
 use Rattle.wf_node.specs.Parts.{Parts, stored_of}
 use Rattle.wf_node.specs.Memory.{TakesMemory}
 use Rattle.wf_node.specs.Storing.{IsTornAt, IsWritten, IsSpared, IsBroken}
+use Rattle.wf_tape.specs.Change.{inside}
+use Rattle.wf_tape.specs.declared.tape.Tape.{Ghosts as Tape}
 
 -- The parts of a node that may act: its journal runs, its stored part and its proposer are of the same node, a running proposal
 -- is for the next sequence, and, as wf_model's theorem says, each transition's record fits then.
-pub record IsReady {T : Type 0} (journal : Journal T) (kept : Kept) (proposer : Proposer) : Type 0 where
-  pub running : journal.halted ≡ false
-  pub same_node : kept.id ≡ proposer.node
-  pub for_next : IsForNext (keeping.stored_of kept) (working_of proposer).proposing
+pub record IsReady {T : Type 0} (machine : Machine T) : Type 0 where
+  pub running : machine.journal.halted ≡ false
+  pub same_node : machine.kept.id ≡ machine.proposer.node
+  pub for_next : IsForNext (keeping.stored_of machine.kept) (working_of machine.proposer).proposing
   pub fits : RecordsFit Definition
 
 -- The messages, or allocation failure, which is possible only if there are some.
@@ -83,16 +85,16 @@ pub record IsSame (old new : Parts) (before after : Proposer) : Type 0 where
   pub parts : new ≡ old
   pub proposer : after ≡ before
 
-module _ {T : Type 0} (honest : Type 0) (content : T → List ℕ) (images : T → List ℕ → Type 0) (inside : T → T → List ℕ → Type 0) (failures : T → ℕ) (sturdy : T → Type 0) where
+module _ {T : Type 0} (tapes : Tape T) where
   -- the transition is made, or an error leaves the parts unchanged
   abbrev pub IsChange : {A : Type 0} → Row Definition → Journal T → Parts → Proposer → Result (Vec Message A) NodeFault → Journal T → Parts → Proposer → Type 0
   IsChange the_row journal parts proposer (Ok messages) journal_after parts_after proposer_after =
-      IsWritten honest content images inside failures sturdy the_row.entry journal journal_after × IsRowOf the_row parts parts_after proposer proposer_after messages.items
+      IsWritten tapes the_row.entry journal journal_after × IsRowOf the_row parts parts_after proposer proposer_after messages.items
   IsChange the_row journal parts proposer (Err Memory) journal_after parts_after proposer_after =
-      IsSpared honest content images inside failures sturdy journal journal_after × IsSame parts parts_after proposer proposer_after × TakesMemory the_row ×
-      (honest → IsTornAt the_row.entry (inside journal.tape journal.tape) (inside journal.tape journal_after.tape))
+      IsSpared tapes journal journal_after × IsSame parts parts_after proposer proposer_after × TakesMemory the_row ×
+      (tapes.honest → IsTornAt the_row.entry (inside tapes journal.tape journal.tape) (inside tapes journal.tape journal_after.tape))
   IsChange the_row journal parts proposer (Err TapeFailed) journal_after parts_after proposer_after =
-      IsBroken honest content images inside failures sturdy the_row.entry journal journal_after × IsSame parts parts_after proposer proposer_after
+      IsBroken tapes the_row.entry journal journal_after × IsSame parts parts_after proposer proposer_after
   IsChange the_row journal parts proposer (Err Busy) journal_after parts_after proposer_after = ⊥
   IsChange the_row journal parts proposer (Err SequenceFull) journal_after parts_after proposer_after = ⊥
   IsChange the_row journal parts proposer (Err RoundsFull) journal_after parts_after proposer_after = ⊥
@@ -111,3 +113,12 @@ module _ {T : Type 0} (honest : Type 0) (content : T → List ℕ) (images : T �
   IsAct input journal parts proposer result journal_after parts_after proposer_after =
       IsRefusedOr (refusal (stored_of parts) (working_of proposer) input)
       (row definition_eq proposer.nodes proposer.node (stored_of parts) (working_of proposer) input) journal parts proposer result journal_after parts_after proposer_after
+
+  -- The parts of a node made the transition, or an error left them unchanged; and they made the input's step.
+  abbrev pub Changes : {A : Type 0} → Row Definition → Machine T → Result (Vec Message A) NodeFault → Machine T → Type 0
+  Changes the_row before result after =
+      IsChange the_row before.journal before.kept.parts before.proposer result after.journal after.kept.parts after.proposer
+
+  abbrev pub Acts : {A : Type 0} → Input Definition → Machine T → Result (Vec Message A) NodeFault → Machine T → Type 0
+  Acts input before result after =
+      IsAct input before.journal before.kept.parts before.proposer result after.journal after.kept.parts after.proposer

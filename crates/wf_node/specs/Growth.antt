@@ -9,6 +9,7 @@ use Rattle.wf_model.specs.Table.{Input, Row, store}
 use Rattle.wf_node.specs.Node.{Node, stored_of}
 use Rattle.wf_node.specs.Step.{IsRow, IsSameNode, IsStep}
 use Rattle.wf_node.specs.declared.fault.NodeFault.{NodeFault}
+use Rattle.wf_tape.specs.declared.tape.Tape.{Ghosts as Tape}
 
 -- the new list is the old one, followed by more or nothing
 pub record IsGrown (old new : List Definition) : Type 0 where
@@ -54,7 +55,7 @@ module _ {T : Type 0} (before after : Node T) where
   pub same_grown : IsSameNode before after → IsGrown before.parts.history after.parts.history
   same_grown same = subst (IsGrown before.parts.history) (sym (ap (λ (n : Node T). n.parts.history) same)) (grown_itself before.parts.history)
 
-  module _ {A : Type 0} (honest : Type 0) (content : T → List ℕ) (images : T → List ℕ → Type 0) (failures : T → ℕ) (input : Input Definition) where
-    pub step_grown : (result : Result (Vec Message A) NodeFault) → IsStep honest content images failures before input result after → IsGrown before.parts.history after.parts.history
+  module _ {A : Type 0} (tapes : Tape T) (input : Input Definition) where
+    pub step_grown : (result : Result (Vec Message A) NodeFault) → IsStep tapes before input result after → IsGrown before.parts.history after.parts.history
     step_grown (Ok said) step = row_grown _ said.items step.done
     step_grown (Err why) step = same_grown step.same

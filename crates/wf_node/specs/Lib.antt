@@ -5,7 +5,7 @@ pub mod Images
 pub mod Input
 pub mod Fault
 pub mod Proposed
-pub mod Kept
+pub mod StoredPart
 pub mod Storing
 pub mod Memory
 pub mod Act

@@ -1,5 +1,5 @@
 -- The model of a node: its tape, its number, and its stored and working part.
-use Rattle.std.specs.Prelude.{◌≡◌, ℕ, Bool, false, List}
+use Rattle.std.specs.Prelude.{◌≡◌, ℕ, Bool, false}
 use Rattle.wf_def.specs.Definition.{Definition}
 use Rattle.wf_model.specs.Fits.{IsForNext}
 use Rattle.wf_model.specs.Stored.{Stored}
@@ -8,12 +8,13 @@ use Rattle.wf_proposer.specs.Proposer as proposer
 use Rattle.wf_proposer.specs.Proposer.{Proposer}
 use Rattle.wf_journal.specs.Journal.{Journal}
 use Rattle.wf_node.specs.Images.{AllStandFor}
-use Rattle.wf_node.specs.Kept as keeping
-use Rattle.wf_node.specs.Kept.{Kept}
+use Rattle.wf_node.specs.StoredPart as keeping
+use Rattle.wf_node.specs.StoredPart.{StoredPart}
 use Rattle.wf_node.specs.Parts as parts
 use Rattle.wf_node.specs.Parts.{Parts}
 use Rattle.wf_node.specs.Working as shown
 use Rattle.wf_node.specs.Working.{Working}
+use Rattle.wf_tape.specs.declared.tape.Tape.{Ghosts as Tape}
 
 -- A node of n. If it is halted, its tape failed, and it makes no more steps.
 pub record Node (T : Type 0) : Type 0 where
@@ -31,6 +32,10 @@ stored_of node = parts.stored_of node.parts
 abbrev pub working_of : {T : Type 0} → Node T → model.Working Definition
 working_of node = shown.working_of node.working
 
+-- its stored part is on its tape: each image stands for it
+abbrev pub IsOnTape : {T : Type 0} → Tape T → Node T → Type 0
+IsOnTape tapes node = AllStandFor (stored_of node) (tapes.images node.tape)
+
 -- the node of these parts
 abbrev pub view_of : {T : Type 0} → Journal T → Parts → Proposer → Node T
 view_of journal kept_parts proposes =
@@ -45,7 +50,7 @@ view_of journal kept_parts proposes =
 
 -- The invariant of nodes: its stored part and its proposer are of the same node, a running proposal is for the next sequence, and
 -- if the journal runs, every image of an honest tape stands for the stored part.
-pub record IsNode {T : Type 0} (honest : Type 0) (images : T → List ℕ → Type 0) (journal : Journal T) (kept : Kept) (proposes : Proposer) : Type 0 where
+pub record IsNode {T : Type 0} (tapes : Tape T) (journal : Journal T) (kept : StoredPart) (proposes : Proposer) : Type 0 where
   pub same_node : kept.id ≡ proposes.node
   pub for_next : IsForNext (keeping.stored_of kept) (proposer.working_of proposes).proposing
-  pub stands : honest → journal.halted ≡ false → AllStandFor (keeping.stored_of kept) (images journal.tape)
+  pub stands : tapes.honest → journal.halted ≡ false → AllStandFor (keeping.stored_of kept) (tapes.images journal.tape)

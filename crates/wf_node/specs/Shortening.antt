@@ -1,5 +1,5 @@
 -- The records of a shortened tape, and the effect of shortening it on a node.
-use Rattle.std.specs.Prelude.{◌≡◌, ◌≢◌, ℕ, zero, suc, min, Bool, true, false, ◌||◌, List, [], ◌∷◌, ◌++◌, Option, Some, None, Result, Err, OnOk}
+use Rattle.std.specs.Prelude.{◌≡◌, ◌≢◌, ℕ, zero, suc, min, Bool, true, false, ◌||◌, List, [], ◌∷◌, ◌++◌, Option, Some, None, Result, Err, OnOk, Vec, map}
 use Rattle.wf_ballot.specs.Ballot.{Ballot}
 use Rattle.wf_ballot.specs.Sequence.{last_sequence}
 use Rattle.wf_def.specs.Definition.{Definition}
@@ -7,13 +7,16 @@ use Rattle.wf_model.specs.Message.{Vote}
 use Rattle.wf_model.specs.Stored.{Stored, Record, Tried, Promised, Accepted, Published, next_sequence, definition_at}
 use Rattle.wf_model.specs.Table.{votes_at}
 use Rattle.wf_journal.specs.Journal.{Holds}
-use Rattle.wf_tape.specs.Tape.{IsUnchanged, HasRisen}
+use Rattle.wf_journal.specs.Record.{view}
+use Rattle.wf_journal.specs.declared.record.Record as tape
 use Rattle.wf_node.specs.declared.fault.NodeFault.{NodeFault}
 use Rattle.wf_node.specs.declared.fault.NodeFault.TheVariants.{Memory, Halted, TapeFailed}
 use Rattle.wf_node.specs.Fault.{refused_by}
 use Rattle.wf_node.specs.Images.{AllStandFor}
 use Rattle.wf_node.specs.Node.{Node, stored_of}
 use Rattle.wf_node.specs.Step.{IsSameNode}
+use Rattle.wf_tape.specs.Change.{Stays, HasFailed}
+use Rattle.wf_tape.specs.declared.tape.Tape.{Ghosts as Tape}
 
 -- the record of the last round tried, if one was
 abbrev pub tried_records : ℕ → List (Record Definition)
@@ -63,16 +66,20 @@ promise_records stored (Some b) = promise_record (promised_sequence stored) b (i
 unfoldable pub shortened : Stored Definition → List (Record Definition)
 shortened stored = tried_records stored.tried ++ (records_from stored 1 last_sequence ++ promise_records stored stored.promise)
 
-module _ {T : Type 0} (honest : Type 0) (content : T → List ℕ) (images : T → List ℕ → Type 0) (failures : T → ℕ) where
+-- the list of records is the old one, followed by these
+abbrev pub Appends : {A : Type 0} → List (Record Definition) → Vec tape.Record A → Vec tape.Record A → Type 0
+Appends more old new = map view new.items ≡ map view old.items ++ more
+
+module _ {T : Type 0} (tapes : Tape T) where
   -- The contract of shortening the tape of a node that isn't halted, clause by clause.
   pub record IsShortening {A : Type 0} (before : Node T) (result : Result A NodeFault) (after : Node T) : Type 0 where
     pub running : result ≢ Err Halted
     pub refused : refused_by result ≡ None
     pub same : IsSameNode before after
     pub done : OnOk result (after.halted ≡ false)
-    pub held : honest → OnOk result (Holds (content after.tape) (images after.tape) (shortened (stored_of before)))
-    pub stands : honest → AllStandFor (stored_of before) (images after.tape)
+    pub held : tapes.honest → OnOk result (Holds (tapes.content after.tape) (tapes.images after.tape) (shortened (stored_of before)))
+    pub stands : tapes.honest → AllStandFor (stored_of before) (tapes.images after.tape)
     pub still_running : result ≡ Err Memory → after.halted ≡ false
-    pub same_tape : honest → result ≡ Err Memory → IsUnchanged (content before.tape) (content after.tape) (images before.tape) (images after.tape)
-    pub failed : result ≡ Err TapeFailed → HasRisen (failures before.tape) (failures after.tape)
+    pub same_tape : tapes.honest → result ≡ Err Memory → Stays tapes before.tape after.tape
+    pub failed : result ≡ Err TapeFailed → HasFailed tapes before.tape after.tape
     pub halts : result ≡ Err TapeFailed → after.halted ≡ true

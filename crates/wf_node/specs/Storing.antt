@@ -6,10 +6,12 @@ use Rattle.wf_model.specs.Stored.{Stored, Record}
 use Rattle.wf_model.specs.Table.{store}
 use Rattle.wf_journal.specs.Journal.{Journal, Holds, Follows, IsSameOrReads}
 use Rattle.wf_journal.specs.Spelling.{spelling}
-use Rattle.wf_tape.specs.Tape.{IsUnchanged, IsExtended, HasRisen}
+use Rattle.wf_tape.specs.Change.{inside, Stays, HasFailed}
+use Rattle.wf_tape.specs.Tape.{IsExtended}
 use Rattle.wf_node.specs.declared.fault.NodeFault.{NodeFault}
 use Rattle.wf_node.specs.declared.fault.NodeFault.TheVariants.{Memory, Busy, SequenceFull, RoundsFull, Halted, TapeFailed, Nothing}
 use Rattle.wf_node.specs.Images.{AllStandFor, EachStandsFor, EachIsCut}
+use Rattle.wf_tape.specs.declared.tape.Tape.{Ghosts as Tape}
 
 -- the bytes of a transition's record, none if it has no record
 abbrev pub bytes_of : Option (Record Definition) → List ℕ
@@ -28,40 +30,36 @@ IsTornAt entry old new = (stored : Stored Definition) → Fits stored entry → 
 abbrev pub IsCutAt : Option (Record Definition) → (List ℕ → Type 0) → (List ℕ → Type 0) → Type 0
 IsCutAt entry old new = (stored : Stored Definition) → Fits stored entry → AllStandFor stored old → EachIsCut entry stored (store stored entry) old new
 
--- what a crash could have left at each moment from that of the first tape on, up to the second's
-abbrev pub left_from : {T : Type 0} → (T → ℕ) → (T → ℕ → List ℕ → Type 0) → T → T → List ℕ → Type 0
-left_from moment left_since old new image = left_since new (moment old) image
-
-module _ {T : Type 0} (honest : Type 0) (content : T → List ℕ) (images : T → List ℕ → Type 0) (inside : T → T → List ℕ → Type 0) (failures : T → ℕ) (sturdy : T → Type 0) where
+module _ {T : Type 0} (tapes : Tape T) where
   -- the record, if there is one, is on the tape
   pub record IsWritten (entry : Option (Record Definition)) (old new : Journal T) : Type 0 where
     pub running : new.halted ≡ false
-    pub grown : honest → content new.tape ≡ content old.tape ++ bytes_of entry
-    pub stored : honest → IsStoredBy entry (images old.tape) (images new.tape)
-    pub moments : honest → IsTornAt entry (inside old.tape old.tape) (inside old.tape new.tape)
-    pub still : sturdy old.tape → sturdy new.tape
+    pub grown : tapes.honest → tapes.content new.tape ≡ tapes.content old.tape ++ bytes_of entry
+    pub stored : tapes.honest → IsStoredBy entry (tapes.images old.tape) (tapes.images new.tape)
+    pub moments : tapes.honest → IsTornAt entry (inside tapes old.tape old.tape) (inside tapes old.tape new.tape)
+    pub still : tapes.never_fails old.tape → tapes.never_fails new.tape
 
   -- allocation failed: the tape is unchanged
   pub record IsSpared (old new : Journal T) : Type 0 where
     pub running : new.halted ≡ false
-    pub same : honest → IsUnchanged (content old.tape) (content new.tape) (images old.tape) (images new.tape)
-    pub still : sturdy old.tape → sturdy new.tape
+    pub same : tapes.honest → Stays tapes old.tape new.tape
+    pub still : tapes.never_fails old.tape → tapes.never_fails new.tape
 
   -- the tape failed, and there was a record to write: a prefix of its bytes is on the tape
   pub record IsBroken (entry : Option (Record Definition)) (old new : Journal T) : Type 0 where
     pub entry_is : IsSome entry
     pub halted : new.halted ≡ true
-    pub risen : HasRisen (failures old.tape) (failures new.tape)
-    pub part : honest → IsExtended (content old.tape) (bytes_of entry) (content new.tape)
-    pub torn : honest → IsTornAt entry (images old.tape) (images new.tape)
-    pub cut : honest → IsCutAt entry (images old.tape) (images new.tape)
-    pub moments : honest → IsTornAt entry (inside old.tape old.tape) (inside old.tape new.tape)
-    pub weak : sturdy old.tape → ⊥
+    pub risen : HasFailed tapes old.tape new.tape
+    pub part : tapes.honest → IsExtended (tapes.content old.tape) (bytes_of entry) (tapes.content new.tape)
+    pub torn : tapes.honest → IsTornAt entry (tapes.images old.tape) (tapes.images new.tape)
+    pub cut : tapes.honest → IsCutAt entry (tapes.images old.tape) (tapes.images new.tape)
+    pub moments : tapes.honest → IsTornAt entry (inside tapes old.tape old.tape) (inside tapes old.tape new.tape)
+    pub weak : tapes.never_fails old.tape → ⊥
 
   -- If there is no record, allocation doesn't fail.
   abbrev pub IsWrite : {A : Type 0} → Option (Record Definition) → Journal T → Result A NodeFault → Journal T → Type 0
   IsWrite entry old (Ok x) new = IsWritten entry old new
-  IsWrite entry old (Err Memory) new = IsSpared old new × (entry ≡ None → ⊥) × (honest → IsTornAt entry (inside old.tape old.tape) (inside old.tape new.tape))
+  IsWrite entry old (Err Memory) new = IsSpared old new × (entry ≡ None → ⊥) × (tapes.honest → IsTornAt entry (inside tapes old.tape old.tape) (inside tapes old.tape new.tape))
   IsWrite entry old (Err TapeFailed) new = IsBroken entry old new
   IsWrite entry old (Err Busy) new = ⊥
   IsWrite entry old (Err SequenceFull) new = ⊥
@@ -72,16 +70,20 @@ module _ {T : Type 0} (honest : Type 0) (content : T → List ℕ) (images : T �
   -- the tape holds exactly these records
   pub record IsReplaced (records : List (Record Definition)) (old new : Journal T) : Type 0 where
     pub running : new.halted ≡ false
-    pub held : honest → Holds (content new.tape) (images new.tape) records
-    pub follows : honest → Follows (IsSameOrReads records) (images old.tape) (images new.tape)
-    pub still : sturdy old.tape → sturdy new.tape
+    pub held : tapes.honest → Holds (tapes.content new.tape) (tapes.images new.tape) records
+    pub follows : tapes.honest → Follows (IsSameOrReads records) (tapes.images old.tape) (tapes.images new.tape)
+    pub still : tapes.never_fails old.tape → tapes.never_fails new.tape
 
   -- the tape failed: a crash leaves what it held, or these records
   pub record IsHalfReplaced (records : List (Record Definition)) (old new : Journal T) : Type 0 where
     pub halted : new.halted ≡ true
-    pub risen : HasRisen (failures old.tape) (failures new.tape)
-    pub follows : honest → Follows (IsSameOrReads records) (images old.tape) (images new.tape)
-    pub weak : sturdy old.tape → ⊥
+    pub risen : HasFailed tapes old.tape new.tape
+    pub follows : tapes.honest → Follows (IsSameOrReads records) (tapes.images old.tape) (tapes.images new.tape)
+    pub weak : tapes.never_fails old.tape → ⊥
+
+  -- At each moment inside the call a crash leaves what one could before it, or these records.
+  abbrev pub LeavesOldOrRecords : List (Record Definition) → Journal T → Journal T → Type 0
+  LeavesOldOrRecords records old new = tapes.honest → Follows (IsSameOrReads records) (tapes.images old.tape) (inside tapes old.tape new.tape)
 
   abbrev pub IsReplacement : {A : Type 0} → List (Record Definition) → Journal T → Result A NodeFault → Journal T → Type 0
   IsReplacement records old (Ok x) new = IsReplaced records old new

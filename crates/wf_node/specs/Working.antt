@@ -73,7 +73,7 @@ abbrev pub shown_proposing : Option (Leadership Definition) → held.Proposing �
 shown_proposing leadership held_case.Idle = Idle
 shown_proposing leadership (held_case.Preparing p best) = Running (shown_proposal model.Preparing best p)
 shown_proposing leadership (held_case.Accepting p) = Running (shown_proposal model.Accepting (led_votes leadership p.slot) p)
-shown_proposing leadership (held_case.Published s) = Won s
+shown_proposing leadership (held_case.Won s) = Won s
 shown_proposing leadership (held_case.Overtaken s) = Overtaken s
 
 abbrev pub shown : held_working.Working → Working

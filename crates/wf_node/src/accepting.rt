@@ -4,12 +4,11 @@ ghost use Rattle.std.specs.Prelude.{◌≡◌, false, IfSome, option_map};
 ghost use Rattle.wf_acceptor.specs.Answer as answered;
 ghost use Rattle.wf_model.specs.Fits.{Fits};
 ghost use Rattle.wf_model.specs.Message as model;
-ghost use Rattle.wf_model.specs.Table as table;
-ghost use Rattle.wf_node.specs.Act.{IsAct, IsChange, IsReady};
-ghost use Rattle.wf_node.specs.Kept.{stored_of, HasRoomFor};
+ghost use Rattle.wf_model.specs.Table.{Deliver};
+ghost use Rattle.wf_node.specs.Act.{Acts, Changes, IsReady};
+ghost use Rattle.wf_node.specs.StoredPart.{stored_of, HasRoomFor};
 ghost use Rattle.wf_proposer.specs.Proposer.{working_of};
 ghost use Rattle.wf_journal.specs.Record.{view as view_record};
-ghost use Rattle.wf_node.specs.Storing.{left_from};
 
 use crate::fault::NodeFault;
 use crate::machine::Machine;
@@ -30,8 +29,8 @@ impl<T: Tape> Machine<T> {
         slot: Slot,
         ballot: Ballot,
     ) -> Result<Vec<Message>, NodeFault>
-        requires { IsReady self.old.journal self.old.kept self.old.proposer }
-        ensures act { IsAct T.honest T.content T.images (left_from T.moment T.left_since) T.failed T.never_fails (table.Deliver (model.Prepare slot ballot)) self.old.journal self.old.kept.parts self.old.proposer result self.new.journal self.new.kept.parts self.new.proposer }
+        requires { IsReady self.old }
+        ensures act { Acts T.Tape (Deliver (model.Prepare slot ballot)) self.old result self.new }
         ensures id { self.new.kept.id ≡ self.old.kept.id }
     {
         if self.kept.is_published(slot) {
@@ -51,8 +50,9 @@ impl<T: Tape> Machine<T> {
         ballot: Ballot,
         canon: Canon,
     ) -> Result<Vec<Message>, NodeFault>
-        requires { IsReady self.old.journal self.old.kept self.old.proposer }
-        ensures act { IsAct T.honest T.content T.images (left_from T.moment T.left_since) T.failed T.never_fails (table.Deliver (model.Accept slot ballot canon)) self.old.journal self.old.kept.parts self.old.proposer result self.new.journal self.new.kept.parts self.new.proposer }
+        requires { IsReady self.old }
+        ensures act { Acts T.Tape (Deliver (model.Accept slot ballot canon))
+            self.old result self.new }
         ensures id { self.new.kept.id ≡ self.old.kept.id }
     {
         if self.kept.is_published(slot) {
@@ -70,7 +70,8 @@ impl<T: Tape> Machine<T> {
         requires running { self.old.journal.halted ≡ false }
         requires fits { Fits (stored_of self.old.kept) (option_map view_record answer.entry) }
         requires room { IfSome answer.entry (HasRoomFor self.old.kept) }
-        ensures change { IsChange T.honest T.content T.images (left_from T.moment T.left_since) T.failed T.never_fails (answered.row_of answer (working_of self.old.proposer)) self.old.journal self.old.kept.parts self.old.proposer result self.new.journal self.new.kept.parts self.new.proposer }
+        ensures change { Changes T.Tape (answered.row_of answer (working_of self.old.proposer))
+            self.old result self.new }
         ensures id { self.new.kept.id ≡ self.old.kept.id }
     {
         let Answer {

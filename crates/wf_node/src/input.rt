@@ -1,15 +1,6 @@
 use wf_canon::Canon;
 use wf_codec::Message;
+use wf_model::Action;
 
-/// An input of a node's step.
-#[derive(Drop)]
-pub enum Input {
-    /// Begin a proposal of the definition.
-    Propose(Canon),
-    /// Begin the running proposal again, in a higher round.
-    Retry,
-    /// Handle a message.
-    Deliver(Message),
-    /// Ask for the next definition.
-    CatchUp,
-}
+/// An input of a node's step: an action, whose message is the message itself.
+pub type Input = Action<Canon, Message>;

@@ -1,14 +1,12 @@
 //! Inputs for the learner.
 
-ghost use Rattle.std.specs.Prelude.{◌≡◌, ◌+◌, length, false};
+ghost use Rattle.std.specs.Prelude.{◌≡◌, ◌+◌, ◌≤◌, length, false};
 ghost use Rattle.wf_def.specs.Equality.{definition_eq};
 ghost use Rattle.wf_model.specs.Message as model;
-ghost use Rattle.wf_model.specs.Table as table;
-ghost use Rattle.wf_model.specs.Table.{told};
-ghost use Rattle.wf_node.specs.Act.{IsAct, IsChange, IsEnded, IsReady, IsReply};
-ghost use Rattle.wf_node.specs.Kept.{stored_of};
+ghost use Rattle.wf_model.specs.Table.{on_chosen, told, CatchUp, Deliver};
+ghost use Rattle.wf_node.specs.Act.{Acts, Changes, IsEnded, IsReady, IsReply};
+ghost use Rattle.wf_node.specs.StoredPart.{stored_of};
 ghost use Rattle.wf_proposer.specs.Proposer.{working_of};
-ghost use Rattle.wf_node.specs.Storing.{left_from};
 
 use crate::fault::NodeFault;
 use crate::machine::Machine;
@@ -25,8 +23,8 @@ use wf_tape::Tape;
 impl<T: Tape> Machine<T> {
     /// Asks for the next definition, unless the last one is published.
     pub(crate) fn catch_up(&mut self, alloc: Global) -> Result<Vec<Message>, NodeFault>
-        requires { IsReady self.old.journal self.old.kept self.old.proposer }
-        ensures act { IsAct T.honest T.content T.images (left_from T.moment T.left_since) T.failed T.never_fails table.CatchUp self.old.journal self.old.kept.parts self.old.proposer result self.new.journal self.new.kept.parts self.new.proposer }
+        requires { IsReady self.old }
+        ensures act { Acts T.Tape CatchUp self.old result self.new }
         ensures id { self.new.kept.id ≡ self.old.kept.id }
     {
         match self.kept.history().next_slot() {
@@ -42,8 +40,8 @@ impl<T: Tape> Machine<T> {
         slot: Slot,
         canon: Canon,
     ) -> Result<Vec<Message>, NodeFault>
-        requires { IsReady self.old.journal self.old.kept self.old.proposer }
-        ensures act { IsAct T.honest T.content T.images (left_from T.moment T.left_since) T.failed T.never_fails (table.Deliver (model.Chosen slot canon)) self.old.journal self.old.kept.parts self.old.proposer result self.new.journal self.new.kept.parts self.new.proposer }
+        requires { IsReady self.old }
+        ensures act { Acts T.Tape (Deliver (model.Chosen slot canon)) self.old result self.new }
         ensures id { self.new.kept.id ≡ self.old.kept.id }
     {
         let number = slot.number();
@@ -64,12 +62,11 @@ impl<T: Tape> Machine<T> {
 
     /// Answers an Ask.
     pub(crate) fn on_ask(&mut self, alloc: Global, slot: Slot) -> Result<Vec<Message>, NodeFault>
-        requires { IsReady self.old.journal self.old.kept self.old.proposer }
-        ensures act { IsAct T.honest T.content T.images (left_from T.moment T.left_since) T.failed T.never_fails (table.Deliver (model.Ask slot)) self.old.journal self.old.kept.parts self.old.proposer result self.new.journal self.new.kept.parts self.new.proposer }
+        requires { IsReady self.old }
+        ensures act { Acts T.Tape (Deliver (model.Ask slot)) self.old result self.new }
         ensures id { self.new.kept.id ≡ self.old.kept.id }
     {
-        // A slot is counted from 1, as the contract of its number says.
-        let _ = slot.number();
+        counts_from_one(slot);
         match self.kept.history().answer_ask(alloc, slot) {
             Ok(messages) => Ok(messages),
             Err(_) => Err(NodeFault::Memory),
@@ -80,8 +77,7 @@ impl<T: Tape> Machine<T> {
     pub(crate) fn tell(&self, alloc: Global, slot: Slot) -> Result<Vec<Message>, NodeFault>
         ensures { IsReply (told self.now.kept.parts.history slot) result }
     {
-        // A slot is counted from 1, as the contract of its number says.
-        let _ = slot.number();
+        counts_from_one(slot);
         match self.kept.history().chosen(slot) {
             Ok(message) => reply(alloc, message),
             Err(_) => Err(NodeFault::Memory),
@@ -95,9 +91,10 @@ impl<T: Tape> Machine<T> {
         slot: Slot,
         canon: Canon,
     ) -> Result<Vec<Message>, NodeFault>
-        requires ready { IsReady self.old.journal self.old.kept self.old.proposer }
+        requires ready { IsReady self.old }
         requires next { slot ≡ length self.old.kept.parts.history + 1 }
-        ensures change { IsChange T.honest T.content T.images (left_from T.moment T.left_since) T.failed T.never_fails (table.on_chosen definition_eq (stored_of self.old.kept) (working_of self.old.proposer) slot canon) self.old.journal self.old.kept.parts self.old.proposer result self.new.journal self.new.kept.parts self.new.proposer }
+        ensures change { Changes T.Tape (on_chosen definition_eq (stored_of self.old.kept)
+            (working_of self.old.proposer) slot canon) self.old result self.new }
         ensures id { self.new.kept.id ≡ self.old.kept.id }
     {
         let entry = Record::Published(slot, canon);
@@ -117,6 +114,13 @@ impl<T: Tape> Machine<T> {
             }
         }
     }
+}
+
+/// A slot is counted from 1: this teaches the caller that, and does nothing.
+fn counts_from_one(slot: Slot)
+    ensures { 1 ≤ slot }
+{
+    let _ = slot.number();
 }
 
 /// A running proposal for the slot of a published definition's record ends.

@@ -17,7 +17,6 @@
 mod accepting;
 mod fault;
 mod input;
-mod kept;
 mod learning;
 mod machine;
 mod node;
@@ -26,6 +25,7 @@ mod proposing;
 mod reply;
 mod shortening;
 mod step;
+mod stored_part;
 mod storing;
 
 pub use fault::NodeFault;

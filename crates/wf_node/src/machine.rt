@@ -3,14 +3,13 @@
 
 ghost use Rattle.std.specs.Prelude.{◌≡◌};
 ghost use Rattle.wf_codec.specs.Message.{view as view_message};
-ghost use Rattle.wf_model.specs.Table as table;
-ghost use Rattle.wf_node.specs.Act.{IsAct, IsReady};
+ghost use Rattle.wf_model.specs.Table.{Deliver};
+ghost use Rattle.wf_node.specs.Act.{Acts, IsReady};
 ghost use Rattle.wf_node.specs.Input.{view};
-ghost use Rattle.wf_node.specs.Storing.{left_from};
 
 use crate::fault::NodeFault;
 use crate::input::Input;
-use crate::kept::Kept;
+use crate::stored_part::StoredPart;
 use std::alloc::Global;
 use wf_codec::Message;
 use wf_journal::Journal;
@@ -21,15 +20,15 @@ use wf_tape::Tape;
 #[derive(Drop)]
 pub struct Machine<T: Tape> {
     pub journal: Journal<T>,
-    pub kept: Kept,
+    pub kept: StoredPart,
     pub proposer: Proposer,
 }
 
 impl<T: Tape> Machine<T> {
     /// Acts on an input.
     pub(crate) fn act(&mut self, alloc: Global, input: Input) -> Result<Vec<Message>, NodeFault>
-        requires { IsReady self.old.journal self.old.kept self.old.proposer }
-        ensures act { IsAct T.honest T.content T.images (left_from T.moment T.left_since) T.failed T.never_fails (view input) self.old.journal self.old.kept.parts self.old.proposer result self.new.journal self.new.kept.parts self.new.proposer }
+        requires { IsReady self.old }
+        ensures act { Acts T.Tape (view input) self.old result self.new }
         ensures id { self.new.kept.id ≡ self.old.kept.id }
     {
         match input {
@@ -42,8 +41,8 @@ impl<T: Tape> Machine<T> {
 
     /// Handles a message.
     fn deliver(&mut self, alloc: Global, message: Message) -> Result<Vec<Message>, NodeFault>
-        requires { IsReady self.old.journal self.old.kept self.old.proposer }
-        ensures act { IsAct T.honest T.content T.images (left_from T.moment T.left_since) T.failed T.never_fails (table.Deliver (view_message message)) self.old.journal self.old.kept.parts self.old.proposer result self.new.journal self.new.kept.parts self.new.proposer }
+        requires { IsReady self.old }
+        ensures act { Acts T.Tape (Deliver (view_message message)) self.old result self.new }
         ensures id { self.new.kept.id ≡ self.old.kept.id }
     {
         match message {

@@ -25,7 +25,7 @@ impl<T: Tape> Model for Node<T> {
 
     ghost view = { λ node. view_of node.machine.journal node.machine.kept.parts node.machine.proposer };
 
-    ghost invariant = { λ node. IsNode T.honest T.images node.machine.journal node.machine.kept node.machine.proposer };
+    ghost invariant = { λ node. IsNode T.Tape node.machine.journal node.machine.kept node.machine.proposer };
 }
 
 impl<T: Tape> Node<T> {
@@ -34,10 +34,9 @@ impl<T: Tape> Node<T> {
     ghost use Rattle.wf_ballot.specs.Sequence.{IsSequence};
     ghost use Rattle.wf_def.specs.Limits.{IsWithinLimits};
     ghost use Rattle.wf_learner.specs.History.{map_at};
-    ghost use Rattle.wf_model.specs.Table.{refuse_proposal, refuse_retry};
     ghost use Rattle.wf_node.specs.Fault.{IsWhyNot};
-    ghost use Rattle.wf_node.specs.Images.{AllStandFor};
-    ghost use Rattle.wf_node.specs.Node.{stored_of, working_of};
+    ghost use Rattle.wf_node.specs.Node.{working_of, IsOnTape};
+    ghost use Rattle.wf_node.specs.Step.{proposal_refusal, retry_refusal};
     ghost use Rattle.wf_proposer.specs.Standing.{standing_of};
     ghost use Rattle.wf_proposer.specs.declared.standing.Standing.TheVariants.{None};
     ghost use Rattle.wf_journal.specs.Journal.{IsSettled};
@@ -53,8 +52,9 @@ impl<T: Tape> Node<T> {
     /// the node has stored.
     pub fn tape(&self) -> &T
         ensures value { result.now ≡ self.now.tape }
-        ensures settled { T.honest → self.now.halted ≡ false → IsSettled (T.content self.now.tape) (T.images self.now.tape) }
-        ensures stands { T.honest → self.now.halted ≡ false → AllStandFor (stored_of self.now) (T.images self.now.tape) }
+        ensures settled { T.honest → self.now.halted ≡ false →
+            IsSettled (T.content self.now.tape) (T.images self.now.tape) }
+        ensures stands { T.honest → self.now.halted ≡ false → IsOnTape T.Tape self.now }
     {
         self.machine.journal.tape()
     }
@@ -86,7 +86,7 @@ impl<T: Tape> Node<T> {
     /// Doesn't allocate, changes nothing.
     pub fn proposal_refusal(&self) -> Option<NodeFault>
         ensures halted { self.now.halted ≡ true → result ≡ Some NodeFault.Halted }
-        ensures refusal { self.now.halted ≡ false → IsWhyNot (refuse_proposal (stored_of self.now) (working_of self.now).leadership (working_of self.now).proposing) result }
+        ensures refusal { self.now.halted ≡ false → IsWhyNot (proposal_refusal self.now) result }
     {
         if self.machine.journal.is_halted() {
             return Some(NodeFault::Halted);
@@ -98,7 +98,7 @@ impl<T: Tape> Node<T> {
     /// allocate, changes nothing.
     pub fn retry_refusal(&self) -> Option<NodeFault>
         ensures halted { self.now.halted ≡ true → result ≡ Some NodeFault.Halted }
-        ensures refusal { self.now.halted ≡ false → IsWhyNot (refuse_retry (stored_of self.now) (working_of self.now).proposing) result }
+        ensures refusal { self.now.halted ≡ false → IsWhyNot (retry_refusal self.now) result }
     {
         if self.machine.journal.is_halted() {
             return Some(NodeFault::Halted);
@@ -108,7 +108,8 @@ impl<T: Tape> Node<T> {
 
     /// The state of the node's proposal: None on a halted node.
     pub fn proposal(&self) -> Standing
-        ensures { result ≡ (if self.now.halted then Standing.None else standing_of (working_of self.now).proposing) }
+        ensures { result ≡ (if self.now.halted then Standing.None
+            else standing_of (working_of self.now).proposing) }
     {
         if self.machine.journal.is_halted() {
             Standing::None

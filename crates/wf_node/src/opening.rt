@@ -4,18 +4,18 @@ ghost use Rattle.std.specs.Prelude.{◌≡◌, ◌≢◌, ◌+◌, ◌<◌, ◌�
 ghost use Rattle.wf_model.specs.Stored.{fold, nothing_stored};
 ghost use Rattle.wf_model.specs.Working as model;
 ghost use Rattle.wf_node.specs.Images.{AllStandFor};
-ghost use Rattle.wf_node.specs.Kept as kept_;
-ghost use Rattle.wf_node.specs.Node.{stored_of, working_of};
+ghost use Rattle.wf_node.specs.StoredPart as kept_;
+ghost use Rattle.wf_node.specs.Node.{stored_of, working_of, IsOnTape};
 ghost use Rattle.wf_node.specs.Opening.{IsFoldOf, IsWhyBad, IsTaken, IsWhyRefused, IsWhyUnfolded};
+ghost use Rattle.wf_tape.specs.Change.{inside, Stays};
 ghost use Rattle.wf_journal.specs.Journal.{Follows, ReadsSame, IsWhyFailed};
 ghost use Rattle.wf_journal.specs.Record.{view};
 ghost use Rattle.wf_journal.specs.Records.{length_of};
 ghost use Rattle.wf_journal.specs.Spelling.{spelling};
-ghost use Rattle.wf_tape.specs.Tape.{IsUnchanged};
 
-use crate::kept::Kept;
 use crate::machine::Machine;
 use crate::node::Node;
+use crate::stored_part::StoredPart;
 use std::alloc::Global;
 use wf_ballot::NodeId;
 use wf_journal::{Found, Journal, OpenFault, Record};
@@ -37,13 +37,19 @@ impl<T: Tape> Node<T> {
         ensures id { IfOk result (λ node. node.id ≡ id) }
         ensures n { IfOk result (λ node. node.n ≡ n) }
         ensures working { IfOk result (λ node. working_of node ≡ model.at_start) }
-        ensures stored { T.honest → IfOk result (λ node. IsFoldOf (stored_of node) (T.content tape)) }
-        ensures stands { T.honest → IfOk result (λ node. AllStandFor (stored_of node) (T.images node.tape)) }
-        ensures images { T.honest → IfOk result (λ node. Follows ReadsSame (T.images tape) (T.images node.tape)) }
-        ensures images_err { T.honest → IfErr result (λ e. Follows ReadsSame (T.images tape) (T.images e.0)) }
-        ensures inside { T.honest → IfOk result (λ node. Follows ReadsSame (T.images tape) (T.left_since node.tape (T.moment tape))) }
-        ensures inside_err { T.honest → IfErr result (λ e. Follows ReadsSame (T.images tape) (T.left_since e.0 (T.moment tape))) }
-        ensures unchanged { T.honest → IfErr result (λ e. e.1 ≢ OpenFault.TapeFailed → IsUnchanged (T.content tape) (T.content e.0) (T.images tape) (T.images e.0)) }
+        ensures stored { T.honest →
+            IfOk result (λ node. IsFoldOf (stored_of node) (T.content tape)) }
+        ensures stands { T.honest → IfOk result (IsOnTape T.Tape) }
+        ensures images { T.honest →
+            IfOk result (λ node. Follows ReadsSame (T.images tape) (T.images node.tape)) }
+        ensures images_err { T.honest →
+            IfErr result (λ e. Follows ReadsSame (T.images tape) (T.images e.0)) }
+        ensures inside { T.honest →
+            IfOk result (λ node. Follows ReadsSame (T.images tape) (inside T.Tape tape node.tape)) }
+        ensures inside_err { T.honest →
+            IfErr result (λ e. Follows ReadsSame (T.images tape) (inside T.Tape tape e.0)) }
+        ensures unchanged { T.honest →
+            IfErr result (λ e. e.1 ≢ OpenFault.TapeFailed → Stays T.Tape tape e.0) }
         ensures bad { T.honest → IfErr result (λ e. IsWhyBad e.1 (T.content tape)) }
         ensures failed { IfErr result (λ e. IsWhyFailed e.1 (T.failed tape) (T.failed e.0)) }
         ensures sturdy { T.never_fails tape → IfOk result (λ node. T.never_fails node.tape) }
@@ -69,7 +75,8 @@ impl<T: Tape> Node<T> {
     /// part.
     pub fn close(self) -> T
         ensures tape { result ≡ self.tape }
-        ensures stands { T.honest → self.halted ≡ false → AllStandFor (stored_of self) (T.images result) }
+        ensures stands { T.honest → self.halted ≡ false →
+            AllStandFor (stored_of self) (T.images result) }
     {
         let Node { machine } = self;
         let Machine { journal, .. } = machine;
@@ -79,9 +86,10 @@ impl<T: Tape> Node<T> {
 
 /// The node of this journal and this stored part, with no proposal and no leadership yet.
 #[tactic(auto, using(crate::proofs::Shown::working_shown))]
-fn assemble<T: Tape>(journal: Journal<T>, kept: Kept, id: NodeId, n: u8) -> Node<T>
+fn assemble<T: Tape>(journal: Journal<T>, kept: StoredPart, id: NodeId, n: u8) -> Node<T>
     requires id { kept.id ≡ id }
-    requires stands { T.honest → journal.halted ≡ false → AllStandFor (kept_.stored_of kept) (T.images journal.tape) }
+    requires stands { T.honest → journal.halted ≡ false →
+        AllStandFor (kept_.stored_of kept) (T.images journal.tape) }
     ensures tape { result.tape ≡ journal.tape }
     ensures halted { result.halted ≡ journal.halted }
     ensures id { result.id ≡ id }
@@ -99,13 +107,13 @@ fn assemble<T: Tape>(journal: Journal<T>, kept: Kept, id: NodeId, n: u8) -> Node
 }
 
 /// The fold of the records that were found, the oldest first.
-fn fold(alloc: Global, id: NodeId, records: Vec<Record>) -> Result<Kept, OpenFault>
+fn fold(alloc: Global, id: NodeId, records: Vec<Record>) -> Result<StoredPart, OpenFault>
     requires { length_of (map view records.items) < 2 ^ 64 }
     ensures ok { IfOk result (λ kept. fold (map view records.items) ≡ Some (kept_.stored_of kept)) }
     ensures id { IfOk result (λ kept. kept.id ≡ id) }
     ensures why { IfErr result (IsWhyUnfolded (map view records.items)) }
 {
-    let Ok(mut kept) = Kept::new(alloc, id) else {
+    let Ok(mut kept) = StoredPart::new(alloc, id) else {
         return Err(OpenFault::Memory);
     };
     match take_all(&mut kept, records) {
@@ -119,7 +127,7 @@ fn fold(alloc: Global, id: NodeId, records: Vec<Record>) -> Result<Kept, OpenFau
 
 /// Applies the records to an empty stored part.
 #[tactic(auto, using(crate::proofs::Folded::all_taken, crate::proofs::Folded::why_unfolded))]
-fn take_all(kept: &mut Kept, records: Vec<Record>) -> Result<(), OpenFault>
+fn take_all(kept: &mut StoredPart, records: Vec<Record>) -> Result<(), OpenFault>
     requires nothing { kept_.stored_of kept.old ≡ nothing_stored }
     requires size { length_of (map view records.items) < 2 ^ 64 }
     ensures ok { OnOk result (fold (map view records.items) ≡ Some (kept_.stored_of kept.new)) }
@@ -137,9 +145,10 @@ fn take_all(kept: &mut Kept, records: Vec<Record>) -> Result<(), OpenFault>
 }
 
 /// Applies the record at this byte offset, and returns the offset of the next one.
-fn take_at(kept: &mut Kept, place: usize, entry: Record) -> Result<usize, OpenFault>
+fn take_at(kept: &mut StoredPart, place: usize, entry: Record) -> Result<usize, OpenFault>
     requires { place + length (spelling (view entry)) < 2 ^ 64 }
-    ensures ok { IfOk result (λ next. IsTaken (kept_.stored_of kept.old) (view entry) place (kept_.stored_of kept.new) next) }
+    ensures ok { IfOk result (λ next.
+        IsTaken (kept_.stored_of kept.old) (view entry) place (kept_.stored_of kept.new) next) }
     ensures id { kept.new.id ≡ kept.old.id }
     ensures why { IfErr result (IsWhyRefused (kept_.stored_of kept.old) (view entry) place) }
 {
@@ -155,4 +164,4 @@ fn take_at(kept: &mut Kept, place: usize, entry: Record) -> Result<usize, OpenFa
 }
 
 /// Drops a stored part that no node has.
-fn discard(_kept: Kept) {}
+fn discard(_kept: StoredPart) {}

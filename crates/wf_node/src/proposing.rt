@@ -5,12 +5,11 @@ ghost use Rattle.wf_ballot.specs.Sequence.{last_sequence};
 ghost use Rattle.wf_codec.specs.Message.{view_votes};
 ghost use Rattle.wf_model.specs.Fits.{Fits};
 ghost use Rattle.wf_model.specs.Message as model;
-ghost use Rattle.wf_model.specs.Table as table;
-ghost use Rattle.wf_node.specs.Act.{IsAct, IsChange, IsOwn, IsReady, runs};
+ghost use Rattle.wf_model.specs.Table.{Deliver, Propose, Retry};
+ghost use Rattle.wf_node.specs.Act.{Acts, Changes, IsOwn, IsReady, runs};
 ghost use Rattle.wf_node.specs.Fault.{IsWhyNot};
-ghost use Rattle.wf_node.specs.Kept.{stored_of};
-ghost use Rattle.wf_proposer.specs.Proposer.{row_of, working_of};
-ghost use Rattle.wf_node.specs.Storing.{left_from};
+ghost use Rattle.wf_node.specs.StoredPart.{stored_of};
+ghost use Rattle.wf_proposer.specs.Proposer.{retry_refusal, row_of, start_refusal, working_of};
 
 use crate::fault::{NodeFault, fault_for, fault_of};
 use crate::machine::Machine;
@@ -26,8 +25,8 @@ impl<T: Tape> Machine<T> {
     /// Begins a proposal of `own`, unless one is running or the last sequence is published. A leader whose leadership covers the
     /// next sequence asks for votes at once; otherwise a new round is needed.
     pub(crate) fn propose(&mut self, alloc: Global, own: Canon) -> Result<Vec<Message>, NodeFault>
-        requires { IsReady self.old.journal self.old.kept self.old.proposer }
-        ensures act { IsAct T.honest T.content T.images (left_from T.moment T.left_since) T.failed T.never_fails (table.Propose own) self.old.journal self.old.kept.parts self.old.proposer result self.new.journal self.new.kept.parts self.new.proposer }
+        requires { IsReady self.old }
+        ensures act { Acts T.Tape (Propose own) self.old result self.new }
         ensures id { self.new.kept.id ≡ self.old.kept.id }
     {
         if self.runs() {
@@ -48,8 +47,8 @@ impl<T: Tape> Machine<T> {
 
     /// Begins the running proposal again, in a new round.
     pub(crate) fn retry(&mut self, alloc: Global) -> Result<Vec<Message>, NodeFault>
-        requires { IsReady self.old.journal self.old.kept self.old.proposer }
-        ensures act { IsAct T.honest T.content T.images (left_from T.moment T.left_since) T.failed T.never_fails table.Retry self.old.journal self.old.kept.parts self.old.proposer result self.new.journal self.new.kept.parts self.new.proposer }
+        requires { IsReady self.old }
+        ensures act { Acts T.Tape Retry self.old result self.new }
         ensures id { self.new.kept.id ≡ self.old.kept.id }
     {
         match self.proposer.retry(alloc, self.kept.tried()) {
@@ -60,7 +59,7 @@ impl<T: Tape> Machine<T> {
 
     /// Why a proposal would be rejected now; None if it would begin.
     pub(crate) fn proposal_refusal(&self) -> Option<NodeFault>
-        ensures { IsWhyNot (table.refuse_proposal (stored_of self.now.kept) (working_of self.now.proposer).leadership (working_of self.now.proposer).proposing) result }
+        ensures { IsWhyNot (start_refusal self.now.proposer (stored_of self.now.kept)) result }
     {
         if self.runs() {
             return Some(NodeFault::Busy);
@@ -74,7 +73,7 @@ impl<T: Tape> Machine<T> {
 
     /// Why a retry would be rejected now; None if it would begin.
     pub(crate) fn retry_refusal(&self) -> Option<NodeFault>
-        ensures { IsWhyNot (table.refuse_retry (stored_of self.now.kept) (working_of self.now.proposer).proposing) result }
+        ensures { IsWhyNot (retry_refusal self.now.proposer (stored_of self.now.kept)) result }
     {
         fault_for(self.proposer.retry_refusal(self.kept.tried()))
     }
@@ -87,8 +86,10 @@ impl<T: Tape> Machine<T> {
         ballot: Ballot,
         report: Report,
     ) -> Result<Vec<Message>, NodeFault>
-        requires { IsReady self.old.journal self.old.kept self.old.proposer }
-        ensures act { IsAct T.honest T.content T.images (left_from T.moment T.left_since) T.failed T.never_fails (table.Deliver (model.Promise from report.slot ballot (view_votes report.votes))) self.old.journal self.old.kept.parts self.old.proposer result self.new.journal self.new.kept.parts self.new.proposer }
+        requires { IsReady self.old }
+        ensures act { Acts T.Tape
+            (Deliver (model.Promise from report.slot ballot (view_votes report.votes)))
+            self.old result self.new }
         ensures id { self.new.kept.id ≡ self.old.kept.id }
     {
         match self.proposer.on_promise(alloc, from, ballot, report) {
@@ -105,8 +106,9 @@ impl<T: Tape> Machine<T> {
         slot: Slot,
         ballot: Ballot,
     ) -> Result<Vec<Message>, NodeFault>
-        requires { IsReady self.old.journal self.old.kept self.old.proposer }
-        ensures act { IsAct T.honest T.content T.images (left_from T.moment T.left_since) T.failed T.never_fails (table.Deliver (model.Accepted from slot ballot)) self.old.journal self.old.kept.parts self.old.proposer result self.new.journal self.new.kept.parts self.new.proposer }
+        requires { IsReady self.old }
+        ensures act { Acts T.Tape (Deliver (model.Accepted from slot ballot))
+            self.old result self.new }
         ensures id { self.new.kept.id ≡ self.old.kept.id }
     {
         match self.proposer.on_accepted(alloc, from, slot, ballot) {
@@ -124,8 +126,9 @@ impl<T: Tape> Machine<T> {
         ballot: Ballot,
         promised: Ballot,
     ) -> Result<Vec<Message>, NodeFault>
-        requires { IsReady self.old.journal self.old.kept self.old.proposer }
-        ensures act { IsAct T.honest T.content T.images (left_from T.moment T.left_since) T.failed T.never_fails (table.Deliver (model.Nack from slot ballot promised)) self.old.journal self.old.kept.parts self.old.proposer result self.new.journal self.new.kept.parts self.new.proposer }
+        requires { IsReady self.old }
+        ensures act { Acts T.Tape (Deliver (model.Nack from slot ballot promised))
+            self.old result self.new }
         ensures id { self.new.kept.id ≡ self.old.kept.id }
     {
         let next = self.proposer.on_nack(alloc, slot, ballot, promised);
@@ -137,7 +140,7 @@ impl<T: Tape> Machine<T> {
         requires running { self.old.journal.halted ≡ false }
         requires fits { Fits (stored_of self.old.kept) (row_of self.old.proposer next).entry }
         requires own { IsOwn (row_of self.old.proposer next).entry }
-        ensures change { IsChange T.honest T.content T.images (left_from T.moment T.left_since) T.failed T.never_fails (row_of self.old.proposer next) self.old.journal self.old.kept.parts self.old.proposer result self.new.journal self.new.kept.parts self.new.proposer }
+        ensures change { Changes T.Tape (row_of self.old.proposer next) self.old result self.new }
         ensures id { self.new.kept.id ≡ self.old.kept.id }
     {
         if self.kept.make_room_for(next.entry()).is_err() {

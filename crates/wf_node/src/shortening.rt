@@ -3,16 +3,15 @@
 ghost use Rattle.std.specs.Prelude.{◌≡◌, ◌++◌, ◌∷◌, [], false, map, IfOk, OnOk};
 ghost use Rattle.wf_ballot.specs.Sequence.{last_sequence};
 ghost use Rattle.wf_ballot.specs.Slot.{IsSlot};
-ghost use Rattle.wf_node.specs.Kept.{stored_of as stored_in};
-ghost use Rattle.wf_node.specs.Shortening.{tried_records, vote_records, promised_sequence, promise_records, is_voted, records_at, records_from, shortened};
-ghost use Rattle.wf_node.specs.Storing.{IsReplacement, left_from};
-ghost use Rattle.wf_journal.specs.Journal.{Follows, IsSameOrReads};
+ghost use Rattle.wf_node.specs.StoredPart.{stored_of as stored_in};
+ghost use Rattle.wf_node.specs.Shortening.{tried_records, vote_records, promised_sequence, promise_records, is_voted, records_at, records_from, shortened, Appends};
+ghost use Rattle.wf_node.specs.Storing.{IsReplacement, LeavesOldOrRecords};
 ghost use Rattle.wf_journal.specs.Record.{view};
 
 use crate::fault::NodeFault;
-use crate::kept::Kept;
 use crate::machine::Machine;
 use crate::node::Node;
+use crate::stored_part::StoredPart;
 use std::alloc::{AllocError, Global};
 use wf_ballot::{Ballot, Round, SEQUENCES, Slot};
 use wf_canon::Canon;
@@ -28,7 +27,7 @@ impl<T: Tape> Node<T> {
     ghost use Rattle.wf_node.specs.Shortening.{shortened, IsShortening};
     ghost use Rattle.wf_node.specs.Step.{IsSameNode};
     ghost use Rattle.wf_journal.specs.Journal.{Holds};
-    ghost use Rattle.wf_tape.specs.Tape.{HasRisen, IsUnchanged};
+    ghost use Rattle.wf_tape.specs.Change.{inside, HasFailed, Stays};
 
     /// Rewrites the node's tape, in one call of it: after Ok it holds the last round tried, by sequence the published definitions
     /// and the votes above them, each once, and the promise, unless a vote is at its ballot. The node itself is unchanged, and
@@ -43,15 +42,22 @@ impl<T: Tape> Node<T> {
         ensures unchanged { result ≡ Err NodeFault.Halted → self.new ≡ self.old }
         ensures same { IsSameNode self.old self.new }
         ensures done { OnOk result (self.new.halted ≡ false) }
-        ensures held { T.honest → OnOk result (Holds (T.content self.new.tape) (T.images self.new.tape) (shortened (stored_of self.old))) }
-        ensures stands { T.honest → self.old.halted ≡ false → AllStandFor (stored_of self.old) (T.images self.new.tape) }
-        ensures inside { T.honest → self.old.halted ≡ false → AllStandFor (stored_of self.old) (T.left_since self.new.tape (T.moment self.old.tape)) }
+        ensures held { T.honest →
+            OnOk result (Holds (T.content self.new.tape) (T.images self.new.tape)
+            (shortened (stored_of self.old))) }
+        ensures stands { T.honest → self.old.halted ≡ false →
+            AllStandFor (stored_of self.old) (T.images self.new.tape) }
+        ensures inside { T.honest → self.old.halted ≡ false →
+            AllStandFor (stored_of self.old) (inside T.Tape self.old.tape self.new.tape) }
         ensures memory { result ≡ Err NodeFault.Memory → self.new.halted ≡ false }
-        ensures same_tape { T.honest → result ≡ Err NodeFault.Memory → IsUnchanged (T.content self.old.tape) (T.content self.new.tape) (T.images self.old.tape) (T.images self.new.tape) }
-        ensures failed { result ≡ Err NodeFault.TapeFailed → HasRisen (T.failed self.old.tape) (T.failed self.new.tape) }
+        ensures same_tape { T.honest → result ≡ Err NodeFault.Memory →
+            Stays T.Tape self.old.tape self.new.tape }
+        ensures failed { result ≡ Err NodeFault.TapeFailed →
+            HasFailed T.Tape self.old.tape self.new.tape }
         ensures halts { result ≡ Err NodeFault.TapeFailed → self.new.halted ≡ true }
         ensures sturdy { T.never_fails self.old.tape → T.never_fails self.new.tape }
-        ensures sound { T.never_fails self.old.tape → IfErr result (λ fault. fault ≢ NodeFault.TapeFailed) }
+        ensures sound { T.never_fails self.old.tape →
+            IfErr result (λ fault. fault ≢ NodeFault.TapeFailed) }
     {
         if self.machine.journal.is_halted() {
             return Err(NodeFault::Halted);
@@ -62,10 +68,12 @@ impl<T: Tape> Node<T> {
     /// Shortens the tape of a node that isn't halted.
     fn rewrite(&mut self, alloc: Global) -> Result<(), NodeFault>
         requires { self.old.halted ≡ false }
-        ensures shortening { IsShortening T.honest T.content T.images T.failed self.old result self.new }
-        ensures inside { T.honest → AllStandFor (stored_of self.old) (T.left_since self.new.tape (T.moment self.old.tape)) }
+        ensures shortening { IsShortening T.Tape self.old result self.new }
+        ensures inside { T.honest →
+            AllStandFor (stored_of self.old) (inside T.Tape self.old.tape self.new.tape) }
         ensures sturdy { T.never_fails self.old.tape → T.never_fails self.new.tape }
-        ensures sound { T.never_fails self.old.tape → IfErr result (λ fault. fault ≢ NodeFault.TapeFailed) }
+        ensures sound { T.never_fails self.old.tape →
+            IfErr result (λ fault. fault ≢ NodeFault.TapeFailed) }
     {
         // The model's theorems: what records fold to has votes and promises of sequences that aren't published, and no vote
         // without a promise.
@@ -79,8 +87,10 @@ impl<T: Tape> Machine<T> {
     /// Replaces the records on the tape by those of the stored part.
     fn rewrite(&mut self, alloc: Global) -> Result<(), NodeFault>
         requires { self.old.journal.halted ≡ false }
-        ensures replacement { IsReplacement T.honest T.content T.images (left_from T.moment T.left_since) T.failed T.never_fails (shortened (stored_in self.old.kept)) self.old.journal result self.new.journal }
-        ensures inside { T.honest → Follows (IsSameOrReads (shortened (stored_in self.old.kept))) (T.images self.old.journal.tape) (T.left_since self.new.journal.tape (T.moment self.old.journal.tape)) }
+        ensures replacement { IsReplacement T.Tape (shortened (stored_in self.old.kept))
+            self.old.journal result self.new.journal }
+        ensures inside { LeavesOldOrRecords T.Tape (shortened (stored_in self.old.kept))
+            self.old.journal self.new.journal }
         ensures kept { self.new.kept ≡ self.old.kept }
         ensures proposer { self.new.proposer ≡ self.old.proposer }
     {
@@ -102,8 +112,9 @@ fn replace<T: Tape>(
     records: &[Record],
 ) -> Result<(), NodeFault>
     requires { journal.old.halted ≡ false }
-    ensures replacement { IsReplacement T.honest T.content T.images (left_from T.moment T.left_since) T.failed T.never_fails (map view records.now) journal.old result journal.new }
-    ensures inside { T.honest → Follows (IsSameOrReads (map view records.now)) (T.images journal.old.tape) (T.left_since journal.new.tape (T.moment journal.old.tape)) }
+    ensures replacement { IsReplacement T.Tape (map view records.now)
+        journal.old result journal.new }
+    ensures inside { LeavesOldOrRecords T.Tape (map view records.now) journal.old journal.new }
 {
     match journal.rewrite(alloc, records) {
         Ok(()) => Ok(()),
@@ -113,7 +124,7 @@ fn replace<T: Tape>(
 }
 
 /// The records of a shortened tape.
-fn shortened(alloc: Global, kept: &Kept) -> Result<Vec<Record>, AllocError>
+fn shortened(alloc: Global, kept: &StoredPart) -> Result<Vec<Record>, AllocError>
     ensures { IfOk result (λ records. map view records.items ≡ shortened (stored_in kept.now)) }
 {
     let mut records = Vec::new(alloc);
@@ -125,7 +136,7 @@ fn shortened(alloc: Global, kept: &Kept) -> Result<Vec<Record>, AllocError>
 
 /// Appends the record of the last round tried, if one was.
 fn push_tried(records: &mut Vec<Record>, tried: u32) -> Result<(), AllocError>
-    ensures { OnOk result (map view records.new.items ≡ map view records.old.items ++ tried_records tried) }
+    ensures { OnOk result (Appends (tried_records tried) records.old records.new) }
 {
     match Round::new(tried) {
         Some(round) => push(records, Record::Tried(round)),
@@ -134,8 +145,9 @@ fn push_tried(records: &mut Vec<Record>, tried: u32) -> Result<(), AllocError>
 }
 
 /// Appends the records of each sequence.
-fn push_sequences(records: &mut Vec<Record>, kept: &Kept) -> Result<(), AllocError>
-    ensures { OnOk result (map view records.new.items ≡ map view records.old.items ++ records_from (stored_in kept.now) 1 last_sequence) }
+fn push_sequences(records: &mut Vec<Record>, kept: &StoredPart) -> Result<(), AllocError>
+    ensures { OnOk result
+        (Appends (records_from (stored_in kept.now) 1 last_sequence) records.old records.new) }
 {
     for number in 1..SEQUENCES + 1 {
         push_sequence(records, kept, slot_of(number))?;
@@ -152,8 +164,8 @@ fn slot_of(number: u16) -> Slot
 }
 
 /// Appends the records of a slot.
-fn push_sequence(records: &mut Vec<Record>, kept: &Kept, slot: Slot) -> Result<(), AllocError>
-    ensures { OnOk result (map view records.new.items ≡ map view records.old.items ++ records_at (stored_in kept.now) slot) }
+fn push_sequence(records: &mut Vec<Record>, kept: &StoredPart, slot: Slot) -> Result<(), AllocError>
+    ensures { OnOk result (Appends (records_at (stored_in kept.now) slot) records.old records.new) }
 {
     match kept.history().canon(slot) {
         Some(canon) => push(records, Record::Published(slot, canon.copy()?)),
@@ -162,8 +174,9 @@ fn push_sequence(records: &mut Vec<Record>, kept: &Kept, slot: Slot) -> Result<(
 }
 
 /// Appends the record of the slot's vote, if there is one.
-fn push_vote(records: &mut Vec<Record>, kept: &Kept, slot: Slot) -> Result<(), AllocError>
-    ensures { OnOk result (map view records.new.items ≡ map view records.old.items ++ vote_records slot ((stored_in kept.now).votes slot)) }
+fn push_vote(records: &mut Vec<Record>, kept: &StoredPart, slot: Slot) -> Result<(), AllocError>
+    ensures { OnOk result
+        (Appends (vote_records slot ((stored_in kept.now).votes slot)) records.old records.new) }
 {
     match kept.vote_at(slot) {
         Some((ballot, canon)) => push(records, Record::Accepted(slot, *ballot, canon.copy()?)),
@@ -172,8 +185,10 @@ fn push_vote(records: &mut Vec<Record>, kept: &Kept, slot: Slot) -> Result<(), A
 }
 
 /// Appends the record of the promise, if there is one and no vote is at its ballot.
-fn push_promise(records: &mut Vec<Record>, kept: &Kept) -> Result<(), AllocError>
-    ensures { OnOk result (map view records.new.items ≡ map view records.old.items ++ promise_records (stored_in kept.now) (stored_in kept.now).promise) }
+fn push_promise(records: &mut Vec<Record>, kept: &StoredPart) -> Result<(), AllocError>
+    ensures { OnOk result (Appends
+        (promise_records (stored_in kept.now) (stored_in kept.now).promise)
+        records.old records.new) }
 {
     let Some(promise) = kept.promise() else {
         return Ok(());
@@ -185,7 +200,7 @@ fn push_promise(records: &mut Vec<Record>, kept: &Kept) -> Result<(), AllocError
 }
 
 /// Whether a vote is at the ballot.
-fn is_voted(kept: &Kept, ballot: Ballot) -> bool
+fn is_voted(kept: &StoredPart, ballot: Ballot) -> bool
     ensures { result ≡ is_voted (stored_in kept.now).votes ballot last_sequence }
 {
     for number in 1..SEQUENCES + 1 {
@@ -197,7 +212,7 @@ fn is_voted(kept: &Kept, ballot: Ballot) -> bool
 }
 
 /// The slot of the promise's record: the next one, or the last if that is published.
-fn promised_slot(kept: &Kept) -> Slot
+fn promised_slot(kept: &StoredPart) -> Slot
     ensures { result ≡ promised_sequence (stored_in kept.now) }
 {
     match kept.history().next_slot() {
@@ -209,7 +224,7 @@ fn promised_slot(kept: &Kept) -> Slot
 /// Appends a record.
 #[tactic(auto, using(crate::proofs::Pushed::one_more))]
 fn push(records: &mut Vec<Record>, entry: Record) -> Result<(), AllocError>
-    ensures { OnOk result (map view records.new.items ≡ map view records.old.items ++ view entry ∷ []) }
+    ensures { OnOk result (Appends (view entry ∷ []) records.old records.new) }
 {
     records.push(entry)?;
     Ok(())

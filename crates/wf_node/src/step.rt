@@ -12,13 +12,13 @@ use wf_tape::Tape;
 impl<T: Tape> Node<T> {
     ghost use Rattle.std.specs.Prelude.{◌≡◌, ◌≢◌, ◌++◌, true, false, Err, IfOk, IfErr, IsSome, OnOk};
     ghost use Rattle.wf_node.specs.Fault.{refused_by};
-    ghost use Rattle.wf_node.specs.Images.{AllStandFor, EachStandsFor, EachIsCut};
+    ghost use Rattle.wf_node.specs.Images.{EachStandsFor, EachIsCut};
     ghost use Rattle.wf_node.specs.Input.{view};
-    ghost use Rattle.wf_node.specs.Node.{stored_of};
-    ghost use Rattle.wf_node.specs.Step.{row_of, refusal_at, IsRow, IsSameNode, IsStep, TakesMemory};
+    ghost use Rattle.wf_node.specs.Node.{stored_of, IsOnTape};
+    ghost use Rattle.wf_node.specs.Step.{row_of, entry_of, stored_next, refusal_at, IsRow, IsSameNode, IsStep, TakesMemory};
     ghost use Rattle.wf_node.specs.Storing.{bytes_of};
-    ghost use Rattle.wf_model.specs.Table.{store as store_entry};
-    ghost use Rattle.wf_tape.specs.Tape.{HasRisen, IsExtended, IsUnchanged};
+    ghost use Rattle.wf_tape.specs.Change.{inside, HasFailed, Stays};
+    ghost use Rattle.wf_tape.specs.Tape.{IsExtended};
 
     /// One step: the step table's transition for the input, whose messages are returned once its record is on the tape, after what
     /// was there. A halted node returns N5. A step that the table rejects changes nothing: N2 if a proposal is requested while one
@@ -31,24 +31,41 @@ impl<T: Tape> Node<T> {
     pub fn step(&mut self, alloc: Global, input: Input) -> Result<Vec<Message>, NodeFault>
         ensures halted { self.old.halted ≡ true → result ≡ Err NodeFault.Halted }
         ensures running { result ≡ Err NodeFault.Halted → self.old.halted ≡ true }
-        ensures refused { self.old.halted ≡ false → refused_by result ≡ refusal_at self.old (view input) }
-        ensures row { IfOk result (λ messages. IsRow self.old (row_of self.old (view input)) messages.items self.new) }
-        ensures on_tape { T.honest → OnOk result (AllStandFor (stored_of self.new) (T.images self.new.tape)) }
-        ensures content { T.honest → OnOk result (T.content self.new.tape ≡ T.content self.old.tape ++ bytes_of (row_of self.old (view input)).entry) }
-        ensures unchanged { IfErr result (λ fault. fault ≢ NodeFault.Memory → fault ≢ NodeFault.TapeFailed → self.new ≡ self.old) }
+        ensures refused { self.old.halted ≡ false →
+            refused_by result ≡ refusal_at self.old (view input) }
+        ensures row { IfOk result (λ messages.
+            IsRow self.old (row_of self.old (view input)) messages.items self.new) }
+        ensures on_tape { T.honest → OnOk result (IsOnTape T.Tape self.new) }
+        ensures content { T.honest → OnOk result (T.content self.new.tape ≡
+            T.content self.old.tape ++ bytes_of (entry_of self.old (view input))) }
+        ensures unchanged { IfErr result (λ fault.
+            fault ≢ NodeFault.Memory → fault ≢ NodeFault.TapeFailed → self.new ≡ self.old) }
         ensures same { IfErr result (λ fault. IsSameNode self.old self.new) }
         ensures memory { result ≡ Err NodeFault.Memory → self.new.halted ≡ false }
-        ensures same_tape { T.honest → result ≡ Err NodeFault.Memory → IsUnchanged (T.content self.old.tape) (T.content self.new.tape) (T.images self.old.tape) (T.images self.new.tape) }
+        ensures same_tape { T.honest → result ≡ Err NodeFault.Memory →
+            Stays T.Tape self.old.tape self.new.tape }
         ensures takes { result ≡ Err NodeFault.Memory → TakesMemory self.old (view input) }
-        ensures failed { result ≡ Err NodeFault.TapeFailed → HasRisen (T.failed self.old.tape) (T.failed self.new.tape) }
-        ensures writes { result ≡ Err NodeFault.TapeFailed → IsSome (row_of self.old (view input)).entry }
+        ensures failed { result ≡ Err NodeFault.TapeFailed →
+            HasFailed T.Tape self.old.tape self.new.tape }
+        ensures writes { result ≡ Err NodeFault.TapeFailed →
+            IsSome (entry_of self.old (view input)) }
         ensures halts { result ≡ Err NodeFault.TapeFailed → self.new.halted ≡ true }
-        ensures part { T.honest → result ≡ Err NodeFault.TapeFailed → IsExtended (T.content self.old.tape) (bytes_of (row_of self.old (view input)).entry) (T.content self.new.tape) }
-        ensures torn { T.honest → result ≡ Err NodeFault.TapeFailed → EachStandsFor (stored_of self.old) (store_entry (stored_of self.old) (row_of self.old (view input)).entry) (T.images self.new.tape) }
-        ensures cut { T.honest → result ≡ Err NodeFault.TapeFailed → EachIsCut (row_of self.old (view input)).entry (stored_of self.old) (store_entry (stored_of self.old) (row_of self.old (view input)).entry) (T.images self.old.tape) (T.images self.new.tape) }
+        ensures part { T.honest → result ≡ Err NodeFault.TapeFailed →
+            IsExtended (T.content self.old.tape) (bytes_of (entry_of self.old (view input)))
+            (T.content self.new.tape) }
+        ensures torn { T.honest → result ≡ Err NodeFault.TapeFailed →
+            EachStandsFor (stored_of self.old) (stored_next self.old (view input))
+            (T.images self.new.tape) }
+        ensures cut { T.honest → result ≡ Err NodeFault.TapeFailed →
+            EachIsCut (entry_of self.old (view input)) (stored_of self.old)
+            (stored_next self.old (view input))
+            (T.images self.old.tape) (T.images self.new.tape) }
         ensures sturdy { T.never_fails self.old.tape → T.never_fails self.new.tape }
-        ensures sound { T.never_fails self.old.tape → IfErr result (λ fault. fault ≢ NodeFault.TapeFailed) }
-        ensures inside { T.honest → self.old.halted ≡ false → EachStandsFor (stored_of self.old) (store_entry (stored_of self.old) (row_of self.old (view input)).entry) (T.left_since self.new.tape (T.moment self.old.tape)) }
+        ensures sound { T.never_fails self.old.tape →
+            IfErr result (λ fault. fault ≢ NodeFault.TapeFailed) }
+        ensures inside { T.honest → self.old.halted ≡ false →
+            EachStandsFor (stored_of self.old) (stored_next self.old (view input))
+            (inside T.Tape self.old.tape self.new.tape) }
     {
         if self.is_halted() {
             drop(input);
@@ -67,11 +84,17 @@ impl<T: Tape> Node<T> {
     /// A step of a node that isn't halted.
     fn advance(&mut self, alloc: Global, input: Input) -> Result<Vec<Message>, NodeFault>
         requires { self.old.halted ≡ false }
-        ensures step { IsStep T.honest T.content T.images T.failed self.old (view input) result self.new }
-        ensures cut { T.honest → result ≡ Err NodeFault.TapeFailed → EachIsCut (row_of self.old (view input)).entry (stored_of self.old) (store_entry (stored_of self.old) (row_of self.old (view input)).entry) (T.images self.old.tape) (T.images self.new.tape) }
+        ensures step { IsStep T.Tape self.old (view input) result self.new }
+        ensures cut { T.honest → result ≡ Err NodeFault.TapeFailed →
+            EachIsCut (entry_of self.old (view input)) (stored_of self.old)
+            (stored_next self.old (view input))
+            (T.images self.old.tape) (T.images self.new.tape) }
         ensures sturdy { T.never_fails self.old.tape → T.never_fails self.new.tape }
-        ensures sound { T.never_fails self.old.tape → IfErr result (λ fault. fault ≢ NodeFault.TapeFailed) }
-        ensures inside { T.honest → EachStandsFor (stored_of self.old) (store_entry (stored_of self.old) (row_of self.old (view input)).entry) (T.left_since self.new.tape (T.moment self.old.tape)) }
+        ensures sound { T.never_fails self.old.tape →
+            IfErr result (λ fault. fault ≢ NodeFault.TapeFailed) }
+        ensures inside { T.honest →
+            EachStandsFor (stored_of self.old) (stored_next self.old (view input))
+            (inside T.Tape self.old.tape self.new.tape) }
     {
         // The model's theorem: each transition's record fits the stored state.
         records_fit::<Canon>();

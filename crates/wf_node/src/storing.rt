@@ -2,7 +2,7 @@
 
 ghost use Rattle.std.specs.Prelude.{◌≡◌, false, option_map};
 ghost use Rattle.std.specs.Option.{option_copied};
-ghost use Rattle.wf_node.specs.Storing.{IsWrite, left_from};
+ghost use Rattle.wf_node.specs.Storing.{IsWrite};
 ghost use Rattle.wf_journal.specs.Record.{view};
 
 use crate::fault::NodeFault;
@@ -17,7 +17,8 @@ pub(crate) fn store<T: Tape>(
     entry: Option<&Record>,
 ) -> Result<(), NodeFault>
     requires { journal.old.halted ≡ false }
-    ensures { IsWrite T.honest T.content T.images (left_from T.moment T.left_since) T.failed T.never_fails (option_map view (option_copied entry.entry)) journal.old result journal.new }
+    ensures { IsWrite T.Tape (option_map view (option_copied entry.entry))
+        journal.old result journal.new }
 {
     match entry {
         None => Ok(()),
@@ -28,7 +29,7 @@ pub(crate) fn store<T: Tape>(
 /// Adds the record to the journal.
 fn add<T: Tape>(journal: &mut Journal<T>, alloc: Global, entry: &Record) -> Result<(), NodeFault>
     requires { journal.old.halted ≡ false }
-    ensures { IsWrite T.honest T.content T.images (left_from T.moment T.left_since) T.failed T.never_fails (Some (view entry.now)) journal.old result journal.new }
+    ensures { IsWrite T.Tape (Some (view entry.now)) journal.old result journal.new }
 {
     match journal.add(alloc, entry) {
         Ok(()) => Ok(()),

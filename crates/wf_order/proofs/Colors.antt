@@ -2,10 +2,11 @@
 use Rattle.std.proofs.Common.{◌≡◌, ◌∙◌, ℕ, List, [], ◌∷◌, ◌++◌, refl, ap}
 use Rattle.std.specs.Prelude.{Option, Some, None}
 use Rattle.std.specs.Option.{option_map_or}
+use Rattle.wf_def.specs.Color.{hexadecimal_color}
 use Rattle.wf_def.specs.declared.color.Color.{Color}
 use Rattle.wf_token.specs.Token.{Token}
 use Rattle.wf_block.specs.Grammar.{◌>>=◌, argument, number, whole}
-use Rattle.wf_class.specs.Color.{color, rgb_color, hash_digits, hex_color}
+use Rattle.wf_class.specs.Color.{color, rgb_color, hash_digits}
 use Rattle.wf_order.proofs.Options.{none_is_not_some, some_same, Binds, binds}
 use Rattle.wf_order.proofs.Readers.{give, Reads, ReadsOn, ReadsFrom, reads_from, then_reads, gives_reads, whole_reads}
 
@@ -21,17 +22,17 @@ unfolding rgb_color whole number argument
 no_color = refl
 
 -- a string that begins with `#`
-by_digits : (t : Token) (digits : List ℕ) → hash_digits t ≡ Some digits → (value : Color) (tokens rest : List Token) → (hex_color digits >>= λ c. give c tokens) ≡ Some (value, rest) →
+by_digits : (t : Token) (digits : List ℕ) → hash_digits t ≡ Some digits → (value : Color) (tokens rest : List Token) → (hexadecimal_color digits >>= λ c. give c tokens) ≡ Some (value, rest) →
     Reads color value (t ∷ tokens) rest
 unfolding color
 by_digits t digits is value tokens rest h =
-    let parts : Binds (hex_color digits) (λ c. give c tokens) (value, rest) = binds (hex_color digits) (λ c. give c tokens) (value, rest) h in
+    let parts : Binds (hexadecimal_color digits) (λ c. give c tokens) (value, rest) = binds (hexadecimal_color digits) (λ c. give c tokens) (value, rest) h in
     let same : (parts.first, tokens) ≡ (value, rest) = some_same (parts.first, tokens) (value, rest) parts.next in
     record {
       taken = t ∷ [];
       cut = ap (λ (p : Color × List Token). t ∷ p.1) same;
       always = λ other.
-          ap (λ o. option_map_or (λ digits. hex_color digits >>= λ c. give c other) o (rgb_color (t ∷ other))) is
+          ap (λ o. option_map_or (λ digits. hexadecimal_color digits >>= λ c. give c other) o (rgb_color (t ∷ other))) is
           ∙ ap (λ o. o >>= λ c. give c other) parts.is_first
           ∙ ap (λ (p : Color × List Token). Some (p.0, other)) same;
     }
@@ -44,14 +45,14 @@ by_numbers t is value tokens rest h =
       taken = t ∷ from.taken;
       cut = ap (λ l. t ∷ l) from.cut;
       always = λ other.
-          ap (λ o. option_map_or (λ digits. hex_color digits >>= λ c. give c (from.taken ++ other)) o (rgb_color (t ∷ from.taken ++ other))) is ∙ from.always other;
+          ap (λ o. option_map_or (λ digits. hexadecimal_color digits >>= λ c. give c (from.taken ++ other)) o (rgb_color (t ∷ from.taken ++ other))) is ∙ from.always other;
     }
 
 pub color_reads : ReadsOn color
 unfolding color
 color_reads value [] rest h = none_is_not_some (value, rest) h
 color_reads value (t ∷ tokens) rest h = go (hash_digits t) refl h where
-  go : (o : Option (List ℕ)) → hash_digits t ≡ o → option_map_or (λ digits. hex_color digits >>= λ c. give c tokens) o (rgb_color (t ∷ tokens)) ≡ Some (value, rest) →
+  go : (o : Option (List ℕ)) → hash_digits t ≡ o → option_map_or (λ digits. hexadecimal_color digits >>= λ c. give c tokens) o (rgb_color (t ∷ tokens)) ≡ Some (value, rest) →
       Reads color value (t ∷ tokens) rest
   go (Some digits) is f = by_digits t digits is value tokens rest f
   go None is f = by_numbers t is value tokens rest f

@@ -6,7 +6,7 @@ use Rattle.std.proofs.Math.Nat.{mul-le-mul}
 use Rattle.std.proofs.Math.IntN.{*ℤ_comm, pos-*ℤ-pos, negsuc-*ℤ-pos}
 use Rattle.wf_paint.specs.Exact.{plus, difference, product, opposite, is_less}
 use Rattle.wf_paint.specs.Level.{is_in_margin}
-use Rattle.wf_paint.specs.Place.{PlaceValue}
+use Rattle.wf_paint.specs.Position.{PositionValue}
 use Rattle.wf_paint.specs.Coverage.{run, rise, deviation, margin, is_along, is_in_band, is_across}
 use Rattle.wf_paint.specs.Limit.{half_side}
 use Rattle.wf_paint.proofs.AlongLemmas.{times_sum, across_left, across_along, band_level}
@@ -38,30 +38,30 @@ counted : (z : ℤ) → pos 0 ≤ℤ z → z ≡ pos (nat_abs z)
 counted (pos n) some = refl
 counted (negsuc n) some = absurd (omega (arith, ints))
 
-run_split : (c a b : PlaceValue) → run a b ≡ run a c +ℤ run c b
+run_split : (c a b : PositionValue) → run a b ≡ run a c +ℤ run c b
 unfolding run difference
 run_split c a b = omega (arith, ints)
 
-rise_split : (c a b : PlaceValue) → rise a b ≡ rise a c -ℤ rise b c
+rise_split : (c a b : PositionValue) → rise a b ≡ rise a c -ℤ rise b c
 unfolding rise difference
 rise_split c a b = omega (arith, ints)
 
-run_from : (c a b : PlaceValue) → is_along c a b ≡ true → run a c ≡ pos (nat_abs (run a c))
+run_from : (c a b : PositionValue) → is_along c a b ≡ true → run a c ≡ pos (nat_abs (run a c))
 unfolding is_along run is_less difference
 run_from c a b along =
     let left = not-true _ (and_parts (not (is_less c.x a.x)) (not (is_less b.x c.x)) along).0 in
     counted (c.x -ℤ a.x) (omega (arith, ints))
 
-run_to : (c a b : PlaceValue) → is_along c a b ≡ true → run c b ≡ pos (nat_abs (run c b))
+run_to : (c a b : PositionValue) → is_along c a b ≡ true → run c b ≡ pos (nat_abs (run c b))
 unfolding is_along run is_less difference
 run_to c a b along =
     let right = not-true _ (and_parts (not (is_less c.x a.x)) (not (is_less b.x c.x)) along).1 in
     counted (b.x -ℤ c.x) (omega (arith, ints))
 
-run_counted : (c a b : PlaceValue) → is_along c a b ≡ true → run a b ≡ pos (nat_abs (run a c) + nat_abs (run c b))
+run_counted : (c a b : PositionValue) → is_along c a b ≡ true → run a b ≡ pos (nat_abs (run a c) + nat_abs (run c b))
 run_counted c a b along = run_split c a b ∙ ap (λ (z : ℤ). z +ℤ run c b) (run_from c a b along) ∙ ap (λ (z : ℤ). pos (nat_abs (run a c)) +ℤ z) (run_to c a b along)
 
-deviation_weighed : (c a b : PlaceValue) → is_along c a b ≡ true →
+deviation_weighed : (c a b : PositionValue) → is_along c a b ≡ true →
     deviation c a b ≡ rise a c *ℤ pos (nat_abs (run c b)) +ℤ rise b c *ℤ pos (nat_abs (run a c))
 unfolding deviation difference product
 deviation_weighed c a b along =
@@ -70,7 +70,7 @@ deviation_weighed c a b along =
     ∙ ap (λ (z : ℤ). rise a c *ℤ pos (nat_abs (run a c) + nat_abs (run c b)) -ℤ pos (nat_abs (run a c)) *ℤ z) (rise_split c a b)
     ∙ weighed (rise a c) (rise b c) (nat_abs (run a c)) (nat_abs (run c b))
 
-margin_counted : (width : ℕ) (c a b : PlaceValue) → is_along c a b ≡ true → margin width a b ≡ pos (half_side * width * (nat_abs (run a c) + nat_abs (run c b)))
+margin_counted : (width : ℕ) (c a b : PositionValue) → is_along c a b ≡ true → margin width a b ≡ pos (half_side * width * (nat_abs (run a c) + nat_abs (run c b)))
 unfolding margin product
 margin_counted width c a b along = ap (λ (z : ℤ). pos (half_side * width) *ℤ z) (run_counted c a b along) ∙ pos-*ℤ-pos (half_side * width) (nat_abs (run a c) + nat_abs (run c b))
 
@@ -130,35 +130,35 @@ out_above r x y (pos i) (pos j) first second =
 
 -- ---- the line
 
-band_weighed : (width : ℕ) (c a b : PlaceValue) → is_along c a b ≡ true →
+band_weighed : (width : ℕ) (c a b : PositionValue) → is_along c a b ≡ true →
     is_in_band width c a b ≡ is_in_margin (pos (half_side * width * (nat_abs (run a c) + nat_abs (run c b)))) (rise a c *ℤ pos (nat_abs (run c b)) +ℤ rise b c *ℤ pos (nat_abs (run a c)))
 band_weighed width c a b along =
     band_level width c a b
     ∙ ap (λ (z : ℤ). is_in_margin z (deviation c a b)) (margin_counted width c a b along)
     ∙ ap (is_in_margin (pos (half_side * width * (nat_abs (run a c) + nat_abs (run c b))))) (deviation_weighed c a b along)
 
-between_ends : (width : ℕ) (c a b : PlaceValue) → (is_along c a b ≡ true → is_in_band width c a b ≡ false) → is_across width c a b ≡ false
+between_ends : (width : ℕ) (c a b : PositionValue) → (is_along c a b ≡ true → is_in_band width c a b ≡ false) → is_across width c a b ≡ false
 between_ends width c a b none = by_case (cases_Bool (is_along c a b)) where
   by_case : ((is_along c a b ≡ true) ⊎ (is_along c a b ≡ false)) → is_across width c a b ≡ false
   by_case (inl along) = across_along width c a b along ∙ none along
   by_case (inr left) = across_left width c a b left
 
-low_rise : (width : ℕ) (c a : PlaceValue) → is_less c.y (difference a.y (pos (half_side * width))) ≡ true → rise a c <ℤ neg_ℤ (pos (half_side * width))
+low_rise : (width : ℕ) (c a : PositionValue) → is_less c.y (difference a.y (pos (half_side * width))) ≡ true → rise a c <ℤ neg_ℤ (pos (half_side * width))
 unfolding is_less rise difference
 low_rise width c a below = omega (arith, ints)
 
-high_rise : (width : ℕ) (c a : PlaceValue) → is_less c.y (plus a.y (pos (half_side * width))) ≡ false → pos (half_side * width) ≤ℤ rise a c
+high_rise : (width : ℕ) (c a : PositionValue) → is_less c.y (plus a.y (pos (half_side * width))) ≡ false → pos (half_side * width) ≤ℤ rise a c
 unfolding is_less rise difference plus
 high_rise width c a above = omega (arith, ints)
 
 -- a position half the width or more below both ends isn't covered
-pub beyond_below : (width : ℕ) (c a b : PlaceValue) → is_less c.y (difference a.y (pos (half_side * width))) ≡ true → is_less c.y (difference b.y (pos (half_side * width))) ≡ true →
+pub beyond_below : (width : ℕ) (c a b : PositionValue) → is_less c.y (difference a.y (pos (half_side * width))) ≡ true → is_less c.y (difference b.y (pos (half_side * width))) ≡ true →
     is_across width c a b ≡ false
 beyond_below width c a b first second = between_ends width c a b (λ along. band_weighed width c a b along
     ∙ out_below (half_side * width) (nat_abs (run a c)) (nat_abs (run c b)) (rise a c) (rise b c) (low_rise width c a first) (low_rise width c b second))
 
 -- nor is one half the width or more above both
-pub beyond_above : (width : ℕ) (c a b : PlaceValue) → is_less c.y (plus a.y (pos (half_side * width))) ≡ false → is_less c.y (plus b.y (pos (half_side * width))) ≡ false →
+pub beyond_above : (width : ℕ) (c a b : PositionValue) → is_less c.y (plus a.y (pos (half_side * width))) ≡ false → is_less c.y (plus b.y (pos (half_side * width))) ≡ false →
     is_across width c a b ≡ false
 beyond_above width c a b first second = between_ends width c a b (λ along. band_weighed width c a b along
     ∙ out_above (half_side * width) (nat_abs (run a c)) (nat_abs (run c b)) (rise a c) (rise b c) (high_rise width c a first) (high_rise width c b second))

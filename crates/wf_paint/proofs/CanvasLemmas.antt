@@ -92,7 +92,7 @@ module _ (c : CanvasValue) (row from to : ℕ) (color : Color) (free bytes : Lis
             let column : ℕ = column_of c.width i in
             elim (cases_eq (row_of c.width c.height i) row) [
               | inl same ↦
-                  let place : i ≡ left + column = index_in_row c.width c.height row i some within area same in
+                  let index : i ≡ left + column = index_in_row c.width c.height row i some within area same in
                   elim (cases_lt column from) [
                     | inl earlier ↦ kept i (range.before i (omega arith)) (before_run row from to column _ earlier)
                     | inr later ↦ elim (cases_lt column to) [
@@ -107,8 +107,8 @@ module _ (c : CanvasValue) (row from to : ℕ) (color : Color) (free bytes : Lis
                     | inl earlier ↦ kept i (range.before i earlier) outside
                     | inr later ↦ elim (cases_lt i (left + to)) [
                       | inl before ↦
-                          let place : left + (i - left) ≡ i = omega arith in
-                          absurd (apart (rw place at (row_of_index c.width c.height row (i - left) within (omega arith))))
+                          let index : left + (i - left) ≡ i = omega arith in
+                          absurd (apart (rw index at (row_of_index c.width c.height row (i - left) within (omega arith))))
                       | inr after ↦ kept i (range.after i after) outside
                     ]
                   ]

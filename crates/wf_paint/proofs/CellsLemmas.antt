@@ -56,8 +56,8 @@ module _ (first bits : ℕ) (color : Color) (old : List ℕ) where
   pub written_to_end : (here : ℕ) (bytes : List ℕ) → bits < 2 ^ 64 → bits / 2 ^ here ≡ 0 → AreWritten here first bits color old bytes → AreWritten 64 first bits color old bytes
   written_to_end here bytes fits none written =
       let clear : (k : ℕ) → here ≤ k → bit_at bits k ≡ 0 = λ k from.
-      let place : here + (k - here) ≡ k = omega arith in
-      rw place at (ap (λ (n : ℕ). n % 2) (sym (shr-shr bits here (k - here))) ∙ ap (λ (n : ℕ). bit_at n (k - here)) none ∙ bit_at-zero (k - here)) in
+      let index : here + (k - here) ≡ k = omega arith in
+      rw index at (ap (λ (n : ℕ). n % 2) (sym (shr-shr bits here (k - here))) ∙ ap (λ (n : ℕ). bit_at n (k - here)) none ∙ bit_at-zero (k - here)) in
       record {
         size = written.size;
         changed = λ k below is. elim (cases_lt k here) [
@@ -86,8 +86,8 @@ module _ (first bits : ℕ) (color : Color) (old : List ℕ) where
         ],
         is,
         λ k from before.
-            let place : here + (k - here) ≡ k = omega arith in
-            rw place at (sym (moved (k - here)) ∙ found.2 (k - here) (omega arith)),
+            let index : here + (k - here) ≡ k = omega arith in
+            rw index at (sym (moved (k - here)) ∙ found.2 (k - here) (omega arith)),
       )
 
   pub one_written : (here set : ℕ) (bytes new : List ℕ) → here ≤ set → bit_at bits set ≡ 1 → ((k : ℕ) → here ≤ k → k < set → bit_at bits k ≡ 0) →
@@ -141,8 +141,8 @@ pub record IsMask (from to mask : ℕ) : Type 0 where
 pub mask_of : (from to : ℕ) → from < 64 → to ≤ 64 → IsMask from to (bit_and ((2 ^ 64 - 1) * 2 ^ from % 2 ^ 64) ((2 ^ 64 - 1) / 2 ^ (64 - to)))
 mask_of from to first last =
     let up : (2 ^ 64 - 1) * 2 ^ from % 2 ^ 64 ≡ 2 ^ 64 - 2 ^ from = ones_shl 64 from (omega arith) in
-    let place : 64 - (64 - to) ≡ to = omega arith in
-    let down : (2 ^ 64 - 1) / 2 ^ (64 - to) ≡ 2 ^ to - 1 = ones_shr 64 (64 - to) (omega arith) ∙ ap (λ (n : ℕ). 2 ^ n - 1) place in
+    let index : 64 - (64 - to) ≡ to = omega arith in
+    let down : (2 ^ 64 - 1) / 2 ^ (64 - to) ≡ 2 ^ to - 1 = ones_shr 64 (64 - to) (omega arith) ∙ ap (λ (n : ℕ). 2 ^ n - 1) index in
     let upper : ℕ = (2 ^ 64 - 1) * 2 ^ from % 2 ^ 64 in
     let lower : ℕ = (2 ^ 64 - 1) / 2 ^ (64 - to) in
     record {
@@ -248,8 +248,8 @@ module _ (free bytes : List ℕ) (from to mask : ℕ) (color : Color) (last : to
     kept i out =
         let pixel : pixel_at new i ≡ pixel_at bytes i = written.others i (λ k below this at.
         let word_of : i / 64 ≡ word = omega arith in
-        let place : i % 64 ≡ k = omega arith in
-        let clear : bit_at mask k ≡ 0 = rw place at (out word_of) in
+        let index : i % 64 ≡ k = omega arith in
+        let clear : bit_at mask k ≡ 0 = rw index at (out word_of) in
         omega (arith, this, masked_out left mask k clear)) in
         let same : is_free cleared i ≡ is_free free i = elim (cases_eq (i / 64) word) [
           | inl here ↦
@@ -265,21 +265,21 @@ module _ (free bytes : List ℕ) (from to mask : ℕ) (color : Color) (last : to
     now_painted i later earlier =
         let same : i / 64 ≡ word = in_word i later earlier in
         let bit : bit_at mask (i % 64) ≡ 1 = in_mask i same later earlier in
-        let place : 64 * word + i % 64 ≡ i = omega arith in
+        let index : 64 * word + i % 64 ≡ i = omega arith in
         let now : slice_index cleared (i / 64) ≡ bit_and left (bit_not w64 mask) = rw same (get_or-set_same free word (bit_and left (bit_not w64 mask)) 0 within) in
         let clear : is_free cleared i ≡ false =
         is_free-clear cleared i (ap (λ (n : ℕ). bit_at n (i % 64)) now ∙ cleared_in left mask (i % 64) fits (omega arith) bit) in
         let before : bit_at (slice_index free (i / 64)) (i % 64) ≡ bit_at left (i % 64) = ap (λ (w : ℕ). bit_at (slice_index free w) (i % 64)) same in
         painted_in-painted cleared new i clear ∙ elim (cases_eq (bit_at left (i % 64)) 1) [
           | inl was ↦
-              let colored : pixel_at new i ≡ color = rw place at (written.changed (i % 64) (omega arith) (masked_in left mask (i % 64) bit ∙ was)) in
+              let colored : pixel_at new i ≡ color = rw index at (written.changed (i % 64) (omega arith) (masked_in left mask (i % 64) bit ∙ was)) in
               ap (λ (p : Color). Some p) colored ∙ ap (λ (o : Option Color). option_or o (Some color)) (sym (painted_in-free free bytes i (is_free-set free i (before ∙ was))))
           | inr not_free ↦
               let zero_bit : bit_at left (i % 64) ≡ 0 = omega (arith, bit_at-lt left (i % 64)) in
               let pixel : pixel_at new i ≡ pixel_at bytes i = written.others i (λ k below this at.
-              let this_place : i % 64 ≡ k = omega arith in
-              let none : bit_at left k ≡ 0 = rw this_place at zero_bit in
-              let in_it : bit_at mask k ≡ 1 = rw this_place at bit in
+              let this_index : i % 64 ≡ k = omega arith in
+              let none : bit_at left k ≡ 0 = rw this_index at zero_bit in
+              let in_it : bit_at mask k ≡ 1 = rw this_index at bit in
               omega (arith, this, masked_in left mask k in_it)) in
               ap (λ (p : Color). Some p) pixel
               ∙ ap (λ (o : Option Color). option_or o (Some color)) (sym (painted_in-painted free bytes i (is_free-clear free i (before ∙ zero_bit))))
@@ -299,8 +299,8 @@ pub word_has_bytes : (free bytes : List ℕ) (word k : ℕ) → IsCells free byt
 word_has_bytes free bytes word k cells fits set =
     let below : k < 64 = elim (cases_lt k 64) [ inl below ↦ below | inr above ↦ absurd (omega (arith, set, bit_at_above (slice_index free word) 64 k fits above)) ] in
     let word_of : (64 * word + k) / 64 ≡ word = omega arith in
-    let place : (64 * word + k) % 64 ≡ k = omega arith in
-    cells.within (64 * word + k) (is_free-set free (64 * word + k) (ap (λ (w : ℕ). bit_at (slice_index free w) ((64 * word + k) % 64)) word_of ∙ ap (bit_at (slice_index free word)) place ∙ set))
+    let index : (64 * word + k) % 64 ≡ k = omega arith in
+    cells.within (64 * word + k) (is_free-set free (64 * word + k) (ap (λ (w : ℕ). bit_at (slice_index free w) ((64 * word + k) % 64)) word_of ∙ ap (bit_at (slice_index free word)) index ∙ set))
 
 -- and so have those among them that are to be written
 pub set_have_bytes : (free bytes : List ℕ) (word mask k : ℕ) → IsCells free bytes → slice_index free word < 2 ^ 64 → bit_at (bit_and (slice_index free word) mask) k ≡ 1 → 3 * (64 * word + k) + 2 < length bytes
@@ -370,11 +370,11 @@ word_free free word some fits =
     let bit : ℕ = trailing_zeros w64 (slice_index free word) in
     let below : bit < 64 = found.0 in
     let word_of : (64 * word + bit) / 64 ≡ word = omega arith in
-    let place : (64 * word + bit) % 64 ≡ bit = omega arith in
+    let index : (64 * word + bit) % 64 ≡ bit = omega arith in
     record {
       bit = bit;
       below = below;
-      unpainted = is_free-set free (64 * word + bit) (ap (λ (w : ℕ). bit_at (slice_index free w) ((64 * word + bit) % 64)) word_of ∙ ap (bit_at (slice_index free word)) place ∙ found.1);
+      unpainted = is_free-set free (64 * word + bit) (ap (λ (w : ℕ). bit_at (slice_index free w) ((64 * word + bit) % 64)) word_of ∙ ap (bit_at (slice_index free word)) index ∙ found.1);
     }
 
 pub filled_none : (background : Color) (free bytes : List ℕ) → IsFilled 0 background free bytes bytes
@@ -386,8 +386,8 @@ module _ (background : Color) (free old bytes new : List ℕ) (word : ℕ) where
   word_filled filled written =
       let apart : (i : ℕ) → (i / 64 ≡ word → bit_at (slice_index free word) (i % 64) ≡ 0) → pixel_at new i ≡ pixel_at bytes i = λ i clear. written.others i (λ k below this at.
       let word_of : i / 64 ≡ word = omega arith in
-      let place : i % 64 ≡ k = omega arith in
-      let none : bit_at (slice_index free word) k ≡ 0 = rw place at (clear word_of) in
+      let index : i % 64 ≡ k = omega arith in
+      let none : bit_at (slice_index free word) k ≡ 0 = rw index at (clear word_of) in
       omega (arith, this, none)) in
       record {
         size = written.size ∙ filled.size;
@@ -395,11 +395,11 @@ module _ (background : Color) (free old bytes new : List ℕ) (word : ℕ) where
           | inl earlier ↦ apart i (λ same. absurd (omega arith)) ∙ filled.filled i earlier
           | inr from ↦
               let same : i / 64 ≡ word = omega arith in
-              let place : 64 * word + i % 64 ≡ i = omega arith in
+              let index : 64 * word + i % 64 ≡ i = omega arith in
               let here : bit_at (slice_index free (i / 64)) (i % 64) ≡ bit_at (slice_index free word) (i % 64) = ap (λ (w : ℕ). bit_at (slice_index free w) (i % 64)) same in
               elim (cases_eq (bit_at (slice_index free word) (i % 64)) 1) [
                 | inl is ↦
-                    let colored : pixel_at new i ≡ background = rw place at (written.changed (i % 64) (omega arith) is) in
+                    let colored : pixel_at new i ≡ background = rw index at (written.changed (i % 64) (omega arith) is) in
                     colored ∙ ap (λ (o : Option Color). unwrap_or o background) (sym (painted_in-free free old i (is_free-set free i (here ∙ is))))
                 | inr not_free ↦
                     let clear : bit_at (slice_index free word) (i % 64) ≡ 0 = omega (arith, bit_at-lt (slice_index free word) (i % 64)) in

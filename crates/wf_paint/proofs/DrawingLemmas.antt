@@ -9,10 +9,10 @@ use Rattle.wf_def.specs.declared.point.Point.{Point}
 use Rattle.wf_def.specs.declared.choice.LayerKind.{LayerKind}
 use Rattle.wf_def.specs.declared.choice.LayerKind.TheVariants.{Points, Lines, Polygons}
 use Rattle.wf_paint.specs.Exact.{plus, difference, product}
-use Rattle.wf_paint.specs.Place.{PlaceValue, centre}
+use Rattle.wf_paint.specs.Position.{PositionValue, centre}
 use Rattle.wf_paint.specs.Coverage.{crosses, is_on}
-use Rattle.wf_paint.specs.View.{ViewValue, position, place_of}
-use Rattle.wf_paint.specs.Segments.{path, ring, places, paths, rings}
+use Rattle.wf_paint.specs.View.{ViewValue, position, position_of}
+use Rattle.wf_paint.specs.Segments.{path, ring, positions, paths, rings}
 use Rattle.wf_paint.specs.Operation.{ShapeValue, FillOf, LineOf, SquareOf, OperationValue, covers, shape_covers, color_at, in_color, part_squares, squares, polygon, line, style_operations, class_operations, class_at, feature_operations, layer_operations, entry_operations, operations}
 use Rattle.wf_paint.specs.Grid.{width_of}
 use Rattle.wf_paint.specs.Tile.{tile_view, tile_axis, tile_shift}
@@ -46,39 +46,39 @@ color_of_judged (op ∷ ops) background column row =
 
 -- ---- operations
 
-module _ (V W : ViewValue) (m n : ℤ) (shown : (p : Point) → place_of V p ≡ moved (sixteenths m) (sixteenths n) (place_of W p)) (u v : ℤ) where
-  places_moved : (points : List Point) → places V points ≡ map (moved (sixteenths m) (sixteenths n)) (places W points)
-  places_moved [] = refl
-  places_moved (p ∷ rest) =
-      ap (λ first. first ∷ places V rest) (shown p) ∙ ap (λ others. moved (sixteenths m) (sixteenths n) (place_of W p) ∷ others) (places_moved rest)
+module _ (V W : ViewValue) (m n : ℤ) (shown : (p : Point) → position_of V p ≡ moved (sixteenths m) (sixteenths n) (position_of W p)) (u v : ℤ) where
+  positions_moved : (points : List Point) → positions V points ≡ map (moved (sixteenths m) (sixteenths n)) (positions W points)
+  positions_moved [] = refl
+  positions_moved (p ∷ rest) =
+      ap (λ first. first ∷ positions V rest) (shown p) ∙ ap (λ others. moved (sixteenths m) (sixteenths n) (position_of W p) ∷ others) (positions_moved rest)
 
-  crossed_alike : (a b : PlaceValue) → crosses (centre u v) (segment (moved (sixteenths m) (sixteenths n) a) (moved (sixteenths m) (sixteenths n) b)) ≡ crosses (centre (plus u m) (plus v n)) (segment a b)
+  crossed_alike : (a b : PositionValue) → crosses (centre u v) (segment (moved (sixteenths m) (sixteenths n) a) (moved (sixteenths m) (sixteenths n) b)) ≡ crosses (centre (plus u m) (plus v n)) (segment a b)
   crossed_alike a b =
-      ap (λ (c : PlaceValue). crosses c (segment (moved (sixteenths m) (sixteenths n) a) (moved (sixteenths m) (sixteenths n) b))) (centre_moved u v m n)
+      ap (λ (c : PositionValue). crosses c (segment (moved (sixteenths m) (sixteenths n) a) (moved (sixteenths m) (sixteenths n) b))) (centre_moved u v m n)
       ∙ crosses_moved (sixteenths m) (sixteenths n) (centre (plus u m) (plus v n)) a b
 
-  on_alike : (width : ℕ) (a b : PlaceValue) → is_on width (centre u v) (segment (moved (sixteenths m) (sixteenths n) a) (moved (sixteenths m) (sixteenths n) b)) ≡ is_on width (centre (plus u m) (plus v n)) (segment a b)
+  on_alike : (width : ℕ) (a b : PositionValue) → is_on width (centre u v) (segment (moved (sixteenths m) (sixteenths n) a) (moved (sixteenths m) (sixteenths n) b)) ≡ is_on width (centre (plus u m) (plus v n)) (segment a b)
   on_alike width a b =
-      ap (λ (c : PlaceValue). is_on width c (segment (moved (sixteenths m) (sixteenths n) a) (moved (sixteenths m) (sixteenths n) b))) (centre_moved u v m n)
+      ap (λ (c : PositionValue). is_on width c (segment (moved (sixteenths m) (sixteenths n) a) (moved (sixteenths m) (sixteenths n) b))) (centre_moved u v m n)
       ∙ on_moved (sixteenths m) (sixteenths n) width (centre (plus u m) (plus v n)) a b
 
   rings_crossed : (parts : List (List Point)) → map (crosses (centre u v)) (rings V parts) ≡ map (crosses (centre (plus u m) (plus v n))) (rings W parts)
   unfolding rings
-  rings_crossed parts = flat_map_alike (λ part. ring (places V part)) (λ part. ring (places W part)) (crosses (centre u v)) (crosses (centre (plus u m) (plus v n)))
-      (λ part. ap (λ (ps : List PlaceValue). map (crosses (centre u v)) (ring ps)) (places_moved part)
-      ∙ ring_alike (sixteenths m) (sixteenths n) (crosses (centre u v)) (crosses (centre (plus u m) (plus v n))) crossed_alike (places W part)) parts
+  rings_crossed parts = flat_map_alike (λ part. ring (positions V part)) (λ part. ring (positions W part)) (crosses (centre u v)) (crosses (centre (plus u m) (plus v n)))
+      (λ part. ap (λ (ps : List PositionValue). map (crosses (centre u v)) (ring ps)) (positions_moved part)
+      ∙ ring_alike (sixteenths m) (sixteenths n) (crosses (centre u v)) (crosses (centre (plus u m) (plus v n))) crossed_alike (positions W part)) parts
 
   rings_on : (width : ℕ) (parts : List (List Point)) → map (is_on width (centre u v)) (rings V parts) ≡ map (is_on width (centre (plus u m) (plus v n))) (rings W parts)
   unfolding rings
-  rings_on width parts = flat_map_alike (λ part. ring (places V part)) (λ part. ring (places W part)) (is_on width (centre u v)) (is_on width (centre (plus u m) (plus v n)))
-      (λ part. ap (λ (ps : List PlaceValue). map (is_on width (centre u v)) (ring ps)) (places_moved part)
-      ∙ ring_alike (sixteenths m) (sixteenths n) (is_on width (centre u v)) (is_on width (centre (plus u m) (plus v n))) (on_alike width) (places W part)) parts
+  rings_on width parts = flat_map_alike (λ part. ring (positions V part)) (λ part. ring (positions W part)) (is_on width (centre u v)) (is_on width (centre (plus u m) (plus v n)))
+      (λ part. ap (λ (ps : List PositionValue). map (is_on width (centre u v)) (ring ps)) (positions_moved part)
+      ∙ ring_alike (sixteenths m) (sixteenths n) (is_on width (centre u v)) (is_on width (centre (plus u m) (plus v n))) (on_alike width) (positions W part)) parts
 
   paths_on : (width : ℕ) (parts : List (List Point)) → map (is_on width (centre u v)) (paths V parts) ≡ map (is_on width (centre (plus u m) (plus v n))) (paths W parts)
   unfolding paths
-  paths_on width parts = flat_map_alike (λ part. path (places V part)) (λ part. path (places W part)) (is_on width (centre u v)) (is_on width (centre (plus u m) (plus v n)))
-      (λ part. ap (λ (ps : List PlaceValue). map (is_on width (centre u v)) (path ps)) (places_moved part)
-      ∙ path_alike (sixteenths m) (sixteenths n) (is_on width (centre u v)) (is_on width (centre (plus u m) (plus v n))) (on_alike width) (places W part)) parts
+  paths_on width parts = flat_map_alike (λ part. path (positions V part)) (λ part. path (positions W part)) (is_on width (centre u v)) (is_on width (centre (plus u m) (plus v n)))
+      (λ part. ap (λ (ps : List PositionValue). map (is_on width (centre u v)) (path ps)) (positions_moved part)
+      ∙ path_alike (sixteenths m) (sixteenths n) (is_on width (centre u v)) (is_on width (centre (plus u m) (plus v n))) (on_alike width) (positions W part)) parts
 
   in_color_alike : (shape other : ShapeValue) → shape_covers shape u v ≡ shape_covers other (plus u m) (plus v n) → (color : Option Color) →
       map (judge u v) (in_color shape color) ≡ map (judge (plus u m) (plus v n)) (in_color other color)
@@ -95,8 +95,8 @@ module _ (V W : ViewValue) (m n : ℤ) (shown : (p : Point) → place_of V p ≡
   line_alike : (width : ℕ) (parts : List (List Point)) → shape_covers (LineOf width (paths V parts)) u v ≡ shape_covers (LineOf width (paths W parts)) (plus u m) (plus v n)
   line_alike width parts = on_any_alike width (centre u v) (centre (plus u m) (plus v n)) (paths V parts) (paths W parts) (paths_on width parts)
 
-  square_alike : (size : ℕ) (p : Point) → shape_covers (SquareOf size (place_of V p)) u v ≡ shape_covers (SquareOf size (place_of W p)) (plus u m) (plus v n)
-  square_alike size p = ap (λ (place : PlaceValue). shape_covers (SquareOf size place) u v) (shown p) ∙ square_moved size (place_of W p) m n u v
+  square_alike : (size : ℕ) (p : Point) → shape_covers (SquareOf size (position_of V p)) u v ≡ shape_covers (SquareOf size (position_of W p)) (plus u m) (plus v n)
+  square_alike size p = ap (λ (position : PositionValue). shape_covers (SquareOf size position) u v) (shown p) ∙ square_moved size (position_of W p) m n u v
 
   polygons_alike : (style : StyleDefinition) (parts : List (List Point)) → map (judge u v) (polygon V style parts) ≡ map (judge (plus u m) (plus v n)) (polygon W style parts)
   unfolding polygon
@@ -112,8 +112,8 @@ module _ (V W : ViewValue) (m n : ℤ) (shown : (p : Point) → place_of V p ≡
 
   part_alike : (style : StyleDefinition) (points : List Point) → map (judge u v) (part_squares V style points) ≡ map (judge (plus u m) (plus v n)) (part_squares W style points)
   unfolding part_squares
-  part_alike style points = flat_map_alike (λ p. in_color (SquareOf style.size (place_of V p)) style.color) (λ p. in_color (SquareOf style.size (place_of W p)) style.color) (judge u v) (judge (plus u m) (plus v n))
-      (λ p. in_color_alike (SquareOf style.size (place_of V p)) (SquareOf style.size (place_of W p)) (square_alike style.size p) style.color) points
+  part_alike style points = flat_map_alike (λ p. in_color (SquareOf style.size (position_of V p)) style.color) (λ p. in_color (SquareOf style.size (position_of W p)) style.color) (judge u v) (judge (plus u m) (plus v n))
+      (λ p. in_color_alike (SquareOf style.size (position_of V p)) (SquareOf style.size (position_of W p)) (square_alike style.size p) style.color) points
 
   squares_alike : (style : StyleDefinition) (parts : List (List Point)) → map (judge u v) (squares V style parts) ≡ map (judge (plus u m) (plus v n)) (squares W style parts)
   unfolding squares

@@ -7,7 +7,7 @@ use Rattle.std.proofs.Math.IntN.{suc_ℤ-*ℤ, *ℤ_comm, *ℤ-zero}
 use Rattle.std.proofs.lemmas.List.Sums.{sum_by-cons, sum_by_push, sum_by_more}
 use Rattle.std.proofs.lemmas.List.Elements.{All-nil, All-push, All-head, All-tail, All-weaker, All-more}
 use Rattle.wf_paint.specs.Exact.{plus, difference, product, is_less}
-use Rattle.wf_paint.specs.Place.{PlaceValue, middle, centre}
+use Rattle.wf_paint.specs.Position.{PositionValue, middle, centre}
 use Rattle.wf_paint.specs.Coverage.{run, rise, is_left_of, is_beside, meets, crosses, is_inside}
 use Rattle.wf_paint.specs.declared.segment.Segment.{Segment}
 use Rattle.wf_paint.specs.Limit.{half_side, pixel_side}
@@ -23,12 +23,12 @@ or_false false = refl
 -- ---- one edge
 
 -- it goes up where the level lies between its ends
-pub beside_rises : (c low high : PlaceValue) → is_beside c low high ≡ true → pos 1 ≤ℤ difference high.y low.y
+pub beside_rises : (c low high : PositionValue) → is_beside c low high ≡ true → pos 1 ≤ℤ difference high.y low.y
 unfolding is_beside is_less difference
 beside_rises c low high beside = grind (arith, ints)
 
 -- whether it does depends only on y
-pub beside_alike : (x z y : ℤ) (low high : PlaceValue) → is_beside (record { x = x; y = y }) low high ≡ is_beside (record { x = z; y = y }) low high
+pub beside_alike : (x z y : ℤ) (low high : PositionValue) → is_beside (record { x = x; y = y }) low high ≡ is_beside (record { x = z; y = y }) low high
 unfolding is_beside
 beside_alike x z y low high = refl
 
@@ -67,7 +67,7 @@ less_steps start shift (pos r) bound u some =
 less_steps start shift (negsuc r) bound u some = absurd (omega (arith, ints))
 
 -- the columns left of it are those with few enough steps of its rise
-pub left_steps : (level : ℤ) (u : ℕ) (low high : PlaceValue) → pos 1 ≤ℤ difference high.y low.y →
+pub left_steps : (level : ℤ) (u : ℕ) (low high : PositionValue) → pos 1 ≤ℤ difference high.y low.y →
     is_left_of (record { x = middle (pos u); y = level }) low high
     ≡ is_less (product (product (pos pixel_side) (difference high.y low.y)) (pos u)) (difference (product (difference level low.y) (difference high.x low.x)) (product (difference (pos half_side) low.x) (difference high.y low.y)))
 unfolding is_left_of run rise
@@ -79,7 +79,7 @@ rise_steps rise up = omega (arith, ints)
 
 -- ---- one segment, either way round
 
-module _ (level x : ℤ) (from to : PlaceValue) where
+module _ (level x : ℤ) (from to : PositionValue) where
   one_way : is_beside (record { x = x; y = level }) from to ≡ true → is_beside (record { x = x; y = level }) to from ≡ false
   unfolding is_beside is_less
   one_way beside = grind (arith, ints)
@@ -111,7 +111,7 @@ module _ (level x : ℤ) (from to : PlaceValue) where
 -- ---- rows without crossings
 
 -- nothing crosses a level below both ends
-pub crosses_below : (c : PlaceValue) (edge : Segment) (level : ℤ) → is_less c.y level ≡ true → level ≤ℤ edge.from.y → level ≤ℤ edge.to.y → crosses c edge ≡ false
+pub crosses_below : (c : PositionValue) (edge : Segment) (level : ℤ) → is_less c.y level ≡ true → level ≤ℤ edge.from.y → level ≤ℤ edge.to.y → crosses c edge ≡ false
 unfolding crosses meets is_beside is_less
 crosses_below c edge level below from to =
     let first : int_lt c.y edge.from.y ≡ true = grind (arith, ints) in
@@ -119,7 +119,7 @@ crosses_below c edge level below from to =
     rw (first, second) refl
 
 -- or one that isn't below any
-pub crosses_above : (c : PlaceValue) (edge : Segment) (level : ℤ) → is_less c.y level ≡ false → edge.from.y ≤ℤ level → edge.to.y ≤ℤ level → crosses c edge ≡ false
+pub crosses_above : (c : PositionValue) (edge : Segment) (level : ℤ) → is_less c.y level ≡ false → edge.from.y ≤ℤ level → edge.to.y ≤ℤ level → crosses c edge ≡ false
 unfolding crosses meets is_beside is_less
 crosses_above c edge level above from to =
     let first : int_lt c.y edge.from.y ≡ false = grind (arith, ints) in
@@ -134,15 +134,15 @@ count_none {X} test (x ∷ xs) none =
     ∙ ap (λ (b : Bool). cond b 1 0 + count_by test xs) (All-head (λ y. test y ≡ false) x xs none)
     ∙ ap (λ (n : ℕ). 0 + n) (count_none test xs (All-tail (λ y. test y ≡ false) x xs none))
 
-none_inside : (c : PlaceValue) (edges : List Segment) → All (λ edge. crosses c edge ≡ false) edges → is_inside c edges ≡ false
+none_inside : (c : PositionValue) (edges : List Segment) → All (λ edge. crosses c edge ≡ false) edges → is_inside c edges ≡ false
 unfolding is_inside
 none_inside c edges none = ap (λ (n : ℕ). n % 2 == 1) (count_none (crosses c) edges none)
 
-pub inside_below : (c : PlaceValue) (edges : List Segment) (level : ℤ) → is_less c.y level ≡ true → All (λ edge. (level ≤ℤ edge.from.y) × (level ≤ℤ edge.to.y)) edges → is_inside c edges ≡ false
+pub inside_below : (c : PositionValue) (edges : List Segment) (level : ℤ) → is_less c.y level ≡ true → All (λ edge. (level ≤ℤ edge.from.y) × (level ≤ℤ edge.to.y)) edges → is_inside c edges ≡ false
 inside_below c edges level below ends = none_inside c edges
     (All-weaker (λ edge. (level ≤ℤ edge.from.y) × (level ≤ℤ edge.to.y)) (λ edge. crosses c edge ≡ false) (λ edge e. crosses_below c edge level below e.0 e.1) edges ends)
 
-pub inside_above : (c : PlaceValue) (edges : List Segment) (level : ℤ) → is_less c.y level ≡ false → All (λ edge. (edge.from.y ≤ℤ level) × (edge.to.y ≤ℤ level)) edges → is_inside c edges ≡ false
+pub inside_above : (c : PositionValue) (edges : List Segment) (level : ℤ) → is_less c.y level ≡ false → All (λ edge. (edge.from.y ≤ℤ level) × (edge.to.y ≤ℤ level)) edges → is_inside c edges ≡ false
 inside_above c edges level above ends = none_inside c edges
     (All-weaker (λ edge. (edge.from.y ≤ℤ level) × (edge.to.y ≤ℤ level)) (λ edge. crosses c edge ≡ false) (λ edge e. crosses_above c edge level above e.0 e.1) edges ends)
 

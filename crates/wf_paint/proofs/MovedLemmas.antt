@@ -5,7 +5,7 @@ use Rattle.std.specs.List.{count_by, list_any, flat_map, fold}
 use Rattle.std.proofs.lemmas.Int.{ints}
 use Rattle.std.proofs.lemmas.List.{map-append}
 use Rattle.wf_paint.specs.Exact.{plus, difference, product, quotient, is_less}
-use Rattle.wf_paint.specs.Place.{PlaceValue, middle, centre, turned}
+use Rattle.wf_paint.specs.Position.{PositionValue, middle, centre, turned}
 use Rattle.wf_paint.specs.Coverage.{run, rise, is_left_of, is_beside, meets, crosses, is_inside, deviation, margin, is_along, is_in_band, is_across, is_on_flat, is_steep, is_on, is_on_any}
 use Rattle.wf_paint.specs.Segments.{path_from, path, ring}
 use Rattle.wf_paint.specs.Square.{square_start, is_in_span, is_in_square}
@@ -24,23 +24,23 @@ unfolding difference is_less
 less_moved a b s = grind (arith, ints)
 
 -- moved s sixteenths left and t sixteenths down
-abbrev pub moved : ℤ → ℤ → PlaceValue → PlaceValue
+abbrev pub moved : ℤ → ℤ → PositionValue → PositionValue
 moved s t p = record { x = difference p.x s; y = difference p.y t }
 
 -- ---- segments
 
-abbrev pub segment : PlaceValue → PlaceValue → Segment
+abbrev pub segment : PositionValue → PositionValue → Segment
 segment a b = record { from = a; to = b }
 
-run_moved : (s t : ℤ) (a b : PlaceValue) → run (moved s t a) (moved s t b) ≡ run a b
+run_moved : (s t : ℤ) (a b : PositionValue) → run (moved s t a) (moved s t b) ≡ run a b
 unfolding run
 run_moved s t a b = difference_moved a.x b.x s
 
-rise_moved : (s t : ℤ) (a b : PlaceValue) → rise (moved s t a) (moved s t b) ≡ rise a b
+rise_moved : (s t : ℤ) (a b : PositionValue) → rise (moved s t a) (moved s t b) ≡ rise a b
 unfolding rise
 rise_moved s t a b = difference_moved a.y b.y t
 
-left_of_moved : (s t : ℤ) (c low high : PlaceValue) → is_left_of (moved s t c) (moved s t low) (moved s t high) ≡ is_left_of c low high
+left_of_moved : (s t : ℤ) (c low high : PositionValue) → is_left_of (moved s t c) (moved s t low) (moved s t high) ≡ is_left_of c low high
 unfolding is_left_of
 left_of_moved s t c low high =
     let across = run_moved s t low c in
@@ -49,28 +49,28 @@ left_of_moved s t c low high =
     let along = run_moved s t low high in
     cc
 
-beside_moved : (s t : ℤ) (c low high : PlaceValue) → is_beside (moved s t c) (moved s t low) (moved s t high) ≡ is_beside c low high
+beside_moved : (s t : ℤ) (c low high : PositionValue) → is_beside (moved s t c) (moved s t low) (moved s t high) ≡ is_beside c low high
 unfolding is_beside
 beside_moved s t c low high =
     let below = less_moved c.y low.y t in
     let above = less_moved c.y high.y t in
     cc
 
-meets_moved : (s t : ℤ) (c low high : PlaceValue) → meets (moved s t c) (moved s t low) (moved s t high) ≡ meets c low high
+meets_moved : (s t : ℤ) (c low high : PositionValue) → meets (moved s t c) (moved s t low) (moved s t high) ≡ meets c low high
 unfolding meets
 meets_moved s t c low high =
     let beside = beside_moved s t c low high in
     let left_of = left_of_moved s t c low high in
     cc
 
-pub crosses_moved : (s t : ℤ) (c a b : PlaceValue) → crosses (moved s t c) (segment (moved s t a) (moved s t b)) ≡ crosses c (segment a b)
+pub crosses_moved : (s t : ℤ) (c a b : PositionValue) → crosses (moved s t c) (segment (moved s t a) (moved s t b)) ≡ crosses c (segment a b)
 unfolding crosses
 crosses_moved s t c a b =
     let up = meets_moved s t c a b in
     let down = meets_moved s t c b a in
     cc
 
-deviation_moved : (s t : ℤ) (c a b : PlaceValue) → deviation (moved s t c) (moved s t a) (moved s t b) ≡ deviation c a b
+deviation_moved : (s t : ℤ) (c a b : PositionValue) → deviation (moved s t c) (moved s t a) (moved s t b) ≡ deviation c a b
 unfolding deviation
 deviation_moved s t c a b =
     let risen = rise_moved s t a c in
@@ -79,32 +79,32 @@ deviation_moved s t c a b =
     let up = rise_moved s t a b in
     cc
 
-margin_moved : (s t : ℤ) (width : ℕ) (a b : PlaceValue) → margin width (moved s t a) (moved s t b) ≡ margin width a b
+margin_moved : (s t : ℤ) (width : ℕ) (a b : PositionValue) → margin width (moved s t a) (moved s t b) ≡ margin width a b
 unfolding margin
 margin_moved s t width a b = ap (product (pos (half_side * width))) (run_moved s t a b)
 
-band_moved : (s t : ℤ) (width : ℕ) (c a b : PlaceValue) → is_in_band width (moved s t c) (moved s t a) (moved s t b) ≡ is_in_band width c a b
+band_moved : (s t : ℤ) (width : ℕ) (c a b : PositionValue) → is_in_band width (moved s t c) (moved s t a) (moved s t b) ≡ is_in_band width c a b
 unfolding is_in_band
 band_moved s t width c a b =
     let far = deviation_moved s t c a b in
     let half = margin_moved s t width a b in
     cc
 
-along_moved : (s t : ℤ) (c a b : PlaceValue) → is_along (moved s t c) (moved s t a) (moved s t b) ≡ is_along c a b
+along_moved : (s t : ℤ) (c a b : PositionValue) → is_along (moved s t c) (moved s t a) (moved s t b) ≡ is_along c a b
 unfolding is_along
 along_moved s t c a b =
     let left = less_moved c.x a.x s in
     let right = less_moved b.x c.x s in
     cc
 
-across_moved : (s t : ℤ) (width : ℕ) (c a b : PlaceValue) → is_across width (moved s t c) (moved s t a) (moved s t b) ≡ is_across width c a b
+across_moved : (s t : ℤ) (width : ℕ) (c a b : PositionValue) → is_across width (moved s t c) (moved s t a) (moved s t b) ≡ is_across width c a b
 unfolding is_across
 across_moved s t width c a b =
     let along = along_moved s t c a b in
     let band = band_moved s t width c a b in
     cc
 
-flat_moved : (s t : ℤ) (width : ℕ) (c a b : PlaceValue) → is_on_flat width (moved s t c) (moved s t a) (moved s t b) ≡ is_on_flat width c a b
+flat_moved : (s t : ℤ) (width : ℕ) (c a b : PositionValue) → is_on_flat width (moved s t c) (moved s t a) (moved s t b) ≡ is_on_flat width c a b
 unfolding is_on_flat
 flat_moved s t width c a b =
     let order = less_moved b.x a.x s in
@@ -112,14 +112,14 @@ flat_moved s t width c a b =
     let back = across_moved s t width c b a in
     cc
 
-steep_moved : (s t : ℤ) (a b : PlaceValue) → is_steep (moved s t a) (moved s t b) ≡ is_steep a b
+steep_moved : (s t : ℤ) (a b : PositionValue) → is_steep (moved s t a) (moved s t b) ≡ is_steep a b
 unfolding is_steep
 steep_moved s t a b =
     let along = run_moved s t a b in
     let up = rise_moved s t a b in
     cc
 
-pub on_moved : (s t : ℤ) (width : ℕ) (c a b : PlaceValue) → is_on width (moved s t c) (segment (moved s t a) (moved s t b)) ≡ is_on width c (segment a b)
+pub on_moved : (s t : ℤ) (width : ℕ) (c a b : PositionValue) → is_on width (moved s t c) (segment (moved s t a) (moved s t b)) ≡ is_on width c (segment a b)
 unfolding is_on
 on_moved s t width c a b =
     let steep = steep_moved s t a b in
@@ -139,18 +139,18 @@ flat_map_alike f g h k alike (x ∷ xs) =
     ∙ ap (λ rest. map k (g x) ++ rest) (flat_map_alike f g h k alike xs)
     ∙ sym (map-append k (g x) (flat_map g xs))
 
-module _ (s t : ℤ) (test here : Segment → Bool) (agree : (a b : PlaceValue) → test (segment (moved s t a) (moved s t b)) ≡ here (segment a b)) where
-  way_alike : (a : PlaceValue) (xs : List PlaceValue) → map test (path_from (moved s t a) (map (moved s t) xs)) ≡ map here (path_from a xs)
+module _ (s t : ℤ) (test here : Segment → Bool) (agree : (a b : PositionValue) → test (segment (moved s t a) (moved s t b)) ≡ here (segment a b)) where
+  way_alike : (a : PositionValue) (xs : List PositionValue) → map test (path_from (moved s t a) (map (moved s t) xs)) ≡ map here (path_from a xs)
   way_alike a [] = refl
   way_alike a (b ∷ xs) =
       ap (λ first. first ∷ map test (path_from (moved s t b) (map (moved s t) xs))) (agree a b)
       ∙ ap (λ rest. here (segment a b) ∷ rest) (way_alike b xs)
 
-  pub path_alike : (xs : List PlaceValue) → map test (path (map (moved s t) xs)) ≡ map here (path xs)
+  pub path_alike : (xs : List PositionValue) → map test (path (map (moved s t) xs)) ≡ map here (path xs)
   path_alike [] = refl
   path_alike (a ∷ xs) = way_alike a xs
 
-  pub ring_alike : (xs : List PlaceValue) → map test (ring (map (moved s t) xs)) ≡ map here (ring xs)
+  pub ring_alike : (xs : List PositionValue) → map test (ring (map (moved s t) xs)) ≡ map here (ring xs)
   ring_alike [] = refl
   ring_alike (a ∷ xs) =
       ap (λ ways. map test (path_from (moved s t a) ways)) (sym (map-append (moved s t) xs (a ∷ [])))
@@ -168,11 +168,11 @@ any_of_tests test [] = refl
 any_of_tests test (x ∷ xs) = ap (λ b. test x || b) (any_of_tests test xs)
 
 -- whether a position is inside depends only on which edges its ray meets
-pub inside_alike : (c d : PlaceValue) (xs ys : List Segment) → map (crosses c) xs ≡ map (crosses d) ys → is_inside c xs ≡ is_inside d ys
+pub inside_alike : (c d : PositionValue) (xs ys : List Segment) → map (crosses c) xs ≡ map (crosses d) ys → is_inside c xs ≡ is_inside d ys
 unfolding is_inside
 inside_alike c d xs ys same = ap (λ (n : ℕ). n % 2 == 1) (count_of_tests (crosses c) xs ∙ ap (count_by (λ b. b)) same ∙ sym (count_of_tests (crosses d) ys))
 
-pub on_any_alike : (width : ℕ) (c d : PlaceValue) (xs ys : List Segment) → map (is_on width c) xs ≡ map (is_on width d) ys → is_on_any width c xs ≡ is_on_any width d ys
+pub on_any_alike : (width : ℕ) (c d : PositionValue) (xs ys : List Segment) → map (is_on width c) xs ≡ map (is_on width d) ys → is_on_any width c xs ≡ is_on_any width d ys
 unfolding is_on_any
 on_any_alike width c d xs ys same = any_of_tests (is_on width c) xs ∙ ap (list_any (λ b. b)) same ∙ sym (any_of_tests (is_on width d) ys)
 
@@ -214,7 +214,7 @@ span_moved size z m column =
     let end = end_moved column (quotient z (pos pixel_side)) m (pos (size / 2)) (pos size) in
     rw (quotient_moved z m) cc
 
-pub square_moved : (size : ℕ) (p : PlaceValue) (m n column row : ℤ) →
+pub square_moved : (size : ℕ) (p : PositionValue) (m n column row : ℤ) →
     is_in_square size (moved (sixteenths m) (sixteenths n) p) column row ≡ is_in_square size p (plus column m) (plus row n)
 unfolding is_in_square
 square_moved size p m n column row =

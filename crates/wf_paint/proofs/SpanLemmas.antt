@@ -3,7 +3,7 @@ use Rattle.std.proofs.Common.{◌≡◌, Bool, true, false, ℕ, ◌+◌, ◌<�
 use Rattle.std.proofs.lemmas.Bool.{false≢true, cases_lt}
 use Rattle.std.proofs.lemmas.Bool.Decides.{nat_tests}
 use Rattle.wf_def.specs.declared.color.Color.{Color}
-use Rattle.wf_paint.specs.Place.{PlaceValue}
+use Rattle.wf_paint.specs.Position.{PositionValue}
 use Rattle.wf_paint.specs.Square.{is_in_span, is_in_square}
 use Rattle.wf_paint.specs.Canvas.{CanvasValue}
 use Rattle.wf_paint.specs.Shown.{IsColored, is_in_run}
@@ -113,7 +113,7 @@ unfolding is_within
 box_row columns rows most row within from to = record { within = within; passed = λ u below. grind (arith, nat_tests) }
 
 -- a square is the box of its columns and rows
-pub square_same : (size : ℕ) (p : PlaceValue) (width height : ℕ) (columns rows : Span) →
+pub square_same : (size : ℕ) (p : PositionValue) (width height : ℕ) (columns rows : Span) →
     IsSpanOf (λ u. is_in_span size p.x (pos u)) width columns → IsSpanOf (λ u. is_in_span size p.y (pos u)) height rows →
     (column row : ℕ) → column < width → row < height → is_in_square size p (pos column) (pos row) ≡ (is_within columns column && is_within rows row)
 unfolding is_in_square

@@ -6,7 +6,7 @@ use Rattle.std.proofs.Math.Nat.{le-div_iff_mul-le, mul-le-mul, mul_comm}
 use Rattle.std.proofs.Math.IntN.{negsuc-*ℤ-pos}
 use Rattle.std.proofs.lemmas.Bool.{cases_lt}
 use Rattle.wf_paint.specs.Exact.{plus, product, is_less}
-use Rattle.wf_paint.specs.Place.{middle}
+use Rattle.wf_paint.specs.Position.{middle}
 use Rattle.wf_paint.specs.Limit.{half_side, pixel_side}
 
 -- two comparisons agree where each follows from the other
@@ -38,9 +38,9 @@ no_multiples (pos s) (negsuc b) u some none = less_alike 0 0 u 0 (λ below. absu
 no_multiples (negsuc s) bound u some none = absurd (omega (arith, ints))
 
 -- a centre is below a position iff its pixel, in sixteenths, is half a pixel below it
-pub centre_less : (u place : ℤ) → is_less (middle u) place ≡ is_less (product (pos pixel_side) u) (place -ℤ pos half_side)
+pub centre_less : (u position : ℤ) → is_less (middle u) position ≡ is_less (product (pos pixel_side) u) (position -ℤ pos half_side)
 unfolding plus is_less
-centre_less u place = grind (arith, ints)
+centre_less u position = grind (arith, ints)
 
 -- the multiples of a divisor that aren't above a number are those up to its quotient
 pub multiples_to : (divisor rest u : ℕ) (whole : ℤ) → rest < divisor →

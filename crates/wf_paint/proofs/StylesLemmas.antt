@@ -3,7 +3,7 @@ use Rattle.std.proofs.Common.{◌≡◌, ℕ, ◌≤◌, ◌<◌, ◌⊎◌, inl
 use Rattle.std.specs.Option.{option_or, is_some}
 use Rattle.std.proofs.lemmas.Bool.{false≢true, cases_lt}
 use Rattle.wf_def.specs.declared.color.Color.{Color}
-use Rattle.wf_paint.specs.Place.{centre}
+use Rattle.wf_paint.specs.Position.{centre}
 use Rattle.wf_paint.specs.Operation.{ShapeValue, OperationValue, FillOf, LineOf, in_color, shape_covers}
 use Rattle.wf_paint.specs.Canvas.{CanvasValue, IsAlike}
 use Rattle.wf_paint.specs.Shown.{IsShown, seen, color_where}

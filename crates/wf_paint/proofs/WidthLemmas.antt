@@ -7,7 +7,7 @@ use Rattle.std.proofs.Math.Nat.{mul-le-mul}
 use Rattle.std.proofs.Math.IntN.{pos-*ℤ-pos, pos-*ℤ-negsuc}
 use Rattle.wf_paint.specs.Exact.{product, opposite, is_less}
 use Rattle.wf_paint.specs.Level.{is_in_margin}
-use Rattle.wf_paint.specs.Place.{PlaceValue, turned}
+use Rattle.wf_paint.specs.Position.{PositionValue, turned}
 use Rattle.wf_paint.specs.Coverage.{run, deviation, margin, is_along, is_in_band, is_across, is_on_flat, is_steep, is_on, is_on_any}
 use Rattle.wf_paint.specs.declared.segment.Segment.{Segment}
 use Rattle.wf_paint.specs.Limit.{half_side}
@@ -54,25 +54,25 @@ times_wider z (negsuc n) narrow wide wider inside =
 
 -- ---- lines
 
-pub band_wider : (narrow wide : ℕ) (c a b : PlaceValue) → narrow ≤ wide → is_in_band narrow c a b ≡ true → is_in_band wide c a b ≡ true
+pub band_wider : (narrow wide : ℕ) (c a b : PositionValue) → narrow ≤ wide → is_in_band narrow c a b ≡ true → is_in_band wide c a b ≡ true
 unfolding margin
 band_wider narrow wide c a b wider inside =
     band_level wide c a b ∙ times_wider (deviation c a b) (run a b) narrow wide wider (sym (band_level narrow c a b) ∙ inside)
 
-across_wider : (narrow wide : ℕ) (c a b : PlaceValue) → narrow ≤ wide → is_across narrow c a b ≡ true → is_across wide c a b ≡ true
+across_wider : (narrow wide : ℕ) (c a b : PositionValue) → narrow ≤ wide → is_across narrow c a b ≡ true → is_across wide c a b ≡ true
 unfolding is_across
 across_wider narrow wide c a b wider covered =
     let parts = and_parts (is_along c a b) (is_in_band narrow c a b) covered in
     and_from (is_along c a b) (is_in_band wide c a b) parts.0 (band_wider narrow wide c a b wider parts.1)
 
-flat_wider : (narrow wide : ℕ) (c a b : PlaceValue) → narrow ≤ wide → is_on_flat narrow c a b ≡ true → is_on_flat wide c a b ≡ true
+flat_wider : (narrow wide : ℕ) (c a b : PositionValue) → narrow ≤ wide → is_on_flat narrow c a b ≡ true → is_on_flat wide c a b ≡ true
 flat_wider narrow wide c a b wider covered = ⊎_elim
     (λ back. flat_back wide c a b back ∙ across_wider narrow wide c b a wider (sym (flat_back narrow c a b back) ∙ covered))
     (λ forth. flat_forth wide c a b forth ∙ across_wider narrow wide c a b wider (sym (flat_forth narrow c a b forth) ∙ covered))
     (cases_Bool (is_less b.x a.x))
 
 -- the line along a segment
-pub on_wider : (narrow wide : ℕ) (c : PlaceValue) (s : Segment) → narrow ≤ wide → is_on narrow c s ≡ true → is_on wide c s ≡ true
+pub on_wider : (narrow wide : ℕ) (c : PositionValue) (s : Segment) → narrow ≤ wide → is_on narrow c s ≡ true → is_on wide c s ≡ true
 on_wider narrow wide c s wider covered = ⊎_elim
     (λ steep. on_steep wide c s steep ∙ flat_wider narrow wide (turned c) (turned s.from) (turned s.to) wider (sym (on_steep narrow c s steep) ∙ covered))
     (λ flat. on_flat wide c s flat ∙ flat_wider narrow wide c s.from s.to wider (sym (on_flat narrow c s flat) ∙ covered))
@@ -86,6 +86,6 @@ any_more test other (x ∷ rest) more found = ⊎_elim
     (or_cases (test x) (list_any test rest) found)
 
 -- the lines along segments
-pub any_wider : (narrow wide : ℕ) (c : PlaceValue) (segments : List Segment) → narrow ≤ wide → is_on_any narrow c segments ≡ true → is_on_any wide c segments ≡ true
+pub any_wider : (narrow wide : ℕ) (c : PositionValue) (segments : List Segment) → narrow ≤ wide → is_on_any narrow c segments ≡ true → is_on_any wide c segments ≡ true
 unfolding is_on_any
 any_wider narrow wide c segments wider covered = any_more (is_on narrow c) (is_on wide c) segments (λ s on. on_wider narrow wide c s wider on) covered

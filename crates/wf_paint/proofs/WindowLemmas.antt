@@ -17,9 +17,9 @@ bit_of_word n i below =
 bit_moved : (n up i : ℕ) → up + i < 64 → bit_at (n * 2 ^ up % 2 ^ 64) (up + i) ≡ bit_at n i
 bit_moved n up i below =
     let plain : n * 2 ^ up + 0 ≡ n * 2 ^ up = omega arith in
-    let place : up + i - up ≡ i = omega arith in
+    let index : up + i - up ≡ i = omega arith in
     let some : 0 < 2 ^ up = pow_pos up in
-    bit_of_word (n * 2 ^ up) (up + i) below ∙ ap (λ (m : ℕ). bit_at m (up + i)) (sym plain) ∙ bit_at_cat_high n up 0 (up + i) some (omega arith) ∙ ap (bit_at n) place
+    bit_of_word (n * 2 ^ up) (up + i) below ∙ ap (λ (m : ℕ). bit_at m (up + i)) (sym plain) ∙ bit_at_cat_high n up 0 (up + i) some (omega arith) ∙ ap (bit_at n) index
 
 left_least : (a b c : ℕ) → a ≡ max b c → b ≤ a
 left_least a b c is = omega arith
@@ -39,10 +39,10 @@ module _ (first last bit : ℕ) (within : bit < 64) where
   pub joined_last : (k : ℕ) → 64 ≤ bit + k → k < 64 → bit_at last (bit + k - 64) ≤ bit_at both k
   joined_last k from below =
       let j : ℕ = bit + k - 64 in
-      let place : 63 - bit + (1 + j) ≡ k = omega arith in
+      let index : 63 - bit + (1 + j) ≡ k = omega arith in
       let up : bit_at (last * 2 ^ 1 % 2 ^ 64 * 2 ^ (63 - bit) % 2 ^ 64) (63 - bit + (1 + j)) ≡ bit_at last j =
       bit_moved (last * 2 ^ 1 % 2 ^ 64) (63 - bit) (1 + j) (omega arith) ∙ bit_moved last 1 j (omega arith) in
-      let same : bit_at (last * 2 ^ 1 % 2 ^ 64 * 2 ^ (63 - bit) % 2 ^ 64) k ≡ bit_at last j = rw place at up in
+      let same : bit_at (last * 2 ^ 1 % 2 ^ 64 * 2 ^ (63 - bit) % 2 ^ 64) k ≡ bit_at last j = rw index at up in
       rw same at (right_least _ _ _ (bit_at_or (first / 2 ^ bit) (last * 2 ^ 1 % 2 ^ 64 * 2 ^ (63 - bit) % 2 ^ 64) k))
 
 -- no bit is set where none is left after the others were moved out
@@ -61,12 +61,12 @@ window_painted free start end bits order most first last none i from to =
     elim (cases_lt (start % 64 + k) 64) [
       | inl below ↦
           let word : i / 64 ≡ start / 64 = omega arith in
-          let place : i % 64 ≡ start % 64 + k = omega arith in
+          let index : i % 64 ≡ start % 64 + k = omega arith in
           let low : bit_at (slice_index free (start / 64)) (start % 64 + k) ≡ 0 = omega (arith, first k below, clear) in
-          is_free-clear free i (ap (λ (w : ℕ). bit_at (slice_index free w) (i % 64)) word ∙ ap (bit_at (slice_index free (start / 64))) place ∙ low)
+          is_free-clear free i (ap (λ (w : ℕ). bit_at (slice_index free w) (i % 64)) word ∙ ap (bit_at (slice_index free (start / 64))) index ∙ low)
       | inr above ↦
           let word : i / 64 ≡ (end - 1) / 64 = omega arith in
-          let place : i % 64 ≡ start % 64 + k - 64 = omega arith in
+          let index : i % 64 ≡ start % 64 + k - 64 = omega arith in
           let high : bit_at (slice_index free ((end - 1) / 64)) (start % 64 + k - 64) ≡ 0 = omega (arith, last k above (omega arith), clear) in
-          is_free-clear free i (ap (λ (w : ℕ). bit_at (slice_index free w) (i % 64)) word ∙ ap (bit_at (slice_index free ((end - 1) / 64))) place ∙ high)
+          is_free-clear free i (ap (λ (w : ℕ). bit_at (slice_index free w) (i % 64)) word ∙ ap (bit_at (slice_index free ((end - 1) / 64))) index ∙ high)
     ]

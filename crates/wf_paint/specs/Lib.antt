@@ -1,7 +1,7 @@
 pub mod Limit
 pub mod Exact
 pub mod Near
-pub mod Place
+pub mod Position
 pub mod Coverage
 pub mod Square
 pub mod View

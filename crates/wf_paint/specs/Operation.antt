@@ -7,10 +7,10 @@ use Rattle.wf_def.specs.declared.color.Color.{Color}
 use Rattle.wf_def.specs.declared.point.Point.{Point}
 use Rattle.wf_def.specs.declared.choice.LayerKind.{LayerKind}
 use Rattle.wf_def.specs.declared.choice.LayerKind.TheVariants.{Points, Lines, Polygons}
-use Rattle.wf_paint.specs.Place.{PlaceValue, centre}
+use Rattle.wf_paint.specs.Position.{PositionValue, centre}
 use Rattle.wf_paint.specs.Coverage.{is_inside, is_on_any}
 use Rattle.wf_paint.specs.Square.{is_in_square}
-use Rattle.wf_paint.specs.View.{ViewValue, place_of}
+use Rattle.wf_paint.specs.View.{ViewValue, position_of}
 use Rattle.wf_paint.specs.Segments.{paths, rings}
 use Rattle.wf_paint.specs.declared.segment.Segment.{Segment}
 use Rattle.wf_paint.specs.declared.operation.Shape.{Shape}
@@ -21,7 +21,7 @@ use Rattle.wf_paint.specs.declared.operation.Operation.{Operation}
 pub data ShapeValue : Type 0 where
   FillOf : List Segment → ShapeValue
   LineOf : ℕ → List Segment → ShapeValue
-  SquareOf : ℕ → PlaceValue → ShapeValue
+  SquareOf : ℕ → PositionValue → ShapeValue
 
 -- a shape in a colour
 pub record OperationValue : Type 0 where
@@ -32,7 +32,7 @@ pub record OperationValue : Type 0 where
 abbrev pub shape_value : Shape → ShapeValue
 shape_value (Fill edges) = FillOf edges.now
 shape_value (Line width segments) = LineOf width segments.now
-shape_value (Square size place) = SquareOf size place
+shape_value (Square size position) = SquareOf size position
 
 abbrev pub operation_value : Operation → OperationValue
 operation_value op = record { shape = shape_value op.shape; color = op.color }
@@ -43,7 +43,7 @@ operation_value op = record { shape = shape_value op.shape; color = op.color }
 abbrev pub shape_covers : ShapeValue → ℤ → ℤ → Bool
 shape_covers (FillOf edges) column row = is_inside (centre column row) edges
 shape_covers (LineOf width segments) column row = is_on_any width (centre column row) segments
-shape_covers (SquareOf size place) column row = is_in_square size place column row
+shape_covers (SquareOf size position) column row = is_in_square size position column row
 
 unfoldable pub covers : OperationValue → ℤ → ℤ → Bool
 covers op column row = shape_covers op.shape column row
@@ -67,7 +67,7 @@ in_color shape (Some color) = record { shape = shape; color = color } ∷ []
 
 -- a square for each point
 unfoldable pub part_squares : ViewValue → StyleDefinition → List Point → List OperationValue
-part_squares view style points = flat_map (λ point. in_color (SquareOf style.size (place_of view point)) style.color) points
+part_squares view style points = flat_map (λ point. in_color (SquareOf style.size (position_of view point)) style.color) points
 
 unfoldable pub squares : ViewValue → StyleDefinition → List (List Point) → List OperationValue
 squares view style parts = flat_map (part_squares view style) parts

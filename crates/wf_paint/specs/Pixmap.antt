@@ -37,8 +37,8 @@ pub record IsPicture (width height : ℕ) (picture : ℤ → ℤ → Color) (p :
   pub pixels : (i : ℕ) → i < width * height → pixel_at p.bytes i ≡ picture (pos (column_of width i)) (pos (row_of width height i))
 
 -- the pixel at one index has the colour, every other its old one
-pub record IsSet (place : ℕ) (color : Color) (old new : PixmapValue) : Type 0 where
+pub record IsSet (index : ℕ) (color : Color) (old new : PixmapValue) : Type 0 where
   pub width : new.width ≡ old.width
   pub height : new.height ≡ old.height
-  pub changed : pixel_at new.bytes place ≡ color
-  pub others : (i : ℕ) → i < old.width * old.height → i ≢ place → pixel_at new.bytes i ≡ pixel_at old.bytes i
+  pub changed : pixel_at new.bytes index ≡ color
+  pub others : (i : ℕ) → i < old.width * old.height → i ≢ index → pixel_at new.bytes i ≡ pixel_at old.bytes i

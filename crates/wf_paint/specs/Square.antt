@@ -2,17 +2,17 @@
 use Rattle.std.specs.Prelude.{ℕ, ◌/◌, ◌&&◌, Bool, not, ℤ, pos}
 use Rattle.wf_paint.specs.Exact.{plus, difference, quotient, is_less}
 use Rattle.wf_paint.specs.Limit.{pixel_side}
-use Rattle.wf_paint.specs.Place.{PlaceValue}
+use Rattle.wf_paint.specs.Position.{PositionValue}
 
 -- the first column of a square of `size` pixels about the position
 unfoldable pub square_start : ℕ → ℤ → ℤ
-square_start size place = difference (quotient place (pos pixel_side)) (pos (size / 2))
+square_start size position = difference (quotient position (pos pixel_side)) (pos (size / 2))
 
 -- the column belongs to the square
 unfoldable pub is_in_span : ℕ → ℤ → ℤ → Bool
-is_in_span size place column =
-    not (is_less column (square_start size place)) && is_less column (plus (square_start size place) (pos size))
+is_in_span size position column =
+    not (is_less column (square_start size position)) && is_less column (plus (square_start size position) (pos size))
 
 -- the pixel in the column and row belongs to the square
-unfoldable pub is_in_square : ℕ → PlaceValue → ℤ → ℤ → Bool
-is_in_square size place column row = is_in_span size place.x column && is_in_span size place.y row
+unfoldable pub is_in_square : ℕ → PositionValue → ℤ → ℤ → Bool
+is_in_square size position column row = is_in_span size position.x column && is_in_span size position.y row

@@ -5,7 +5,7 @@ use Rattle.wf_def.specs.Micro.{IsMicro}
 use Rattle.wf_def.specs.declared.point.Point.{Point}
 use Rattle.wf_paint.specs.Exact.{difference, product, quotient}
 use Rattle.wf_paint.specs.Limit.{most_pixels}
-use Rattle.wf_paint.specs.Place.{PlaceValue}
+use Rattle.wf_paint.specs.Position.{PositionValue}
 use Rattle.wf_paint.specs.declared.corner.Corner.{Corner}
 
 -- `span` millionths are `scale` sixteenths of a pixel; the coordinate `origin` lies `shift` sixteenths before the view's side
@@ -32,8 +32,8 @@ pub record ViewValue : Type 0 where
   pub corner : Option Corner
 
 -- the position of a point
-abbrev pub place_of : ViewValue → Point → PlaceValue
-place_of view p = record { x = position view.x p.x; y = position view.y p.y }
+abbrev pub position_of : ViewValue → Point → PositionValue
+position_of view p = record { x = position view.x p.x; y = position view.y p.y }
 
 -- the most sixteenths of a pixel that a millionth takes
 abbrev pub most_scale : ℕ

@@ -8,29 +8,30 @@ ghost use Rattle.wf_paint.specs.Span.{IsSpanOf, is_within};
 ghost use Rattle.wf_paint.specs.Square.{is_in_span, is_in_square};
 
 use crate::canvas::Canvas;
-use crate::place::Place;
+use crate::position::Position;
 use crate::span::Span;
 use crate::square::{square_end, square_start};
 use crate::steps::integers_below;
 use wf_def::color::Color;
 
 /// Paints a square of `size` pixels about a position; nothing if `color` is None.
-pub(crate) fn draw_about(canvas: &mut Canvas, size: u8, place: Place, color: Option<Color>)
-    ensures { IsShown (in_color (SquareOf size place) color) canvas.old canvas.new }
+pub(crate) fn draw_about(canvas: &mut Canvas, size: u8, position: Position, color: Option<Color>)
+    ensures { IsShown (in_color (SquareOf size position) color) canvas.old canvas.new }
 {
     match color {
-        Some(color) => draw_square(canvas, size, place, color),
+        Some(color) => draw_square(canvas, size, position, color),
         None => {}
     }
 }
 
 /// Paints the square in the colour.
-fn draw_square(canvas: &mut Canvas, size: u8, place: Place, color: Color)
+fn draw_square(canvas: &mut Canvas, size: u8, position: Position, color: Color)
     ensures { IsColored
-        (λ column row. is_in_square size place (pos column) (pos row)) color canvas.old canvas.new }
+        (λ column row. is_in_square size position (pos column) (pos row))
+        color canvas.old canvas.new }
 {
-    let columns = span_about(size, place.x(), canvas.width());
-    let rows = span_about(size, place.y(), canvas.height());
+    let columns = span_about(size, position.x(), canvas.width());
+    let rows = span_about(size, position.y(), canvas.height());
     draw_box(canvas, columns, rows, color);
 }
 
@@ -47,11 +48,11 @@ fn draw_box(canvas: &mut Canvas, columns: Span, rows: Span, color: Color)
 }
 
 /// The columns, of the first `most`, of a square about a position on one axis.
-fn span_about(size: u8, place: i64, most: u32) -> Span
-    requires { IsNear place }
-    ensures { IsSpanOf (λ u. is_in_span size place (pos u)) most result }
+fn span_about(size: u8, position: i64, most: u32) -> Span
+    requires { IsNear position }
+    ensures { IsSpanOf (λ u. is_in_span size position (pos u)) most result }
 {
-    let start = square_start(size, place);
+    let start = square_start(size, position);
     Span {
         from: integers_below(start, most),
         to: integers_below(square_end(start, size), most),

@@ -4,7 +4,7 @@ ghost use Rattle.wf_paint.specs.Near.{IsNear, IsReach, IsArea};
 ghost use Rattle.wf_paint.specs.Exact.{plus, difference, product, is_less};
 ghost use Rattle.wf_paint.specs.Limit.{half_side};
 ghost use Rattle.wf_paint.specs.Level.{level_at};
-ghost use Rattle.wf_paint.specs.Place.{centre, turned};
+ghost use Rattle.wf_paint.specs.Position.{centre, turned};
 ghost use Rattle.wf_paint.specs.Coverage.{deviation, margin, is_along, is_across, is_on_flat, is_on, is_on_any};
 ghost use Rattle.wf_paint.specs.Operation.{in_color, LineOf};
 ghost use Rattle.wf_paint.specs.Shown.{IsShown, IsColored};
@@ -16,7 +16,7 @@ use crate::exact::is_less;
 use crate::level::centres_between;
 use crate::levels::Levels;
 use crate::limits::HALF_SIDE;
-use crate::place::Place;
+use crate::position::Position;
 use crate::segment::Segment;
 use crate::span::Span;
 use crate::steps::centres_below;
@@ -57,7 +57,7 @@ fn draw_segment(canvas: &mut Canvas, width: u8, segment: &Segment, color: Color)
 }
 
 /// Paints the line between two positions, in either order. It isn't longer along y than along x.
-fn draw_flat(canvas: &mut Canvas, width: u8, from: Place, to: Place, color: Color)
+fn draw_flat(canvas: &mut Canvas, width: u8, from: Position, to: Position, color: Color)
     ensures { IsColored (λ column row.
         is_on_flat width (centre (pos column) (pos row)) from to) color canvas.old canvas.new }
 {
@@ -69,7 +69,7 @@ fn draw_flat(canvas: &mut Canvas, width: u8, from: Place, to: Place, color: Colo
 }
 
 /// Paints the line from `left` to `right`.
-fn draw_rightward(canvas: &mut Canvas, width: u8, left: Place, right: Place, color: Color)
+fn draw_rightward(canvas: &mut Canvas, width: u8, left: Position, right: Position, color: Color)
     ensures { IsColored (λ column row.
         is_across width (centre (pos column) (pos row)) left right) color canvas.old canvas.new }
 {
@@ -80,7 +80,7 @@ fn draw_rightward(canvas: &mut Canvas, width: u8, left: Place, right: Place, col
 
 /// How far each pixel's centre lies above the line from `left` to `right`, times the line's x length; the margin is half the width
 /// of the line in the same measure.
-fn deviations(width: u8, left: Place, right: Place) -> Levels
+fn deviations(width: u8, left: Position, right: Position) -> Levels
     ensures origin { nat_abs result.origin ≤ 2 ^ 109 }
     ensures across { IsReach result.across }
     ensures up { IsReach result.up }
@@ -90,7 +90,7 @@ fn deviations(width: u8, left: Place, right: Place) -> Levels
         level_at result u v ≡ deviation (centre (pos u) (pos v)) left right }
 {
     Levels {
-        origin: deviation(Place::centre(0, 0), left, right),
+        origin: deviation(Position::centre(0, 0), left, right),
         across: rise(right, left),
         up: run(left, right),
         margin: margin(width, left, right),
@@ -99,14 +99,14 @@ fn deviations(width: u8, left: Place, right: Place) -> Levels
 
 /// The columns, of the first `most`, between the ends of the line from `left` to `right`: the same in each row. With the axes
 /// exchanged, the rows.
-fn span_along(left: Place, right: Place, most: u32) -> Span
+fn span_along(left: Position, right: Position, most: u32) -> Span
     ensures { (v : ℕ) → IsSpanOf (λ u. is_along (centre (pos u) (pos v)) left right) most result }
 {
     centres_between(left.x(), right.x(), most)
 }
 
 /// Rows, of the first `most`, outside which the line from `left` to `right` covers nothing. With the axes exchanged, columns.
-fn rows_near(width: u8, left: Place, right: Place, most: u32) -> Span
+fn rows_near(width: u8, left: Position, right: Position, most: u32) -> Span
     ensures within { result.to ≤ most }
     ensures below { (u v : ℕ) →
         v < most → v < result.from → is_across width (centre (pos u) (pos v)) left right ≡ false }
@@ -147,25 +147,25 @@ fn greater(a: i64, b: i64) -> i64
 
 /// The position half the width of a line below this one.
 #[tactic(auto, unfolding(crate::specs::Exact::difference))]
-fn lower_border(width: u8, place: i64) -> i64
-    requires { IsNear place }
-    ensures { result ≡ difference place (pos (half_side * width)) }
+fn lower_border(width: u8, position: i64) -> i64
+    requires { IsNear position }
+    ensures { result ≡ difference position (pos (half_side * width)) }
 {
-    place - HALF_SIDE * i64::from(width)
+    position - HALF_SIDE * i64::from(width)
 }
 
 /// The position half the width of a line above this one.
 #[tactic(auto, unfolding(crate::specs::Exact::plus))]
-fn upper_border(width: u8, place: i64) -> i64
-    requires { IsNear place }
-    ensures { result ≡ plus place (pos (half_side * width)) }
+fn upper_border(width: u8, position: i64) -> i64
+    requires { IsNear position }
+    ensures { result ≡ plus position (pos (half_side * width)) }
 {
-    place + HALF_SIDE * i64::from(width)
+    position + HALF_SIDE * i64::from(width)
 }
 
 /// Paints the line between two positions, in either order. It is longer along y than along x; the positions have their axes
 /// exchanged.
-fn draw_steep(canvas: &mut Canvas, width: u8, from: Place, to: Place, color: Color)
+fn draw_steep(canvas: &mut Canvas, width: u8, from: Position, to: Position, color: Color)
     ensures { IsColored (λ column row. is_on_flat width
         (turned (centre (pos column) (pos row))) from to) color canvas.old canvas.new }
 {
@@ -177,7 +177,7 @@ fn draw_steep(canvas: &mut Canvas, width: u8, from: Place, to: Place, color: Col
 }
 
 /// Paints the line from `low` up to `high`; the positions have their axes exchanged.
-fn draw_upward(canvas: &mut Canvas, width: u8, low: Place, high: Place, color: Color)
+fn draw_upward(canvas: &mut Canvas, width: u8, low: Position, high: Position, color: Color)
     ensures { IsColored (λ column row. is_across width
         (turned (centre (pos column) (pos row))) low high) color canvas.old canvas.new }
 {
@@ -194,7 +194,7 @@ fn draw_upward(canvas: &mut Canvas, width: u8, low: Place, high: Place, color: C
 }
 
 /// The same for each pixel's centre with its axes exchanged.
-fn turned_deviations(width: u8, low: Place, high: Place) -> Levels
+fn turned_deviations(width: u8, low: Position, high: Position) -> Levels
     ensures origin { nat_abs result.origin ≤ 2 ^ 109 }
     ensures across { IsReach result.across }
     ensures up { IsReach result.up }
@@ -205,7 +205,7 @@ fn turned_deviations(width: u8, low: Place, high: Place) -> Levels
         level_at result u v ≡ deviation (turned (centre (pos u) (pos v))) low high }
 {
     Levels {
-        origin: deviation(Place::centre(0, 0).turned(), low, high),
+        origin: deviation(Position::centre(0, 0).turned(), low, high),
         across: run(low, high),
         up: rise(high, low),
         margin: margin(width, low, high),

@@ -107,11 +107,11 @@ fn divided(stretched: i128, span: u64) -> i64
 
 /// The position less the shift.
 #[tactic(auto, unfolding(crate::specs::Exact::difference))]
-fn moved(place: i64, shift: i64) -> i64
-    requires place { nat_abs place ≤ 2 * most_scale * most_millionths }
+fn moved(offset: i64, shift: i64) -> i64
+    requires offset { nat_abs offset ≤ 2 * most_scale * most_millionths }
     requires shift { nat_abs shift ≤ most_shift }
-    ensures value { result ≡ difference place shift }
+    ensures value { result ≡ difference offset shift }
     ensures within { IsNear result }
 {
-    place - shift
+    offset - shift
 }

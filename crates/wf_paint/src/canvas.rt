@@ -81,6 +81,13 @@ impl Canvas {
         self.height
     }
 
+    /// Both sides are 1 to 1,024 pixels. A caller can't see the invariant that says so. The call does nothing.
+    pub(crate) fn sides_are_limited(&self)
+        ensures { IsCanvas self.now }
+    {
+        let _ = &self.width;
+    }
+
     /// Writes the colour to the free pixels in columns from..to of a row; rows count from the bottom.
     pub(crate) fn cover(&mut self, row: u32, from: u32, to: u32, color: Color)
         requires row_within { row < self.old.height }

@@ -4,7 +4,7 @@ ghost use Rattle.std.specs.List.{All, count_by};
 ghost use Rattle.std.specs.List.Sorted.{IsNonDecreasing};
 ghost use Rattle.wf_paint.specs.Near.{IsNear};
 ghost use Rattle.wf_paint.specs.Exact.{difference, product};
-ghost use Rattle.wf_paint.specs.Place.{middle, centre};
+ghost use Rattle.wf_paint.specs.Position.{middle, centre};
 ghost use Rattle.wf_paint.specs.Coverage.{is_left_of, is_beside, crosses, is_inside};
 ghost use Rattle.wf_paint.specs.Operation.{in_color, FillOf};
 ghost use Rattle.wf_paint.specs.Marks.{IsClear, IsMarked};
@@ -14,7 +14,7 @@ ghost use Rattle.wf_paint.specs.Limit.{half_side, most_pixels, pixel_side};
 use crate::canvas::Canvas;
 use crate::exact::{area_difference, difference, is_less, product};
 use crate::limits::{HALF_SIDE, PIXEL_SIDE};
-use crate::place::Place;
+use crate::position::Position;
 use crate::segment::Segment;
 use crate::steps::{centres_below, steps_below};
 use std::alloc::{AllocError, Global};
@@ -183,7 +183,7 @@ fn find_reaches(
         ≡ count_by (crosses (centre (pos u) (pos row))) edges.now) }
 {
     reaches.clear();
-    let level = Place::centre(0, row).y();
+    let level = Position::centre(0, row).y();
     for edge in edges {
         let reach = reach(level, width, edge);
         if reach > 0 {
@@ -212,14 +212,14 @@ fn reach(level: i64, width: u32, edge: &Segment) -> u32
 
 /// Whether a level lies between the ends of an edge: the lower end counts, the upper doesn't.
 #[tactic(auto, unfolding(crate::specs::Coverage::is_beside))]
-fn is_between(level: i64, low: Place, high: Place) -> bool
+fn is_between(level: i64, low: Position, high: Position) -> bool
     ensures { result ≡ is_beside (record { x = pos 0; y = level }) low high }
 {
     !is_less(level, low.y()) && is_less(level, high.y())
 }
 
 /// The number of leading columns of the row at this level that lie left of an edge from `low` up to `high`.
-fn reach_of_rising(level: i64, width: u32, low: Place, high: Place) -> u32
+fn reach_of_rising(level: i64, width: u32, low: Position, high: Position) -> u32
     requires near { IsNear level }
     requires rising { is_beside (record { x = pos 0; y = level }) low high ≡ true }
     ensures within { result ≤ width }
@@ -230,14 +230,14 @@ fn reach_of_rising(level: i64, width: u32, low: Place, high: Place) -> u32
 }
 
 /// The change of the compared products from one column to the next.
-fn step(low: Place, high: Place) -> i128
+fn step(low: Position, high: Position) -> i128
     ensures { result ≡ product (pos pixel_side) (difference high.y low.y) }
 {
     product(PIXEL_SIDE, difference(high.y(), low.y()))
 }
 
 /// How far the first column at this level lies left of the edge, as a difference of the compared products.
-fn bound(level: i64, low: Place, high: Place) -> i128
+fn bound(level: i64, low: Position, high: Position) -> i128
     requires { IsNear level }
     ensures { result ≡ difference (product (difference level low.y) (difference high.x low.x))
         (product (difference (pos half_side) low.x) (difference high.y low.y)) }

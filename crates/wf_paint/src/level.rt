@@ -2,7 +2,7 @@
 ghost use Rattle.std.specs.Prelude.{◌≡◌, ◌≤◌, ◌^◌, ◌&&◌, not, pos, nat_abs};
 ghost use Rattle.wf_paint.specs.Near.{IsNear, IsArea};
 ghost use Rattle.wf_paint.specs.Exact.{plus, is_less};
-ghost use Rattle.wf_paint.specs.Place.{middle};
+ghost use Rattle.wf_paint.specs.Position.{middle};
 ghost use Rattle.wf_paint.specs.Level.{is_in_margin};
 ghost use Rattle.wf_paint.specs.Span.{IsSpanOf};
 
@@ -46,9 +46,9 @@ pub(crate) fn centres_between(low: i64, high: i64, most: u32) -> Span
 
 /// The next position.
 #[tactic(auto, unfolding(crate::specs::Exact::plus))]
-fn above(place: i64) -> i64
-    requires { IsNear place }
-    ensures { result ≡ plus place (pos 1) }
+fn above(position: i64) -> i64
+    requires { IsNear position }
+    ensures { result ≡ plus position (pos 1) }
 {
-    place + 1
+    position + 1
 }

@@ -39,7 +39,7 @@ pub mod limits;
 pub mod operation;
 pub mod painter;
 pub mod pixmap;
-pub mod place;
+pub mod position;
 mod quotient;
 pub mod segment;
 mod segments;

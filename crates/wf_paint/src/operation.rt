@@ -1,6 +1,6 @@
 //! Paint operations: a shape in a colour.
 
-use crate::place::Place;
+use crate::position::Position;
 use crate::segment::Segment;
 use wf_def::color::Color;
 
@@ -12,7 +12,7 @@ pub enum Shape<'a> {
     /// A line of `width` pixels along each segment.
     Line { width: u8, segments: &'a [Segment] },
     /// A square of `size` pixels about a position.
-    Square { size: u8, place: Place },
+    Square { size: u8, position: Position },
 }
 
 /// A shape in a colour.

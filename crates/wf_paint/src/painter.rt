@@ -59,23 +59,23 @@ fn draw_layers(
     requires { All (λ i. i < length map.now.layers) layers.now }
     ensures { OnOk result (IsShown (operations map.now layers.now view.now) canvas.old canvas.new) }
 {
-    for place in (0..layers.len()).rev() {
-        if is_named_again(layers, place) {
+    for index in (0..layers.len()).rev() {
+        if is_named_again(layers, index) {
             continue;
         }
-        let (_, layer) = map.layer(layers[place]);
+        let (_, layer) = map.layer(layers[index]);
         draw_layer(alloc, canvas, view, layer)?;
     }
     Ok(())
 }
 
 /// Whether the layer at this index of the list is listed again later.
-fn is_named_again(layers: &[usize], place: usize) -> bool
-    requires { place < length layers.now }
+fn is_named_again(layers: &[usize], index: usize) -> bool
+    requires { index < length layers.now }
     ensures { Decides result
-        (Contains (drop (place + 1) layers.now) (slice_index layers.now place)) }
+        (Contains (drop (index + 1) layers.now) (slice_index layers.now index)) }
 {
-    layers[place + 1..].contains(&layers[place])
+    layers[index + 1..].contains(&layers[index])
 }
 
 /// Paints a layer's features from the last to the first, until the canvas is full.
@@ -258,7 +258,7 @@ fn draw_part_squares(canvas: &mut Canvas, view: &View, points: &[Point], style: 
         draw_about(
             canvas,
             style.size.get(),
-            view.place(&points[index]),
+            view.position(&points[index]),
             style.color,
         );
     }

@@ -1,10 +1,10 @@
 //! Segments.
 
-use crate::place::Place;
+use crate::position::Position;
 
 /// The straight line between two positions.
 #[derive(Clone, Copy)]
 pub struct Segment {
-    pub from: Place,
-    pub to: Place,
+    pub from: Position,
+    pub to: Position,
 }

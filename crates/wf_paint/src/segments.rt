@@ -1,9 +1,9 @@
 //! The segments of a feature's parts, in a view.
 ghost use Rattle.std.specs.Prelude.{◌≡◌, List, ◌++◌, OnOk, IfOk};
-ghost use Rattle.wf_paint.specs.Place.{PlaceValue};
-ghost use Rattle.wf_paint.specs.Segments.{path_from, path, ring, places, paths, rings};
+ghost use Rattle.wf_paint.specs.Position.{PositionValue};
+ghost use Rattle.wf_paint.specs.Segments.{path_from, path, ring, positions, paths, rings};
 
-use crate::place::Place;
+use crate::position::Position;
 use crate::segment::Segment;
 use crate::view::View;
 use std::alloc::{AllocError, Global};
@@ -37,10 +37,10 @@ pub(crate) fn rings(alloc: Global, view: &View, parts: &[Part]) -> Result<Vec<Se
 /// Appends the segments from each point to the next.
 fn push_path(segments: &mut Vec<Segment>, view: &View, points: &[Point]) -> Result<(), AllocError>
     ensures { OnOk result
-        (segments.new.items ≡ segments.old.items ++ path (places view.now points.now)) }
+        (segments.new.items ≡ segments.old.items ++ path (positions view.now points.now)) }
 {
     if let [first, rest @ ..] = points {
-        push_way(segments, view, view.place(first), rest)?;
+        push_way(segments, view, view.position(first), rest)?;
     }
     Ok(())
 }
@@ -49,11 +49,11 @@ fn push_path(segments: &mut Vec<Segment>, view: &View, points: &[Point]) -> Resu
 fn push_way(
     segments: &mut Vec<Segment>,
     view: &View,
-    start: Place,
+    start: Position,
     points: &[Point],
 ) -> Result<(), AllocError>
-    ensures { OnOk result
-        (segments.new.items ≡ segments.old.items ++ path_from start (places view.now points.now)) }
+    ensures { OnOk result (segments.new.items
+        ≡ segments.old.items ++ path_from start (positions view.now points.now)) }
 {
     push_from(segments, view, start, points)?;
     Ok(())
@@ -62,10 +62,10 @@ fn push_way(
 /// Appends the segments from each point to the next, and from the last back to the first.
 fn push_ring(segments: &mut Vec<Segment>, view: &View, points: &[Point]) -> Result<(), AllocError>
     ensures { OnOk result
-        (segments.new.items ≡ segments.old.items ++ ring (places view.now points.now)) }
+        (segments.new.items ≡ segments.old.items ++ ring (positions view.now points.now)) }
 {
     if let [first, rest @ ..] = points {
-        let first = view.place(first);
+        let first = view.position(first);
         let last = push_from(segments, view, first, rest)?;
         segments.push(Segment {
             from: last,
@@ -80,16 +80,16 @@ fn push_ring(segments: &mut Vec<Segment>, view: &View, points: &[Point]) -> Resu
 fn push_from(
     segments: &mut Vec<Segment>,
     view: &View,
-    start: Place,
+    start: Position,
     points: &[Point],
-) -> Result<Place, AllocError>
+) -> Result<Position, AllocError>
     ensures { IfOk result
-        (λ last. (further : List PlaceValue) → segments.new.items ++ path_from last further
-        ≡ segments.old.items ++ path_from start (places view.now points.now ++ further)) }
+        (λ last. (further : List PositionValue) → segments.new.items ++ path_from last further
+        ≡ segments.old.items ++ path_from start (positions view.now points.now ++ further)) }
 {
     let mut last = start;
     for point in points {
-        let to = view.place(point);
+        let to = view.position(point);
         segments.push(Segment { from: last, to })?;
         last = to;
     }

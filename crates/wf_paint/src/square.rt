@@ -7,16 +7,16 @@ ghost use Rattle.wf_paint.specs.Square.{square_start, is_in_span, is_in_square};
 use crate::exact::is_less;
 use crate::limits::PIXEL_SIDE;
 use crate::operation::Pixel;
-use crate::place::Place;
+use crate::position::Position;
 
 /// The first of the `size` columns of pixels about a position on one axis.
 #[tactic(auto, unfolding(crate::specs::Square::square_start, crate::specs::Exact::difference, crate::specs::Exact::quotient))]
-pub(crate) fn square_start(size: u8, place: i64) -> i64
-    requires { IsNear place }
-    ensures value { result ≡ square_start size place }
+pub(crate) fn square_start(size: u8, position: i64) -> i64
+    requires { IsNear position }
+    ensures value { result ≡ square_start size position }
     ensures within { nat_abs result ≤ 2 ^ 54 }
 {
-    place.div_euclid(PIXEL_SIDE) - i64::from(size / 2)
+    position.div_euclid(PIXEL_SIDE) - i64::from(size / 2)
 }
 
 /// The column after the last.
@@ -30,19 +30,19 @@ pub(crate) fn square_end(start: i64, size: u8) -> i64
 
 /// Whether the column belongs to the square.
 #[tactic(auto, unfolding(crate::specs::Square::is_in_span))]
-fn is_in_span(size: u8, place: i64, column: u32) -> bool
-    requires { IsNear place }
-    ensures { result ≡ is_in_span size place (pos column) }
+fn is_in_span(size: u8, position: i64, column: u32) -> bool
+    requires { IsNear position }
+    ensures { result ≡ is_in_span size position (pos column) }
 {
     let column = i64::from(column);
-    let start = square_start(size, place);
+    let start = square_start(size, position);
     !is_less(column, start) && is_less(column, square_end(start, size))
 }
 
 /// Whether the pixel belongs to the square of this size about the position.
 #[tactic(auto, unfolding(crate::specs::Square::is_in_square))]
-pub(crate) fn is_in_square(size: u8, place: Place, pixel: Pixel) -> bool
-    ensures { result ≡ is_in_square size place (pos pixel.column) (pos pixel.row) }
+pub(crate) fn is_in_square(size: u8, position: Position, pixel: Pixel) -> bool
+    ensures { result ≡ is_in_square size position (pos pixel.column) (pos pixel.row) }
 {
-    is_in_span(size, place.x(), pixel.column) && is_in_span(size, place.y(), pixel.row)
+    is_in_span(size, position.x(), pixel.column) && is_in_span(size, position.y(), pixel.row)
 }

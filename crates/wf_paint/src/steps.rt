@@ -3,7 +3,7 @@
 ghost use Rattle.std.specs.Prelude.{◌≡◌, ℕ, ◌+◌, ◌*◌, ◌/◌, ◌^◌, ◌<◌, ◌≤◌, nat_lt, nat_abs, pos, ◌≤ℤ◌, IfSome, IfNone};
 ghost use Rattle.std.specs.Int.{int_rem_euclid};
 ghost use Rattle.wf_paint.specs.Exact.{plus, product, quotient, is_less};
-ghost use Rattle.wf_paint.specs.Place.{middle};
+ghost use Rattle.wf_paint.specs.Position.{middle};
 ghost use Rattle.wf_paint.specs.Quotient.{number_of};
 
 use crate::limits::{HALF_SIDE, PIXEL_SIDE};
@@ -13,13 +13,13 @@ use crate::quotient::Quotient;
 const FARTHEST: u128 = 1 << 50;
 
 /// The number of the first `most` pixels of an axis whose centre lies below the position, in sixteenths of a pixel.
-pub(crate) fn centres_below(place: i64, most: u32) -> u32
+pub(crate) fn centres_below(position: i64, most: u32) -> u32
     ensures within { result ≤ most }
-    ensures below { (u : ℕ) → u < most → is_less (middle (pos u)) place ≡ nat_lt u result }
+    ensures below { (u : ℕ) → u < most → is_less (middle (pos u)) position ≡ nat_lt u result }
 {
     steps_below(
         PIXEL_SIDE as i128,
-        i128::from(place) - HALF_SIDE as i128,
+        i128::from(position) - HALF_SIDE as i128,
         most,
     )
 }

@@ -40,7 +40,7 @@ pub(crate) fn draw_strip(
     requires columns { columns.to ≤ canvas.old.width }
     ensures { IsColored (is_in_strip levels rows columns) color canvas.old canvas.new }
 {
-    let _ = canvas.height();
+    canvas.sides_are_limited();
     if rows.from < rows.to {
         if columns.from < columns.to {
             draw_rows(canvas, levels, rows, columns, color);
@@ -66,7 +66,7 @@ pub(crate) fn draw_upright(
     requires columns { columns.to ≤ canvas.old.width }
     ensures { IsColored (is_in_strip levels rows columns) color canvas.old canvas.new }
 {
-    let _ = canvas.height();
+    canvas.sides_are_limited();
     if levels.across > 0 && rows.from < rows.to && columns.from < columns.to {
         draw_even(canvas, levels, width, rows, columns, color);
     } else {

@@ -95,6 +95,7 @@ fn tile_axis(origin: Micro, width: u64, cells: u64, k: i64) -> Axis
     ensures value { result ≡ tile_axis origin width cells k }
     ensures within { IsAxis result }
 {
+    // `millionths` ensures that the origin is within its limit.
     let _ = origin.millionths();
     Axis::new(origin, TILE_SIDE * cells, width, tile_shift(k))
 }

@@ -1,11 +1,11 @@
 //! Views: the part of the map that a picture shows, and the picture's size.
 ghost use Rattle.std.specs.Prelude.{◌≡◌, ◌≤◌};
 ghost use Rattle.wf_paint.specs.Limit.{most_pixels};
-ghost use Rattle.wf_paint.specs.View.{place_of, IsAxis, IsView};
+ghost use Rattle.wf_paint.specs.View.{position_of, IsAxis, IsView};
 
 use crate::axis::Axis;
 use crate::corner::Corner;
-use crate::place::Place;
+use crate::position::Position;
 use std::marker::Model;
 use wf_def::point::Point;
 
@@ -81,9 +81,9 @@ impl View {
     }
 
     /// The position of a point of the map in the view.
-    pub fn place(&self, point: &Point) -> Place
-        ensures { result ≡ place_of self.now point.now }
+    pub fn position(&self, point: &Point) -> Position
+        ensures { result ≡ position_of self.now point.now }
     {
-        Place::new(self.x.position(point.x), self.y.position(point.y))
+        Position::new(self.x.position(point.x), self.y.position(point.y))
     }
 }

@@ -62,11 +62,11 @@ module _ (p : PixmapValue) (corner : Corner) (width row : ℕ) (across : corner.
 
   pub inside : (j : ℕ) → j ≤ width → first + j ≤ p.width * p.height
   inside j within =
-      let place : above * p.width + (corner.column + j) ≤ p.width * p.height = row_within p.width p.height above (corner.column + j) (omega arith) (omega arith) in
-      omega (arith, place)
+      let row_inside : above * p.width + (corner.column + j) ≤ p.width * p.height = row_within p.width p.height above (corner.column + j) (omega arith) (omega arith) in
+      omega (arith, row_inside)
 
-  place_before : (j : ℕ) → j < width → first + j < p.width * p.height
-  place_before j within = omega (arith, inside (j + 1) (omega arith))
+  index_before : (j : ℕ) → j < width → first + j < p.width * p.height
+  index_before j within = omega (arith, inside (j + 1) (omega arith))
 
   columns : (j : ℕ) → j < width → column_of p.width (first + j) ≡ j + corner.column
   unfolding column_of
@@ -86,7 +86,7 @@ module _ (p : PixmapValue) (corner : Corner) (width row : ℕ) (across : corner.
     pixels : (j : ℕ) → j < width → pixel_at p.bytes (first + j) ≡ crop corner whole (pos j) (pos row)
     unfolding crop plus
     pixels j within =
-        shows.pixels (first + j) (place_before j within)
+        shows.pixels (first + j) (index_before j within)
         ∙ ap (λ (column : ℕ). whole (pos column) (pos (row_of p.width p.height (first + j)))) (columns j within)
         ∙ ap (λ (r : ℕ). whole (pos (j + corner.column)) (pos r)) (rows j within)
 

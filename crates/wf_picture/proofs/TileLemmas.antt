@@ -18,7 +18,7 @@ use Rattle.wf_label.specs.Ink.{inked}
 use Rattle.wf_label.specs.Label.{labelled as label_at, label_of, text_of, feature_label, layer_labels, entry_labels, labels_of, labels_up_to, candidates}
 use Rattle.wf_label.specs.Placed.{PlacedValue}
 use Rattle.wf_label.specs.Placing.{stands, joined, placed_after, placed_of}
-use Rattle.wf_label.specs.Frame.{is_whole_in}
+use Rattle.wf_label.specs.PixelBox.{is_whole_in}
 use Rattle.wf_picture.specs.Image.{image}
 use Rattle.wf_picture.specs.Picture.{placed, labelled, crop, picture}
 use Rattle.wf_picture.specs.Tiles.{ShareAView, SharedViewsHaveOnePicture, TilesAreCropsOfOnePicture, tile_corner}
@@ -50,7 +50,7 @@ module _ (v : ViewValue) (c d : Option Corner) where
 
   labels_cut : (map : Definition) (layers : List ℕ) (priority : ℕ) → labels_of map layers (cut v c) priority ≡ labels_of map layers (cut v d) priority
   unfolding labels_of
-  labels_cut map layers priority i = flat_map (λ place. entry_cut priority (slice_get map.layers place) i) (reverse layers)
+  labels_cut map layers priority i = flat_map (λ index. entry_cut priority (slice_get map.layers index) i) (reverse layers)
 
   up_to_cut : (map : Definition) (layers : List ℕ) (priority : ℕ) → labels_up_to map layers (cut v c) priority ≡ labels_up_to map layers (cut v d) priority
   unfolding labels_up_to

@@ -9,7 +9,7 @@ use Rattle.wf_model.specs.Stored.{Stored}
 use Rattle.wf_model.specs.Table as table
 use Rattle.wf_model.specs.Working.{Working}
 use Rattle.wf_model.specs.World as world
-use Rattle.wf_model.specs.World.{Event, Node, World, Deliver, delivered, happens, refusal_of, refusal_running, refused, refused_at, steps}
+use Rattle.wf_model.specs.World.{Event, Node, World, deliver, delivered, happens, refusal_of, refusal_running, refused, refused_at, steps}
 use Rattle.wf_farm.specs.Agreement.{HasStored, HistoriesGrow, IsOneWorld}
 use Rattle.wf_farm.specs.Cluster.{AreNodes, Moves, last_refused}
 use Rattle.wf_farm.specs.Carrying.{IsMemory}
@@ -94,16 +94,16 @@ plays_on more before between after plays one runs same grows = record {
 -- ---- the deliveries so far
 
 abbrev to_node : ℕ → ℕ → Event Definition
-to_node i k = Deliver i k
+to_node i k = deliver i k
 
 -- the first messages, as many as the index says, were delivered
 pub record HaveDelivered (i : ℕ) (messages : List ℕ) (index : ℕ) (before after : Farm) : Type 0 where
-  pub runs : Runs (map (λ k. Deliver i k) (take index messages)) before after
+  pub runs : Runs (map (λ k. deliver i k) (take index messages)) before after
   pub refused : after.refused ≡ before.refused
   pub pumped : after.pumped ≡ before.pumped
   pub plays : Plays before after
 
-runs_none : (i : ℕ) (messages : List ℕ) (farm : Farm) → Runs (map (λ k. Deliver i k) (take 0 messages)) farm farm
+runs_none : (i : ℕ) (messages : List ℕ) (farm : Farm) → Runs (map (λ k. deliver i k) (take 0 messages)) farm farm
 unfolding Moves steps
 runs_none i messages farm = λ w shows. shows
 
@@ -111,7 +111,7 @@ pub none_so_far : (i : ℕ) (messages : List ℕ) (farm : Farm) → HaveDelivere
 none_so_far i messages farm = record { runs = runs_none i messages farm; refused = refl; pumped = refl; plays = nothing_played farm }
 
 runs_one : (i : ℕ) (messages : List ℕ) (index k d : ℕ) (before between after : Farm) → index < length messages → k ≡ get_or messages index d →
-    Runs (map (λ k. Deliver i k) (take index messages)) before between → Runs (Deliver i k ∷ []) between after → Runs (map (λ k. Deliver i k) (take (index + 1) messages)) before after
+    Runs (map (λ k. deliver i k) (take index messages)) before between → Runs (deliver i k ∷ []) between after → Runs (map (λ k. deliver i k) (take (index + 1) messages)) before after
 runs_one i messages index k d before between after below is first second =
     let last : to_node i k ≡ to_node i (get_or messages index d) = ap (to_node i) is in
     let all : map (to_node i) (take index messages) ++ to_node i k ∷ [] ≡ map (to_node i) (take (index + 1) messages) =
@@ -119,12 +119,12 @@ runs_one i messages index k d before between after below is first second =
     subst (λ (events : List (Event Definition)). Runs events before after) all (runs_on (map (to_node i) (take index messages)) (to_node i k ∷ []) before between after first second)
 
 pub one_more : (i : ℕ) (messages : List ℕ) (index k d : ℕ) (before between after : Farm) → HaveDelivered i messages index before between → index < length messages → k ≡ get_or messages index d → IsOneWorld between →
-    Runs (Deliver i k ∷ []) between after → after.refused ≡ between.refused → after.pumped ≡ between.pumped → size after ≡ size between → HistoriesGrow between after → HaveDelivered i messages (index + 1) before after
+    Runs (deliver i k ∷ []) between after → after.refused ≡ between.refused → after.pumped ≡ between.pumped → size after ≡ size between → HistoriesGrow between after → HaveDelivered i messages (index + 1) before after
 one_more i messages index k d before between after so_far below is one runs refused pumped same grows = record {
   runs = runs_one i messages index k d before between after below is so_far.runs runs;
   refused = refused ∙ so_far.refused;
   pumped = pumped ∙ so_far.pumped;
-  plays = plays_on (Deliver i k ∷ []) before between after so_far.plays one runs same grows;
+  plays = plays_on (deliver i k ∷ []) before between after so_far.plays one runs same grows;
 }
 
 pub one_failed : (i : ℕ) (messages : List ℕ) (index : ℕ) (before between after : Farm) → HaveDelivered i messages index before between → IsOneWorld between → Runs [] between after → size after ≡ size between →
@@ -144,19 +144,19 @@ node_takes None message = refl
 node_takes (Some node) None = refl
 node_takes (Some node) (Some message) = running_takes node.stored node.working message
 
-never_refused : (w : World Definition) (i k : ℕ) → refused w (Deliver i k) ≡ None
+never_refused : (w : World Definition) (i k : ℕ) → refused w (deliver i k) ≡ None
 unfolding refused refused_at world.input_of
 never_refused w i k = node_takes (slice_get w.nodes i) (slice_get w.sent k)
 
-pub none_refused : (w : World Definition) (i : ℕ) (messages : List ℕ) → last_refused w (map (λ k. Deliver i k) messages) ≡ None
+pub none_refused : (w : World Definition) (i : ℕ) (messages : List ℕ) → last_refused w (map (λ k. deliver i k) messages) ≡ None
 unfolding last_refused
 none_refused w i [] = refl
 none_refused w i (k ∷ []) = never_refused w i k
-none_refused w i (k ∷ next ∷ rest) = none_refused (happens definition_eq w (Deliver i k)) i (next ∷ rest)
+none_refused w i (k ∷ next ∷ rest) = none_refused (happens definition_eq w (deliver i k)) i (next ∷ rest)
 
 pub all_delivered : (i : ℕ) (messages : List ℕ) (index : ℕ) (before after : Farm) → length messages ≤ index → HaveDelivered i messages index before after → Delivers i messages before after
 all_delivered i messages index before after all so_far = record {
-  runs = subst (λ (ks : List ℕ). Runs (map (λ k. Deliver i k) ks) before after) (take_all index messages all) so_far.runs;
+  runs = subst (λ (ks : List ℕ). Runs (map (λ k. deliver i k) ks) before after) (take_all index messages all) so_far.runs;
   rejected = λ w shows. none_refused w i messages;
   refused = so_far.refused;
   pumped = so_far.pumped;

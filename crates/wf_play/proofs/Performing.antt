@@ -1,6 +1,6 @@
 -- What an order does, by its index among the orders of its script.
-use Rattle.std.proofs.Common.{◌≡◌, ℕ, Bool, false, List, [], ◌∷◌, sym, subst, slice_get, Option, Some, None, refl}
-use Rattle.std.specs.Prelude.{option_map, Result, Ok, Err, OnOk}
+use Rattle.std.proofs.Common.{◌≡◌, ℕ, Bool, false, List, [], ◌∷◌, sym, subst, Option, Some, None, refl}
+use Rattle.std.specs.Prelude.{Result, Ok, Err, OnOk}
 use Rattle.wf_def.specs.Definition.{Definition}
 use Rattle.wf_model.specs.World.{Event}
 use Rattle.wf_farm.specs.Farm.{Farm}
@@ -9,7 +9,7 @@ use Rattle.std.proofs.lemmas.Option.{same_Some}
 use Rattle.wf_script.specs.declared.fault.ScriptFault.{ScriptFault}
 use Rattle.wf_script.specs.declared.fault.ScriptFault.TheVariants.{Memory}
 use Rattle.wf_script.specs.Fault.{IsMemory}
-use Rattle.wf_farm.specs.declared.event.Kept.{Kept}
+use Rattle.wf_model.specs.declared.kept.Kept.{Kept}
 use Rattle.wf_play.specs.Session.{Stage}
 use Rattle.wf_play.specs.Performing.{ArePumped, Happens, HappensIf, IsPerformed, PerformsAt, fault_at, may_use, may_use_at}
 use Rattle.wf_script.specs.Script.{Numbered}
@@ -28,15 +28,13 @@ nothing_performed maps there torn before after is same none = subst (λ o. Perfo
 pub fault_there : (there : Option Numbered) (n : Numbered) → Some n ≡ there → fault_at there ≡ Some (Memory n.line)
 fault_there there n is = subst (λ o. fault_at o ≡ Some (Memory n.line)) is refl
 
--- one event of a map, where the script has it
-pub proposed : (event : Definition → Event Definition) (maps : List Definition) (m : ℕ) (d : Definition) (before after : Farm) → Some d ≡ slice_get maps m →
-    Happens (event d ∷ []) before after → HappensIf (option_map event (slice_get maps m)) before after
-proposed event maps m d before after is does = subst (λ o. HappensIf (option_map event o) before after) is does
+-- the event that an order is
+pub happened : (there : Option (Event Definition)) (event : Event Definition) (before after : Farm) → Some event ≡ there → Happens (event ∷ []) before after → HappensIf there before after
+happened there event before after is does = subst (λ o. HappensIf o before after) is does
 
--- nothing, where it hasn't
-pub unproposed : (event : Definition → Event Definition) (maps : List Definition) (m : ℕ) (before after : Farm) → None ≡ slice_get maps m → after ≡ before →
-    HappensIf (option_map event (slice_get maps m)) before after
-unproposed event maps m before after is same = subst (λ o. HappensIf (option_map event o) before after) is same
+-- nothing, where it is none
+pub unhappened : (there : Option (Event Definition)) (before after : Farm) → None ≡ there → after ≡ before → HappensIf there before after
+unhappened there before after is same = subst (λ o. HappensIf o before after) is same
 
 -- a pump, whether it stopped early or not
 pub pump_performed : (names : List ℕ) (before after : Farm) (stopped : Bool) → IsPumped names before after stopped → ArePumped names before after

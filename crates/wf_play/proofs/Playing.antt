@@ -9,7 +9,7 @@ use Rattle.wf_def.specs.Definition.{Definition}
 use Rattle.wf_model.specs.World.{Event, steps}
 use Rattle.wf_model.specs.Stored.{definition_at}
 use Rattle.wf_node.specs.Node.{Node, stored_of}
-use Rattle.wf_tape.specs.MemoryTape.{Kept}
+use Rattle.wf_tape.specs.MemoryTape.{TapeValue}
 use Rattle.wf_farm.specs.Agreement.{HasStored, HistoriesGrow, HasOneHistory}
 use Rattle.wf_farm.specs.Cluster.{Moves}
 use Rattle.wf_farm.specs.Farm.{Farm, Runs, RunsPart, running_in, size}
@@ -58,13 +58,13 @@ unfolding HasOneHistory
 published_once farm s c d one this that = one this.0 that.0 s c d this.1 that.1
 
 -- what the node that runs at an index has stored
-stored_there : (node : Node Kept) (place : Option Place) → Some node ≡ running_in place → HasStored place (stored_of node)
+stored_there : (node : Node TapeValue) (place : Option Place) → Some node ≡ running_in place → HasStored place (stored_of node)
 stored_there node None runs = absurd (none-some node (sym runs))
 stored_there node (Some (Running other)) runs = ap stored_of (same_Some node other runs)
 stored_there node (Some (Stopped tape)) runs = absurd (none-some node (sym runs))
 
 -- What a running node's list has at a sequence, it publishes there.
-pub published_there : (farm : Farm) (i s : ℕ) (node : Node Kept) (found : Option (Bor Definition)) → Some node ≡ running_in (slice_get farm.places i) →
+pub published_there : (farm : Farm) (i s : ℕ) (node : Node TapeValue) (found : Option (Bor Definition)) → Some node ≡ running_in (slice_get farm.places i) →
     option_copied found ≡ definition_at (stored_of node).history s → IfSome found (λ canon. IsPublished farm s canon.now)
 published_there farm i s node None runs at = tt
 published_there farm i s node (Some canon) runs at = (i, record { stored = stored_of node; has = stored_there node (slice_get farm.places i) runs; entry = sym at })

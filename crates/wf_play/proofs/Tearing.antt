@@ -2,23 +2,22 @@
 use Rattle.std.proofs.Common.{◌≡◌, ◌∙◌, ℕ, Bool, true, false, List, [], ◌∷◌, ◌++◌, map, Option, Some, None, inr, refl, sym, ap, subst}
 use Rattle.std.specs.Prelude.{option_map, Result, Ok, Err, OnOk}
 use Rattle.std.proofs.lemmas.List.{append_assoc, append-nil}
-use Rattle.std.proofs.lemmas.Option.{none-some, same_Some}
+use Rattle.std.proofs.lemmas.Option.{none-some}
 use Rattle.wf_def.specs.Definition.{Definition}
 use Rattle.wf_model.specs.World as world
 use Rattle.wf_model.specs.World.{Event}
 use Rattle.wf_farm.specs.Agreement.{HistoriesGrow}
 use Rattle.wf_farm.specs.Cluster.{last_refused}
-use Rattle.wf_farm.specs.Event.{view_kept}
 use Rattle.wf_farm.specs.Farm.{Farm, size}
 use Rattle.wf_farm.specs.Fused.{PumpsOrTears, RunsOrTears, TellsUnlessTorn, with_torn}
 use Rattle.wf_farm.specs.Pump.{IsPumped}
-use Rattle.wf_farm.specs.declared.event.Kept.{Kept}
+use Rattle.wf_model.specs.declared.kept.Kept.{Kept}
 use Rattle.wf_script.specs.Order as order
 use Rattle.wf_script.specs.Order.{Order}
 use Rattle.wf_script.specs.Script.{Script}
-use Rattle.wf_play.specs.Performing.{DeliversOrTears, Does, Happens, HappensIf, HappensOrTears, IsPerformed, Performs, PerformsTorn, TearsEvent, action_of, event_at, event_of, fuse_set, kept_by, left_by}
+use Rattle.wf_play.specs.Performing.{DeliversOrTears, Does, Happens, HappensIf, HappensOrTears, IsPerformed, Performs, PerformsTorn, TearsEvent, event_at, fuse_set, left_by}
 use Rattle.wf_play.specs.Session.{Plays, Stage}
-use Rattle.wf_play.specs.Telling.{Adds, WritesWith, event_text, pump_line, refusal_line, step_text, torn_line, torn_text}
+use Rattle.wf_play.specs.Telling.{Adds, WritesWith, event_text, pump_line, happened_text, refusal_line, torn_line, torn_text}
 use Rattle.wf_play.proofs.Carried.{none_refused}
 use Rattle.wf_play.proofs.Telling.{also_ok}
 
@@ -43,62 +42,61 @@ performed (Err e) maps o torn before after left does is set = tt
 
 -- ---- one event
 
--- what a step writes, where the script has its map
-step_written : {A B : Type 0} (f : A → B) (there : Option A) (b : B) (number : Option ℕ) → option_map f there ≡ Some b → refusal_line number ≡ step_text there number
-step_written f None b number is = absurd (none-some b is)
-step_written f (Some a) b number is = refl
-
 module _ (script : Script) (event : Event Definition) (before after : Farm) where
   happened_as : (o : Order) → event_at script.maps o ≡ Some event → Happens (event ∷ []) before after → Performs script.maps o before after
-  happened_as (order.Fuse i call kept crash) is happens = absurd (none-some event is)
-  happened_as (order.Step i s) is happens = subst (λ e. HappensIf e before after) (sym is) happens
   happened_as (order.Deliver i messages) is happens = absurd (none-some event is)
-  happened_as (order.Cut i k bytes) is happens = absurd (none-some event is)
-  happened_as (order.Stop i) is happens = subst (λ e. Happens (e ∷ []) before after) (sym (same_Some (world.Stop i) event is)) happens
-  happened_as (order.Restart i) is happens = subst (λ e. Happens (e ∷ []) before after) (sym (same_Some (world.Restart i) event is)) happens
-  happened_as (order.Torn i s side) is happens = subst (λ e. HappensIf e before after) (sym is) happens
   happened_as (order.Pump nodes) is happens = absurd (none-some event is)
   happened_as order.Skip is happens = absurd (none-some event is)
+  happened_as (order.Step i a) is happens = subst (λ e. HappensIf e before after) (sym is) happens
+  happened_as (order.Stop i) is happens = subst (λ e. HappensIf e before after) (sym is) happens
+  happened_as (order.Restart i) is happens = subst (λ e. HappensIf e before after) (sym is) happens
+  happened_as (order.Torn i a kept) is happens = subst (λ e. HappensIf e before after) (sym is) happens
+  happened_as (order.Fuse i call kept crash) is happens = absurd (none-some event is)
+  happened_as (order.Cut i k bytes) is happens = absurd (none-some event is)
   happened_as (order.Ask question) is happens = absurd (none-some event is)
   happened_as (order.Get i query) is happens = absurd (none-some event is)
   happened_as (order.Equal i j query) is happens = absurd (none-some event is)
 
   torn_as : (o : Order) (torn : ℕ × Kept) → event_at script.maps o ≡ Some event → TearsEvent torn (Some event) before after → PerformsTorn script.maps o torn before after
-  torn_as (order.Fuse i call kept crash) torn is tears = absurd (none-some event is)
-  torn_as (order.Step i s) torn is tears = subst (λ e. TearsEvent torn e before after) (sym is) tears
   torn_as (order.Deliver i messages) torn is tears = absurd (none-some event is)
-  torn_as (order.Cut i k bytes) torn is tears = absurd (none-some event is)
-  torn_as (order.Stop i) torn is tears = subst (λ e. TearsEvent torn e before after) (sym is) tears
-  torn_as (order.Restart i) torn is tears = subst (λ e. TearsEvent torn e before after) (sym is) tears
-  torn_as (order.Torn i s side) torn is tears = subst (λ e. TearsEvent torn e before after) (sym is) tears
   torn_as (order.Pump nodes) torn is tears = absurd (none-some event is)
   torn_as order.Skip torn is tears = absurd (none-some event is)
+  torn_as (order.Step i a) torn is tears = subst (λ e. TearsEvent torn e before after) (sym is) tears
+  torn_as (order.Stop i) torn is tears = subst (λ e. TearsEvent torn e before after) (sym is) tears
+  torn_as (order.Restart i) torn is tears = subst (λ e. TearsEvent torn e before after) (sym is) tears
+  torn_as (order.Torn i a kept) torn is tears = subst (λ e. TearsEvent torn e before after) (sym is) tears
+  torn_as (order.Fuse i call kept crash) torn is tears = absurd (none-some event is)
+  torn_as (order.Cut i k bytes) torn is tears = absurd (none-some event is)
   torn_as (order.Ask question) torn is tears = absurd (none-some event is)
   torn_as (order.Get i query) torn is tears = absurd (none-some event is)
   torn_as (order.Equal i j query) torn is tears = absurd (none-some event is)
 
+  -- what the event writes, by the order
+  told_of_event : (there : Option (Event Definition)) → there ≡ Some event → refusal_line after.refused ≡ happened_text there after.refused
+  told_of_event there is = ap (λ e. happened_text e after.refused) (sym is)
+
   written_whole : (o : Order) → event_at script.maps o ≡ Some event → WritesWith script o None before after (refusal_line after.refused)
-  written_whole (order.Fuse i call kept crash) is = absurd (none-some event is)
-  written_whole (order.Step i s) is = step_written (event_of i) (action_of script.maps s) event after.refused is
   written_whole (order.Deliver i messages) is = absurd (none-some event is)
-  written_whole (order.Cut i k bytes) is = absurd (none-some event is)
-  written_whole (order.Stop i) is = refl
-  written_whole (order.Restart i) is = refl
-  written_whole (order.Torn i s side) is = step_written (λ a. world.Torn i a (view_kept (kept_by side))) (action_of script.maps s) event after.refused is
   written_whole (order.Pump nodes) is = absurd (none-some event is)
   written_whole order.Skip is = absurd (none-some event is)
+  written_whole (order.Step i a) is = told_of_event (event_at script.maps (order.Step i a)) is
+  written_whole (order.Stop i) is = refl
+  written_whole (order.Restart i) is = refl
+  written_whole (order.Torn i a kept) is = told_of_event (event_at script.maps (order.Torn i a kept)) is
+  written_whole (order.Fuse i call kept crash) is = absurd (none-some event is)
+  written_whole (order.Cut i k bytes) is = absurd (none-some event is)
   written_whole (order.Ask question) is = absurd (none-some event is)
   written_whole (order.Get i query) is = absurd (none-some event is)
   written_whole (order.Equal i j query) is = absurd (none-some event is)
 
   written_torn : (o : Order) (torn : ℕ × Kept) → event_at script.maps o ≡ Some event → WritesWith script o (Some torn) before after (torn_line torn)
   written_torn (order.Fuse i call kept crash) torn is = refl
-  written_torn (order.Step i s) torn is = refl
+  written_torn (order.Step i a) torn is = refl
   written_torn (order.Deliver i messages) torn is = refl
   written_torn (order.Cut i k bytes) torn is = refl
   written_torn (order.Stop i) torn is = refl
   written_torn (order.Restart i) torn is = refl
-  written_torn (order.Torn i s side) torn is = refl
+  written_torn (order.Torn i a kept) torn is = refl
   written_torn (order.Pump nodes) torn is = absurd (none-some event is)
   written_torn order.Skip torn is = refl
   written_torn (order.Ask question) torn is = refl
@@ -137,13 +135,13 @@ module _ (node : ℕ) (before after : Farm) where
       now ≡ told_of node torn → HappensOrTears node event now before after
   event_made event torn now runs why pumped is = subst (λ t. HappensOrTears node event t before after) (sym is) (made event torn runs why pumped)
 
-  given : (to : ℕ) (messages : List ℕ) (torn : Option (ℕ × Kept)) → RunsOrTears node (map (world.Deliver to) messages) torn before after → after.refused ≡ before.refused → after.pumped ≡ before.pumped →
+  given : (to : ℕ) (messages : List ℕ) (torn : Option (ℕ × Kept)) → RunsOrTears node (map (world.deliver to) messages) torn before after → after.refused ≡ before.refused → after.pumped ≡ before.pumped →
       DeliversOrTears node to messages (told_of node torn) before after
   given to messages None runs refused pumped = record { runs = runs.runs; rejected = λ w shows. none_refused w to messages; refused = refused; pumped = pumped }
   given to messages (Some torn) runs refused pumped = (refl, record { tears = record { at = torn.0; runs = runs; pumped = pumped }; refused = refused })
 
   -- The deliveries.
-  pub messages_delivered : (to : ℕ) (messages : List ℕ) (torn now : Option (ℕ × Kept)) → RunsOrTears node (map (world.Deliver to) messages) torn before after → after.refused ≡ before.refused → after.pumped ≡ before.pumped →
+  pub messages_delivered : (to : ℕ) (messages : List ℕ) (torn now : Option (ℕ × Kept)) → RunsOrTears node (map (world.deliver to) messages) torn before after → after.refused ≡ before.refused → after.pumped ≡ before.pumped →
       now ≡ told_of node torn → DeliversOrTears node to messages now before after
   messages_delivered to messages torn now runs refused pumped is = subst (λ t. DeliversOrTears node to messages t before after) (sym is) (given to messages torn runs refused pumped)
 

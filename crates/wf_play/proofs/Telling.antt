@@ -7,14 +7,14 @@ use Rattle.wf_def.specs.Definition.{Definition}
 use Rattle.wf_learner.specs.History.{map_at}
 use Rattle.wf_model.specs.Stored.{definition_at}
 use Rattle.wf_node.specs.Node.{Node}
-use Rattle.wf_tape.specs.MemoryTape.{Kept}
+use Rattle.wf_tape.specs.MemoryTape.{TapeValue}
 use Rattle.wf_farm.specs.Answering.{IsNoAnswer}
 use Rattle.wf_farm.specs.Farm.{Farm, running_in}
 use Rattle.wf_farm.specs.Pump.{IsPumped}
 use Rattle.wf_farm.specs.declared.fault.FarmFault.{FarmFault}
 use Rattle.wf_farm.specs.declared.fault.FarmFault.TheVariants.{NoNode}
 use Rattle.wf_farm.specs.declared.place.Place.{Place}
-use Rattle.wf_farm.specs.declared.event.Kept.{Kept as Remains}
+use Rattle.wf_model.specs.declared.kept.Kept.{Kept}
 use Rattle.wf_play.specs.Comparison.{IsUncompared}
 use Rattle.wf_script.specs.Script.{Numbered, Script}
 use Rattle.wf_play.specs.Telling.{Adds, IsOfAnswer, IsToldAbsent, TellsAnswer, TellsEqual, TellsPump, WritesAt, WritesWith, no_node, published_word, pump_line}
@@ -63,7 +63,7 @@ unpublished history zero above = absurd (omega arith)
 unpublished history (suc k) above = sym (slice_get_past history k (omega arith))
 
 -- why no node answers is an error of an answer
-pub of_answer : (place : Option (Node Kept)) (fault : FarmFault) → IsNoAnswer place fault → IsOfAnswer fault
+pub of_answer : (place : Option (Node TapeValue)) (fault : FarmFault) → IsNoAnswer place fault → IsOfAnswer fault
 of_answer None fault why = subst IsOfAnswer (sym why) tt
 of_answer (Some node) fault why = subst IsOfAnswer (sym why) tt
 
@@ -76,7 +76,7 @@ of_comparison farm i j fault why =
     ]
 
 -- no node answers where none runs
-is_absent : (place : Option (Node Kept)) → IsNoAnswer place NoNode → place ≡ None
+is_absent : (place : Option (Node TapeValue)) → IsNoAnswer place NoNode → place ≡ None
 is_absent None why = refl
 is_absent (Some node) why = absurd (cc)
 
@@ -99,12 +99,12 @@ pub pump_told : (nodes : List ℕ) (before after : Farm) (stopped : Bool) (old n
 pump_told nodes before after stopped old new done is = (pump_line stopped, (stopped, done, refl), is)
 
 -- what the order at an index writes, where that order is there
-pub written_at : (script : Script) (there : Option Numbered) (n : Numbered) (torn : Option (ℕ × Remains)) (before after : Farm) (old new : List ℕ) → Some n ≡ there → Adds (WritesWith script n.order torn before after) old new
+pub written_at : (script : Script) (there : Option Numbered) (n : Numbered) (torn : Option (ℕ × Kept)) (before after : Farm) (old new : List ℕ) → Some n ≡ there → Adds (WritesWith script n.order torn before after) old new
     → Adds (WritesAt script there torn before after) old new
 unfolding WritesAt
 written_at script there n torn before after old new is tells = subst (λ o. Adds (WritesAt script o torn before after) old new) is tells
 
 -- where there is none
-pub nothing_written : (script : Script) (there : Option Numbered) (torn : Option (ℕ × Remains)) (before after : Farm) (old : List ℕ) → None ≡ there → Adds (WritesAt script there torn before after) old old
+pub nothing_written : (script : Script) (there : Option Numbered) (torn : Option (ℕ × Kept)) (before after : Farm) (old : List ℕ) → None ≡ there → Adds (WritesAt script there torn before after) old old
 unfolding WritesAt
 nothing_written script there torn before after old is = ([], subst (λ o. WritesAt script o torn before after []) is refl, sym (append-nil old))

@@ -1,11 +1,12 @@
 -- What two nodes of a farm answer to one query, compared.
-use Rattle.std.specs.Prelude.{◌≡◌, ◌⊎◌, ◌&&◌, ℕ, Bool, true, List, bytes_eq, slice_get}
+use Rattle.std.specs.Prelude.{◌≡◌, ◌⊎◌, ◌&&◌, ℕ, Bool, true, List, bytes_eq}
 use Rattle.wf_wms.specs.Answer.{AnswerValue, AsksForMap}
 use Rattle.wf_wms.specs.declared.kind.Kind.{Kind}
 use Rattle.wf_wms.specs.contracts.kind.KindPartialEq.TheImpl as kinds
 use Rattle.wf_farm.specs.Answering.{Answers, IsNoAnswer, sequence_at}
-use Rattle.wf_farm.specs.Farm.{Farm, running_in}
+use Rattle.wf_farm.specs.Farm.{Farm}
 use Rattle.wf_farm.specs.declared.fault.FarmFault.{FarmFault}
+use Rattle.wf_play.specs.Session.{node_at}
 
 -- whether two answers are of one kind, as a test
 unfoldable pub is_same_kind : Kind → Kind → Bool
@@ -30,4 +31,4 @@ pub record IsTrueWhereOne (farm : Farm) (i j : ℕ) (query : List ℕ) (equal : 
 
 -- why answers aren't compared: one of the nodes returns none
 abbrev pub IsUncompared : Farm → ℕ → ℕ → FarmFault → Type 0
-IsUncompared farm i j fault = IsNoAnswer (running_in (slice_get farm.places i)) fault ⊎ IsNoAnswer (running_in (slice_get farm.places j)) fault
+IsUncompared farm i j fault = IsNoAnswer (node_at farm i) fault ⊎ IsNoAnswer (node_at farm j) fault

@@ -2,13 +2,15 @@
 use Rattle.std.specs.Prelude.{◌≡◌, ℕ, ⊤, true, false, Option, Some, List, Result, Ok, Err}
 use Rattle.std.specs.Io.KnownBytes.{Keeps}
 use Rattle.wf_stream.specs.Reading.{EndsByFailing, Rises}
+use Rattle.wf_stream.specs.declared.stream.Sink.{Ghosts as Sink}
 use Rattle.wf_script.specs.Fault.{IsMemory, is_memory}
+use Rattle.wf_script.specs.Order.{Order}
 use Rattle.wf_script.specs.Script.{Numbered}
 use Rattle.wf_script.specs.declared.fault.ScriptFault.TheVariants as script
 use Rattle.wf_farm.specs.Farm.{Farm}
 use Rattle.wf_farm.specs.declared.carrier.CarrierFault.{CarrierFault}
 use Rattle.wf_farm.specs.declared.carrier.CarrierFault.TheVariants as carrier
-use Rattle.wf_play.specs.Performing.{fault_at, may_use_at}
+use Rattle.wf_play.specs.Performing.{fault_at, may_use, may_use_at}
 use Rattle.wf_play.specs.declared.fault.PlayFault.{PlayFault}
 use Rattle.wf_play.specs.declared.fault.PlayFault.TheVariants as play
 
@@ -48,12 +50,11 @@ CountsWrites (Err play.Write) old new = Rises old new
 CountsWrites _ old new = new ≡ old
 
 -- How the writing ended, of any writer: a failed write is the last call, and some bytes were written without a failure before it.
-module _ {K : Type 0} (written : K → Option (List ℕ)) (failures : K → ℕ) (fails : K → K → Type 0) where
-  abbrev pub EndsWriting : K → K → PlayFault → Type 0
-  EndsWriting old new (play.Script fault) = ⊤
-  EndsWriting old new play.Read = ⊤
-  EndsWriting old new play.Write = (bytes : List ℕ) × EndsByFailing written failures fails bytes old new
-  EndsWriting old new play.Wire = ⊤
+abbrev pub EndsWriting : {K : Type 0} → Sink K → K → K → PlayFault → Type 0
+EndsWriting sinks old new (play.Script fault) = ⊤
+EndsWriting sinks old new play.Read = ⊤
+EndsWriting sinks old new play.Write = (bytes : List ℕ) × EndsByFailing sinks.written sinks.failures sinks.fails bytes old new
+EndsWriting sinks old new play.Wire = ⊤
 
 -- the error of an order, by why it isn't performed to its end: an allocation failed, at its line, or a message wasn't carried
 abbrev pub order_fault : CarrierFault → ℕ → PlayFault
@@ -67,6 +68,10 @@ IsOrderFault numbered before (play.Script fault) = fault_at numbered ≡ Some fa
 IsOrderFault numbered before play.Wire = may_use_at numbered before ≡ true
 IsOrderFault numbered before play.Read = ⊥
 IsOrderFault numbered before play.Write = ⊥
+
+-- for the crate's own contracts: only what may use the carrier loses a message
+abbrev pub LosesOnlyOf : Order → Farm → CarrierFault → Type 0
+LosesOnlyOf order before fault = fault ≡ carrier.Lost → may_use order before ≡ true
 
 -- no message was lost on its way
 abbrev pub LosesNone : PlayFault → Type 0

@@ -1,45 +1,38 @@
 -- What an order of a script does to the farm on which it is played, by the order's kind.
 use Rattle.wf_farm.specs.Fused.{PumpsOrTears, RunsOrTears}
-use Rattle.wf_play.specs.Session.{Stage}
+use Rattle.wf_play.specs.Session.{Session, Stage, node_at, stage}
 use Rattle.std.specs.Prelude.{◌≡◌, ℕ, Bool, true, false, ◌&&◌, List, [], ◌∷◌, length, map, slice_get, Option, Some, None, option_map, is_some}
 use Rattle.wf_def.specs.Definition.{Definition}
 use Rattle.wf_model.specs.Table as table
 use Rattle.wf_model.specs.World as world
 use Rattle.wf_model.specs.World.{Event, World}
 use Rattle.wf_farm.specs.Cluster.{TellsWhy, last_refused}
-use Rattle.wf_farm.specs.Event.{view_kept}
-use Rattle.wf_farm.specs.Farm.{Farm, Runs, Shows, running_in}
+use Rattle.wf_farm.specs.Farm.{Farm, Runs, Shows}
 use Rattle.wf_farm.specs.Pump.{IsPumped}
-use Rattle.wf_farm.specs.declared.event.Kept.{Kept}
-use Rattle.wf_farm.specs.declared.event.Kept.TheVariants as kept
-use Rattle.wf_script.specs.declared.order.Side.{Side}
-use Rattle.wf_script.specs.declared.order.Side.TheVariants as side
-use Rattle.wf_script.specs.declared.order.Step.{Step}
-use Rattle.wf_script.specs.declared.order.Step.TheVariants as step
+use Rattle.wf_model.specs.Kept.{view as view_kept}
+use Rattle.wf_model.specs.declared.action.Action.{Action}
+use Rattle.wf_model.specs.declared.action.Action.TheVariants as action
+use Rattle.wf_model.specs.declared.kept.Kept.{Kept}
 use Rattle.wf_script.specs.declared.fault.ScriptFault.{ScriptFault}
 use Rattle.wf_script.specs.declared.fault.ScriptFault.TheVariants as fault
 use Rattle.wf_script.specs.Order.{Order}
 use Rattle.wf_script.specs.Order as order
 use Rattle.wf_script.specs.Script.{Numbered}
 
--- what a step does, by the maps of the script: nothing where it names none of them
-abbrev pub action_of : List Definition → Step → Option (table.Action Definition ℕ)
-action_of maps (step.Propose m) = option_map table.Propose (slice_get maps m)
-action_of maps step.Retry = Some table.Retry
-action_of maps step.CatchUp = Some table.CatchUp
-action_of maps (step.Deliver k) = Some (table.Deliver k)
+-- the step of an order on a farm, with the map of its script that it names; nothing where the script doesn't have that
+abbrev pub action_of : List Definition → Action ℕ ℕ → Option (table.Action Definition ℕ)
+action_of maps (action.Propose m) = option_map table.Propose (slice_get maps m)
+action_of maps action.Retry = Some table.Retry
+action_of maps action.CatchUp = Some table.CatchUp
+action_of maps (action.Deliver k) = Some (table.Deliver k)
 
--- the event that node i does it
-abbrev pub event_of : ℕ → table.Action Definition ℕ → Event Definition
-event_of i (table.Propose d) = world.Propose i d
-event_of i table.Retry = world.Retry i
-event_of i table.CatchUp = world.CatchUp i
-event_of i (table.Deliver k) = world.Deliver i k
-
--- which stored part a crash on that side of the record leaves
-abbrev pub kept_by : Side → Kept
-kept_by side.Before = kept.Before
-kept_by side.After = kept.After
+-- the event that an order is; deliveries and pumps are several, and the others are none
+abbrev pub event_at : List Definition → Order → Option (Event Definition)
+event_at maps (order.Step i a) = option_map (world.Act i) (action_of maps a)
+event_at maps (order.Stop i) = Some (world.Stop i)
+event_at maps (order.Restart i) = Some (world.Restart i)
+event_at maps (order.Torn i a kept) = option_map (λ a. world.Torn i a (view_kept kept)) (action_of maps a)
+event_at maps other = None
 
 -- Exactly these events have happened: the farm reports why the last one was rejected, if it was, and as many messages count as
 -- pumped as before.
@@ -56,8 +49,8 @@ HappensIf (Some event) before after = Happens (event ∷ []) before after
 -- Exactly these messages were delivered to node i, in turn. No delivery is rejected; the farm reports the rejection that it reported
 -- before, and as many messages count as pumped as before.
 pub record Delivers (i : ℕ) (messages : List ℕ) (before after : Farm) : Type 0 where
-  pub runs : Runs (map (λ k. world.Deliver i k) messages) before after
-  pub rejected : (w : World Definition) → Shows before w → last_refused w (map (λ k. world.Deliver i k) messages) ≡ None
+  pub runs : Runs (map (λ k. world.deliver i k) messages) before after
+  pub rejected : (w : World Definition) → Shows before w → last_refused w (map (λ k. world.deliver i k) messages) ≡ None
   pub refused : after.refused ≡ before.refused
   pub pumped : after.pumped ≡ before.pumped
 
@@ -66,37 +59,15 @@ pub record ArePumped (nodes : List ℕ) (before after : Farm) : Type 0 where
   pub stopped : Bool
   pub pumped : IsPumped nodes before after stopped
 
--- What each order does. A question leaves the farm as it is, and so does a message that is cut off.
+-- What each order does. Any but deliveries, a pump and `skip` is one event or leaves the farm as it is: a question, and a message that
+-- is cut off.
 abbrev pub Performs : List Definition → Order → Farm → Farm → Type 0
-Performs maps (order.Fuse i call kept crash) before after = after ≡ before
-Performs maps (order.Step i s) before after = HappensIf (option_map (event_of i) (action_of maps s)) before after
 Performs maps (order.Deliver i messages) before after = Delivers i messages before after
-Performs maps (order.Cut i k bytes) before after = after ≡ before
-Performs maps (order.Stop i) before after = Happens (world.Stop i ∷ []) before after
-Performs maps (order.Restart i) before after = Happens (world.Restart i ∷ []) before after
-Performs maps (order.Torn i s side) before after = HappensIf (option_map (λ a. world.Torn i a (view_kept (kept_by side))) (action_of maps s)) before after
 Performs maps (order.Pump nodes) before after = ArePumped nodes before after
 Performs maps order.Skip before after = after ≡ record before { pumped = length before.sent }
-Performs maps (order.Ask question) before after = after ≡ before
-Performs maps (order.Get i query) before after = after ≡ before
-Performs maps (order.Equal i j query) before after = after ≡ before
+Performs maps other before after = HappensIf (event_at maps other) before after
 
 -- ---- orders where a tape may fail
-
--- the event that an order is, by the maps of the script; deliveries and pumps are several
-abbrev pub event_at : List Definition → Order → Option (Event Definition)
-event_at maps (order.Fuse i call kept crash) = None
-event_at maps (order.Step i s) = option_map (event_of i) (action_of maps s)
-event_at maps (order.Deliver i messages) = None
-event_at maps (order.Cut i k bytes) = None
-event_at maps (order.Stop i) = Some (world.Stop i)
-event_at maps (order.Restart i) = Some (world.Restart i)
-event_at maps (order.Torn i s side) = option_map (λ a. world.Torn i a (view_kept (kept_by side))) (action_of maps s)
-event_at maps (order.Pump nodes) = None
-event_at maps order.Skip = None
-event_at maps (order.Ask question) = None
-event_at maps (order.Get i query) = None
-event_at maps (order.Equal i j query) = None
 
 -- These events have happened, but one of them is a step of node i, within which its tape failed: the node crashed there, which kept
 -- this, and was opened again.
@@ -114,7 +85,7 @@ pub record TearsEvent (torn : ℕ × Kept) (event : Option (Event Definition)) (
 
 -- One of the deliveries was; the farm reports the rejection that it reported before.
 pub record TearsDelivery (torn : ℕ × Kept) (i : ℕ) (messages : List ℕ) (before after : Farm) : Type 0 where
-  pub tears : Tears torn.0 torn.1 (map (λ k. world.Deliver i k) messages) before after
+  pub tears : Tears torn.0 torn.1 (map (λ k. world.deliver i k) messages) before after
   pub refused : after.refused ≡ before.refused
 
 -- One of the deliveries of a pump was.
@@ -167,25 +138,34 @@ fault_at numbered = option_map (λ n. fault.Memory n.line) numbered
 
 -- whether the order is of a kind that carries messages
 abbrev pub carries : Order → Bool
-carries (order.Fuse i call kept crash) = false
-carries (order.Step i s) = false
 carries (order.Deliver i messages) = true
 carries (order.Cut i k bytes) = true
-carries (order.Stop i) = false
-carries (order.Restart i) = false
-carries (order.Torn i s side) = false
 carries (order.Pump nodes) = true
-carries order.Skip = false
-carries (order.Ask question) = false
-carries (order.Get i query) = false
-carries (order.Equal i j query) = false
+carries other = false
 
 -- Whether the order may use the carrier: it carries messages. A message is cut off only if it was sent and its node runs.
 abbrev pub may_use : Order → Farm → Bool
-may_use (order.Cut i k bytes) farm = is_some (running_in (slice_get farm.places i)) && is_some (slice_get farm.sent k)
+may_use (order.Cut i k bytes) farm = is_some (node_at farm i) && is_some (slice_get farm.sent k)
 may_use other farm = carries other
 
 -- the same for the order at an index
 abbrev pub may_use_at : Option Numbered → Farm → Bool
 may_use_at None farm = false
 may_use_at (Some numbered) farm = may_use numbered.order farm
+
+-- ---- orders of a session
+
+-- its order of this number, counted from 0
+abbrev pub order_at : Session → ℕ → Option Numbered
+order_at session n = slice_get session.script.orders n
+
+-- what that order does
+abbrev pub PerformsOrder : ℕ → Session → Session → Type 0
+PerformsOrder n before after = PerformsAt before.script.maps (order_at before n) after.torn (stage before) (stage after)
+
+-- for the crate's own contracts: what this order of its script does, where a tape may fail and where none does
+abbrev pub Obeys : Order → Session → Session → Type 0
+Obeys order before after = Does before.script.maps order before.fuse after.torn before.farm after.farm
+
+abbrev pub Acts : Order → Session → Session → Type 0
+Acts order before after = Performs before.script.maps order before.farm after.farm

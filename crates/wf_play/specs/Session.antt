@@ -1,10 +1,12 @@
 -- A script that is played on a farm.
-use Rattle.std.specs.Prelude.{◌≡◌, ◌⊎◌, ℕ, List, Option}
+use Rattle.std.specs.Prelude.{◌≡◌, ◌⊎◌, ℕ, List, Option, slice_get}
 use Rattle.wf_def.specs.Definition.{Definition}
 use Rattle.wf_model.specs.World.{Event}
+use Rattle.wf_node.specs.Node.{Node}
+use Rattle.wf_tape.specs.MemoryTape.{TapeValue}
 use Rattle.wf_farm.specs.Agreement.{HistoriesGrow, Publishes}
-use Rattle.wf_farm.specs.Farm.{Farm, Runs, size}
-use Rattle.wf_farm.specs.declared.event.Kept.{Kept}
+use Rattle.wf_farm.specs.Farm.{Farm, Runs, running_in, size}
+use Rattle.wf_model.specs.declared.kept.Kept.{Kept}
 use Rattle.wf_script.specs.Script.{Script}
 
 -- The script, and the farm after its orders so far; the node whose tape will fail, if one will; and where the last order was torn: within
@@ -36,6 +38,10 @@ pub record Plays (before after : Farm) : Type 0 where
   pub runs : Runs events before after
   pub size : size after ≡ size before
   pub grows : (after.places ≡ before.places) ⊎ HistoriesGrow before after
+
+-- node i, if it runs
+abbrev pub node_at : Farm → ℕ → Option (Node TapeValue)
+node_at farm i = running_in (slice_get farm.places i)
 
 -- some node publishes this definition under sequence s
 abbrev pub IsPublished : Farm → ℕ → Definition → Type 0

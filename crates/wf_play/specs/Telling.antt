@@ -1,11 +1,13 @@
 -- What an order writes about the farm after it.
-use Rattle.std.specs.Prelude.{◌≡◌, ◌⊎◌, ◌++◌, ℕ, ⊤, Bool, true, false, List, [], codes, decimal, flat_map, length, slice_get, Option, Some, None, if◌then◌else◌}
+use Rattle.std.specs.Prelude.{◌≡◌, ◌⊎◌, ◌++◌, ℕ, ⊤, Bool, true, false, List, [], codes, decimal, flat_map, length, Option, Some, None, String, string_bytes, if◌then◌else◌}
+use Rattle.wf_def.specs.Definition.{Definition}
 use Rattle.wf_learner.specs.History.{map_at}
+use Rattle.wf_model.specs.World.{Event}
 use Rattle.wf_node.specs.Node.{Node, working_of}
 use Rattle.wf_proposer.specs.Standing.{standing_of}
 use Rattle.wf_proposer.specs.declared.standing.Standing.{Standing}
 use Rattle.wf_proposer.specs.declared.standing.Standing.TheVariants as standing
-use Rattle.wf_tape.specs.MemoryTape.{Kept}
+use Rattle.wf_tape.specs.MemoryTape.{TapeValue}
 use Rattle.wf_wms.specs.Answer.{AnswerValue}
 use Rattle.wf_wms.specs.declared.exception.Exception.{Exception}
 use Rattle.wf_wms.specs.declared.exception.Exception.TheVariants as exception
@@ -13,24 +15,27 @@ use Rattle.wf_wms.specs.declared.kind.Kind.{Kind}
 use Rattle.wf_wms.specs.declared.kind.Kind.TheVariants as kind
 use Rattle.wf_farm.specs.Answering.{Answers, sequence_at}
 use Rattle.wf_farm.specs.Farm.{Farm, running_in}
+use Rattle.wf_farm.specs.Fault.{number_of as rejection_number}
 use Rattle.wf_farm.specs.Pump.{IsPumped}
 use Rattle.wf_farm.specs.declared.fault.FarmFault.{FarmFault}
 use Rattle.wf_farm.specs.declared.fault.FarmFault.TheVariants.{Memory, NoNode, Carried}
 use Rattle.wf_farm.specs.declared.place.Place.{Place}
+use Rattle.wf_farm.specs.declared.rejection.Rejection.{Rejection}
 use Rattle.wf_play.specs.Comparison.{Compares}
 use Rattle.wf_script.specs.Order as order
 use Rattle.wf_script.specs.Order.{Order}
-use Rattle.wf_farm.specs.declared.event.Kept.{Kept as Remains}
-use Rattle.wf_farm.specs.declared.event.Kept.TheVariants as kept
-use Rattle.wf_play.specs.Performing.{TearsPump, action_of}
+use Rattle.wf_model.specs.declared.kept.Kept.{Kept}
+use Rattle.wf_model.specs.declared.kept.Kept.TheVariants as kept
+use Rattle.wf_play.specs.Performing.{TearsPump, event_at, order_at}
+use Rattle.wf_play.specs.Session.{Session, node_at}
 use Rattle.wf_script.specs.Script.{Numbered, Script, name_of}
 use Rattle.wf_script.specs.declared.order.Question.{Question}
 use Rattle.wf_script.specs.declared.order.Question.TheVariants as question
 
--- the line about a rejected event, by the number of its rejection; none where it wasn't rejected
-abbrev pub refusal_line : Option ℕ → List ℕ
+-- the line about a rejected event; none where it wasn't rejected
+abbrev pub refusal_line : Option Rejection → List ℕ
 refusal_line None = []
-refusal_line (Some n) = codes "refused N" ++ decimal n ++ codes "\n"
+refusal_line (Some r) = codes "refused N" ++ decimal (rejection_number r) ++ codes "\n"
 
 -- the line about a pump that stopped early
 abbrev pub pump_line : Bool → List ℕ
@@ -46,7 +51,7 @@ abbrev pub no_node : List ℕ
 no_node = codes "no node\n"
 
 -- the last sequence that a node published, a hyphen where none runs
-abbrev pub published_word : Option (Node Kept) → List ℕ
+abbrev pub published_word : Option (Node TapeValue) → List ℕ
 published_word None = codes " -"
 published_word (Some node) = codes " " ++ decimal (length node.parts.history)
 
@@ -64,11 +69,11 @@ standing_words (standing.Published s) = codes "published " ++ decimal s ++ codes
 standing_words (standing.Overtaken s) = codes "overtaken " ++ decimal s ++ codes "\n"
 
 -- the proposal of a node; a halted one has none
-abbrev pub proposal_line : ℕ → Option (Node Kept) → List ℕ
+abbrev pub proposal_line : ℕ → Option (Node TapeValue) → List ℕ
 proposal_line i None = no_node
 proposal_line i (Some node) = codes "proposal " ++ decimal i ++ codes " " ++ standing_words (if node.halted then standing.None else standing_of (working_of node).proposing)
 
-abbrev pub definition_line : Script → ℕ → ℕ → Option (Node Kept) → List ℕ
+abbrev pub definition_line : Script → ℕ → ℕ → Option (Node TapeValue) → List ℕ
 definition_line script i s None = no_node
 definition_line script i s (Some node) = codes "definition " ++ decimal i ++ codes " " ++ decimal s ++ codes " " ++ name_of script (map_at node.parts.history s) ++ codes "\n"
 
@@ -76,8 +81,8 @@ definition_line script i s (Some node) = codes "definition " ++ decimal i ++ cod
 abbrev pub answer_text : Script → Question → Farm → List ℕ
 answer_text script question.Published farm = published_line farm.places
 answer_text script question.Sent farm = sent_line (length farm.sent)
-answer_text script (question.Proposal i) farm = proposal_line i (running_in (slice_get farm.places i))
-answer_text script (question.Definition i s) farm = definition_line script i s (running_in (slice_get farm.places i))
+answer_text script (question.Proposal i) farm = proposal_line i (node_at farm i)
+answer_text script (question.Definition i s) farm = definition_line script i s (node_at farm i)
 answer_text script question.Same farm = codes "same\n"
 
 -- the number of an exception
@@ -104,7 +109,7 @@ kind_line i (kind.Exception e) size = exception_line i e size
 
 -- no node runs there
 abbrev pub IsAbsent : Farm → ℕ → Type 0
-IsAbsent farm i = running_in (slice_get farm.places i) ≡ None
+IsAbsent farm i = node_at farm i ≡ None
 
 -- an error of an answer: nothing is carried for one
 abbrev pub IsOfAnswer : FarmFault → Type 0
@@ -132,59 +137,76 @@ equal_line false = codes "differ\n"
 abbrev pub TellsEqual : Farm → ℕ → ℕ → List ℕ → List ℕ → Type 0
 TellsEqual farm i j query text = ((equal : Bool) × Compares farm i j query equal × (text ≡ equal_line equal)) ⊎ ((IsAbsent farm i ⊎ IsAbsent farm j) × (text ≡ no_node))
 
--- what is written after a step, if there was one
-abbrev pub step_text : {A : Type 0} → Option A → Option ℕ → List ℕ
-step_text None refused = []
-step_text (Some action) refused = refusal_line refused
+-- what is written after an event, if there was one
+abbrev pub happened_text : Option (Event Definition) → Option Rejection → List ℕ
+happened_text None refused = []
+happened_text (Some event) refused = refusal_line refused
 
--- What an order writes. Of a step, a stop, a restart or a crash it is the rejection, if it was rejected. A delivery writes nothing,
--- since none is rejected.
+-- What an order writes. Of an event it is the rejection, if it was rejected. A delivery writes nothing, since none is rejected.
 abbrev pub Writes : Script → Order → Farm → Farm → List ℕ → Type 0
-Writes script (order.Fuse i call kept crash) before after text = text ≡ []
-Writes script (order.Step i s) before after text = text ≡ step_text (action_of script.maps s) after.refused
-Writes script (order.Deliver i messages) before after text = text ≡ []
-Writes script (order.Cut i k bytes) before after text = text ≡ []
-Writes script (order.Stop i) before after text = text ≡ refusal_line after.refused
-Writes script (order.Restart i) before after text = text ≡ refusal_line after.refused
-Writes script (order.Torn i s side) before after text = text ≡ step_text (action_of script.maps s) after.refused
 Writes script (order.Pump nodes) before after text = TellsPump nodes before after text
-Writes script order.Skip before after text = text ≡ []
 Writes script (order.Ask question) before after text = text ≡ answer_text script question after
 Writes script (order.Get i query) before after text = TellsAnswer after i query text
 Writes script (order.Equal i j query) before after text = TellsEqual after i j query text
+Writes script other before after text = text ≡ happened_text (event_at script.maps other) after.refused
 
 -- the line about a node that crashed within a step, by what the crash kept
-abbrev pub kept_word : Remains → List ℕ
+abbrev pub kept_word : Kept → List ℕ
 kept_word kept.Before = codes " before\n"
 kept_word kept.After = codes " after\n"
 
-abbrev pub torn_line : ℕ × Remains → List ℕ
+abbrev pub torn_line : ℕ × Kept → List ℕ
 torn_line torn = codes "torn " ++ decimal torn.0 ++ kept_word torn.1
 
 -- for the crate's own contracts: the line, if there is one; and what is written of one event
-abbrev pub torn_text : Option (ℕ × Remains) → List ℕ
+abbrev pub torn_text : Option (ℕ × Kept) → List ℕ
 torn_text None = []
 torn_text (Some torn) = torn_line torn
 
-abbrev pub event_text : Option (ℕ × Remains) → Option ℕ → List ℕ
+abbrev pub event_text : Option (ℕ × Kept) → Option Rejection → List ℕ
 event_text None refused = refusal_line refused
 event_text (Some torn) refused = torn_line torn
 
 -- One delivery of a pump was torn, and it is written whether the pump stopped early, and then that.
-abbrev pub TellsTornPump : List ℕ → ℕ × Remains → Farm → Farm → List ℕ → Type 0
+abbrev pub TellsTornPump : List ℕ → ℕ × Kept → Farm → Farm → List ℕ → Type 0
 TellsTornPump nodes torn before after text = (stopped : Bool) × TearsPump torn nodes stopped before after × (text ≡ pump_line stopped ++ torn_line torn)
 
 -- What an order writes within which the tape of a node failed. No event of it was rejected.
-abbrev pub WritesTorn : Order → ℕ × Remains → Farm → Farm → List ℕ → Type 0
+abbrev pub WritesTorn : Order → ℕ × Kept → Farm → Farm → List ℕ → Type 0
 WritesTorn (order.Pump nodes) torn before after text = TellsTornPump nodes torn before after text
 WritesTorn other torn before after text = text ≡ torn_line torn
 
 -- what an order writes, by whether a tape failed within it
-abbrev pub WritesWith : Script → Order → Option (ℕ × Remains) → Farm → Farm → List ℕ → Type 0
+abbrev pub WritesWith : Script → Order → Option (ℕ × Kept) → Farm → Farm → List ℕ → Type 0
 WritesWith script order None before after text = Writes script order before after text
 WritesWith script order (Some torn) before after text = WritesTorn order torn before after text
 
 -- what the order at an index writes: nothing where there is none
-unfoldable pub WritesAt : Script → Option Numbered → Option (ℕ × Remains) → Farm → Farm → List ℕ → Type 0
+unfoldable pub WritesAt : Script → Option Numbered → Option (ℕ × Kept) → Farm → Farm → List ℕ → Type 0
 WritesAt script None torn before after text = text ≡ []
 WritesAt script (Some numbered) torn before after text = WritesWith script numbered.order torn before after text
+
+-- ---- what a call appends to the output
+
+-- this text
+abbrev pub IsAppended : {Z : Type 0} → List ℕ → String Z → String Z → Type 0
+IsAppended text old new = string_bytes new ≡ string_bytes old ++ text
+
+-- a text with the property
+abbrev pub IsOneAppended : {Z : Type 0} → (List ℕ → Type 0) → String Z → String Z → Type 0
+IsOneAppended P old new = Adds P (string_bytes old) (string_bytes new)
+
+-- what the session's order of this number writes
+abbrev pub TellsOrder : {Z : Type 0} → ℕ → Session → Session → String Z → String Z → Type 0
+TellsOrder n before after old new = IsOneAppended (WritesAt before.script (order_at before n) after.torn before.farm after.farm) old new
+
+-- what this order of its script writes, where a tape may fail and where none does
+abbrev pub Tells : {Z : Type 0} → Order → Session → Session → String Z → String Z → Type 0
+Tells order before after old new = IsOneAppended (WritesWith before.script order after.torn before.farm after.farm) old new
+
+abbrev pub Reports : {Z : Type 0} → Order → Session → Session → String Z → String Z → Type 0
+Reports order before after old new = IsOneAppended (Writes before.script order before.farm after.farm) old new
+
+-- what one event of it writes: the crash within its step, or its rejection
+abbrev pub TellsEvent : {Z : Type 0} → Session → String Z → String Z → Type 0
+TellsEvent after old new = IsAppended (event_text after.torn after.farm.refused) old new

@@ -1,11 +1,10 @@
 //! Questions about a farm, and their answers.
 
 ghost use Rattle.wf_script.specs.Script.{name_of};
-ghost use Rattle.std.specs.Prelude.{◌≡◌, ◌++◌, OnOk, codes, length, option_copied, slice_get};
-ghost use Rattle.std.specs.String.{string_bytes};
-ghost use Rattle.wf_farm.specs.Farm.{running_in};
+ghost use Rattle.std.specs.Prelude.{◌≡◌, OnOk, codes, length, option_copied};
 ghost use Rattle.wf_learner.specs.History.{map_at};
-ghost use Rattle.wf_play.specs.Telling.{definition_line, no_node, proposal_line, published_line, published_word, sent_line, standing_words};
+ghost use Rattle.wf_play.specs.Session.{node_at};
+ghost use Rattle.wf_play.specs.Telling.{IsAppended, definition_line, no_node, proposal_line, published_line, published_word, sent_line, standing_words};
 
 use crate::session::Session;
 use std::alloc::AllocError;
@@ -27,7 +26,8 @@ impl<'s> Session<'s> {
 
     /// Appends the answer, one line.
     pub(crate) fn answer(&self, question: Question, out: &mut String) -> Result<(), AllocError>
-        ensures { OnOk result (string_bytes out.new ≡ string_bytes out.old ++ answer_text self.now.script question self.now.farm) }
+        ensures { OnOk result
+            (IsAppended (answer_text self.now.script question self.now.farm) out.old out.new) }
     {
         match question {
             Question::Published => tell_published(&self.farm, out),
@@ -41,7 +41,7 @@ impl<'s> Session<'s> {
     }
 
     fn tell_same(&self, out: &mut String) -> Result<(), AllocError>
-        ensures { OnOk result (string_bytes out.new ≡ string_bytes out.old ++ codes "same\n") }
+        ensures { OnOk result (IsAppended (codes "same\n") out.old out.new) }
     {
         match self.differ() {
             Some(slot) => {
@@ -141,7 +141,7 @@ impl<'s> Session<'s> {
 
 /// Each node's last published sequence, `-` for a stopped one.
 fn tell_published(farm: &Farm, out: &mut String) -> Result<(), AllocError>
-    ensures { OnOk result (string_bytes out.new ≡ string_bytes out.old ++ published_line farm.now.places) }
+    ensures { OnOk result (IsAppended (published_line farm.now.places) out.old out.new) }
 {
     out.push_str("published")?;
     for number in 0..farm.size() {
@@ -151,7 +151,7 @@ fn tell_published(farm: &Farm, out: &mut String) -> Result<(), AllocError>
 }
 
 fn tell_published_by(farm: &Farm, number: usize, out: &mut String) -> Result<(), AllocError>
-    ensures { OnOk result (string_bytes out.new ≡ string_bytes out.old ++ published_word (running_in (slice_get farm.now.places number))) }
+    ensures { OnOk result (IsAppended (published_word (node_at farm.now number)) out.old out.new) }
 {
     match farm.node(number) {
         Some(node) => {
@@ -163,14 +163,15 @@ fn tell_published_by(farm: &Farm, number: usize, out: &mut String) -> Result<(),
 }
 
 fn tell_sent(farm: &Farm, out: &mut String) -> Result<(), AllocError>
-    ensures { OnOk result (string_bytes out.new ≡ string_bytes out.old ++ sent_line (length farm.now.sent)) }
+    ensures { OnOk result (IsAppended (sent_line (length farm.now.sent)) out.old out.new) }
 {
     let count = farm.sent_count();
     writeln!(out, "sent {count}")
 }
 
 fn tell_proposal(farm: &Farm, number: usize, out: &mut String) -> Result<(), AllocError>
-    ensures { OnOk result (string_bytes out.new ≡ string_bytes out.old ++ proposal_line number (running_in (slice_get farm.now.places number))) }
+    ensures { OnOk result
+        (IsAppended (proposal_line number (node_at farm.now number)) out.old out.new) }
 {
     let Some(node) = farm.node(number) else {
         return tell_no_node(out);
@@ -180,7 +181,7 @@ fn tell_proposal(farm: &Farm, number: usize, out: &mut String) -> Result<(), All
 }
 
 fn tell_standing(standing: Standing, out: &mut String) -> Result<(), AllocError>
-    ensures { OnOk result (string_bytes out.new ≡ string_bytes out.old ++ standing_words standing) }
+    ensures { OnOk result (IsAppended (standing_words standing) out.old out.new) }
 {
     match standing {
         Standing::None => out.push_str("none\n"),
@@ -204,7 +205,8 @@ fn tell_definition(
     sequence: usize,
     out: &mut String,
 ) -> Result<(), AllocError>
-    ensures { OnOk result (string_bytes out.new ≡ string_bytes out.old ++ definition_line script.now number sequence (running_in (slice_get farm.now.places number))) }
+    ensures { OnOk result (IsAppended
+        (definition_line script.now number sequence (node_at farm.now number)) out.old out.new) }
 {
     let Some(node) = farm.node(number) else {
         return tell_no_node(out);
@@ -235,7 +237,7 @@ fn published_at<'n>(node: &'n Node<MemoryTape>, sequence: usize) -> Option<&'n M
 }
 
 pub(crate) fn tell_no_node(out: &mut String) -> Result<(), AllocError>
-    ensures { OnOk result (string_bytes out.new ≡ string_bytes out.old ++ no_node) }
+    ensures { OnOk result (IsAppended no_node out.old out.new) }
 {
     out.push_str("no node\n")
 }

@@ -1,12 +1,11 @@
 //! Orders that carry messages: deliveries, pumps, and messages that are cut off on their way.
 
-ghost use Rattle.std.specs.Prelude.{◌≡◌, ◌++◌, IfErr, OnOk};
-ghost use Rattle.std.specs.String.{string_bytes};
+ghost use Rattle.std.specs.Prelude.{◌≡◌, IfErr, OnOk};
 ghost use Rattle.wf_farm.specs.Carrying.{IsMemory};
 ghost use Rattle.wf_farm.specs.declared.carrier.CarrierFault.TheVariants as faults;
 ghost use Rattle.wf_play.specs.Performing.{Delivers};
 ghost use Rattle.wf_play.specs.Session.{KeepsRest, Plays};
-ghost use Rattle.wf_play.specs.Telling.{pump_line};
+ghost use Rattle.wf_play.specs.Telling.{IsAppended, pump_line};
 
 use crate::session::Session;
 use std::alloc::Global;
@@ -15,7 +14,7 @@ use wf_farm::{Carrier, CarrierFault, Farm, FarmFault};
 impl<'s> Session<'s> {
     ghost use Rattle.std.specs.Prelude.{true, false};
     ghost use Rattle.wf_play.specs.Performing.{ArePumped, may_use};
-    ghost use Rattle.wf_play.specs.Telling.{Adds, TellsPump};
+    ghost use Rattle.wf_play.specs.Telling.{IsOneAppended, TellsPump};
     ghost use Rattle.wf_script.specs.Order.{Cut};
 
     /// The messages go to the node by the carrier, one after the other.
@@ -45,7 +44,8 @@ impl<'s> Session<'s> {
     ) -> Result<(), CarrierFault>
         ensures rest { KeepsRest self.old self.new }
         ensures does { OnOk result (ArePumped nodes.now self.old.farm self.new.farm) }
-        ensures tells { OnOk result (Adds (TellsPump nodes.now self.old.farm self.new.farm) (string_bytes out.old) (string_bytes out.new)) }
+        ensures tells { OnOk result
+            (IsOneAppended (TellsPump nodes.now self.old.farm self.new.farm) out.old out.new) }
         ensures faithful { C.faithful → IfErr result (λ fault. fault ≡ faults.Memory) }
         ensures plays { Plays self.old.farm self.new.farm }
     {
@@ -66,7 +66,8 @@ impl<'s> Session<'s> {
         bytes: usize,
     ) -> Result<(), CarrierFault>
         ensures used { IfErr result (λ _. may_use (Cut node message bytes) self.now.farm ≡ true) }
-        ensures unused { may_use (Cut node message bytes) self.now.farm ≡ false → carrier.new ≡ carrier.old }
+        ensures unused { may_use (Cut node message bytes) self.now.farm ≡ false →
+            carrier.new ≡ carrier.old }
         ensures faithful { C.faithful → IfErr result (λ fault. fault ≡ faults.Memory) }
     {
         if self.farm.node(node).is_none() {
@@ -114,7 +115,7 @@ fn why_not_carried(fault: FarmFault) -> CarrierFault
 
 /// Appends that a pump stopped early, if it did.
 pub(crate) fn tell_pump(stopped: bool, out: &mut String) -> Result<(), CarrierFault>
-    ensures told { OnOk result (string_bytes out.new ≡ string_bytes out.old ++ pump_line stopped) }
+    ensures told { OnOk result (IsAppended (pump_line stopped) out.old out.new) }
     ensures memory { IfErr result (λ fault. fault ≡ faults.Memory) }
 {
     if stopped && out.push_str("pump stopped\n").is_err() {

@@ -1,28 +1,29 @@
 //! Orders while the tape of a node may fail within a step.
 
-ghost use Rattle.std.specs.Prelude.{◌≡◌, ◌++◌, IfErr, OnOk};
-ghost use Rattle.std.specs.String.{string_bytes};
+ghost use Rattle.std.specs.Prelude.{◌≡◌, IfErr, OnOk};
 ghost use Rattle.wf_farm.specs.declared.carrier.CarrierFault.TheVariants as faults;
-ghost use Rattle.wf_play.specs.Telling.{refusal_line, torn_line};
+ghost use Rattle.wf_play.specs.Telling.{IsAppended, torn_line};
 
 use crate::carrying::tell_pump;
-use crate::session::{Session, kept_of};
+use crate::event::tell_refused;
+use crate::session::Session;
 use std::alloc::{AllocError, Global};
 use std::fmt::Write;
 use std::mem::replace;
 use wf_farm::{
-    Action, Carrier, CarrierFault, Event, Farm, Fuse, Fused, FusedPump, Kept, deliver_fused,
-    happen_fused, pump_fused,
+    Carrier, CarrierFault, Event, Farm, Fuse, Fused, FusedPump, Kept, deliver_fused, happen_fused,
+    pump_fused,
 };
-use wf_script::{Order, Step};
+use wf_script::Order;
 
 impl<'s> Session<'s> {
-    ghost use Rattle.std.specs.Prelude.{None, Some, IfOk, OnErr, false, option_map, true};
-    ghost use Rattle.wf_farm.specs.Event.{view as event_view, view_action};
-    ghost use Rattle.wf_play.specs.Performing.{DeliversOrTears, Does, HappensOrTears, action_of, event_at, event_of, left_by, may_use};
+    ghost use Rattle.std.specs.Prelude.{None, Some, IfOk, false, option_map};
+    ghost use Rattle.wf_farm.specs.Event.{view as event_view};
+    ghost use Rattle.wf_play.specs.Fault.{LosesOnlyOf};
+    ghost use Rattle.wf_play.specs.Performing.{DeliversOrTears, HappensOrTears, Obeys, left_by, may_use};
     ghost use Rattle.wf_play.specs.Session.{KeepsRest, Plays};
-    ghost use Rattle.wf_play.specs.Telling.{Adds, WritesWith, event_text, torn_text};
-    ghost use Rattle.wf_script.specs.Order.{Deliver, Pump, view};
+    ghost use Rattle.wf_play.specs.Telling.{Tells, TellsEvent, torn_text};
+    ghost use Rattle.wf_script.specs.Order.{Pump, view};
 
     /// Performs the order with the fuse on the tape of this node. With an error the farm is lost, unless the order makes no event.
     #[tactic(auto, using(crate::proofs::Tearing::does_whole, crate::proofs::Tearing::tells_whole, crate::proofs::Tearing::left_whole, crate::proofs::Tearing::event_does, crate::proofs::Tearing::event_tells, crate::proofs::Tearing::delivery_does, crate::proofs::Tearing::delivery_tells))]
@@ -39,11 +40,12 @@ impl<'s> Session<'s> {
         requires node { self.old.fuse ≡ Some node }
         ensures script { self.new.script ≡ self.old.script }
         ensures fuse { OnOk result (self.new.fuse ≡ left_by self.old.fuse self.new.torn) }
-        ensures does { OnOk result (Does self.old.script.maps (view order.now) self.old.fuse self.new.torn self.old.farm self.new.farm) }
-        ensures tells { OnOk result (Adds (WritesWith self.old.script (view order.now) self.new.torn self.old.farm self.new.farm) (string_bytes out.old) (string_bytes out.new)) }
-        ensures lost { IfErr result (λ fault. fault ≡ faults.Lost → may_use (view order.now) self.old.farm ≡ true) }
+        ensures does { OnOk result (Obeys (view order.now) self.old self.new) }
+        ensures tells { OnOk result (Tells (view order.now) self.old self.new out.old out.new) }
+        ensures lost { IfErr result (LosesOnlyOf (view order.now) self.old.farm) }
         ensures faithful { C.faithful → IfErr result (λ fault. fault ≡ faults.Memory) }
-        ensures unused { may_use (view order.now) self.old.farm ≡ false → carrier.new ≡ carrier.old }
+        ensures unused { may_use (view order.now) self.old.farm ≡ false →
+            carrier.new ≡ carrier.old }
         ensures plays { OnOk result (Plays self.old.farm self.new.farm) }
     {
         match order {
@@ -56,55 +58,6 @@ impl<'s> Session<'s> {
                 Ok(None) => self.obey(alloc, carrier, order, out),
                 Err(_) => Err(CarrierFault::Memory),
             },
-        }
-    }
-
-    /// The event that the order is; None if it is none, or several.
-    fn event_of(&self, order: &Order) -> Result<Option<Event>, AllocError>
-        ensures { IfOk result (λ event. option_map event_view event ≡ event_at self.now.script.maps (view order.now)) }
-    {
-        match order {
-            Order::Step(node, step) => self.step_event(*node, *step),
-            Order::Stop(node) => Ok(Some(Event::Stop(*node))),
-            Order::Restart(node) => Ok(Some(Event::Restart(*node))),
-            Order::Torn(node, step, side) => match self.action(*step) {
-                Ok(Some(action)) => Ok(Some(Event::Torn(*node, action, kept_of(*side)))),
-                Ok(None) => Ok(None),
-                Err(error) => Err(error),
-            },
-            _ => Ok(None),
-        }
-    }
-
-    /// The event that node does the step; None if the script doesn't have its map.
-    fn step_event(&self, node: usize, step: Step) -> Result<Option<Event>, AllocError>
-        ensures { IfOk result (λ event. option_map event_view event ≡ option_map (event_of node) (action_of self.now.script.maps step)) }
-    {
-        match step {
-            Step::Propose(map) => match self.copy_of(map) {
-                Ok(Some(canon)) => Ok(Some(Event::Propose(node, canon))),
-                Ok(None) => Ok(None),
-                Err(error) => Err(error),
-            },
-            Step::Retry => Ok(Some(Event::Retry(node))),
-            Step::CatchUp => Ok(Some(Event::CatchUp(node))),
-            Step::Deliver(message) => Ok(Some(Event::Deliver(node, message))),
-        }
-    }
-
-    /// The step; None if the script doesn't have its map.
-    fn action(&self, step: Step) -> Result<Option<Action>, AllocError>
-        ensures { IfOk result (λ action. option_map view_action action ≡ action_of self.now.script.maps step) }
-    {
-        match step {
-            Step::Propose(map) => match self.copy_of(map) {
-                Ok(Some(canon)) => Ok(Some(Action::Propose(canon))),
-                Ok(None) => Ok(None),
-                Err(error) => Err(error),
-            },
-            Step::Retry => Ok(Some(Action::Retry)),
-            Step::CatchUp => Ok(Some(Action::CatchUp)),
-            Step::Deliver(message) => Ok(Some(Action::Deliver(message))),
         }
     }
 
@@ -123,8 +76,9 @@ impl<'s> Session<'s> {
         requires node { self.old.fuse ≡ Some node }
         ensures script { self.new.script ≡ self.old.script }
         ensures fuse { OnOk result (self.new.fuse ≡ left_by self.old.fuse self.new.torn) }
-        ensures does { OnOk result (HappensOrTears node (event_view event) self.new.torn self.old.farm self.new.farm) }
-        ensures tells { OnOk result (string_bytes out.new ≡ string_bytes out.old ++ event_text self.new.torn self.new.farm.refused) }
+        ensures does { OnOk result
+            (HappensOrTears node (event_view event) self.new.torn self.old.farm self.new.farm) }
+        ensures tells { OnOk result (TellsEvent self.new out.old out.new) }
         ensures memory { IfErr result (λ fault. fault ≡ faults.Memory) }
         ensures plays { OnOk result (Plays self.old.farm self.new.farm) }
     {
@@ -146,18 +100,21 @@ impl<'s> Session<'s> {
 
     /// Appends that the last event was torn; else its rejection, if it was rejected.
     fn tell_event(&self, out: &mut String) -> Result<(), CarrierFault>
-        ensures tells { OnOk result (string_bytes out.new ≡ string_bytes out.old ++ event_text self.now.torn self.now.farm.refused) }
+        ensures tells { OnOk result (TellsEvent self.now out.old out.new) }
         ensures memory { IfErr result (λ fault. fault ≡ faults.Memory) }
     {
         match self.torn {
             Some((node, kept)) => tell_torn(node, kept, out),
-            None => tell_refused(self.farm.refused(), out),
+            None => match tell_refused(self.farm.refused(), out) {
+                Ok(()) => Ok(()),
+                Err(_) => Err(CarrierFault::Memory),
+            },
         }
     }
 
     /// Appends that the last order was torn, if it was.
     fn tell_if_torn(&self, out: &mut String) -> Result<(), CarrierFault>
-        ensures tells { OnOk result (string_bytes out.new ≡ string_bytes out.old ++ torn_text self.now.torn) }
+        ensures tells { OnOk result (IsAppended (torn_text self.now.torn) out.old out.new) }
         ensures memory { IfErr result (λ fault. fault ≡ faults.Memory) }
     {
         match self.torn {
@@ -182,8 +139,9 @@ impl<'s> Session<'s> {
         requires node { self.old.fuse ≡ Some node }
         ensures script { self.new.script ≡ self.old.script }
         ensures fuse { OnOk result (self.new.fuse ≡ left_by self.old.fuse self.new.torn) }
-        ensures does { OnOk result (DeliversOrTears node to messages.now self.new.torn self.old.farm self.new.farm) }
-        ensures tells { OnOk result (string_bytes out.new ≡ string_bytes out.old ++ torn_text self.new.torn) }
+        ensures does { OnOk result
+            (DeliversOrTears node to messages.now self.new.torn self.old.farm self.new.farm) }
+        ensures tells { OnOk result (IsAppended (torn_text self.new.torn) out.old out.new) }
         ensures faithful { C.faithful → IfErr result (λ fault. fault ≡ faults.Memory) }
         ensures plays { OnOk result (Plays self.old.farm self.new.farm) }
     {
@@ -215,8 +173,8 @@ impl<'s> Session<'s> {
         requires node { self.old.fuse ≡ Some node }
         ensures script { self.new.script ≡ self.old.script }
         ensures fuse { OnOk result (self.new.fuse ≡ left_by self.old.fuse self.new.torn) }
-        ensures does { OnOk result (Does self.old.script.maps (Pump nodes.now) self.old.fuse self.new.torn self.old.farm self.new.farm) }
-        ensures tells { OnOk result (Adds (WritesWith self.old.script (Pump nodes.now) self.new.torn self.old.farm self.new.farm) (string_bytes out.old) (string_bytes out.new)) }
+        ensures does { OnOk result (Obeys (Pump nodes.now) self.old self.new) }
+        ensures tells { OnOk result (Tells (Pump nodes.now) self.old self.new out.old out.new) }
         ensures faithful { C.faithful → IfErr result (λ fault. fault ≡ faults.Memory) }
         ensures plays { OnOk result (Plays self.old.farm self.new.farm) }
     {
@@ -270,27 +228,12 @@ impl<'s> Session<'s> {
 
 /// Appends the line about a node that crashed within a step.
 fn tell_torn(node: usize, kept: Kept, out: &mut String) -> Result<(), CarrierFault>
-    ensures tells { OnOk result (string_bytes out.new ≡ string_bytes out.old ++ torn_line (node, kept)) }
+    ensures tells { OnOk result (IsAppended (torn_line (node, kept)) out.old out.new) }
     ensures memory { IfErr result (λ fault. fault ≡ faults.Memory) }
 {
     let told = match kept {
         Kept::Before => writeln!(out, "torn {node} before"),
         Kept::After => writeln!(out, "torn {node} after"),
-    };
-    match told {
-        Ok(()) => Ok(()),
-        Err(_) => Err(CarrierFault::Memory),
-    }
-}
-
-/// Appends the line about a rejected event, if it was rejected.
-fn tell_refused(refused: Option<u8>, out: &mut String) -> Result<(), CarrierFault>
-    ensures tells { OnOk result (string_bytes out.new ≡ string_bytes out.old ++ refusal_line refused) }
-    ensures memory { IfErr result (λ fault. fault ≡ faults.Memory) }
-{
-    let told = match refused {
-        Some(number) => writeln!(out, "refused N{number}"),
-        None => Ok(()),
     };
     match told {
         Ok(()) => Ok(()),

@@ -35,6 +35,7 @@
 
 mod answer;
 mod carrying;
+mod event;
 mod fault;
 mod fusing;
 mod law;

@@ -1,10 +1,10 @@
 //! Requests of clients to nodes of a farm, and their answers.
 
-ghost use Rattle.std.specs.Prelude.{◌≡◌, ◌++◌, IfOk, IfErr, OnOk};
+ghost use Rattle.std.specs.Prelude.{◌≡◌, IfOk, IfErr, OnOk};
 ghost use Rattle.std.specs.String.{string_bytes};
 ghost use Rattle.wf_farm.specs.Answering.{Answers, sequence_at};
 ghost use Rattle.wf_play.specs.Comparison.{Compares, IsTrueWhereOne, IsUncompared, is_same_answer, is_same_kind};
-ghost use Rattle.wf_play.specs.Telling.{Adds, IsOfAnswer, IsToldAbsent, TellsAnswer, TellsEqual, exception_line, kind_line, number_of};
+ghost use Rattle.wf_play.specs.Telling.{IsAppended, IsOfAnswer, IsOneAppended, IsToldAbsent, TellsAnswer, TellsEqual, exception_line, kind_line, number_of};
 
 use crate::answer::tell_no_node;
 use crate::session::Session;
@@ -22,7 +22,8 @@ impl<'s> Session<'s> {
         query: &[u8],
         out: &mut String,
     ) -> Result<(), AllocError>
-        ensures { OnOk result (Adds (TellsAnswer self.now.farm number query.now) (string_bytes out.old) (string_bytes out.new)) }
+        ensures { OnOk result
+            (IsOneAppended (TellsAnswer self.now.farm number query.now) out.old out.new) }
     {
         tell_answer(alloc, &self.farm, number, query, out)
     }
@@ -37,7 +38,8 @@ impl<'s> Session<'s> {
         query: &[u8],
         out: &mut String,
     ) -> Result<(), AllocError>
-        ensures { OnOk result (Adds (TellsEqual self.now.farm first second query.now) (string_bytes out.old) (string_bytes out.new)) }
+        ensures { OnOk result
+            (IsOneAppended (TellsEqual self.now.farm first second query.now) out.old out.new) }
     {
         match self.equal(alloc, first, second, query) {
             Ok(true) => out.push_str("equal\n"),
@@ -58,7 +60,8 @@ impl<'s> Session<'s> {
         query: &[u8],
     ) -> Result<bool, FarmFault>
         ensures test { IfOk result (λ equal. Compares self.now.farm first second query.now equal) }
-        ensures law { IfOk result (λ equal. IsTrueWhereOne self.now.farm first second query.now equal) }
+        ensures law { IfOk result
+            (λ equal. IsTrueWhereOne self.now.farm first second query.now equal) }
         ensures fault { IfErr result (λ fault. IsUncompared self.now.farm first second fault) }
     {
         compare_nodes(alloc, &self.farm, first, second, query)
@@ -156,7 +159,7 @@ fn tell_answer(
     query: &[u8],
     out: &mut String,
 ) -> Result<(), AllocError>
-    ensures { OnOk result (Adds (TellsAnswer farm.now number query.now) (string_bytes out.old) (string_bytes out.new)) }
+    ensures { OnOk result (IsOneAppended (TellsAnswer farm.now number query.now) out.old out.new) }
 {
     match farm.answer(alloc, number, query) {
         Ok(answer) => {
@@ -170,7 +173,7 @@ fn tell_answer(
 
 /// The line about an answer of `size` bytes.
 fn tell_kind(number: usize, kind: Kind, size: usize, out: &mut String) -> Result<(), AllocError>
-    ensures { OnOk result (string_bytes out.new ≡ string_bytes out.old ++ kind_line number kind size) }
+    ensures { OnOk result (IsAppended (kind_line number kind size) out.old out.new) }
 {
     match kind {
         Kind::Capabilities => writeln!(out, "get {number} capabilities {size}"),
@@ -185,7 +188,7 @@ fn tell_exception(
     size: usize,
     out: &mut String,
 ) -> Result<(), AllocError>
-    ensures { OnOk result (string_bytes out.new ≡ string_bytes out.old ++ exception_line number exception size) }
+    ensures { OnOk result (IsAppended (exception_line number exception size) out.old out.new) }
 {
     let code = number_of(exception);
     writeln!(out, "get {number} exception E{code} {size}")

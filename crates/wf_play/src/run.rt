@@ -33,14 +33,16 @@ pub fn run_script<S: Source, K: Sink, C: Carrier>(
     sink: &mut K,
 ) -> Result<(), PlayFault>
     ensures whole { ReadsWhole (S.left source.old) (S.left source.new) result }
-    ensures plays { OnOk result (PlaysInput (S.left source.old) (K.written sink.old) (K.written sink.new)) }
+    ensures plays { OnOk result
+        (PlaysInput (S.left source.old) (K.written sink.old) (K.written sink.new)) }
     ensures quiet { IfErr result (KeepsQuiet (K.written sink.old) (K.written sink.new)) }
-    ensures begun { IfErr result (WritesBeginning (S.left source.old) (K.written sink.old) (K.written sink.new)) }
+    ensures begun { IfErr result
+        (WritesBeginning (S.left source.old) (K.written sink.old) (K.written sink.new)) }
     ensures faithful { C.faithful → IfErr result LosesNone }
     ensures most { TakesUpTo (most_script_bytes + 1) (S.left source.old) (S.left source.new) }
     ensures reads { CountsReads result (S.failures source.old) (S.failures source.new) }
     ensures writes { CountsWrites result (K.failures sink.old) (K.failures sink.new) }
-    ensures last { IfErr result (EndsWriting K.written K.failures K.fails sink.old sink.new) }
+    ensures last { IfErr result (EndsWriting K.Sink sink.old sink.new) }
 {
     match script(alloc, source) {
         Ok(script) => {
@@ -54,8 +56,10 @@ pub fn run_script<S: Source, K: Sink, C: Carrier>(
 
 /// The input to its end, or its first bytes.
 fn input<S: Source>(alloc: Global, source: &mut S) -> Result<Vec<u8>, PlayFault>
-    ensures first { IfOk result (λ bytes. IfSome (S.left source.old) (λ known. bytes.items ≡ judged known)) }
-    ensures end { IfOk result (λ bytes. length bytes.items < most_script_bytes + 1 → IsAtEnd (S.left source.new)) }
+    ensures first { IfOk result
+        (λ bytes. IfSome (S.left source.old) (λ known. bytes.items ≡ judged known)) }
+    ensures end { IfOk result
+        (λ bytes. length bytes.items < most_script_bytes + 1 → IsAtEnd (S.left source.new)) }
     ensures err { IfErr result IsInputFault }
     ensures most { TakesUpTo (most_script_bytes + 1) (S.left source.old) (S.left source.new) }
     ensures reads { CountsReads result (S.failures source.old) (S.failures source.new) }
@@ -73,7 +77,8 @@ fn input<S: Source>(alloc: Global, source: &mut S) -> Result<Vec<u8>, PlayFault>
 #[tactic(auto, using(crate::proofs::WholeInput::no_input))]
 fn script<S: Source>(alloc: Global, source: &mut S) -> Result<Script, PlayFault>
     ensures whole { OnOk result (IfSome (S.left source.old) IsScriptText) }
-    ensures means { IfOk result (λ script. IfSome (S.left source.old) (λ text. script_of text ≡ Ok script)) }
+    ensures means { IfOk result
+        (λ script. IfSome (S.left source.old) (λ text. script_of text ≡ Ok script)) }
     ensures end { OnOk result (IsAtEnd (S.left source.new)) }
     ensures err { IfErr result (IsRefusalOf (S.left source.old)) }
     ensures most { TakesUpTo (most_script_bytes + 1) (S.left source.old) (S.left source.new) }
@@ -101,7 +106,7 @@ fn play<K: Sink, C: Carrier>(
     ensures err { IfErr result IsPlayingFault }
     ensures faithful { C.faithful → IfErr result LosesNone }
     ensures writes { CountsWrites result (K.failures sink.old) (K.failures sink.new) }
-    ensures last { IfErr result (EndsWriting K.written K.failures K.fails sink.old sink.new) }
+    ensures last { IfErr result (EndsWriting K.Sink sink.old sink.new) }
 {
     match Session::new(alloc, script) {
         Ok(mut session) => {
@@ -122,12 +127,15 @@ fn perform_all<K: Sink, C: Carrier>(
     count: usize,
     sink: &mut K,
 ) -> Result<(), PlayFault>
-    ensures plays { OnOk result (HavePlayed count session.old.script (stage session.old) (stage session.new) (K.written sink.old) (K.written sink.new)) }
-    ensures ended { IfErr result (IsEnded session.old.script (stage session.old) (K.written sink.old) (K.written sink.new)) }
+    ensures plays { OnOk result
+        (HavePlayed count session.old.script (stage session.old) (stage session.new)
+        (K.written sink.old) (K.written sink.new)) }
+    ensures ended { IfErr result
+        (IsEnded session.old.script (stage session.old) (K.written sink.old) (K.written sink.new)) }
     ensures err { IfErr result IsPlayingFault }
     ensures faithful { C.faithful → IfErr result LosesNone }
     ensures writes { CountsWrites result (K.failures sink.old) (K.failures sink.new) }
-    ensures last { IfErr result (EndsWriting K.written K.failures K.fails sink.old sink.new) }
+    ensures last { IfErr result (EndsWriting K.Sink sink.old sink.new) }
 {
     let mut out = String::new(alloc);
     for number in 0..count {

@@ -1,17 +1,14 @@
 //! Playing a script on a farm, order by order.
 
-ghost use Rattle.std.specs.Prelude.{◌≡◌, ◌++◌, OnOk};
-ghost use Rattle.std.specs.String.{string_bytes};
-ghost use Rattle.wf_play.specs.Performing.{kept_by};
+ghost use Rattle.std.specs.Prelude.{◌≡◌, OnOk};
 
+use crate::event::tell_refused;
 use crate::fault::{PlayFault, fault_at_line};
 use crate::law::farm_obeys_laws;
 use std::alloc::{AllocError, Global};
-use std::fmt::Write;
 use std::marker::Model;
-use wf_canon::Canon;
-use wf_farm::{Action, Carrier, CarrierFault, Event, Farm, Fuse, Kept};
-use wf_script::{Order, Script, ScriptFault, Side, Step};
+use wf_farm::{Carrier, CarrierFault, Event, Farm, Fuse, Kept};
+use wf_script::{Order, Script, ScriptFault};
 
 /// The farm on which a script is played. It is changed by the farm's own calls alone.
 #[derive(Drop)]
@@ -43,22 +40,18 @@ impl<'s> Model for Session<'s> {
 }
 
 impl<'s> Session<'s> {
-    ghost use Rattle.std.specs.Prelude.{[], ◌∷◌, None, false, length, map, slice_get, option_map, option_copied, true, IfOk, IfErr};
-    ghost use Rattle.wf_def.specs.Definition.{Definition};
-    ghost use Rattle.wf_model.specs.Table as table;
-    ghost use Rattle.wf_model.specs.World as world;
+    ghost use Rattle.std.specs.Prelude.{[], ◌∷◌, None, false, map, IfOk, IfErr};
     ghost use Rattle.wf_farm.specs.Agreement.{HasOneHistory, IsOneWorld};
-    ghost use Rattle.wf_farm.specs.Event.{view as event_view, view_kept};
+    ghost use Rattle.wf_farm.specs.Event.{view as event_view};
     ghost use Rattle.wf_farm.specs.Farm.{Shows, size};
-    ghost use Rattle.wf_model.specs.World.{start};
-    ghost use Rattle.wf_script.specs.Fault.{IsMemory};
-    ghost use Rattle.wf_play.specs.Law.{HasKeptPromises, HasOwnBallots, HasPromisedMajorities};
-    ghost use Rattle.wf_script.specs.Order.{view};
     ghost use Rattle.wf_farm.specs.declared.carrier.CarrierFault.TheVariants as faults;
-    ghost use Rattle.wf_play.specs.Fault.{IsOrderFault, LosesNone};
-    ghost use Rattle.wf_play.specs.Performing.{Does, Happens, HappensIf, IsPerformed, Performs, PerformsAt, action_of, carries, event_of, fuse_set, left_by, may_use, may_use_at};
+    ghost use Rattle.wf_model.specs.World.{start};
+    ghost use Rattle.wf_script.specs.Order.{view};
+    ghost use Rattle.wf_play.specs.Fault.{IsOrderFault, LosesNone, LosesOnlyOf};
+    ghost use Rattle.wf_play.specs.Law.{HasKeptPromises, HasOwnBallots, HasPromisedMajorities};
+    ghost use Rattle.wf_play.specs.Performing.{Acts, Happens, HappensIf, IsPerformed, Obeys, PerformsOrder, carries, event_at, fuse_set, left_by, may_use, may_use_at, order_at};
     ghost use Rattle.wf_play.specs.Session.{KeepsRest, Plays, stage};
-    ghost use Rattle.wf_play.specs.Telling.{Adds, Writes, WritesAt, WritesWith, refusal_line, step_text};
+    ghost use Rattle.wf_play.specs.Telling.{IsAppended, Reports, Tells, TellsOrder, happened_text, refusal_line};
 
     /// The farm before the script's first order: the model's start. Returns S1 at line 1 where an allocation failed.
     pub fn new(alloc: Global, script: &'s Script) -> Result<Session<'s>, ScriptFault>
@@ -104,11 +97,12 @@ impl<'s> Session<'s> {
         out: &mut String,
     ) -> Result<(), PlayFault>
         ensures script { self.new.script ≡ self.old.script }
-        ensures does { OnOk result (PerformsAt self.old.script.maps (slice_get self.old.script.orders number) self.new.torn (stage self.old) (stage self.new)) }
-        ensures tells { OnOk result (Adds (WritesAt self.old.script (slice_get self.old.script.orders number) self.new.torn self.old.farm self.new.farm) (string_bytes out.old) (string_bytes out.new)) }
-        ensures fault { IfErr result (IsOrderFault (slice_get self.old.script.orders number) self.old.farm) }
+        ensures does { OnOk result (PerformsOrder number self.old self.new) }
+        ensures tells { OnOk result (TellsOrder number self.old self.new out.old out.new) }
+        ensures fault { IfErr result (IsOrderFault (order_at self.old number) self.old.farm) }
         ensures faithful { C.faithful → IfErr result LosesNone }
-        ensures unused { may_use_at (slice_get self.old.script.orders number) self.old.farm ≡ false → carrier.new ≡ carrier.old }
+        ensures unused { may_use_at (order_at self.old number) self.old.farm ≡ false →
+            carrier.new ≡ carrier.old }
         ensures plays { OnOk result (Plays self.old.farm self.new.farm) }
         ensures whole { self.old.fuse ≡ None → Plays self.old.farm self.new.farm }
         ensures agree { HasOneHistory self.new.farm }
@@ -152,11 +146,12 @@ impl<'s> Session<'s> {
     ) -> Result<(), PlayFault>
         requires torn { self.old.torn ≡ None }
         ensures script { self.new.script ≡ self.old.script }
-        ensures does { OnOk result (PerformsAt self.old.script.maps (slice_get self.old.script.orders number) self.new.torn (stage self.old) (stage self.new)) }
-        ensures tells { OnOk result (Adds (WritesAt self.old.script (slice_get self.old.script.orders number) self.new.torn self.old.farm self.new.farm) (string_bytes out.old) (string_bytes out.new)) }
-        ensures fault { IfErr result (IsOrderFault (slice_get self.old.script.orders number) self.old.farm) }
+        ensures does { OnOk result (PerformsOrder number self.old self.new) }
+        ensures tells { OnOk result (TellsOrder number self.old self.new out.old out.new) }
+        ensures fault { IfErr result (IsOrderFault (order_at self.old number) self.old.farm) }
         ensures faithful { C.faithful → IfErr result LosesNone }
-        ensures unused { may_use_at (slice_get self.old.script.orders number) self.old.farm ≡ false → carrier.new ≡ carrier.old }
+        ensures unused { may_use_at (order_at self.old number) self.old.farm ≡ false →
+            carrier.new ≡ carrier.old }
         ensures plays { OnOk result (Plays self.old.farm self.new.farm) }
         ensures whole { self.old.fuse ≡ None → Plays self.old.farm self.new.farm }
     {
@@ -181,11 +176,14 @@ impl<'s> Session<'s> {
     ) -> Result<(), CarrierFault>
         requires torn { self.old.torn ≡ None }
         ensures script { self.new.script ≡ self.old.script }
-        ensures does { OnOk result (IsPerformed self.old.script.maps (view order.now) self.new.torn (stage self.old) (stage self.new)) }
-        ensures tells { OnOk result (Adds (WritesWith self.old.script (view order.now) self.new.torn self.old.farm self.new.farm) (string_bytes out.old) (string_bytes out.new)) }
-        ensures lost { IfErr result (λ fault. fault ≡ faults.Lost → may_use (view order.now) self.old.farm ≡ true) }
+        ensures does { OnOk result
+            (IsPerformed self.old.script.maps (view order.now) self.new.torn
+            (stage self.old) (stage self.new)) }
+        ensures tells { OnOk result (Tells (view order.now) self.old self.new out.old out.new) }
+        ensures lost { IfErr result (LosesOnlyOf (view order.now) self.old.farm) }
         ensures faithful { C.faithful → IfErr result (λ fault. fault ≡ faults.Memory) }
-        ensures unused { may_use (view order.now) self.old.farm ≡ false → carrier.new ≡ carrier.old }
+        ensures unused { may_use (view order.now) self.old.farm ≡ false →
+            carrier.new ≡ carrier.old }
         ensures plays { OnOk result (Plays self.old.farm self.new.farm) }
         ensures whole { self.old.fuse ≡ None → Plays self.old.farm self.new.farm }
     {
@@ -206,11 +204,12 @@ impl<'s> Session<'s> {
         requires torn { self.old.torn ≡ None }
         ensures script { self.new.script ≡ self.old.script }
         ensures fuse { OnOk result (self.new.fuse ≡ left_by self.old.fuse self.new.torn) }
-        ensures does { OnOk result (Does self.old.script.maps (view order.now) self.old.fuse self.new.torn self.old.farm self.new.farm) }
-        ensures tells { OnOk result (Adds (WritesWith self.old.script (view order.now) self.new.torn self.old.farm self.new.farm) (string_bytes out.old) (string_bytes out.new)) }
-        ensures lost { IfErr result (λ fault. fault ≡ faults.Lost → may_use (view order.now) self.old.farm ≡ true) }
+        ensures does { OnOk result (Obeys (view order.now) self.old self.new) }
+        ensures tells { OnOk result (Tells (view order.now) self.old self.new out.old out.new) }
+        ensures lost { IfErr result (LosesOnlyOf (view order.now) self.old.farm) }
         ensures faithful { C.faithful → IfErr result (λ fault. fault ≡ faults.Memory) }
-        ensures unused { may_use (view order.now) self.old.farm ≡ false → carrier.new ≡ carrier.old }
+        ensures unused { may_use (view order.now) self.old.farm ≡ false →
+            carrier.new ≡ carrier.old }
         ensures plays { OnOk result (Plays self.old.farm self.new.farm) }
         ensures whole { self.old.fuse ≡ None → Plays self.old.farm self.new.farm }
     {
@@ -247,11 +246,12 @@ impl<'s> Session<'s> {
         out: &mut String,
     ) -> Result<(), CarrierFault>
         ensures rest { KeepsRest self.old self.new }
-        ensures does { OnOk result (Performs self.old.script.maps (view order.now) self.old.farm self.new.farm) }
-        ensures tells { OnOk result (Adds (Writes self.old.script (view order.now) self.old.farm self.new.farm) (string_bytes out.old) (string_bytes out.new)) }
-        ensures lost { IfErr result (λ fault. fault ≡ faults.Lost → may_use (view order.now) self.old.farm ≡ true) }
+        ensures does { OnOk result (Acts (view order.now) self.old self.new) }
+        ensures tells { OnOk result (Reports (view order.now) self.old self.new out.old out.new) }
+        ensures lost { IfErr result (LosesOnlyOf (view order.now) self.old.farm) }
         ensures faithful { C.faithful → IfErr result (λ fault. fault ≡ faults.Memory) }
-        ensures unused { may_use (view order.now) self.old.farm ≡ false → carrier.new ≡ carrier.old }
+        ensures unused { may_use (view order.now) self.old.farm ≡ false →
+            carrier.new ≡ carrier.old }
         ensures plays { Plays self.old.farm self.new.farm }
     {
         match order {
@@ -279,8 +279,8 @@ impl<'s> Session<'s> {
     ) -> Result<(), CarrierFault>
         requires { carries (view order.now) ≡ false }
         ensures rest { KeepsRest self.old self.new }
-        ensures does { OnOk result (Performs self.old.script.maps (view order.now) self.old.farm self.new.farm) }
-        ensures tells { OnOk result (Adds (Writes self.old.script (view order.now) self.old.farm self.new.farm) (string_bytes out.old) (string_bytes out.new)) }
+        ensures does { OnOk result (Acts (view order.now) self.old self.new) }
+        ensures tells { OnOk result (Reports (view order.now) self.old self.new out.old out.new) }
         ensures memory { IfErr result (λ fault. fault ≡ faults.Memory) }
         ensures plays { Plays self.old.farm self.new.farm }
     {
@@ -294,17 +294,11 @@ impl<'s> Session<'s> {
     fn act(&mut self, alloc: Global, order: &Order, out: &mut String) -> Result<(), AllocError>
         requires { carries (view order.now) ≡ false }
         ensures rest { KeepsRest self.old self.new }
-        ensures does { OnOk result (Performs self.old.script.maps (view order.now) self.old.farm self.new.farm) }
-        ensures tells { OnOk result (Adds (Writes self.old.script (view order.now) self.old.farm self.new.farm) (string_bytes out.old) (string_bytes out.new)) }
+        ensures does { OnOk result (Acts (view order.now) self.old self.new) }
+        ensures tells { OnOk result (Reports (view order.now) self.old self.new out.old out.new) }
         ensures plays { Plays self.old.farm self.new.farm }
     {
         match order {
-            // Not an event: the fuse is taken once the order is performed.
-            Order::Fuse(..) => Ok(()),
-            Order::Step(node, step) => self.step(alloc, *node, *step, out),
-            Order::Stop(node) => self.happen(alloc, Event::Stop(*node), out),
-            Order::Restart(node) => self.happen(alloc, Event::Restart(*node), out),
-            Order::Torn(node, step, side) => self.tear(alloc, *node, *step, kept_of(*side), out),
             Order::Skip => {
                 self.farm.skip();
                 Ok(())
@@ -312,7 +306,32 @@ impl<'s> Session<'s> {
             Order::Ask(question) => self.answer(*question, out),
             Order::Get(node, query) => self.tell_answer(alloc, *node, query, out),
             Order::Equal(node, other, query) => self.tell_equal(alloc, *node, *other, query, out),
+            // A fuse is no event: it is taken once the order is performed.
+            Order::Fuse(..)
+            | Order::Step(..)
+            | Order::Stop(_)
+            | Order::Restart(_)
+            | Order::Torn(..) => self.make(alloc, order, out),
             Order::Deliver(..) | Order::Cut(..) | Order::Pump(_) => unreachable!(),
+        }
+    }
+
+    /// Makes the event that the order is, if it is one.
+    #[tactic(auto, using(crate::proofs::Playing::nothing_played, crate::proofs::Performing::happened, crate::proofs::Performing::unhappened))]
+    fn make(&mut self, alloc: Global, order: &Order, out: &mut String) -> Result<(), AllocError>
+        ensures rest { KeepsRest self.old self.new }
+        ensures does { OnOk result
+            (HappensIf (event_at self.old.script.maps (view order.now))
+            self.old.farm self.new.farm) }
+        ensures tells { OnOk result (IsAppended
+            (happened_text (event_at self.old.script.maps (view order.now)) self.new.farm.refused)
+            out.old out.new) }
+        ensures plays { Plays self.old.farm self.new.farm }
+    {
+        match self.event_of(order) {
+            Ok(Some(event)) => self.happen(alloc, event, out),
+            Ok(None) => Ok(()),
+            Err(error) => Err(error),
         }
     }
 
@@ -320,141 +339,27 @@ impl<'s> Session<'s> {
     #[tactic(auto, using(crate::proofs::Playing::run_played, crate::proofs::Playing::part_played))]
     fn run(&mut self, alloc: Global, events: &[Event], out: &mut String) -> Result<(), AllocError>
         ensures rest { KeepsRest self.old self.new }
-        ensures does { OnOk result (Happens (map event_view events.now) self.old.farm self.new.farm) }
-        ensures tells { OnOk result (string_bytes out.new ≡ string_bytes out.old ++ refusal_line self.new.farm.refused) }
+        ensures does { OnOk result
+            (Happens (map event_view events.now) self.old.farm self.new.farm) }
+        ensures tells { OnOk result
+            (IsAppended (refusal_line self.new.farm.refused) out.old out.new) }
         ensures plays { Plays self.old.farm self.new.farm }
     {
         if self.farm.run(alloc, events).is_err() {
             return Err(AllocError);
         }
-        match self.farm.refused() {
-            Some(number) => writeln!(out, "refused N{number}"),
-            None => Ok(()),
-        }
+        tell_refused(self.farm.refused(), out)
     }
 
+    /// Makes the event, and appends its rejection, if it was rejected.
     fn happen(&mut self, alloc: Global, event: Event, out: &mut String) -> Result<(), AllocError>
         ensures rest { KeepsRest self.old self.new }
         ensures does { OnOk result (Happens (event_view event ∷ []) self.old.farm self.new.farm) }
-        ensures tells { OnOk result (string_bytes out.new ≡ string_bytes out.old ++ refusal_line self.new.farm.refused) }
+        ensures tells { OnOk result
+            (IsAppended (refusal_line self.new.farm.refused) out.old out.new) }
         ensures plays { Plays self.old.farm self.new.farm }
     {
         let events = [event];
         self.run(alloc, &events, out)
-    }
-
-    /// A step of the node.
-    fn step(
-        &mut self,
-        alloc: Global,
-        node: usize,
-        step: Step,
-        out: &mut String,
-    ) -> Result<(), AllocError>
-        ensures rest { KeepsRest self.old self.new }
-        ensures does { OnOk result (HappensIf (option_map (event_of node) (action_of self.old.script.maps step)) self.old.farm self.new.farm) }
-        ensures tells { OnOk result (string_bytes out.new ≡ string_bytes out.old ++ step_text (action_of self.old.script.maps step) self.new.farm.refused) }
-        ensures plays { Plays self.old.farm self.new.farm }
-    {
-        match step {
-            Step::Propose(map) => self.propose(alloc, node, map, out),
-            Step::Retry => self.happen(alloc, Event::Retry(node), out),
-            Step::CatchUp => self.happen(alloc, Event::CatchUp(node), out),
-            Step::Deliver(message) => self.happen(alloc, Event::Deliver(node, message), out),
-        }
-    }
-
-    /// The node begins a proposal of the map.
-    #[tactic(auto, using(crate::proofs::Playing::nothing_played, crate::proofs::Performing::proposed, crate::proofs::Performing::unproposed))]
-    fn propose(
-        &mut self,
-        alloc: Global,
-        node: usize,
-        map: usize,
-        out: &mut String,
-    ) -> Result<(), AllocError>
-        ensures rest { KeepsRest self.old self.new }
-        ensures does { OnOk result (HappensIf (option_map (λ d. world.Propose node d) (slice_get self.old.script.maps map)) self.old.farm self.new.farm) }
-        ensures tells { OnOk result (string_bytes out.new ≡ string_bytes out.old ++ step_text (slice_get self.old.script.maps map) self.new.farm.refused) }
-        ensures plays { Plays self.old.farm self.new.farm }
-    {
-        match self.copy_of(map) {
-            Ok(Some(canon)) => self.happen(alloc, Event::Propose(node, canon), out),
-            Ok(None) => Ok(()),
-            Err(error) => Err(error),
-        }
-    }
-
-    /// The node crashes within a step.
-    fn tear(
-        &mut self,
-        alloc: Global,
-        node: usize,
-        step: Step,
-        kept: Kept,
-        out: &mut String,
-    ) -> Result<(), AllocError>
-        ensures rest { KeepsRest self.old self.new }
-        ensures does { OnOk result (HappensIf (option_map (λ a. world.Torn node a (view_kept kept)) (action_of self.old.script.maps step)) self.old.farm self.new.farm) }
-        ensures tells { OnOk result (string_bytes out.new ≡ string_bytes out.old ++ step_text (action_of self.old.script.maps step) self.new.farm.refused) }
-        ensures plays { Plays self.old.farm self.new.farm }
-    {
-        match step {
-            Step::Propose(map) => self.tear_proposal(alloc, node, map, kept, out),
-            Step::Retry => self.happen(alloc, Event::Torn(node, Action::Retry, kept), out),
-            Step::CatchUp => self.happen(alloc, Event::Torn(node, Action::CatchUp, kept), out),
-            Step::Deliver(message) => {
-                self.happen(
-                    alloc,
-                    Event::Torn(node, Action::Deliver(message), kept),
-                    out,
-                )
-            }
-        }
-    }
-
-    /// The node crashes within the step that begins a proposal of the map.
-    #[tactic(auto, using(crate::proofs::Playing::nothing_played, crate::proofs::Performing::proposed, crate::proofs::Performing::unproposed))]
-    fn tear_proposal(
-        &mut self,
-        alloc: Global,
-        node: usize,
-        map: usize,
-        kept: Kept,
-        out: &mut String,
-    ) -> Result<(), AllocError>
-        ensures rest { KeepsRest self.old self.new }
-        ensures does { OnOk result (HappensIf (option_map (λ d. world.Torn node (table.Propose d) (view_kept kept)) (slice_get self.old.script.maps map)) self.old.farm self.new.farm) }
-        ensures tells { OnOk result (string_bytes out.new ≡ string_bytes out.old ++ step_text (slice_get self.old.script.maps map) self.new.farm.refused) }
-        ensures plays { Plays self.old.farm self.new.farm }
-    {
-        match self.copy_of(map) {
-            Ok(Some(canon)) => {
-                self.happen(alloc, Event::Torn(node, Action::Propose(canon), kept), out)
-            }
-            Ok(None) => Ok(()),
-            Err(error) => Err(error),
-        }
-    }
-
-    /// The definition of the map of this number. An order names a map of its own script, so there is one.
-    pub(crate) fn copy_of(&self, map: usize) -> Result<Option<Canon>, AllocError>
-        ensures { IfOk result (λ copy. copy ≡ slice_get self.now.script.maps map) }
-    {
-        let script = self.script;
-        match script.map(map) {
-            Some(canon) => Ok(Some(canon.copy()?)),
-            None => Ok(None),
-        }
-    }
-}
-
-/// Which stored part a crash on that side of the record leaves.
-pub(crate) fn kept_of(side: Side) -> Kept
-    ensures { result ≡ kept_by side }
-{
-    match side {
-        Side::Before => Kept::Before,
-        Side::After => Kept::After,
     }
 }

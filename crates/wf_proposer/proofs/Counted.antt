@@ -23,7 +23,7 @@ use Rattle.wf_proposer.specs.declared.refusal.Refusal.{Refusal}
 use Rattle.wf_proposer.specs.declared.refusal.Refusal.TheVariants.{Memory}
 use Rattle.wf_proposer.specs.declared.working.Leadership.{Leadership}
 use Rattle.wf_proposer.specs.declared.working.Proposing.{Proposing}
-use Rattle.wf_proposer.specs.declared.working.Proposing.TheVariants.{Preparing, Accepting, Published, Overtaken}
+use Rattle.wf_proposer.specs.declared.working.Proposing.TheVariants.{Preparing, Accepting, Won, Overtaken}
 use Rattle.wf_proposer.proofs.HeardSets.{among-nobody}
 
 abbrev Votes : Type 0
@@ -41,7 +41,7 @@ if_false false x y e = refl
 
 -- ---- how a proposal ends
 
-ended_if : (o : Option (model.Leadership Definition)) (s : ℕ) (b : Bool) → proposing_of o (if b then Published s else Overtaken s) ≡ (if b then model.Won s else model.Overtaken s)
+ended_if : (o : Option (model.Leadership Definition)) (s : ℕ) (b : Bool) → proposing_of o (if b then Won s else Overtaken s) ≡ (if b then model.Won s else model.Overtaken s)
 ended_if o s true = refl
 ended_if o s false = refl
 

@@ -6,7 +6,7 @@ use Rattle.wf_codec.specs.Message.{view_votes}
 use Rattle.wf_model.specs.Working.{better_each}
 use Rattle.wf_proposer.specs.declared.working.Leadership.{Leadership}
 use Rattle.wf_proposer.specs.declared.working.Proposing.{Proposing}
-use Rattle.wf_proposer.specs.declared.working.Proposing.TheVariants.{Idle, Preparing, Accepting, Published, Overtaken}
+use Rattle.wf_proposer.specs.declared.working.Proposing.TheVariants.{Idle, Preparing, Accepting, Won, Overtaken}
 use Rattle.wf_proposer.specs.declared.working.Working.{Working}
 use Rattle.wf_proposer.specs.declared.change.Change.{Change}
 use Rattle.wf_proposer.specs.declared.change.Change.TheVariants.{Nothing, Becomes, Proposes, Promised, Voted, Sees}
@@ -16,7 +16,7 @@ abbrev pub with_promise : ℕ → List (Option (Ballot × Definition)) → Propo
 with_promise heard votes Idle = Idle
 with_promise heard votes (Preparing p best) = Preparing (record p { heard = heard }) (better_each best (view_votes votes))
 with_promise heard votes (Accepting p) = Accepting p
-with_promise heard votes (Published s) = Published s
+with_promise heard votes (Won s) = Won s
 with_promise heard votes (Overtaken s) = Overtaken s
 
 -- the proposal after a vote: these nodes have voted
@@ -24,7 +24,7 @@ abbrev pub with_vote : ℕ → Proposing → Proposing
 with_vote heard Idle = Idle
 with_vote heard (Preparing p best) = Preparing p best
 with_vote heard (Accepting p) = Accepting (record p { heard = heard })
-with_vote heard (Published s) = Published s
+with_vote heard (Won s) = Won s
 with_vote heard (Overtaken s) = Overtaken s
 
 -- the proposal with this as the highest round that a Nack reported
@@ -32,7 +32,7 @@ abbrev pub with_seen : ℕ → Proposing → Proposing
 with_seen round Idle = Idle
 with_seen round (Preparing p best) = Preparing (record p { seen = round }) best
 with_seen round (Accepting p) = Accepting (record p { seen = round })
-with_seen round (Published s) = Published s
+with_seen round (Won s) = Won s
 with_seen round (Overtaken s) = Overtaken s
 
 -- the working part after the change

@@ -1,7 +1,6 @@
 -- A proposer's result, as a transition of the step table.
-use Rattle.std.specs.Prelude.{◌≡◌, ℕ, List, [], ◌∷◌, map, Option, Some, None, option_map, max, ◌==◌, ◌&&◌, if◌then◌else◌}
+use Rattle.std.specs.Prelude.{◌≡◌, ℕ, List, [], ◌∷◌, map, Option, Some, None, option_map, Result, Err, IfOk, IsErr, max, ◌==◌, ◌&&◌, if◌then◌else◌}
 use Rattle.wf_ballot.specs.Ballot.{Ballot}
-use Rattle.wf_ballot.specs.Majority.{count_nodes, is_majority_of}
 use Rattle.wf_def.specs.Definition.{Definition}
 use Rattle.wf_def.specs.Equality.{definition_eq}
 use Rattle.wf_journal.specs.declared.record.Record.{Record}
@@ -15,14 +14,17 @@ use Rattle.wf_codec.specs.Message.{view_votes}
 use Rattle.wf_codec.specs.Report.{Report}
 use Rattle.wf_model.specs.Message.{Vote, first_vote, vote_of}
 use Rattle.wf_model.specs.Working.{better_each, carried, same_ballot}
-use Rattle.wf_model.specs.Table.{Row}
-use Rattle.wf_proposer.specs.Heard.{among}
+use Rattle.wf_model.specs.Table.{Row, on_accepted, on_promise}
+use Rattle.wf_proposer.specs.Heard.{are_majority}
 use Rattle.wf_proposer.specs.Working.{working_of}
 use Rattle.wf_proposer.specs.Change.{changed}
 use Rattle.wf_proposer.specs.declared.proposal.Proposal.{Proposal}
+use Rattle.wf_proposer.specs.declared.refusal.Refusal.{Refusal}
+use Rattle.wf_proposer.specs.declared.refusal.Refusal.TheVariants.{Memory}
 use Rattle.wf_proposer.specs.declared.working.Leadership.{Leadership}
 use Rattle.wf_proposer.specs.declared.working.Proposing.{Proposing}
-use Rattle.wf_proposer.specs.declared.working.Proposing.TheVariants.{Preparing, Accepting, Published, Overtaken}
+use Rattle.wf_proposer.specs.declared.working.Proposing.TheVariants.{Preparing, Accepting, Won, Overtaken}
+use Rattle.wf_proposer.specs.declared.working.Working.{Working}
 use Rattle.wf_proposer.specs.declared.change.Change.{Change}
 use Rattle.wf_proposer.specs.declared.change.Change.TheVariants.{Nothing, Becomes, Proposes, Promised, Voted, Sees}
 
@@ -62,6 +64,10 @@ led leadership slot own =
       change = Proposes (Accepting (record { slot = slot; ballot = leadership.ballot; own = own; heard = 0; seen = 0 }));
     }
 
+-- the leadership once a majority has promised, with these best votes
+abbrev pub leadership_from : Proposal → List (Option (Vote Definition)) → Leadership
+leadership_from p best = record { base = p.slot; ballot = p.ballot; best = best }
+
 -- the result once a majority has promised, with these best votes; votes are asked for d
 abbrev pub elected_for : Proposal → List (Option (Vote Definition)) → Definition → Next
 elected_for p best d =
@@ -70,7 +76,7 @@ elected_for p best d =
       messages = Accept p.slot p.ballot d ∷ [];
       change = Becomes (record {
         proposing = Accepting (record p { heard = 0 });
-        leadership = Some (record { base = p.slot; ballot = p.ballot; best = best });
+        leadership = Some (leadership_from p best);
       });
     }
 
@@ -80,13 +86,13 @@ elected p best = elected_for p best (carried (first_vote best) p.own)
 -- the result after these of n nodes promised, the last one with this report
 abbrev pub promised_by : ℕ → Proposal → List (Option (Vote Definition)) → ℕ → Report → Next
 promised_by n p best heard report =
-    if is_majority_of (count_nodes n (among heard)) n
+    if are_majority n heard
     then elected p (better_each best (view_votes report.votes))
     else record { entry = None; messages = []; change = Promised heard report }
 
 -- how the proposal ends if d is published at its slot
 abbrev pub ended_with : Proposal → Definition → Proposing
-ended_with p d = if definition_eq p.own d then Published p.slot else Overtaken p.slot
+ended_with p d = if definition_eq p.own d then Won p.slot else Overtaken p.slot
 
 -- the result once a majority has voted for d
 abbrev pub chosen_for : Proposal → Definition → Next
@@ -100,7 +106,7 @@ chosen_for p d =
 -- the result after these of n nodes voted for d
 abbrev pub voted_by : ℕ → Proposal → Definition → ℕ → Next
 voted_by n p d heard =
-    if is_majority_of (count_nodes n (among heard)) n
+    if are_majority n heard
     then chosen_for p d
     else record { entry = None; messages = []; change = Voted heard }
 
@@ -116,3 +122,20 @@ nacked_by p slot ballot promise =
 -- the transition sends something
 abbrev pub Sends : Row Definition → Type 0
 Sends row = row.messages ≡ [] → ⊥
+
+-- the transitions of a Promise and of an Accepted, in a farm of n nodes, at this working part
+abbrev pub promise_row : ℕ → Working → ℕ → Ballot → Report → Row Definition
+promise_row n working from ballot report = on_promise n (working_of working) from report.slot ballot (view_votes report.votes)
+
+abbrev pub accepted_row : ℕ → Working → ℕ → ℕ → Ballot → Row Definition
+accepted_row n working from slot ballot = on_accepted definition_eq n (working_of working) from slot ballot
+
+-- ---- a call's result
+
+-- After Ok the result is this transition, at a proposer with that working part.
+abbrev pub Returns : Working → Row Definition → Result Next Refusal → Type 0
+Returns working row result = IfOk result (λ next. row_at working.leadership working.proposing next ≡ row)
+
+-- The only error is allocation failure, and only if this transition sends something.
+abbrev pub AllocatesOnlyToSend : Row Definition → Result Next Refusal → Type 0
+AllocatesOnlyToSend row result = IsErr result → Sends row × (result ≡ Err Memory)

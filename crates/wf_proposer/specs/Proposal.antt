@@ -1,7 +1,9 @@
 -- A running proposal, as in wf_model.
-use Rattle.std.specs.Prelude.{List, Option}
+use Rattle.std.specs.Prelude.{◌≡◌, ℕ, Bool, List, Option}
+use Rattle.wf_ballot.specs.Ballot.{Ballot}
 use Rattle.wf_def.specs.Definition.{Definition}
 use Rattle.wf_model.specs.Message.{Vote}
+use Rattle.wf_model.specs.Table.{hears}
 use Rattle.wf_model.specs.Working as model
 use Rattle.wf_proposer.specs.Heard.{among}
 use Rattle.wf_proposer.specs.declared.proposal.Proposal.{Proposal}
@@ -18,3 +20,7 @@ proposal_of phase best p =
       best = best;
       seen = p.seen;
     }
+
+-- `waits` is whether the proposal in this phase waits for this answer, which is of the phase, whatever the best votes are.
+abbrev pub Hears : model.Phase → ℕ → Proposal → ℕ → ℕ → Ballot → Bool → Type 0
+Hears phase n p from slot ballot waits = (best : List (Option (Vote Definition))) → waits ≡ hears n (proposal_of phase best p) phase from slot ballot

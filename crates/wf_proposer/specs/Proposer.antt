@@ -1,7 +1,9 @@
 -- The model of a node's proposer, and its working part as in wf_model.
-use Rattle.std.specs.Prelude.{◌==◌, ℕ, Bool, false}
+use Rattle.std.specs.Prelude.{◌≡◌, ◌==◌, ℕ, Bool, false, Option}
 use Rattle.wf_def.specs.Definition.{Definition}
 use Rattle.wf_model.specs.Working as model
+use Rattle.wf_model.specs.Stored.{HasStored, Stored, next_sequence}
+use Rattle.wf_model.specs.Table as table
 use Rattle.wf_model.specs.Table.{Row}
 use Rattle.wf_proposer.specs.Working as shown
 use Rattle.wf_proposer.specs.Next.{Next, row_at}
@@ -27,3 +29,28 @@ runs_for s model.Idle = false
 runs_for s (model.Running p) = p.sequence == s
 runs_for s (model.Won t) = false
 runs_for s (model.Overtaken t) = false
+
+-- This holds of each stored state with this round tried and this last published sequence, whatever else is stored.
+abbrev pub ForStored : ℕ → ℕ → (Stored Definition → Type 0) → Type 0
+ForStored tried published holds = (stored : Stored Definition) → HasStored stored tried published → holds stored
+
+-- This holds of each stored state with this round tried.
+abbrev pub ForTried : ℕ → (Stored Definition → Type 0) → Type 0
+ForTried tried holds = (stored : Stored Definition) → stored.tried ≡ tried → holds stored
+
+-- why the table rejects a proposal; why, if none runs; and why it rejects a retry
+abbrev pub start_refusal : Proposer → Stored Definition → Option table.Refusal
+start_refusal proposer stored = table.refuse_proposal stored (working_of proposer).leadership (working_of proposer).proposing
+
+abbrev pub begin_refusal : Proposer → Stored Definition → Option table.Refusal
+begin_refusal proposer stored = table.refuse_round stored (model.leading_at (working_of proposer).leadership (next_sequence stored))
+
+abbrev pub retry_refusal : Proposer → Stored Definition → Option table.Refusal
+retry_refusal proposer stored = table.refuse_retry stored (working_of proposer).proposing
+
+-- the transitions of a proposal of `own`, and of a retry
+abbrev pub propose_row : Proposer → Stored Definition → Definition → Row Definition
+propose_row proposer stored own = table.on_propose proposer.node stored (working_of proposer) own
+
+abbrev pub retry_row : Proposer → Stored Definition → Row Definition
+retry_row proposer stored = table.on_retry proposer.node stored (working_of proposer)

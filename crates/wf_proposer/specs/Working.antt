@@ -4,9 +4,10 @@ use Rattle.wf_def.specs.Definition.{Definition}
 use Rattle.wf_model.specs.Message.{Vote, from_sequence}
 use Rattle.wf_model.specs.Working as model
 use Rattle.wf_proposer.specs.Proposal.{proposal_of}
+use Rattle.wf_proposer.specs.declared.proposal.Proposal.{Proposal}
 use Rattle.wf_proposer.specs.declared.working.Leadership.{Leadership}
 use Rattle.wf_proposer.specs.declared.working.Proposing.{Proposing}
-use Rattle.wf_proposer.specs.declared.working.Proposing.TheVariants.{Idle, Preparing, Accepting, Published, Overtaken}
+use Rattle.wf_proposer.specs.declared.working.Proposing.TheVariants.{Idle, Preparing, Accepting, Won, Overtaken}
 use Rattle.wf_proposer.specs.declared.working.Working.{Working}
 
 abbrev pub leadership_of : Leadership → model.Leadership Definition
@@ -24,7 +25,7 @@ abbrev pub proposing_of : Option (model.Leadership Definition) → Proposing →
 proposing_of leadership Idle = model.Idle
 proposing_of leadership (Preparing p best) = model.Running (proposal_of model.Preparing best p)
 proposing_of leadership (Accepting p) = model.Running (proposal_of model.Accepting (led_votes leadership p.slot) p)
-proposing_of leadership (Published s) = model.Won s
+proposing_of leadership (Won s) = model.Won s
 proposing_of leadership (Overtaken s) = model.Overtaken s
 
 -- the working part of this leadership and proposal
@@ -33,3 +34,10 @@ working_from leadership proposing = record { proposing = proposing_of leadership
 
 abbrev pub working_of : Working → model.Working Definition
 working_of working = working_from (leading_of working.leadership) working.proposing
+
+-- the working part while this proposal asks for promises, with the best votes so far; and while it asks for votes
+abbrev pub preparing : Option Leadership → Proposal → List (Option (Vote Definition)) → Working
+preparing leadership p best = record { proposing = Preparing p best; leadership = leadership }
+
+abbrev pub accepting : Option Leadership → Proposal → Working
+accepting leadership p = record { proposing = Accepting p; leadership = leadership }

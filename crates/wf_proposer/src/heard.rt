@@ -1,7 +1,7 @@
 ghost use Rattle.std.specs.Prelude.{◌≡◌, ◌<◌, ◌%◌, ◌^◌, ℕ, bit_and};
-ghost use Rattle.wf_ballot.specs.Majority.{count_nodes, is_majority_of};
+ghost use Rattle.wf_ballot.specs.Majority.{count_nodes};
 ghost use Rattle.wf_model.specs.Working.{and_node};
-ghost use Rattle.wf_proposer.specs.Heard.{among};
+ghost use Rattle.wf_proposer.specs.Heard.{among, are_majority};
 
 use std::marker::Model;
 use wf_ballot::{NODES, NodeId, is_majority};
@@ -58,7 +58,7 @@ impl Heard {
 
     /// Whether these are a majority of the nodes 0 to n - 1.
     pub fn is_majority(self, n: u8) -> bool
-        ensures { result ≡ is_majority_of (count_nodes n (among self)) n }
+        ensures { result ≡ are_majority n self }
     {
         is_majority(self.count(n), n as usize)
     }

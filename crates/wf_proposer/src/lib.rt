@@ -15,16 +15,12 @@
 //! commits, and sends the messages after that.
 #![tactic(auto)]
 
-mod call;
 mod change;
-mod commit;
 mod heard;
-mod lead;
 mod next;
 mod proposal;
 mod proposer;
 mod refusal;
-mod row;
 mod standing;
 mod working;
 

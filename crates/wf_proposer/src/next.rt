@@ -55,7 +55,8 @@ impl Next {
         message: Message,
         change: Change,
     ) -> Result<Next, AllocError>
-        ensures { IfOk result (λ next. next ≡ record { entry = entry; messages = message ∷ []; change = change }) }
+        ensures { IfOk result (λ next. next ≡
+            record { entry = entry; messages = message ∷ []; change = change }) }
     {
         // Without `?`: the proof of an exit that drops these treats each kind of record and change separately.
         match only(alloc, message) {

@@ -1,6 +1,17 @@
+use crate::change::Change;
+use crate::heard::Heard;
+use crate::next::Next;
 use crate::proposal::Proposal;
+use crate::refusal::Refusal;
+use std::alloc::{AllocError, Global};
+use std::mem::replace;
 use wf_ballot::{Ballot, Slot};
-use wf_codec::BestVotes;
+use wf_canon::Canon;
+use wf_codec::{BestVotes, Message, Report};
+
+/// The number of slots at which a leadership asks for votes without asking for promises: its base and the three after it. A promise
+/// reports votes at as many.
+const WINDOW: u16 = 4;
 
 /// A proposer's working part.
 #[derive(Drop)]
@@ -21,7 +32,7 @@ pub enum Proposing {
     /// This one is running, and asks for votes; the best votes reported are those of the leadership.
     Accepting(Proposal),
     /// The last one ended: its own definition is the one published at the slot.
-    Published(Slot),
+    Won(Slot),
     /// The last one ended: another's definition is published at the slot.
     Overtaken(Slot),
 }
@@ -35,4 +46,126 @@ pub struct Leadership {
     pub ballot: Ballot,
     /// The best votes that this majority reported, that at `base` first.
     pub best: BestVotes,
+}
+
+impl Working {
+    ghost use Rattle.std.specs.Prelude.{◌≡◌};
+    ghost use Rattle.wf_proposer.specs.Change.{changed};
+
+    /// Makes the change.
+    pub fn make(&mut self, change: Change)
+        ensures { self.new ≡ changed change self.old.leadership self.old.proposing }
+    {
+        match change {
+            Change::Nothing => {}
+            Change::Becomes(next) => self.becomes(next),
+            Change::Proposes(next) => self.proposes(next),
+            Change::Promised(heard, report) => self.proposing.promised(heard, report),
+            Change::Voted(heard) => self.proposing.voted(heard),
+            Change::Sees(round) => self.proposing.see(round),
+        }
+    }
+
+    /// Replaces the working part. The old one is dropped by one call: if it were dropped in place, its parts would make each
+    /// proof long.
+    fn becomes(&mut self, next: Working)
+        ensures { self.new ≡ next }
+    {
+        drop(replace(self, next));
+    }
+
+    /// Replaces the proposal, or how the last one ended; a leadership stays.
+    pub fn proposes(&mut self, next: Proposing)
+        ensures { self.new ≡ record { proposing = next; leadership = self.old.leadership } }
+    {
+        drop(replace(&mut self.proposing, next));
+    }
+}
+
+impl Proposing {
+    ghost use Rattle.std.specs.Prelude.{◌≡◌};
+    ghost use Rattle.wf_proposer.specs.Change.{with_promise, with_seen, with_vote};
+
+    fn promised(&mut self, heard: Heard, report: Report)
+        ensures { self.new ≡ with_promise heard report.votes self.old }
+    {
+        match self {
+            Proposing::Preparing(proposal, best) => {
+                proposal.heard = heard;
+                best.improve(report);
+            }
+            Proposing::Idle => drop(report),
+            Proposing::Accepting(_) => drop(report),
+            Proposing::Won(_) => drop(report),
+            Proposing::Overtaken(_) => drop(report),
+        }
+    }
+
+    fn voted(&mut self, heard: Heard)
+        ensures { self.new ≡ with_vote heard self.old }
+    {
+        match self {
+            Proposing::Accepting(proposal) => proposal.heard = heard,
+            Proposing::Idle => {}
+            Proposing::Preparing(_, _) => {}
+            Proposing::Won(_) => {}
+            Proposing::Overtaken(_) => {}
+        }
+    }
+
+    fn see(&mut self, round: u32)
+        ensures { self.new ≡ with_seen round self.old }
+    {
+        match self {
+            Proposing::Preparing(proposal, _) => proposal.seen = round,
+            Proposing::Accepting(proposal) => proposal.seen = round,
+            Proposing::Idle => {}
+            Proposing::Won(_) => {}
+            Proposing::Overtaken(_) => {}
+        }
+    }
+}
+
+impl Leadership {
+    ghost use Rattle.std.specs.Prelude.{◌≡◌, None, IfOk};
+    ghost use Rattle.wf_model.specs.Working as model;
+    ghost use Rattle.wf_proposer.specs.Next.{led};
+    ghost use Rattle.wf_proposer.specs.Refusal.{refused_by};
+
+    /// Whether a proposal at the slot needs no promises.
+    #[tactic(auto, unfolding(wf_model::specs::Working::is_in_window))]
+    pub fn covers(&self, slot: Slot) -> bool
+        ensures { result ≡ model.is_in_window self.now.base slot }
+    {
+        let base = self.base.number();
+        let slot = slot.number();
+        base <= slot && slot < base + WINDOW
+    }
+
+    /// The leader's proposal of `own` begins: votes are asked for, for the best vote reported at the slot, or else for `own`. The
+    /// only error is allocation failure.
+    pub fn propose(&self, alloc: Global, slot: Slot, own: Canon) -> Result<Next, Refusal>
+        ensures refused { refused_by result ≡ None }
+        ensures row { IfOk result (λ next. next ≡ led self.now slot own) }
+    {
+        let next = self.asks_votes(alloc, slot, own)?;
+        Ok(next)
+    }
+
+    fn asks_votes(&self, alloc: Global, slot: Slot, own: Canon) -> Result<Next, AllocError>
+        ensures { IfOk result (λ next. next ≡ led self.now slot own) }
+    {
+        match self.best.at_or(self.base, slot, &own).copy() {
+            Ok(canon) => {
+                let proposal = Proposal::new(slot, self.ballot, own);
+                let message = Message::Accept(slot, self.ballot, canon);
+                let change = Change::Proposes(Proposing::Accepting(proposal));
+                Next::says(alloc, None, message, change)
+            }
+            Err(fault) => {
+                drop(own);
+                Err(fault)
+            }
+        }
+    }
 }

@@ -3,18 +3,18 @@ use Rattle.std.specs.Prelude.{ℕ, List, [], ◌∷◌, codes, Option, Result, O
 use Rattle.std.specs.List.{position}
 use Rattle.std.specs.Option.{ok_or}
 use Rattle.std.specs.Str.{bytes_eq}
+use Rattle.wf_model.specs.declared.action.Action.{Action}
+use Rattle.wf_model.specs.declared.action.Action.TheVariants as action
+use Rattle.wf_model.specs.declared.kept.Kept.{Kept}
+use Rattle.wf_model.specs.declared.kept.Kept.TheVariants as kept
 use Rattle.wf_script.specs.Order.{Order}
 use Rattle.wf_script.specs.Order as order
 use Rattle.wf_script.specs.Reading.{◌>>=◌}
 use Rattle.wf_script.specs.Verb.{verb_of}
 use Rattle.wf_script.specs.Words.{a_number, a_text, a_word, no_word, number}
-use Rattle.wf_script.specs.declared.order.Side.{Side}
-use Rattle.wf_script.specs.declared.order.Side.TheVariants as side
 use Rattle.wf_script.specs.declared.fault.Wrong.{Wrong}
 use Rattle.wf_script.specs.declared.fault.Wrong.TheVariants.{BadLine}
 use Rattle.wf_script.specs.declared.order.Question.TheVariants as question
-use Rattle.wf_script.specs.declared.order.Step.{Step}
-use Rattle.wf_script.specs.declared.order.Step.TheVariants as step
 use Rattle.wf_script.specs.declared.verb.Verb.{Verb}
 use Rattle.wf_script.specs.declared.verb.Verb.TheVariants as verb
 
@@ -42,29 +42,29 @@ unfoldable pub some_numbers : List (List ℕ) → Result (List ℕ) Wrong
 some_numbers [] = Err BadLine
 some_numbers (word ∷ rest) = numbers (word ∷ rest)
 
--- on which side of its record a node crashes within a step
-abbrev pub side_of : List ℕ → Result Side Wrong
-side_of word = if bytes_eq word (codes "before") then Ok side.Before else if bytes_eq word (codes "after") then Ok side.After else Err BadLine
+-- whether a crash within a step leaves what was stored before the step or after it
+abbrev pub kept_of : List ℕ → Result Kept Wrong
+kept_of word = if bytes_eq word (codes "before") then Ok kept.Before else if bytes_eq word (codes "after") then Ok kept.After else Err BadLine
 
-unfoldable pub a_side : List (List ℕ) → Result (Side × List (List ℕ)) Wrong
-a_side words = do
+unfoldable pub a_kept : List (List ℕ) → Result (Kept × List (List ℕ)) Wrong
+a_kept words = do
   word ← a_text words
-  part ← side_of word.0
+  part ← kept_of word.0
   Ok (part, word.1)
 
 -- the step that a verb and the words after it make, of a node whose number has been read: the node may crash within it
-unfoldable pub step_by : List (List ℕ) → Verb → List (List ℕ) → Result (Step × List (List ℕ)) Wrong
+unfoldable pub step_by : List (List ℕ) → Verb → List (List ℕ) → Result (Action ℕ ℕ × List (List ℕ)) Wrong
 step_by names verb.Propose words = do
   map ← a_map names words
-  Ok (step.Propose map.0, map.1)
-step_by names verb.Retry words = Ok (step.Retry, words)
-step_by names verb.CatchUp words = Ok (step.CatchUp, words)
+  Ok (action.Propose map.0, map.1)
+step_by names verb.Retry words = Ok (action.Retry, words)
+step_by names verb.CatchUp words = Ok (action.CatchUp, words)
 step_by names verb.Deliver words = do
   message ← a_number words
-  Ok (step.Deliver message.0, message.1)
+  Ok (action.Deliver message.0, message.1)
 step_by names _ words = Err BadLine
 
-unfoldable pub a_step : List (List ℕ) → List (List ℕ) → Result (Step × List (List ℕ)) Wrong
+unfoldable pub a_step : List (List ℕ) → List (List ℕ) → Result (Action ℕ ℕ × List (List ℕ)) Wrong
 a_step names words = do
   word ← a_text words
   verb ← ok_or (verb_of word.0) BadLine
@@ -93,7 +93,7 @@ cut_order words = do
 unfoldable pub torn_order : List (List ℕ) → List (List ℕ) → Result (Order × List (List ℕ)) Wrong
 torn_order names words = do
   node ← a_number words
-  part ← a_side node.1
+  part ← a_kept node.1
   step ← a_step names part.1
   Ok (order.Torn node.0 step.0 part.0, step.1)
 

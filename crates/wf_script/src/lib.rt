@@ -45,5 +45,5 @@ pub use fault::ScriptFault;
 pub use law::a_beginning_is_judged_alike;
 pub use limit::{MOST_LINES, MOST_SCRIPT_BYTES};
 pub use maps::MOST_MAPS;
-pub use order::{Numbered, Order, Question, Side, Step};
+pub use order::{Numbered, Order, Question};
 pub use script::Script;

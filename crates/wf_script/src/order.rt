@@ -3,7 +3,7 @@
 ghost use Rattle.std.specs.Prelude.{◌≡◌, [], OnOk, map};
 ghost use Rattle.wf_script.specs.Naming.{name};
 ghost use Rattle.wf_script.specs.Order.{view};
-ghost use Rattle.wf_script.specs.Orders.{a_map, a_side, a_step, cut_order, definition_order, deliver_order, equal_order, fuse_order, get_order, numbers, order_by, order_of, proposal_order, pump_order, restart_order, some_numbers, step_by, step_order, stop_order, torn_order};
+ghost use Rattle.wf_script.specs.Orders.{a_kept, a_map, a_step, cut_order, definition_order, deliver_order, equal_order, fuse_order, get_order, numbers, order_by, order_of, proposal_order, pump_order, restart_order, some_numbers, step_by, step_order, stop_order, torn_order};
 ghost use Rattle.wf_script.specs.Reading.{Gives};
 ghost use Rattle.wf_script.specs.Words.{a_word};
 
@@ -12,6 +12,7 @@ use crate::maps::Maps;
 use crate::verb::Verb;
 use crate::words::{Words, number};
 use std::alloc::Global;
+use wf_model::{Action, Kept};
 
 /// An order, and the number of its line.
 #[derive(Drop)]
@@ -27,7 +28,7 @@ pub enum Order {
     /// failing append keeps the third number of bytes, and the crash after it the fourth number of those that aren't synced. No event.
     Fuse(usize, usize, usize, usize),
     /// A step of the node.
-    Step(usize, Step),
+    Step(usize, Action<usize, usize>),
     /// The messages go to the node, one after the other.
     Deliver(usize, Vec<usize>),
     /// The message of the second number is cut off on its way to the node, after this many bytes: it doesn't arrive. No event.
@@ -36,8 +37,8 @@ pub enum Order {
     Stop(usize),
     /// The stopped node comes back.
     Restart(usize),
-    /// The node crashes within a step.
-    Torn(usize, Step, Side),
+    /// The node crashes within a step: before its record is on the tape, or after.
+    Torn(usize, Action<usize, usize>, Kept),
     /// The messages that aren't pumped yet go to these nodes; to each, where none is named.
     Pump(Vec<usize>),
     /// All messages so far count as pumped.
@@ -48,22 +49,6 @@ pub enum Order {
     Get(usize, Vec<u8>),
     /// Do the two nodes answer this query equally?
     Equal(usize, usize, Vec<u8>),
-}
-
-/// When a node crashes within a step: before its record is on the tape, or after.
-#[derive(Clone, Copy)]
-pub enum Side {
-    Before,
-    After,
-}
-
-/// A step of a node, within which the node can crash.
-#[derive(Clone, Copy)]
-pub enum Step {
-    Propose(usize),
-    Retry,
-    CatchUp,
-    Deliver(usize),
 }
 
 /// A question about a farm.
@@ -207,25 +192,26 @@ fn torn(maps: &Maps, words: &mut Words<'_>) -> Result<Order, Wrong>
         (torn_order (map name maps.now.named.items) words.old) }
 {
     let node = words.number()?;
-    let side = torn_side(words)?;
+    let kept = torn_kept(words)?;
     let step = step_after(maps, words)?;
-    Ok(Order::Torn(node, step, side))
+    Ok(Order::Torn(node, step, kept))
 }
 
-#[tactic(auto, unfolding(crate::specs::Orders::a_side))]
-fn torn_side(words: &mut Words<'_>) -> Result<Side, Wrong>
-    ensures { Gives (λ side. (side, words.new)) result (a_side words.old) }
+/// What the crash leaves: `before` or `after`.
+#[tactic(auto, unfolding(crate::specs::Orders::a_kept))]
+fn torn_kept(words: &mut Words<'_>) -> Result<Kept, Wrong>
+    ensures { Gives (λ kept. (kept, words.new)) result (a_kept words.old) }
 {
     match words.text()? {
-        "before" => Ok(Side::Before),
-        "after" => Ok(Side::After),
+        "before" => Ok(Kept::Before),
+        "after" => Ok(Kept::After),
         _ => Err(Wrong::BadLine),
     }
 }
 
 /// A step of a node whose number has been read.
 #[tactic(auto, unfolding(crate::specs::Orders::a_step))]
-fn step_after(maps: &Maps, words: &mut Words<'_>) -> Result<Step, Wrong>
+fn step_after(maps: &Maps, words: &mut Words<'_>) -> Result<Action<usize, usize>, Wrong>
     ensures { Gives (λ step. (step, words.new)) result
         (a_step (map name maps.now.named.items) words.old) }
 {
@@ -237,20 +223,20 @@ fn step_after(maps: &Maps, words: &mut Words<'_>) -> Result<Step, Wrong>
 
 /// The step that a verb and the words after it make.
 #[tactic(auto, unfolding(crate::specs::Orders::step_by))]
-fn step_by(maps: &Maps, verb: Verb, words: &mut Words<'_>) -> Result<Step, Wrong>
+fn step_by(maps: &Maps, verb: Verb, words: &mut Words<'_>) -> Result<Action<usize, usize>, Wrong>
     ensures { Gives (λ step. (step, words.new)) result
         (step_by (map name maps.now.named.items) verb words.old) }
 {
     match verb {
         Verb::Propose => {
             let map = map(maps, words)?;
-            Ok(Step::Propose(map))
+            Ok(Action::Propose(map))
         }
-        Verb::Retry => Ok(Step::Retry),
-        Verb::CatchUp => Ok(Step::CatchUp),
+        Verb::Retry => Ok(Action::Retry),
+        Verb::CatchUp => Ok(Action::CatchUp),
         Verb::Deliver => {
             let message = words.number()?;
-            Ok(Step::Deliver(message))
+            Ok(Action::Deliver(message))
         }
         _ => Err(Wrong::BadLine),
     }

@@ -9,6 +9,7 @@ use Rattle.wf_model.specs.Stored.{definition_at}
 use Rattle.wf_node.specs.Node.{Node}
 use Rattle.wf_wms.specs.Answer.{subject}
 use Rattle.wf_serve.specs.Agreeing.{RespondAlike}
+use Rattle.wf_tape.specs.declared.tape.Tape.{Ghosts as Tape}
 
 -- lists of one length whose elements agree are equal
 same_list : {A : Type 0} → (xs ys : List A) → length ys ≡ length xs → ((k : ℕ) (x y : A) → slice_get xs k ≡ Some x → slice_get ys k ≡ Some y → x ≡ y) → xs ≡ ys
@@ -26,8 +27,8 @@ unfolding HaveOneHistory definition_at
 same_history nodes i j node other one here there long =
     same_list node.parts.history other.parts.history long (λ k c d entry another. one i j (suc k) node other c d here there entry another)
 
-module _ {T : Type 0} (honest : Type 0) (content : T → List ℕ) (images : T → List ℕ → Type 0) (failures : T → ℕ) where
-  pub respond_alike : EqualRequestsHaveEqualResponses Global honest content images failures → (nodes : List (Node T)) → HaveOneHistory nodes → RespondAlike honest content images failures nodes
+module _ {T : Type 0} (tapes : Tape T) where
+  pub respond_alike : EqualRequestsHaveEqualResponses Global tapes → (nodes : List (Node T)) → HaveOneHistory nodes → RespondAlike tapes nodes
   respond_alike law nodes one = record {
     bytes = λ i j input query node node_after other other_after sent other_sent response another here there long asks responds served also served_too.
         let same = same_history nodes i j node other one here there long in

@@ -7,7 +7,7 @@ use Rattle.wf_edge.specs.Growth.{kept_on}
 use Rattle.wf_farm.specs.Delivering.{EachGrows}
 use Rattle.wf_farm.specs.PlaceLaws.{get_set_same, get_set_other}
 use Rattle.wf_node.specs.Node.{Node}
-use Rattle.wf_wms.specs.Kept.{AllKept, CacheValue, GrowthKeepsAll}
+use Rattle.wf_wms.specs.KeptPictures.{AllKept, CacheValue, GrowthKeepsAll}
 use Rattle.wf_serve.specs.Caching.{AreEmpty, AreKept}
 
 -- the element at an index of a list

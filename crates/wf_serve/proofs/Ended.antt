@@ -8,10 +8,12 @@ use Rattle.wf_edge.specs.declared.outcome.Outcome.{Outcome}
 use Rattle.wf_edge.specs.declared.outcome.Outcome.TheVariants as outcome
 use Rattle.wf_node.specs.Node.{Node}
 use Rattle.wf_serve.specs.Serving.{EndsWriting}
+use Rattle.wf_stream.specs.declared.stream.Sink.{Ghosts as Sink}
+use Rattle.wf_tape.specs.declared.tape.Tape.{Ghosts as Tape}
 
-module _ {T A K : Type 0} (honest : Type 0) (content : T → List ℕ) (images : T → List ℕ → Type 0) (failed : T → ℕ) (written : K → Option (List ℕ)) (failures : K → ℕ) (fails : K → K → Type 0) where
+module _ {T A K : Type 0} (tapes : Tape T) (sinks : Sink K) where
   pub ends : (input : Option (List ℕ)) (old new : K) (before after : Node T) (sent : Vec Message A) (said : Outcome)
-      → IsEnding honest content images failed written failures fails input old new before sent after said → EndsWriting written failures fails old new said
+      → IsEnding tapes sinks input old new before sent after said → EndsWriting sinks old new said
   ends input old new before after sent (outcome.Sent status count) ending = tt
   ends input old new before after sent (outcome.WriteFailed status count) ending = (take ending.breaks.part (response_bytes ending.response), ending.breaks.ends)
   ends input old new before after sent outcome.ReadFailed ending = ending

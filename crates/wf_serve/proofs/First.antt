@@ -16,6 +16,7 @@ use Rattle.wf_serve.specs.Publishing.{HavePublished}
 use Rattle.wf_serve.specs.Serving.{IsRetried}
 use Rattle.wf_serve.proofs.Led.{asked_turn, moved_leads}
 use Rattle.wf_serve.proofs.Published.{accepted_is_published}
+use Rattle.wf_tape.specs.declared.tape.Tape.{Ghosts as Tape}
 
 -- ---- what is published stays
 
@@ -39,34 +40,34 @@ module _ {T : Type 0} (first after : List (Node T)) (keeps : KeepTurn first afte
 
 -- ---- connections
 
-module _ {T : Type 0} (honest : Type 0) (content : T → List ℕ) (images : T → List ℕ → Type 0) (failures : T → ℕ) (leads : StepLeadsOn honest content images failures) (quiet : NothingIsSaid honest images) where
-  retry_keeps : (place : ℕ) (heard after : List (Node T)) → StandInTurn heard → IsRetried honest content images failures place heard after → KeepTurn heard after
-  retry_keeps place heard after turns (inl anew) = asked_turn honest content images failures leads place Retry tt heard after turns anew.anew
+module _ {T : Type 0} (tapes : Tape T) (leads : StepLeadsOn tapes) (quiet : NothingIsSaid tapes) where
+  retry_keeps : (place : ℕ) (heard after : List (Node T)) → StandInTurn heard → IsRetried tapes place heard after → KeepTurn heard after
+  retry_keeps place heard after turns (inl anew) = asked_turn tapes leads place Retry tt heard after turns anew.anew
   retry_keeps place heard after turns (inr rests) = subst (KeepTurn heard) (sym rests.1) (keeps_turn_itself heard)
 
-  answer_keeps : (place : ℕ) (nodes after : List (Node T)) → StandInTurn nodes → IsAnswered honest content images failures place nodes after → KeepTurn nodes after
+  answer_keeps : (place : ℕ) (nodes after : List (Node T)) → StandInTurn nodes → IsAnswered tapes place nodes after → KeepTurn nodes after
   answer_keeps place nodes after turns answered =
       let c = answered.connection in
-      let led = moved_leads honest content images failures leads nodes place c.request.before c.request.after c.request.changed.was turns c.said quiet c.request.moves in
+      let led = moved_leads tapes leads nodes place c.request.before c.request.after c.request.changed.was turns c.said quiet c.request.moves in
       let served : KeepTurn nodes c.served = subst (KeepTurn nodes) (sym c.request.changed.is) led.turn in
       let heard : KeepTurn nodes c.heard = keeps_turn_twice nodes c.served c.heard served c.hearing.delivered.turn in
       keeps_turn_twice nodes c.heard after heard (retry_keeps place c.heard after (heard.in_turn turns) c.retry)
 
-  connection_keeps : (place : ℕ) (nodes after : List (Node T)) → StandInTurn nodes → MayBeAnswered honest content images failures place nodes after → KeepTurn nodes after
+  connection_keeps : (place : ℕ) (nodes after : List (Node T)) → StandInTurn nodes → MayBeAnswered tapes place nodes after → KeepTurn nodes after
   connection_keeps place nodes after turns (inl answered) = answer_keeps place nodes after turns answered
   connection_keeps place nodes after turns (inr same) = subst (KeepTurn nodes) (sym same) (keeps_turn_itself nodes)
 
   -- The first connection, and what the others keep.
   record IsFirst (count : ℕ) (nodes after : List (Node T)) : Type 0 where
     first : List (Node T)
-    answer : MayBeAnswered honest content images failures (0 % count) nodes first
+    answer : MayBeAnswered tapes (0 % count) nodes first
     keeps : KeepTurn first after
 
-  first_of : (count later : ℕ) (nodes after : List (Node T)) → StandInTurn nodes → HaveCome honest content images failures count (suc later) nodes after → IsFirst count nodes after
+  first_of : (count later : ℕ) (nodes after : List (Node T)) → StandInTurn nodes → HaveCome tapes count (suc later) nodes after → IsFirst count nodes after
   unfolding HaveCome
   first_of count zero nodes after turns come = record {
     first = after;
-    answer = subst (λ ns. MayBeAnswered honest content images failures (0 % count) ns after) come.1 come.2;
+    answer = subst (λ ns. MayBeAnswered tapes (0 % count) ns after) come.1 come.2;
     keeps = keeps_turn_itself after;
   }
   first_of count (suc later) nodes after turns come =
@@ -78,17 +79,17 @@ module _ {T : Type 0} (honest : Type 0) (content : T → List ℕ) (images : T �
         keeps = keeps_turn_twice so_far.first come.0 after so_far.keeps (connection_keeps (suc later % count) come.0 after middle_turns come.2);
       }
 
-  module _ (law : PublishedOnAll honest content images failures) (nodes first after : List (Node T)) (long : length nodes ≡ 3) (turns : StandInTurn nodes) (fresh : AreFresh nodes) (keeps : KeepTurn first after) where
-    if_accepted : (answer : MayBeAnswered honest content images failures 0 nodes first) → IfAccepted honest content images failures answer after
+  module _ (law : PublishedOnAll tapes) (nodes first after : List (Node T)) (long : length nodes ≡ 3) (turns : StandInTurn nodes) (fresh : AreFresh nodes) (keeps : KeepTurn first after) where
+    if_accepted : (answer : MayBeAnswered tapes 0 nodes first) → IfAccepted tapes answer after
     if_accepted (inl answered) = λ accepted lost stopped none.
         let done : HavePublished answered.input first =
-        accepted_is_published honest content images failures law 0 answered.input answered.written answered.written_after nodes first answered.outcome long turns fresh answered.connection accepted lost stopped none in
+        accepted_is_published tapes law 0 answered.input answered.written answered.written_after nodes first answered.outcome long turns fresh answered.connection accepted lost stopped none in
         record { request = done.request; received = done.received; map = done.map; is_map = done.is_map; published = still_published first after keeps done.map done.published }
     if_accepted (inr same) = tt
 
-pub first_is_published : {T : Type 0} (honest : Type 0) (content : T → List ℕ) (images : T → List ℕ → Type 0) (failures : T → ℕ) → StepLeadsOn honest content images failures → NothingIsSaid honest images →
-    PublishedOnAll honest content images failures → FirstIsPublished honest content images failures
-first_is_published honest content images failures leads quiet law = λ later nodes nodes_after long turns fresh come.
-    let found = first_of honest content images failures leads quiet (length nodes) later nodes nodes_after turns come in
-    let answer = subst (λ n. MayBeAnswered honest content images failures (0 % n) nodes found.first) long found.answer in
-    (found.first, answer, if_accepted honest content images failures leads quiet law nodes found.first nodes_after long turns fresh found.keeps answer)
+pub first_is_published : {T : Type 0} (tapes : Tape T) → StepLeadsOn tapes → NothingIsSaid tapes →
+    PublishedOnAll tapes → FirstIsPublished tapes
+first_is_published tapes leads quiet law = λ later nodes nodes_after long turns fresh come.
+    let found = first_of tapes leads quiet (length nodes) later nodes nodes_after turns come in
+    let answer = subst (λ n. MayBeAnswered tapes (0 % n) nodes found.first) long found.answer in
+    (found.first, answer, if_accepted tapes leads quiet law nodes found.first nodes_after long turns fresh found.keeps answer)

@@ -12,38 +12,39 @@ use Rattle.wf_farm.specs.PlaceLaws.{set_same}
 use Rattle.wf_node.specs.Node.{Node}
 use Rattle.wf_node.specs.declared.fault.NodeFault.{NodeFault}
 use Rattle.wf_serve.specs.Serving.{IsAsked, IsAskedAndHeard}
+use Rattle.wf_tape.specs.declared.tape.Tape.{Ghosts as Tape}
 
 pub hands_said : (answer : Result (Vec Message Global) NodeFault) (said : Vec Message Global) → HandsOut answer said → said_by answer ≡ said.items
 hands_said (Ok messages) said is = ap (λ (v : Vec Message Global). v.items) (sym is)
 hands_said (Err why) said is = sym is
 
-module _ {T : Type 0} (honest : Type 0) (content : T → List ℕ) (images : T → List ℕ → Type 0) (failures : T → ℕ) (law : StepLeadsOn honest content images failures)
+module _ {T : Type 0} (tapes : Tape T) (law : StepLeadsOn tapes)
     (nodes : List (Node T)) (i : ℕ) (before after : Node T) (at : slice_get nodes i ≡ Some before) (turns : StandInTurn nodes) (said : Vec Message Global) where
   -- it was asked for a step
-  pub asked_leads : (input : table.Input Definition) → IsOwn input → IsAsked honest content images failures input before said after →
-      AreLedSaying honest images nodes said.items (slice_set nodes i after)
+  pub asked_leads : (input : table.Input Definition) → IsOwn input → IsAsked tapes input before said after →
+      AreLedSaying tapes nodes said.items (slice_set nodes i after)
   asked_leads input own asked =
-      subst (λ ms. AreLedSaying honest images nodes ms (slice_set nodes i after)) (hands_said asked.answer said asked.hands)
+      subst (λ ms. AreLedSaying tapes nodes ms (slice_set nodes i after)) (hands_said asked.answer said asked.hands)
       (law nodes i before after input asked.answer at turns own asked.answers.refused asked.answers.steps)
 
   -- it served a request: it is unchanged, or has proposed
-  pub moved_leads : NothingIsSaid honest images → MovesOnce honest content images failures before said after → AreLedSaying honest images nodes said.items (slice_set nodes i after)
+  pub moved_leads : NothingIsSaid tapes → MovesOnce tapes before said after → AreLedSaying tapes nodes said.items (slice_set nodes i after)
   moved_leads quiet (Stays unmoved) =
-      subst (λ n. AreLedSaying honest images nodes said.items (slice_set nodes i n)) (sym unmoved.same)
-      (subst (λ ns. AreLedSaying honest images nodes said.items ns) (sym (set_same nodes i before at))
-      (subst (λ ms. AreLedSaying honest images nodes ms nodes) (sym unmoved.quiet) (quiet nodes)))
+      subst (λ n. AreLedSaying tapes nodes said.items (slice_set nodes i n)) (sym unmoved.same)
+      (subst (λ ns. AreLedSaying tapes nodes said.items ns) (sym (set_same nodes i before at))
+      (subst (λ ms. AreLedSaying tapes nodes ms nodes) (sym unmoved.quiet) (quiet nodes)))
   moved_leads quiet (Proposes d result proposed hands) =
-      subst (λ ms. AreLedSaying honest images nodes ms (slice_set nodes i after)) (hands_said result said hands)
+      subst (λ ms. AreLedSaying tapes nodes ms (slice_set nodes i after)) (hands_said result said hands)
       (law nodes i before after (table.Propose d) result at turns tt proposed.refused proposed.steps)
 
 -- A node was asked for a step of its own, and its messages were delivered: each node keeps its index and what it published, and one
 -- whose tape had failed is unchanged.
-module _ {T : Type 0} (honest : Type 0) (content : T → List ℕ) (images : T → List ℕ → Type 0) (failures : T → ℕ) (law : StepLeadsOn honest content images failures) (place : ℕ) (input : table.Input Definition) (own : IsOwn input)
-    (nodes after : List (Node T)) (turns : StandInTurn nodes) (one : IsAskedAndHeard honest content images failures place input nodes after) where
-  pub asked_led : AreLedSaying honest images nodes one.said.items one.asked
+module _ {T : Type 0} (tapes : Tape T) (law : StepLeadsOn tapes) (place : ℕ) (input : table.Input Definition) (own : IsOwn input)
+    (nodes after : List (Node T)) (turns : StandInTurn nodes) (one : IsAskedAndHeard tapes place input nodes after) where
+  pub asked_led : AreLedSaying tapes nodes one.said.items one.asked
   asked_led =
-      subst (AreLedSaying honest images nodes one.said.items) (sym one.step.changed.is)
-      (asked_leads honest content images failures law nodes place one.step.before one.step.after one.step.changed.was turns one.said input own one.step.asked)
+      subst (AreLedSaying tapes nodes one.said.items) (sym one.step.changed.is)
+      (asked_leads tapes law nodes place one.step.before one.step.after one.step.changed.was turns one.said input own one.step.asked)
 
   pub asked_turn : KeepTurn nodes after
   asked_turn = keeps_turn_twice nodes one.asked after asked_led.turn one.heard.delivered.turn

@@ -1,5 +1,4 @@
 mod Agreed
-mod Asked
 mod Caches
 mod Come
 mod Ended

@@ -10,16 +10,17 @@ use Rattle.wf_node.specs.Node.{Node}
 use Rattle.wf_serve.specs.Publishing.{CaughtUpAreNew}
 use Rattle.wf_serve.specs.Serving.{HaveCaughtUp, IsAskedAndHeard}
 use Rattle.wf_serve.proofs.Led.{asked_halted, asked_led, asked_turn, hands_said}
+use Rattle.wf_tape.specs.declared.tape.Tape.{Ghosts as Tape}
 
-module _ {T : Type 0} (honest : Type 0) (content : T → List ℕ) (images : T → List ℕ → Type 0) (failures : T → ℕ) (leads : StepLeadsOn honest content images failures) (stays : NewStayNew honest content images failures) where
-  module _ (place : ℕ) (nodes after : List (Node T)) (turns : StandInTurn nodes) (one : IsAskedAndHeard honest content images failures place CatchUp nodes after) where
+module _ {T : Type 0} (tapes : Tape T) (leads : StepLeadsOn tapes) (stays : NewStayNew tapes) where
+  module _ (place : ℕ) (nodes after : List (Node T)) (turns : StandInTurn nodes) (one : IsAskedAndHeard tapes place CatchUp nodes after) where
     some : 0 < length one.asked
-    some = omega (arith, slice_get_within nodes place one.step.before one.step.changed.was, (asked_led honest content images failures leads place CatchUp tt nodes after turns one).turn.as_many)
+    some = omega (arith, slice_get_within nodes place one.step.before one.step.changed.was, (asked_led tapes leads place CatchUp tt nodes after turns one).turn.as_many)
 
-    handed : AreHandedOut honest content images (slice_set nodes place one.step.after) (said_by one.step.asked.answer) one.heard.deliveries one.heard.lost one.heard.stopped after
+    handed : AreHandedOut tapes (slice_set nodes place one.step.after) (said_by one.step.asked.answer) one.heard.deliveries one.heard.lost one.heard.stopped after
     handed =
-        subst (λ ns. AreHandedOut honest content images ns (said_by one.step.asked.answer) one.heard.deliveries one.heard.lost one.heard.stopped after) one.step.changed.is
-        (subst (λ ms. AreHandedOut honest content images one.asked ms one.heard.deliveries one.heard.lost one.heard.stopped after) (sym (hands_said one.step.asked.answer one.said one.step.asked.hands)) (one.heard.handed some))
+        subst (λ ns. AreHandedOut tapes ns (said_by one.step.asked.answer) one.heard.deliveries one.heard.lost one.heard.stopped after) one.step.changed.is
+        (subst (λ ms. AreHandedOut tapes one.asked ms one.heard.deliveries one.heard.lost one.heard.stopped after) (sym (hands_said one.step.asked.answer one.said one.step.asked.hands)) (one.heard.handed some))
 
     one_new : AreFresh nodes → NoneHalted after → AreFresh after
     unfolding AreFresh
@@ -28,18 +29,18 @@ module _ {T : Type 0} (honest : Type 0) (content : T → List ℕ) (images : T �
         (one.step.asked.answers.steps (fresh place one.step.before one.step.changed.was).runs) handed none
 
   module _ (nodes : List (Node T)) (turns : StandInTurn nodes) (fresh : AreFresh nodes) where
-    still_in_turn : (count : ℕ) (after : List (Node T)) → HaveCaughtUp honest content images failures count nodes after → StandInTurn after
+    still_in_turn : (count : ℕ) (after : List (Node T)) → HaveCaughtUp tapes count nodes after → StandInTurn after
     unfolding HaveCaughtUp
     still_in_turn zero after same = subst StandInTurn (sym same) turns
-    still_in_turn (suc count) after so = let before = still_in_turn count so.0 so.1 in (asked_turn honest content images failures leads count CatchUp tt so.0 after before so.2).in_turn before
+    still_in_turn (suc count) after so = let before = still_in_turn count so.0 so.1 in (asked_turn tapes leads count CatchUp tt so.0 after before so.2).in_turn before
 
-    still_new : (count : ℕ) (after : List (Node T)) → HaveCaughtUp honest content images failures count nodes after → NoneHalted after → AreFresh after
+    still_new : (count : ℕ) (after : List (Node T)) → HaveCaughtUp tapes count nodes after → NoneHalted after → AreFresh after
     unfolding HaveCaughtUp
     still_new zero after same none = subst AreFresh (sym same) fresh
     still_new (suc count) after so none =
         let before = still_in_turn count so.0 so.1 in
-        one_new count so.0 after before so.2 (still_new count so.0 so.1 (none_before so.0 after (asked_halted honest content images failures leads count CatchUp tt so.0 after before so.2) none)) none
+        one_new count so.0 after before so.2 (still_new count so.0 so.1 (none_before so.0 after (asked_halted tapes leads count CatchUp tt so.0 after before so.2) none)) none
 
-pub caught_up_are_new : {T : Type 0} (honest : Type 0) (content : T → List ℕ) (images : T → List ℕ → Type 0) (failures : T → ℕ) → StepLeadsOn honest content images failures → NewStayNew honest content images failures →
-    CaughtUpAreNew honest content images failures
-caught_up_are_new honest content images failures leads stays = λ nodes nodes_after turns fresh caught none. still_new honest content images failures leads stays nodes turns fresh (length nodes) nodes_after caught none
+pub caught_up_are_new : {T : Type 0} (tapes : Tape T) → StepLeadsOn tapes → NewStayNew tapes →
+    CaughtUpAreNew tapes
+caught_up_are_new tapes leads stays = λ nodes nodes_after turns fresh caught none. still_new tapes leads stays nodes turns fresh (length nodes) nodes_after caught none

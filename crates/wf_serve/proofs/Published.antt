@@ -32,6 +32,7 @@ use Rattle.wf_proposer.specs.Standing.{standing_of}
 use Rattle.wf_proposer.specs.declared.standing.Standing.TheVariants as standing
 use Rattle.wf_serve.specs.Publishing.{WasAccepted, HavePublished, AcceptedIsPublished, accepted_status}
 use Rattle.wf_serve.specs.Serving.{IsConnection, IsRetried, RunsAt}
+use Rattle.wf_tape.specs.declared.tape.Tape.{Ghosts as Tape}
 
 -- ---- the response
 
@@ -68,27 +69,27 @@ no_fault publish.TooBig answer tells is = no_notice notice.TooBig (sym (ap statu
 no_fault publish.Memory answer tells is = no_notice notice.Unavailable (sym (ap status_in tells) ∙ is)
 no_fault (publish.Node why) answer tells is = no_notice (notice_of why) (sym (ap status_in tells) ∙ is)
 
-module _ {T : Type 0} (honest : Type 0) (content : T → List ℕ) (images : T → List ℕ → Type 0) (failures : T → ℕ) (before after : Node T) (said : Vec Message Global) where
+module _ {T : Type 0} (tapes : Tape T) (before after : Node T) (said : Vec Message Global) where
   -- The node made the step Propose of the map that the body of the request means, and these are its messages.
   record HasProposed (input : Option (List ℕ)) : Type 0 where
     request : Request
     received : IfSome input (λ bytes. BeginsWith bytes request)
     map : Definition
     is_map : IsMapOf request.body map
-    proposed : IsProposed honest content images failures before map (Ok said) after
+    proposed : IsProposed tapes before map (Ok said) after
 
-  proposed_if : (body : List ℕ) (answer : Result Response Notice) (done : Result (Response × Vec Message Global) PublishFault) → IsPublished honest content images failures body before done after → TellsPublish done answer said →
-      status_in answer ≡ accepted_status → (d : Definition) × IsMapOf body d × IsProposed honest content images failures before d (Ok said) after
-  proposed_if body answer (Ok done) published tells is = (published.0, published.1, subst (λ ms. IsProposed honest content images failures before published.0 (Ok ms) after) (sym tells.1) published.2)
+  proposed_if : (body : List ℕ) (answer : Result Response Notice) (done : Result (Response × Vec Message Global) PublishFault) → IsPublished tapes body before done after → TellsPublish done answer said →
+      status_in answer ≡ accepted_status → (d : Definition) × IsMapOf body d × IsProposed tapes before d (Ok said) after
+  proposed_if body answer (Ok done) published tells is = (published.0, published.1, subst (λ ms. IsProposed tapes before published.0 (Ok ms) after) (sym tells.1) published.2)
   proposed_if body answer (Err why) published tells is = absurd (no_fault why answer tells.0 is)
 
-  asked_for : (what : Asked) (request : Request) (answer : Result Response Notice) → GivesTo honest content images failures what request before answer said after → status_in answer ≡ accepted_status →
-      (d : Definition) × IsMapOf request.body d × IsProposed honest content images failures before d (Ok said) after
+  asked_for : (what : Asked) (request : Request) (answer : Result Response Notice) → GivesTo tapes what request before answer said after → status_in answer ≡ accepted_status →
+      (d : Definition) × IsMapOf request.body d × IsProposed tapes before d (Ok said) after
   asked_for asked.Wms request answer gives is = absurd (no_service before.parts.history (query_of request.head.target) answer gives.0 is)
   asked_for asked.Status request answer gives is = let other : 200 ≡ accepted_status = sym (ap status_in gives.0) ∙ is in absurd (omega (arith, other))
   asked_for (asked.Publish bytes) request answer gives is = proposed_if request.body answer gives.done gives.published gives.tells is
 
-  heard_as : (input : Option (List ℕ)) (heard : Result Request RequestFault) (answer : Result Response Notice) → IfSome input (λ bytes. Asks bytes heard) → Gives honest content images failures heard before answer said after →
+  heard_as : (input : Option (List ℕ)) (heard : Result Request RequestFault) (answer : Result Response Notice) → IfSome input (λ bytes. Asks bytes heard) → Gives tapes heard before answer said after →
       status_in answer ≡ accepted_status → HasProposed input
   heard_as input (Ok request) answer asks gives is =
       let it = asked_for request.asked request answer gives is in
@@ -98,11 +99,11 @@ module _ {T : Type 0} (honest : Type 0) (content : T → List ℕ) (images : T �
   heard_as input (Err fault.NoRequest) answer asks gives is = absurd gives
   heard_as input (Err fault.ReadFailed) answer asks gives is = absurd gives
 
-  responded : (input : Option (List ℕ)) (response : Response) → Responds honest content images failures input before response said after → response.status ≡ accepted_status → HasProposed input
+  responded : (input : Option (List ℕ)) (response : Response) → Responds tapes input before response said after → response.status ≡ accepted_status → HasProposed input
   responded input response responds is = heard_as input responds.heard responds.answer responds.asks responds.gives (sym (ap (λ (r : Response). r.status) responds.is) ∙ is)
 
   -- If the response had that status, the node proposed.
-  has_proposed : (input old new : Option (List ℕ)) (outcome : Outcome) → IsOutcome honest content images failures input old new before said after outcome → WasAccepted outcome → HasProposed input
+  has_proposed : (input old new : Option (List ℕ)) (outcome : Outcome) → IsOutcome tapes input old new before said after outcome → WasAccepted outcome → HasProposed input
   has_proposed input old new (outcome.Sent status count) served is = responded input served.response served.responds (sym served.status_is ∙ is)
   has_proposed input old new (outcome.WriteFailed status count) served is = responded input served.response served.responds (sym served.status_is ∙ is)
   has_proposed input old new outcome.ReadFailed served is = absurd is
@@ -117,7 +118,7 @@ rests_still (model.Running proposal) rests is = rests
 rests_still (model.Won s) rests is = cc
 rests_still (model.Overtaken s) rests is = cc
 
-module _ {T : Type 0} (honest : Type 0) (content : T → List ℕ) (images : T → List ℕ → Type 0) (failures : T → ℕ) (place : ℕ) (heard : List (Node T)) (map : Definition) (published : AllPublish heard map) (none : NoneHalted heard) where
+module _ {T : Type 0} (tapes : Tape T) (place : ℕ) (heard : List (Node T)) (map : Definition) (published : AllPublish heard map) (none : NoneHalted heard) where
   not_running : RunsAt place heard → ⊥
   unfolding AllPublish NoneHalted
   not_running runs =
@@ -125,25 +126,25 @@ module _ {T : Type 0} (honest : Type 0) (content : T → List ℕ) (images : T �
       (subst (λ b. (if b then standing.None else standing_of (working_of runs.0).proposing) ≡ standing.Running) (none place runs.0 runs.1) runs.2)
 
   -- So no proposal is restarted.
-  not_retried : (after : List (Node T)) → IsRetried honest content images failures place heard after → AllPublish after map
+  not_retried : (after : List (Node T)) → IsRetried tapes place heard after → AllPublish after map
   not_retried after (inl anew) = absurd (not_running anew.runs)
   not_retried after (inr rests) = subst (λ ns. AllPublish ns map) (sym rests.1) published
 
-module _ {T : Type 0} (honest : Type 0) (content : T → List ℕ) (images : T → List ℕ → Type 0) (failures : T → ℕ) (law : PublishedOnAll honest content images failures) (place : ℕ) (input old new : Option (List ℕ))
+module _ {T : Type 0} (tapes : Tape T) (law : PublishedOnAll tapes) (place : ℕ) (input old new : Option (List ℕ))
     (nodes nodes_after : List (Node T)) (outcome : Outcome) (long : length nodes ≡ 3) (turns : StandInTurn nodes) (fresh : AreFresh nodes)
-    (connection : IsConnection honest content images failures place input old new nodes outcome nodes_after) (accepted : WasAccepted outcome) (lost : connection.hearing.lost ≡ 0) (stopped : connection.hearing.stopped ≡ false)
+    (connection : IsConnection tapes place input old new nodes outcome nodes_after) (accepted : WasAccepted outcome) (lost : connection.hearing.lost ≡ 0) (stopped : connection.hearing.stopped ≡ false)
     (none : NoneHalted connection.heard) where
-  proposal : HasProposed honest content images failures connection.request.before connection.request.after connection.said input
-  proposal = has_proposed honest content images failures connection.request.before connection.request.after connection.said input old new outcome connection.request.served accepted
+  proposal : HasProposed tapes connection.request.before connection.request.after connection.said input
+  proposal = has_proposed tapes connection.request.before connection.request.after connection.said input old new outcome connection.request.served accepted
 
   some : 0 < length connection.served
   some = omega (arith, ap length connection.request.changed.is, length-set nodes place connection.request.after, long)
 
-  handed : AreHandedOut honest content images (slice_set nodes place connection.request.after) connection.said.items connection.hearing.deliveries 0 false connection.heard
+  handed : AreHandedOut tapes (slice_set nodes place connection.request.after) connection.said.items connection.hearing.deliveries 0 false connection.heard
   handed =
-      subst (λ ns. AreHandedOut honest content images ns connection.said.items connection.hearing.deliveries 0 false connection.heard) connection.request.changed.is
-      (subst (λ b. AreHandedOut honest content images connection.served connection.said.items connection.hearing.deliveries 0 b connection.heard) stopped
-      (subst (λ k. AreHandedOut honest content images connection.served connection.said.items connection.hearing.deliveries k connection.hearing.stopped connection.heard) lost (connection.hearing.handed some)))
+      subst (λ ns. AreHandedOut tapes ns connection.said.items connection.hearing.deliveries 0 false connection.heard) connection.request.changed.is
+      (subst (λ b. AreHandedOut tapes connection.served connection.said.items connection.hearing.deliveries 0 b connection.heard) stopped
+      (subst (λ k. AreHandedOut tapes connection.served connection.said.items connection.hearing.deliveries k connection.hearing.stopped connection.heard) lost (connection.hearing.handed some)))
 
   heard_published : AllPublish connection.heard proposal.map
   unfolding AreFresh
@@ -158,9 +159,9 @@ module _ {T : Type 0} (honest : Type 0) (content : T → List ℕ) (images : T �
     received = proposal.received;
     map = proposal.map;
     is_map = proposal.is_map;
-    published = not_retried honest content images failures place connection.heard proposal.map heard_published none nodes_after connection.retry;
+    published = not_retried tapes place connection.heard proposal.map heard_published none nodes_after connection.retry;
   }
 
-pub accepted_is_published : {T : Type 0} (honest : Type 0) (content : T → List ℕ) (images : T → List ℕ → Type 0) (failures : T → ℕ) → PublishedOnAll honest content images failures → AcceptedIsPublished honest content images failures
-accepted_is_published honest content images failures law = λ place input old new nodes nodes_after outcome long turns fresh connection accepted lost stopped none.
-    have_published honest content images failures law place input old new nodes nodes_after outcome long turns fresh connection accepted lost stopped none
+pub accepted_is_published : {T : Type 0} (tapes : Tape T) → PublishedOnAll tapes → AcceptedIsPublished tapes
+accepted_is_published tapes law = λ place input old new nodes nodes_after outcome long turns fresh connection accepted lost stopped none.
+    have_published tapes law place input old new nodes nodes_after outcome long turns fresh connection accepted lost stopped none

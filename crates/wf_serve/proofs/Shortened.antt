@@ -1,5 +1,5 @@
 -- A node that is open on a shortened tape.
-use Rattle.std.proofs.Common.{◌≡◌, ◌∙◌, ℕ, Bool, false, List, sym, ap, subst}
+use Rattle.std.proofs.Common.{◌≡◌, ◌∙◌, Bool, false, sym, ap, subst}
 use Rattle.std.specs.Prelude.{Result, Ok, Err, IfOk}
 use Rattle.wf_def.specs.Definition.{Definition}
 use Rattle.wf_model.specs.Stored.{Stored}
@@ -8,19 +8,20 @@ use Rattle.wf_node.specs.Images.{AllStandFor}
 use Rattle.wf_node.specs.Node.{Node, stored_of, working_of}
 use Rattle.wf_node.specs.Opening.{IsFoldOf}
 use Rattle.wf_serve.specs.Shortening.{IsOpened, IsShort}
+use Rattle.wf_tape.specs.declared.tape.Tape.{Ghosts as Tape}
 
 -- a node that is unchanged but for its tape stands as it did when it opened
-pub opened_again : {T E : Type 0} (honest : Type 0) (content : T → List ℕ) (images : T → List ℕ → Type 0) (tape : T) (node : Node T) (result : Result (Node T × Bool) E) →
-    node.halted ≡ false → working_of node ≡ at_start → (honest → IsFoldOf (stored_of node) (content tape)) →
-    IfOk result (λ x. x.0 ≡ record node { tape = x.0.tape }) → (honest → IfOk result (λ x. IsShort content images x.0 x.1)) →
-    (honest → IfOk result (λ x. AllStandFor (stored_of node) (images x.0.tape))) → IfOk result (λ x. IsOpened honest content images tape x.0 x.1)
-opened_again honest content images tape node (Err e) running working stored same short stands = tt
-opened_again {T} honest content images tape node (Ok (after, is_short)) running working stored same short stands =
+pub opened_again : {T E : Type 0} (tapes : Tape T) (tape : T) (node : Node T) (result : Result (Node T × Bool) E) →
+    node.halted ≡ false → working_of node ≡ at_start → (tapes.honest → IsFoldOf (stored_of node) (tapes.content tape)) →
+    IfOk result (λ x. x.0 ≡ record node { tape = x.0.tape }) → (tapes.honest → IfOk result (λ x. IsShort tapes x.0 x.1)) →
+    (tapes.honest → IfOk result (λ x. AllStandFor (stored_of node) (tapes.images x.0.tape))) → IfOk result (λ x. IsOpened tapes tape x.0 x.1)
+opened_again tapes tape node (Err e) running working stored same short stands = tt
+opened_again {T} tapes tape node (Ok (after, is_short)) running working stored same short stands =
     let part : stored_of after ≡ stored_of node = ap (λ (m : Node T). stored_of m) same in
     record {
       running = ap (λ (m : Node T). m.halted) same ∙ running;
       working = ap (λ (m : Node T). working_of m) same ∙ working;
-      stored = λ h. subst (λ (s : Stored Definition). IsFoldOf s (content tape)) (sym part) (stored h);
-      stands = λ h. subst (λ (s : Stored Definition). AllStandFor s (images after.tape)) (sym part) (stands h);
+      stored = λ h. subst (λ (s : Stored Definition). IsFoldOf s (tapes.content tape)) (sym part) (stored h);
+      stands = λ h. subst (λ (s : Stored Definition). AllStandFor s (tapes.images after.tape)) (sym part) (stands h);
       short = short;
     }

@@ -8,15 +8,16 @@ use Rattle.wf_farm.specs.Delivering.{AnyPart}
 use Rattle.wf_farm.specs.Leading.{AreLedOn, AreReached, HaveOneHistory}
 use Rattle.wf_http.specs.Response.{Response, response_bytes}
 use Rattle.wf_node.specs.Node.{Node}
+use Rattle.wf_tape.specs.declared.tape.Tape.{Ghosts as Tape}
 
-module _ {T : Type 0} (honest : Type 0) (content : T → List ℕ) (images : T → List ℕ → Type 0) (failures : T → ℕ) where
+module _ {T : Type 0} (tapes : Tape T) where
   -- Two of the nodes with the same last published sequence respond to equal requests to the map service with equal bytes, if neither
   -- responds with allocation failure.
   pub record RespondAlike (nodes : List (Node T)) : Type 0 where
     pub bytes : (i j : ℕ) (input query : List ℕ) (node node_after other other_after : Node T) (sent other_sent : Vec Message Global) (response another : Response) →
         slice_get nodes i ≡ Some node → slice_get nodes j ≡ Some other → length other.parts.history ≡ length node.parts.history → AsksMapService input query →
-        Responds honest content images failures (Some input) node response sent node_after → response.status ≢ 503 →
-        Responds honest content images failures (Some input) other another other_sent other_after → another.status ≢ 503 →
+        Responds tapes (Some input) node response sent node_after → response.status ≢ 503 →
+        Responds tapes (Some input) other another other_sent other_after → another.status ≢ 503 →
         response_bytes another ≡ response_bytes response
 
   -- Some events lead from the start to what the nodes are; they publish one history, and so they respond alike.
@@ -27,4 +28,4 @@ module _ {T : Type 0} (honest : Type 0) (content : T → List ℕ) (images : T �
 
   -- That holds of nodes to which nodes that were reached were led.
   abbrev pub AgreeStill : List (Node T) → Type 0
-  AgreeStill nodes = (before : List (Node T)) → AreReached AnyPart before → AreLedOn honest images before nodes → AreAgreed nodes
+  AgreeStill nodes = (before : List (Node T)) → AreReached AnyPart before → AreLedOn tapes before nodes → AreAgreed nodes

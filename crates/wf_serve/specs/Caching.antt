@@ -2,7 +2,7 @@
 use Rattle.std.specs.Prelude.{◌≡◌, ℕ, List, length, slice_get, Some}
 use Rattle.wf_def.specs.Definition.{Definition}
 use Rattle.wf_node.specs.Node.{Node}
-use Rattle.wf_wms.specs.Kept.{AllKept, CacheValue}
+use Rattle.wf_wms.specs.KeptPictures.{AllKept, CacheValue}
 
 -- At index i is the cache of node i: each picture in it is of a map that the node has published.
 pub record AreKept {T : Type 0} (nodes : List (Node T)) (caches : List CacheValue) : Type 0 where

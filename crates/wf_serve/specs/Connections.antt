@@ -4,8 +4,9 @@ use Rattle.wf_edge.specs.declared.outcome.Outcome.{Outcome}
 use Rattle.wf_node.specs.Node.{Node}
 use Rattle.wf_serve.specs.Serving.{HaveCaughtUp, IsConnection}
 use Rattle.wf_serve.specs.declared.fault.ServeFault.{ServeFault}
+use Rattle.wf_tape.specs.declared.tape.Tape.{Ghosts as Tape}
 
-module _ {T : Type 0} (honest : Type 0) (content : T → List ℕ) (images : T → List ℕ → Type 0) (failures : T → ℕ) where
+module _ {T : Type 0} (tapes : Tape T) where
   -- One connection was served by the node at index `place`, whatever was received and sent on it.
   pub record IsAnswered (place : ℕ) (nodes nodes_after : List (Node T)) : Type 0 where
     -- what was received, and what was written before and after, if known
@@ -13,7 +14,7 @@ module _ {T : Type 0} (honest : Type 0) (content : T → List ℕ) (images : T �
     pub written : Option (List ℕ)
     pub written_after : Option (List ℕ)
     pub outcome : Outcome
-    pub connection : IsConnection honest content images failures place input written written_after nodes outcome nodes_after
+    pub connection : IsConnection tapes place input written written_after nodes outcome nodes_after
 
   -- It was served so; or it couldn't be accepted, and nothing happened.
   abbrev pub MayBeAnswered : ℕ → List (Node T) → List (Node T) → Type 0
@@ -34,5 +35,5 @@ module _ {T : Type 0} (honest : Type 0) (content : T → List ℕ) (images : T �
   pub record IsServing (requests : ℕ) (nodes : List (Node T)) (told : Result (Unit {0}) ServeFault) (nodes_after : List (Node T)) : Type 0 where
     -- the nodes after they caught up
     pub caught : List (Node T)
-    pub catch_up : HaveCaughtUp honest content images failures (length nodes) nodes caught
+    pub catch_up : HaveCaughtUp tapes (length nodes) nodes caught
     pub come : IfTold requests caught told nodes_after

@@ -11,6 +11,7 @@ use Rattle.wf_model.specs.Stored.{definition_at}
 use Rattle.wf_node.specs.Node.{Node}
 use Rattle.wf_serve.specs.Connections.{HaveCome, MayBeAnswered}
 use Rattle.wf_serve.specs.Publishing.{WasAccepted}
+use Rattle.wf_tape.specs.declared.tape.Tape.{Ghosts as Tape}
 
 -- Under sequence 1 each node has published the map that the body of the request means.
 pub record HavePublishedFirst {T : Type 0} (input : Option (List ℕ)) (nodes : List (Node T)) : Type 0 where
@@ -21,10 +22,10 @@ pub record HavePublishedFirst {T : Type 0} (input : Option (List ℕ)) (nodes : 
   pub is_map : IsMapOf request.body map
   pub published : (i : ℕ) (node : Node T) → slice_get nodes i ≡ Some node → definition_at node.parts.history 1 ≡ Some map
 
-module _ {T : Type 0} (honest : Type 0) (content : T → List ℕ) (images : T → List ℕ → Type 0) (failures : T → ℕ) where
+module _ {T : Type 0} (tapes : Tape T) where
   -- If the connection was answered with the status of an accepted map, none of the deliveries was lost, they went on until none was
   -- left, and no tape failed by then, the nodes have published it.
-  abbrev pub IfAccepted : {place : ℕ} {nodes first : List (Node T)} → MayBeAnswered honest content images failures place nodes first → List (Node T) → Type 0
+  abbrev pub IfAccepted : {place : ℕ} {nodes first : List (Node T)} → MayBeAnswered tapes place nodes first → List (Node T) → Type 0
   IfAccepted (inl answered) nodes_after = WasAccepted answered.outcome → answered.connection.hearing.lost ≡ 0 → answered.connection.hearing.stopped ≡ false → NoneHalted answered.connection.heard →
       HavePublishedFirst answered.input nodes_after
   IfAccepted (inr same) nodes_after = ⊤
@@ -32,5 +33,5 @@ module _ {T : Type 0} (honest : Type 0) (content : T → List ℕ) (images : T �
   -- Three new nodes served connections, at least one. There is the first one, by node 0, and what it published they have published
   -- after all of them.
   abbrev pub FirstIsPublished : Type 0
-  FirstIsPublished = (later : ℕ) (nodes nodes_after : List (Node T)) → length nodes ≡ 3 → StandInTurn nodes → AreFresh nodes → HaveCome honest content images failures (length nodes) (suc later) nodes nodes_after →
-      (first : List (Node T)) × (answer : MayBeAnswered honest content images failures 0 nodes first) × IfAccepted answer nodes_after
+  FirstIsPublished = (later : ℕ) (nodes nodes_after : List (Node T)) → length nodes ≡ 3 → StandInTurn nodes → AreFresh nodes → HaveCome tapes (length nodes) (suc later) nodes nodes_after →
+      (first : List (Node T)) × (answer : MayBeAnswered tapes 0 nodes first) × IfAccepted answer nodes_after

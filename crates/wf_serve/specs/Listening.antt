@@ -7,6 +7,8 @@ use Rattle.std.specs.declared.net.socket_addr.SocketAddr.{SocketAddr}
 use Rattle.std.specs.declared.net.socket_addr.SocketAddr.TheVariants.{V4, V6}
 use Rattle.wf_service.specs.Service.{last_port}
 use Rattle.wf_stream.specs.Reading.{EndsByFailing}
+use Rattle.wf_stream.specs.declared.stream.Sink.{Ghosts as Sink}
+use Rattle.wf_serve.specs.Fault.{CountsWrites}
 use Rattle.wf_serve.specs.declared.fault.ServeFault.{ServeFault}
 use Rattle.wf_serve.specs.declared.fault.ServeFault.TheVariants as faults
 
@@ -40,15 +42,21 @@ IsTold asked old new (Err faults.Start) = Keeps old new
 
 -- How the writing ended, of any writer: a failed write is the last call, and a prefix of the bytes was written without a failure
 -- before it.
-module _ {K : Type 0} (written : K → Option (List ℕ)) (failures : K → ℕ) (fails : K → K → Type 0) where
+module _ {K : Type 0} (sinks : Sink K) where
   -- for the crate's own contracts: of these bytes
   abbrev pub HasEnded : List ℕ → K → K → Result (Unit {0}) ServeFault → Type 0
   HasEnded bytes old new (Ok done) = Unit {0}
-  HasEnded bytes old new (Err faults.Write) = (count : ℕ) × EndsByFailing written failures fails (take count bytes) old new
+  HasEnded bytes old new (Err faults.Write) = (count : ℕ) × EndsByFailing sinks.written sinks.failures sinks.fails (take count bytes) old new
   HasEnded bytes old new (Err faults.Start) = ⊥
 
   -- Of the line with such a port. If the nodes didn't start, the writer isn't called.
   abbrev pub IsEnded : ℕ → K → K → Result (Unit {0}) ServeFault → Type 0
   IsEnded asked old new (Ok done) = Unit {0}
-  IsEnded asked old new (Err faults.Write) = (port : ℕ) × IsPortFor asked port × ((count : ℕ) × EndsByFailing written failures fails (take count (port_line port)) old new)
+  IsEnded asked old new (Err faults.Write) = (port : ℕ) × IsPortFor asked port × ((count : ℕ) × EndsByFailing sinks.written sinks.failures sinks.fails (take count (port_line port)) old new)
   IsEnded asked old new (Err faults.Start) = new ≡ old
+
+  -- for the crate's own contracts: what is written of that line, whether a write failed, and how the writing ended
+  pub record TellsPort (asked : ℕ) (old new : K) (result : Result (Unit {0}) ServeFault) : Type 0 where
+    pub told : IsTold asked (sinks.written old) (sinks.written new) result
+    pub writes : CountsWrites result (sinks.failures old) (sinks.failures new)
+    pub ended : IsEnded asked old new result

@@ -11,6 +11,7 @@ use Rattle.wf_farm.specs.Publishing.{AllPublish, NoneHalted}
 use Rattle.wf_http.specs.Request.{Request, BeginsWith}
 use Rattle.wf_node.specs.Node.{Node}
 use Rattle.wf_serve.specs.Serving.{HaveCaughtUp, IsConnection}
+use Rattle.wf_tape.specs.declared.tape.Tape.{Ghosts as Tape}
 
 -- the status of the response to an accepted map (RFC 9110, 15.3.3)
 abbrev pub accepted_status : ℕ
@@ -32,14 +33,15 @@ pub record HavePublished {T : Type 0} (input : Option (List ℕ)) (nodes : List 
   pub is_map : IsMapOf request.body map
   pub published : AllPublish nodes map
 
--- A connection to one of three new nodes was answered so; none of the deliveries of the node's messages was lost, they went on until
--- none was left, and no tape failed.
-abbrev pub AcceptedIsPublished : {T : Type 0} → Type 0 → (T → List ℕ) → (T → List ℕ → Type 0) → (T → ℕ) → Type 0
-AcceptedIsPublished {T} honest content images failures = (place : ℕ) (input old new : Option (List ℕ)) (nodes nodes_after : List (Node T)) (outcome : Outcome) →
-    length nodes ≡ 3 → StandInTurn nodes → AreFresh nodes → (connection : IsConnection honest content images failures place input old new nodes outcome nodes_after) → WasAccepted outcome →
-    connection.hearing.lost ≡ 0 → connection.hearing.stopped ≡ false → NoneHalted connection.heard → HavePublished input nodes_after
+module _ {T : Type 0} (tapes : Tape T) where
+  -- A connection to one of three new nodes was answered so; none of the deliveries of the node's messages was lost, they went on until
+  -- none was left, and no tape failed.
+  abbrev pub AcceptedIsPublished : Type 0
+  AcceptedIsPublished = (place : ℕ) (input old new : Option (List ℕ)) (nodes nodes_after : List (Node T)) (outcome : Outcome) →
+      length nodes ≡ 3 → StandInTurn nodes → AreFresh nodes → (connection : IsConnection tapes place input old new nodes outcome nodes_after) → WasAccepted outcome →
+      connection.hearing.lost ≡ 0 → connection.hearing.stopped ≡ false → NoneHalted connection.heard → HavePublished input nodes_after
 
--- New nodes that caught up, and no tape of which failed, are new still, whatever was lost.
-abbrev pub CaughtUpAreNew : {T : Type 0} → Type 0 → (T → List ℕ) → (T → List ℕ → Type 0) → (T → ℕ) → Type 0
-CaughtUpAreNew {T} honest content images failures = (nodes nodes_after : List (Node T)) → StandInTurn nodes → AreFresh nodes → HaveCaughtUp honest content images failures (length nodes) nodes nodes_after →
-    NoneHalted nodes_after → AreFresh nodes_after
+  -- New nodes that caught up, and no tape of which failed, are new still, whatever was lost.
+  abbrev pub CaughtUpAreNew : Type 0
+  CaughtUpAreNew = (nodes nodes_after : List (Node T)) → StandInTurn nodes → AreFresh nodes → HaveCaughtUp tapes (length nodes) nodes nodes_after →
+      NoneHalted nodes_after → AreFresh nodes_after

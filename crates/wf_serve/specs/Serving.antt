@@ -1,9 +1,10 @@
 -- The effect of one connection on the nodes: one of them serves a request, its messages are delivered, and if its proposal still
 -- runs then, it restarts it.
-use Rattle.std.specs.Prelude.{◌≡◌, ◌≢◌, ◌⊎◌, ◌<◌, ℕ, zero, suc, Bool, true, false, List, length, slice_get, slice_set, Option, Some, Result, Err, Vec}
+use Rattle.std.specs.Prelude.{◌≡◌, ◌≢◌, ◌⊎◌, ◌<◌, ℕ, zero, suc, Bool, List, length, slice_get, slice_set, Option, Some, Result, Vec}
 use Rattle.std.specs.declared.alloc.Global.{Global}
 use Rattle.wf_codec.specs.declared.message.Message.{Message}
 use Rattle.wf_def.specs.Definition.{Definition}
+use Rattle.wf_edge.specs.Asking.{IsAnswer}
 use Rattle.wf_edge.specs.Page.{standing_at}
 use Rattle.wf_edge.specs.Serving.{HandsOut, IsOutcome, MovesOnce}
 use Rattle.wf_edge.specs.declared.outcome.Outcome.{Outcome}
@@ -11,11 +12,11 @@ use Rattle.wf_edge.specs.declared.outcome.Outcome.TheVariants as outcome
 use Rattle.wf_farm.specs.Delivering.{AreHandedOut, IsDelivered}
 use Rattle.wf_model.specs.Table.{CatchUp, Input, Retry}
 use Rattle.wf_node.specs.Node.{Node}
-use Rattle.wf_node.specs.Step.{IsStep}
 use Rattle.wf_node.specs.declared.fault.NodeFault.{NodeFault}
-use Rattle.wf_node.specs.declared.fault.NodeFault.TheVariants.{Halted}
 use Rattle.wf_proposer.specs.declared.standing.Standing.TheVariants.{Running}
 use Rattle.wf_stream.specs.Reading.{EndsByFailing}
+use Rattle.wf_stream.specs.declared.stream.Sink.{Ghosts as Sink}
+use Rattle.wf_tape.specs.declared.tape.Tape.{Ghosts as Tape}
 
 -- At index `place` was the one node and is the other afterwards; each other node is unchanged.
 pub record IsChangedAt {T : Type 0} (place : ℕ) (nodes : List (Node T)) (before after : Node T) (nodes_after : List (Node T)) : Type 0 where
@@ -30,18 +31,17 @@ RunsAt {T} place nodes = (node : Node T) × (slice_get nodes place ≡ Some node
 abbrev pub RestsAt : {T : Type 0} → ℕ → List (Node T) → Type 0
 RestsAt {T} place nodes = (node : Node T) × (slice_get nodes place ≡ Some node) × (standing_at node ≢ Running)
 
-module _ {T : Type 0} (honest : Type 0) (content : T → List ℕ) (images : T → List ℕ → Type 0) where
+module _ {T : Type 0} (tapes : Tape T) where
   -- These messages were delivered to the nodes, and so were the messages that they sent in reply.
   pub record AreHeard (nodes : List (Node T)) (said : Vec Message Global) (nodes_after : List (Node T)) : Type 0 where
     -- the number of deliveries made, and how many of them an allocation failure lost
     pub deliveries : ℕ
     pub lost : ℕ
-    pub delivered : IsDelivered honest images nodes said.items deliveries nodes_after
+    pub delivered : IsDelivered tapes nodes said.items deliveries nodes_after
     -- each message was delivered to each node, until none was left, or the deliveries stopped early
     pub stopped : Bool
-    pub handed : 0 < length nodes → AreHandedOut honest content images nodes said.items deliveries lost stopped nodes_after
+    pub handed : 0 < length nodes → AreHandedOut tapes nodes said.items deliveries lost stopped nodes_after
 
-module _ {T : Type 0} (honest : Type 0) (content : T → List ℕ) (images : T → List ℕ → Type 0) (failures : T → ℕ) where
   -- The node at index `place` served the request that was received, and sent these messages.
   pub record IsServedAt (place : ℕ) (input old new : Option (List ℕ)) (nodes : List (Node T)) (said : Vec Message Global) (nodes_after : List (Node T)) (outcome : Outcome) : Type 0 where
     -- the node before and after
@@ -49,19 +49,14 @@ module _ {T : Type 0} (honest : Type 0) (content : T → List ℕ) (images : T �
     pub after : Node T
     pub changed : IsChangedAt place nodes before after nodes_after
     -- what was written, and what the node did
-    pub served : IsOutcome honest content images failures input old new before said after outcome
+    pub served : IsOutcome tapes input old new before said after outcome
     -- also if the input isn't known
-    pub moves : MovesOnce honest content images failures before said after
+    pub moves : MovesOnce tapes before said after
 
-  -- The result of a node that is asked for a step. A halted node rejects it, and is unchanged.
-  pub record IsAnswer (input : Input Definition) (before : Node T) (answer : Result (Vec Message Global) NodeFault) (after : Node T) : Type 0 where
-    pub refused : before.halted ≡ true → (answer ≡ Err Halted) × (after ≡ before)
-    pub steps : before.halted ≡ false → IsStep honest content images failures before input answer after
-
-  -- The messages that it sends: exactly the step's, none if the step was rejected or failed.
+  -- The messages of a node that is asked for a step: exactly the step's, none if the step was rejected or failed.
   pub record IsAsked (input : Input Definition) (before : Node T) (said : Vec Message Global) (after : Node T) : Type 0 where
     pub answer : Result (Vec Message Global) NodeFault
-    pub answers : IsAnswer input before answer after
+    pub answers : IsAnswer tapes input before answer after
     pub hands : HandsOut answer said
 
   -- The node at index `place` was asked so.
@@ -78,7 +73,7 @@ module _ {T : Type 0} (honest : Type 0) (content : T → List ℕ) (images : T �
     pub said : Vec Message Global
     pub asked : List (Node T)
     pub step : IsAskedAt place input nodes said asked
-    pub heard : AreHeard honest content images asked said nodes_after
+    pub heard : AreHeard asked said nodes_after
 
   -- The first nodes, this many, were asked to catch up, one after the other, and the messages of each were delivered before the
   -- next was asked.
@@ -104,13 +99,13 @@ module _ {T : Type 0} (honest : Type 0) (content : T → List ℕ) (images : T �
     -- the nodes after the deliveries
     pub heard : List (Node T)
     pub request : IsServedAt place input old new nodes said served outcome
-    pub hearing : AreHeard honest content images served said heard
+    pub hearing : AreHeard served said heard
     pub retry : IsRetried place heard nodes_after
 
 -- How writing the response ended, of any writer: a failed write is the last call, and some bytes were written without a failure
 -- before it. If the input is empty or the reader failed, the writer isn't called.
-abbrev pub EndsWriting : {K : Type 0} → (K → Option (List ℕ)) → (K → ℕ) → (K → K → Type 0) → K → K → Outcome → Type 0
-EndsWriting written failures fails old new (outcome.Sent status count) = Unit {0}
-EndsWriting written failures fails old new (outcome.WriteFailed status count) = (bytes : List ℕ) × EndsByFailing written failures fails bytes old new
-EndsWriting written failures fails old new outcome.ReadFailed = new ≡ old
-EndsWriting written failures fails old new outcome.NoRequest = new ≡ old
+abbrev pub EndsWriting : {K : Type 0} → Sink K → K → K → Outcome → Type 0
+EndsWriting sinks old new (outcome.Sent status count) = Unit {0}
+EndsWriting sinks old new (outcome.WriteFailed status count) = (bytes : List ℕ) × EndsByFailing sinks.written sinks.failures sinks.fails bytes old new
+EndsWriting sinks old new outcome.ReadFailed = new ≡ old
+EndsWriting sinks old new outcome.NoRequest = new ≡ old

@@ -1,5 +1,5 @@
 -- A node that is opened on its tape, and the tape's shortening.
-use Rattle.std.specs.Prelude.{◌≡◌, ◌⊎◌, ℕ, Bool, true, false, List}
+use Rattle.std.specs.Prelude.{◌≡◌, ◌⊎◌, Bool, true, false}
 use Rattle.wf_def.specs.Definition.{Definition}
 use Rattle.wf_model.specs.Stored.{Stored}
 use Rattle.wf_model.specs.Working.{at_start}
@@ -8,24 +8,24 @@ use Rattle.wf_node.specs.Node.{Node, stored_of, working_of}
 use Rattle.wf_node.specs.Opening.{IsFoldOf}
 use Rattle.wf_node.specs.Shortening.{shortened}
 use Rattle.wf_journal.specs.Journal.{Follows, Holds, ReadsSame}
+use Rattle.wf_tape.specs.declared.tape.Tape.{Ghosts as Tape}
 
-module _ {T : Type 0} (content : T → List ℕ) (images : T → List ℕ → Type 0) where
+module _ {T : Type 0} (tapes : Tape T) where
   -- If the tape is shortened, it holds exactly the records of a shortened tape for what the node has stored, all synced.
   abbrev pub IsShort : Node T → Bool → Type 0
-  IsShort node is_short = is_short ≡ true → Holds (content node.tape) (images node.tape) (shortened (stored_of node))
+  IsShort node is_short = is_short ≡ true → Holds (tapes.content node.tape) (tapes.images node.tape) (shortened (stored_of node))
 
   -- What is left of a tape on which no node is open: each image reads as the records of one from before, or stands for what the
   -- tape's records fold to.
   abbrev pub IsLeft : T → T → Type 0
-  IsLeft tape left = Follows ReadsSame (images tape) (images left)
-      ⊎ ((stored : Stored Definition) × IsFoldOf stored (content tape) × AllStandFor stored (images left))
+  IsLeft tape left = Follows ReadsSame (tapes.images tape) (tapes.images left)
+      ⊎ ((stored : Stored Definition) × IsFoldOf stored (tapes.content tape) × AllStandFor stored (tapes.images left))
 
-module _ {T : Type 0} (honest : Type 0) (content : T → List ℕ) (images : T → List ℕ → Type 0) where
   -- The node is open on the tape, with what its records fold to, no proposal and no leadership. Whether it is shortened or not, every
   -- image of an honest tape stands for that.
   pub record IsOpened (tape : T) (node : Node T) (is_short : Bool) : Type 0 where
     pub running : node.halted ≡ false
     pub working : working_of node ≡ at_start
-    pub stored : honest → IsFoldOf (stored_of node) (content tape)
-    pub stands : honest → AllStandFor (stored_of node) (images node.tape)
-    pub short : honest → IsShort content images node is_short
+    pub stored : tapes.honest → IsFoldOf (stored_of node) (tapes.content tape)
+    pub stands : tapes.honest → AllStandFor (stored_of node) (tapes.images node.tape)
+    pub short : tapes.honest → IsShort node is_short

@@ -1,7 +1,7 @@
 //! The caches of the nodes.
 ghost use Rattle.std.specs.Prelude.{◌≡◌, ◌≤◌, ◌+◌, length, IfOk, OnOk};
 ghost use Rattle.wf_serve.specs.Caching.{AreEmpty, AreKept};
-ghost use Rattle.wf_wms.specs.Kept.{most_kept};
+ghost use Rattle.wf_wms.specs.KeptPictures.{most_kept};
 
 use std::alloc::{AllocError, Global};
 use wf_node::Node;

@@ -36,11 +36,11 @@ pub fn serve_connections<R: Clock + AllocGlobal, T: Tape>(
     requires some { 0 < length nodes.old }
     requires in_turn { StandInTurn nodes.old }
     requires kept { AreKept nodes.old caches.old }
-    ensures come { HaveCome T.honest T.content T.images T.failed (length nodes.old) requests nodes.old nodes.new }
-    ensures led { AreLedOn T.honest T.images nodes.old nodes.new }
+    ensures come { HaveCome T.Tape (length nodes.old) requests nodes.old nodes.new }
+    ensures led { AreLedOn T.Tape nodes.old nodes.new }
     ensures reached { AreReached AnyPart nodes.old → AreReached AnyPart nodes.new }
     ensures agree { AreReached AnyPart nodes.old → HaveOneHistory nodes.new }
-    ensures alike { AreReached AnyPart nodes.old → RespondAlike T.honest T.content T.images T.failed nodes.new }
+    ensures alike { AreReached AnyPart nodes.old → RespondAlike T.Tape nodes.new }
     ensures grows { EachGrows nodes.old nodes.new }
     ensures kept { AreKept nodes.new caches.new }
 {
@@ -72,8 +72,8 @@ fn serve_next<R: Clock + AllocGlobal, T: Tape>(
     requires within { place < length nodes.old }
     requires in_turn { StandInTurn nodes.old }
     requires kept { AreKept nodes.old caches.old }
-    ensures answered { MayBeAnswered T.honest T.content T.images T.failed place nodes.old nodes.new }
-    ensures led { AreLedOn T.honest T.images nodes.old nodes.new }
+    ensures answered { MayBeAnswered T.Tape place nodes.old nodes.new }
+    ensures led { AreLedOn T.Tape nodes.old nodes.new }
     ensures kept { AreKept nodes.new caches.new }
 {
     leading_goes_on::<T>();
@@ -94,8 +94,8 @@ fn serve_stream<R: Clock + AllocGlobal, T: Tape>(
     requires within { place < length nodes.old }
     requires in_turn { StandInTurn nodes.old }
     requires kept { AreKept nodes.old caches.old }
-    ensures answered { IsAnswered T.honest T.content T.images T.failed place nodes.old nodes.new }
-    ensures led { AreLedOn T.honest T.images nodes.old nodes.new }
+    ensures answered { IsAnswered T.Tape place nodes.old nodes.new }
+    ensures led { AreLedOn T.Tape nodes.old nodes.new }
     ensures kept { AreKept nodes.new caches.new }
 {
     let time = Duration::from_secs(PEER_SECONDS);

@@ -6,7 +6,7 @@ ghost use Rattle.wf_serve.specs.Agreeing.{RespondAlike};
 ghost use Rattle.wf_serve.specs.Caching.{AreKept};
 ghost use Rattle.wf_serve.specs.Connections.{IfTold, IsServing};
 ghost use Rattle.wf_serve.specs.Fault.{CountsWrites};
-ghost use Rattle.wf_serve.specs.Listening.{IsEnded, IsTold};
+ghost use Rattle.wf_serve.specs.Listening.{IsEnded, IsTold, TellsPort};
 ghost use Rattle.wf_service.specs.Service.{IsService};
 
 use crate::caching::caches_for;
@@ -44,7 +44,7 @@ pub fn serve<
     requires { IsService service }
     ensures told { IsTold service.entry.port (K.written sink.old) (K.written sink.new) result }
     ensures writes { CountsWrites result (K.failures sink.old) (K.failures sink.new) }
-    ensures last { IsEnded K.written K.failures K.fails service.entry.port sink.old sink.new result }
+    ensures last { IsEnded K.Sink service.entry.port sink.old sink.new result }
 {
     let Ok(listener) = listen(rt, service.port) else {
         return Err(ServeFault::Start);
@@ -67,7 +67,7 @@ pub fn serve_at<R: Files<File = File> + Eprint + Clock + AllocGlobal, K: Sink>(
     requires { IsService service }
     ensures told { IsTold service.entry.port (K.written sink.old) (K.written sink.new) result }
     ensures writes { CountsWrites result (K.failures sink.old) (K.failures sink.new) }
-    ensures last { IsEnded K.written K.failures K.fails service.entry.port sink.old sink.new result }
+    ensures last { IsEnded K.Sink service.entry.port sink.old sink.new result }
 {
     match service.state {
         Some(folder) => serve_files(rt, listener, service, folder, sink),
@@ -84,9 +84,7 @@ fn serve_memory<R: Clock + AllocGlobal, K: Sink>(
 ) -> Result<(), ServeFault>
     requires service { IsService service }
     requires memory { service.state ≡ None }
-    ensures told { IsTold service.entry.port (K.written sink.old) (K.written sink.new) result }
-    ensures writes { CountsWrites result (K.failures sink.old) (K.failures sink.new) }
-    ensures last { IsEnded K.written K.failures K.fails service.entry.port sink.old sink.new result }
+    ensures { TellsPort K.Sink service.entry.port sink.old sink.new result }
 {
     match in_memory(rt.alloc(), service.nodes) {
         Ok(nodes) => serve_opened(rt, listener, service, nodes, sink),
@@ -104,9 +102,7 @@ fn serve_files<R: Files<File = File> + Eprint + Clock + AllocGlobal, K: Sink>(
 ) -> Result<(), ServeFault>
     requires service { IsService service }
     requires files { service.state ≡ Some folder }
-    ensures told { IsTold service.entry.port (K.written sink.old) (K.written sink.new) result }
-    ensures writes { CountsWrites result (K.failures sink.old) (K.failures sink.new) }
-    ensures last { IsEnded K.written K.failures K.fails service.entry.port sink.old sink.new result }
+    ensures { TellsPort K.Sink service.entry.port sink.old sink.new result }
 {
     let Ok(held) = hold(rt, folder) else {
         return Err(ServeFault::Start);
@@ -126,9 +122,7 @@ fn serve_tapes<R: Files + Eprint + Clock + AllocGlobal, K: Sink>(
 ) -> Result<(), ServeFault>
     requires service { IsService service }
     requires files { service.state ≡ Some folder }
-    ensures told { IsTold service.entry.port (K.written sink.old) (K.written sink.new) result }
-    ensures writes { CountsWrites result (K.failures sink.old) (K.failures sink.new) }
-    ensures last { IsEnded K.written K.failures K.fails service.entry.port sink.old sink.new result }
+    ensures { TellsPort K.Sink service.entry.port sink.old sink.new result }
 {
     match in_files(rt, service.nodes, folder) {
         Ok(nodes) => serve_opened(rt, listener, service, nodes, sink),
@@ -147,9 +141,7 @@ fn serve_opened<R: Clock + AllocGlobal, K: Sink, T: Tape + Drop>(
     requires service { IsService service }
     requires some { 0 < length nodes.items }
     requires in_turn { StandInTurn nodes.items }
-    ensures told { IsTold service.entry.port (K.written sink.old) (K.written sink.new) result }
-    ensures writes { CountsWrites result (K.failures sink.old) (K.failures sink.new) }
-    ensures last { IsEnded K.written K.failures K.fails service.entry.port sink.old sink.new result }
+    ensures { TellsPort K.Sink service.entry.port sink.old sink.new result }
 {
     let outcome = serve_nodes(rt, listener, service, nodes.as_mut_slice(), sink);
     drop(nodes);
@@ -175,12 +167,12 @@ pub fn serve_nodes<R: Clock + AllocGlobal, K: Sink, T: Tape>(
     requires in_turn { StandInTurn nodes.old }
     ensures told { IsTold service.entry.port (K.written sink.old) (K.written sink.new) result }
     ensures writes { CountsWrites result (K.failures sink.old) (K.failures sink.new) }
-    ensures last { IsEnded K.written K.failures K.fails service.entry.port sink.old sink.new result }
-    ensures served { IsServing T.honest T.content T.images T.failed service.entry.requests nodes.old result nodes.new }
-    ensures led { AreLedOn T.honest T.images nodes.old nodes.new }
+    ensures last { IsEnded K.Sink service.entry.port sink.old sink.new result }
+    ensures served { IsServing T.Tape service.entry.requests nodes.old result nodes.new }
+    ensures led { AreLedOn T.Tape nodes.old nodes.new }
     ensures reached { AreReached AnyPart nodes.old → AreReached AnyPart nodes.new }
     ensures agree { AreReached AnyPart nodes.old → HaveOneHistory nodes.new }
-    ensures alike { AreReached AnyPart nodes.old → RespondAlike T.honest T.content T.images T.failed nodes.new }
+    ensures alike { AreReached AnyPart nodes.old → RespondAlike T.Tape nodes.new }
     ensures grows { EachGrows nodes.old nodes.new }
 {
     leading_goes_on::<T>();
@@ -207,11 +199,9 @@ fn serve_kept<R: Clock + AllocGlobal, K: Sink, T: Tape>(
     requires some { 0 < length nodes.old }
     requires in_turn { StandInTurn nodes.old }
     requires kept { AreKept nodes.old caches.old }
-    ensures told { IsTold service.entry.port (K.written sink.old) (K.written sink.new) result }
-    ensures writes { CountsWrites result (K.failures sink.old) (K.failures sink.new) }
-    ensures last { IsEnded K.written K.failures K.fails service.entry.port sink.old sink.new result }
-    ensures come { IfTold T.honest T.content T.images T.failed service.entry.requests nodes.old result nodes.new }
-    ensures led { AreLedOn T.honest T.images nodes.old nodes.new }
+    ensures tells { TellsPort K.Sink service.entry.port sink.old sink.new result }
+    ensures come { IfTold T.Tape service.entry.requests nodes.old result nodes.new }
+    ensures led { AreLedOn T.Tape nodes.old nodes.new }
 {
     leading_goes_on::<T>();
     match tell_port(rt.alloc(), listener, service.port, sink) {

@@ -164,7 +164,8 @@ fn put<T: Tape + Drop>(nodes: &mut Vec<Node<T>>, node: Node<T>, n: u8) -> Result
     requires in_turn { StandAmong n nodes.old.items }
     ensures in_turn { OnOk result (StandAmong n nodes.new.items) }
     ensures size { OnOk result (length nodes.new.items ≡ length nodes.old.items + 1) }
-    ensures fresh { OnOk result (IsFresh node → AreFresh nodes.old.items → AreFresh nodes.new.items) }
+    ensures fresh { OnOk result
+        (IsFresh node → AreFresh nodes.old.items → AreFresh nodes.new.items) }
 {
     match nodes.push(node) {
         Ok(()) => Ok(()),

@@ -3,7 +3,7 @@ ghost use Rattle.std.specs.Prelude.{◌≡◌, ◌≢◌, ◌≤◌, IfSome, Non
 ghost use Rattle.std.specs.Net.Socket.{socket_port};
 ghost use Rattle.std.specs.String.{string_bytes};
 ghost use Rattle.wf_serve.specs.Fault.{CountsWrites};
-ghost use Rattle.wf_serve.specs.Listening.{HasEnded, IsEnded, IsHere, IsPortFor, IsTold, IsWriting, port_line};
+ghost use Rattle.wf_serve.specs.Listening.{HasEnded, IsHere, IsPortFor, IsWriting, TellsPort, port_line};
 
 use crate::fault::ServeFault;
 use std::alloc::Global;
@@ -35,9 +35,7 @@ pub(crate) fn tell_port<K: Sink>(
     asked: u16,
     sink: &mut K,
 ) -> Result<(), ServeFault>
-    ensures told { IsTold asked (K.written sink.old) (K.written sink.new) result }
-    ensures writes { CountsWrites result (K.failures sink.old) (K.failures sink.new) }
-    ensures last { IsEnded K.written K.failures K.fails asked sink.old sink.new result }
+    ensures { TellsPort K.Sink asked sink.old sink.new result }
 {
     let Ok(address) = listener.local_addr() else {
         return Err(ServeFault::Start);
@@ -81,7 +79,7 @@ fn line_of(alloc: Global, port: u16) -> Option<String>
 fn put<K: Sink>(sink: &mut K, bytes: &[u8]) -> Result<(), ServeFault>
     ensures written { IsWriting bytes.now (K.written sink.old) (K.written sink.new) result }
     ensures writes { CountsWrites result (K.failures sink.old) (K.failures sink.new) }
-    ensures last { HasEnded K.written K.failures K.fails bytes.now sink.old sink.new result }
+    ensures last { HasEnded K.Sink bytes.now sink.old sink.new result }
 {
     match write_all(sink, bytes) {
         Ok(()) => Ok(()),

@@ -10,7 +10,7 @@ use wf_tape::Tape;
 /// nodes have published the map that the request's body means, under sequence 1, and no proposal is running. A theorem: the call does
 /// nothing.
 pub fn an_accepted_map_is_published<T: Tape>()
-    ensures { AcceptedIsPublished T.honest T.content T.images T.failed }
+    ensures { AcceptedIsPublished T.Tape }
 {
     a_proposal_is_published::<T>();
 }
@@ -18,7 +18,7 @@ pub fn an_accepted_map_is_published<T: Tape>()
 /// New nodes that caught up ([`catch_up`](crate::catch_up)), as [`serve_nodes`](crate::serve_nodes) lets them before the first
 /// connection, are new still, if no node is halted afterwards. A theorem: the call does nothing.
 pub fn caught_up_nodes_stay_new<T: Tape>()
-    ensures { CaughtUpAreNew T.honest T.content T.images T.failed }
+    ensures { CaughtUpAreNew T.Tape }
 {
     a_step_leads_on::<T>();
     new_nodes_stay_new::<T>();
@@ -28,7 +28,7 @@ pub fn caught_up_nodes_stay_new<T: Tape>()
 /// node 0, and the map that was accepted over it, as above, all three have published under sequence 1 once all connections were served.
 /// A theorem: the call does nothing.
 pub fn the_first_map_is_published<T: Tape>()
-    ensures { FirstIsPublished T.honest T.content T.images T.failed }
+    ensures { FirstIsPublished T.Tape }
 {
     a_step_leads_on::<T>();
     leading_goes_on::<T>();

@@ -1,5 +1,6 @@
 //! The effect of a connection on the nodes, and their catch-up before the first.
 ghost use Rattle.std.specs.Prelude.{◌≡◌, ◌≢◌, ◌<◌, false, true, length};
+ghost use Rattle.wf_edge.specs.Asking.{IsAnswer};
 ghost use Rattle.wf_edge.specs.Hearing.{CountsHearing};
 ghost use Rattle.wf_edge.specs.Page.{standing_at};
 ghost use Rattle.wf_edge.specs.Saying.{CountsSaying};
@@ -8,7 +9,7 @@ ghost use Rattle.wf_farm.specs.Leading.{AreLedOn, AreLedSaying, AreReached, Have
 ghost use Rattle.wf_node.specs.Input.{view};
 ghost use Rattle.wf_serve.specs.Agreeing.{AgreeStill, RespondAlike};
 ghost use Rattle.wf_serve.specs.Caching.{AreKept};
-ghost use Rattle.wf_serve.specs.Serving.{AreHeard, EndsWriting, HaveCaughtUp, IsAnswer, IsAsked, IsAskedAndHeard, IsAskedAt, IsConnection, IsRetried, IsServedAt};
+ghost use Rattle.wf_serve.specs.Serving.{AreHeard, EndsWriting, HaveCaughtUp, IsAsked, IsAskedAndHeard, IsAskedAt, IsConnection, IsRetried, IsServedAt};
 
 use std::alloc::Global;
 use wf_codec::Message;
@@ -29,8 +30,8 @@ use wf_wms::law::kept_pictures_outlast_growth;
 /// Asks each node in turn to catch up, and delivers its request and the messages sent in reply before the next node is asked.
 pub fn catch_up<T: Tape>(alloc: Global, nodes: &mut [Node<T>])
     requires { StandInTurn nodes.old }
-    ensures caught { HaveCaughtUp T.honest T.content T.images T.failed (length nodes.old) nodes.old nodes.new }
-    ensures led { AreLedOn T.honest T.images nodes.old nodes.new }
+    ensures caught { HaveCaughtUp T.Tape (length nodes.old) nodes.old nodes.new }
+    ensures led { AreLedOn T.Tape nodes.old nodes.new }
 {
     leading_goes_on::<T>();
     for number in 0..nodes.len() {
@@ -53,14 +54,15 @@ pub fn serve_connection<S: Source, K: Sink, T: Tape>(
     requires within { place < length nodes.old }
     requires in_turn { StandInTurn nodes.old }
     requires kept { AreKept nodes.old caches.old }
-    ensures connection { IsConnection T.honest T.content T.images T.failed place (S.left source.old) (K.written sink.old) (K.written sink.new) nodes.old result nodes.new }
+    ensures connection { IsConnection T.Tape place
+        (S.left source.old) (K.written sink.old) (K.written sink.new) nodes.old result nodes.new }
     ensures reads { CountsHearing result (S.failures source.old) (S.failures source.new) }
     ensures writes { CountsSaying result (K.failures sink.old) (K.failures sink.new) }
-    ensures last { EndsWriting K.written K.failures K.fails sink.old sink.new result }
-    ensures led { AreLedOn T.honest T.images nodes.old nodes.new }
+    ensures last { EndsWriting K.Sink sink.old sink.new result }
+    ensures led { AreLedOn T.Tape nodes.old nodes.new }
     ensures reached { AreReached AnyPart nodes.old → AreReached AnyPart nodes.new }
     ensures agree { AreReached AnyPart nodes.old → HaveOneHistory nodes.new }
-    ensures alike { AreReached AnyPart nodes.old → RespondAlike T.honest T.content T.images T.failed nodes.new }
+    ensures alike { AreReached AnyPart nodes.old → RespondAlike T.Tape nodes.new }
     ensures grows { EachGrows nodes.old nodes.new }
     ensures kept { AreKept nodes.new caches.new }
 {
@@ -76,7 +78,7 @@ pub fn serve_connection<S: Source, K: Sink, T: Tape>(
 
 /// Nodes led on from reached nodes are reached, publish one history, and respond alike.
 pub(crate) fn agree_still<T: Tape>(nodes: &[Node<T>])
-    ensures { AgreeStill T.honest T.content T.images T.failed nodes.now }
+    ensures { AgreeStill T.Tape nodes.now }
 {
     reached_stays::<T>();
     reached_nodes_agree(nodes);
@@ -95,11 +97,13 @@ fn served_at<S: Source, K: Sink, T: Tape>(
     requires within { place < length nodes.old }
     requires in_turn { StandInTurn nodes.old }
     requires kept { AreKept nodes.old caches.old }
-    ensures served { IsServedAt T.honest T.content T.images T.failed place (S.left source.old) (K.written sink.old) (K.written sink.new) nodes.old result.messages nodes.new result.outcome }
+    ensures served { IsServedAt T.Tape place
+        (S.left source.old) (K.written sink.old) (K.written sink.new)
+        nodes.old result.messages nodes.new result.outcome }
     ensures reads { CountsHearing result.outcome (S.failures source.old) (S.failures source.new) }
     ensures writes { CountsSaying result.outcome (K.failures sink.old) (K.failures sink.new) }
-    ensures last { EndsWriting K.written K.failures K.fails sink.old sink.new result.outcome }
-    ensures says { AreLedSaying T.honest T.images nodes.old result.messages.items nodes.new }
+    ensures last { EndsWriting K.Sink sink.old sink.new result.outcome }
+    ensures says { AreLedSaying T.Tape nodes.old result.messages.items nodes.new }
     ensures kept { AreKept nodes.new caches.new }
 {
     a_step_leads_on::<T>();
@@ -110,7 +114,7 @@ fn served_at<S: Source, K: Sink, T: Tape>(
 /// Delivers messages to the nodes, and the messages that they send in reply.
 fn hear<T: Tape>(alloc: Global, nodes: &mut [Node<T>], said: Vec<Message>)
     requires { StandInTurn nodes.old }
-    ensures heard { AreHeard T.honest T.content T.images nodes.old said nodes.new }
+    ensures heard { AreHeard T.Tape nodes.old said nodes.new }
     ensures turn { KeepTurn nodes.old nodes.new }
 {
     let _ = deliver_all(alloc, nodes, said);
@@ -120,8 +124,8 @@ fn hear<T: Tape>(alloc: Global, nodes: &mut [Node<T>], said: Vec<Message>)
 fn retry<T: Tape>(alloc: Global, nodes: &mut [Node<T>], place: usize)
     requires within { place < length nodes.old }
     requires in_turn { StandInTurn nodes.old }
-    ensures retried { IsRetried T.honest T.content T.images T.failed place nodes.old nodes.new }
-    ensures led { AreLedOn T.honest T.images nodes.old nodes.new }
+    ensures retried { IsRetried T.Tape place nodes.old nodes.new }
+    ensures led { AreLedOn T.Tape nodes.old nodes.new }
 {
     leading_goes_on::<T>();
     if runs(&nodes[place]) {
@@ -145,8 +149,8 @@ fn ask<T: Tape>(alloc: Global, nodes: &mut [Node<T>], place: usize, input: Input
     requires within { place < length nodes.old }
     requires in_turn { StandInTurn nodes.old }
     requires own { IsOwn (view input) }
-    ensures heard { IsAskedAndHeard T.honest T.content T.images T.failed place (view input) nodes.old nodes.new }
-    ensures led { AreLedOn T.honest T.images nodes.old nodes.new }
+    ensures heard { IsAskedAndHeard T.Tape place (view input) nodes.old nodes.new }
+    ensures led { AreLedOn T.Tape nodes.old nodes.new }
 {
     deliveries_lead_on::<T>();
     let said = said_at(alloc, nodes, place, input);
@@ -163,8 +167,8 @@ fn said_at<T: Tape>(
     requires within { place < length nodes.old }
     requires in_turn { StandInTurn nodes.old }
     requires own { IsOwn (view input) }
-    ensures asked { IsAskedAt T.honest T.content T.images T.failed place (view input) nodes.old result nodes.new }
-    ensures says { AreLedSaying T.honest T.images nodes.old result.items nodes.new }
+    ensures asked { IsAskedAt T.Tape place (view input) nodes.old result nodes.new }
+    ensures says { AreLedSaying T.Tape nodes.old result.items nodes.new }
 {
     a_step_leads_on::<T>();
     said(alloc, &mut nodes[place], input)
@@ -172,7 +176,7 @@ fn said_at<T: Tape>(
 
 /// The messages of a node for an input; none if it rejects.
 fn said<T: Tape>(alloc: Global, node: &mut Node<T>, input: Input) -> Vec<Message>
-    ensures { IsAsked T.honest T.content T.images T.failed (view input) node.old result node.new }
+    ensures { IsAsked T.Tape (view input) node.old result node.new }
 {
     match answer(alloc, node, input) {
         Ok(said) => said,
@@ -186,7 +190,7 @@ fn answer<T: Tape>(
     node: &mut Node<T>,
     input: Input,
 ) -> Result<Vec<Message>, NodeFault>
-    ensures { IsAnswer T.honest T.content T.images T.failed (view input) node.old result node.new }
+    ensures { IsAnswer T.Tape (view input) node.old result node.new }
 {
     node.step(alloc, input)
 }

@@ -26,8 +26,8 @@ pub fn open_shortened<T: Tape>(
     requires member { id < n }
     ensures id { IfOk result (λ x. x.0.id ≡ id) }
     ensures n { IfOk result (λ x. x.0.n ≡ n) }
-    ensures opened { IfOk result (λ x. IsOpened T.honest T.content T.images tape x.0 x.1) }
-    ensures left { T.honest → IfErr result (IsLeft T.content T.images tape) }
+    ensures opened { IfOk result (λ x. IsOpened T.Tape tape x.0 x.1) }
+    ensures left { T.honest → IfErr result (IsLeft T.Tape tape) }
 {
     match Node::open(alloc, tape, id, n) {
         Ok(node) => shorten(alloc, node),
@@ -39,8 +39,9 @@ pub fn open_shortened<T: Tape>(
 fn shorten<T: Tape>(alloc: Global, mut node: Node<T>) -> Result<(Node<T>, bool), T>
     requires { node.halted ≡ false }
     ensures same { IfOk result (λ x. x.0 ≡ record node { tape = x.0.tape }) }
-    ensures short { T.honest → IfOk result (λ x. IsShort T.content T.images x.0 x.1) }
-    ensures stands { T.honest → IfOk result (λ x. AllStandFor (stored_of node) (T.images x.0.tape)) }
+    ensures short { T.honest → IfOk result (λ x. IsShort T.Tape x.0 x.1) }
+    ensures stands { T.honest →
+        IfOk result (λ x. AllStandFor (stored_of node) (T.images x.0.tape)) }
     ensures left { T.honest → IfErr result (λ tape. AllStandFor (stored_of node) (T.images tape)) }
 {
     match node.shorten(alloc) {

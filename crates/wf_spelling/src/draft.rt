@@ -37,7 +37,8 @@ impl Draft {
     /// Appends bytes. Allocation can fail only if the text must grow for them.
     pub fn push(&mut self, bytes: &[u8])
         ensures bytes { Writes self.old bytes.now self.new }
-        ensures room { self.old.is_whole ≡ true → HasRoomFor bytes.now self.old → self.new.is_whole ≡ true }
+        ensures room { self.old.is_whole ≡ true → HasRoomFor bytes.now self.old →
+            self.new.is_whole ≡ true }
     {
         let room = MOST_CANON_BYTES.saturating_sub(self.length);
         if self.length > MOST_CANON_BYTES || bytes.len() > room {
@@ -61,7 +62,8 @@ impl Draft {
     /// The text, unless an allocation failed.
     pub fn finish(self) -> Result<Vec<u8>, AllocError>
         requires { self.length ≤ most_canon_bytes }
-        ensures { (text : List ℕ) → IsDraftOf self text → IfOk result (λ whole. whole.items ≡ text) }
+        ensures { (text : List ℕ) → IsDraftOf self text →
+            IfOk result (λ whole. whole.items ≡ text) }
     {
         if self.is_whole {
             Ok(self.text)
@@ -73,7 +75,8 @@ impl Draft {
 
 /// Appends bytes; most pieces are one byte, a space, a quote or an LF, which needs no call that copies.
 fn append(text: &mut Vec<u8>, bytes: &[u8]) -> Result<(), AllocError>
-    ensures items { text.new.items ≡ (if is_ok result then text.old.items ++ bytes.now else text.old.items) }
+    ensures items { text.new.items ≡
+        (if is_ok result then text.old.items ++ bytes.now else text.old.items) }
     ensures succeeds { vec_len text.old + length bytes.now ≤ vec_capacity text.old → IsOk result }
 {
     match bytes {

@@ -30,7 +30,8 @@ pub fn kind_word(kind: LayerKind) -> &'static str
 /// Writes the line of the names of a layer's attributes.
 #[tactic(auto, unfolding(wf_token::specs::Spelling::line))]
 fn push_attribute_names(out: &mut Draft, names: &[u8])
-    ensures { Writes out.old (line (with_text (codes "PROCESSING") (codes "ITEMS=" ++ names.now))) out.new }
+    ensures { Writes out.old (line (with_text (codes "PROCESSING") (codes "ITEMS=" ++ names.now)))
+        out.new }
 {
     let quote = quote_for(names);
     out.push(b"PROCESSING ");

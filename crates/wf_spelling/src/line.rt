@@ -84,7 +84,8 @@ fn push_with_expression(out: &mut Draft, keyword: &str, expression: &Expression)
 
 /// Writes a line of a keyword and an expression, if there is an expression.
 pub fn push_optional_expression(out: &mut Draft, keyword: &str, expression: &Option<Expression>)
-    ensures { Writes out.old (text_of (when_there (with_expression keyword.now) expression.now)) out.new }
+    ensures { Writes out.old (text_of (when_there (with_expression keyword.now) expression.now))
+        out.new }
 {
     if let Some(expression) = expression {
         push_with_expression(out, keyword, expression);

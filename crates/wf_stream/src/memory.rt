@@ -32,7 +32,12 @@ impl<'b> Bytes<'b> {
     /// A reader that returns at most `piece` bytes a call. With `until_failure`, each call after that many fails.
     pub fn new(bytes: &'b [u8], piece: usize, until_failure: Option<u64>) -> Self
         requires { 0 < piece }
-        ensures { result ≡ record { left = bytes.now; piece = piece; until_failure = until_failure; failures = 0 } }
+        ensures { result ≡ record {
+          left = bytes.now;
+          piece = piece;
+          until_failure = until_failure;
+          failures = 0;
+        } }
     {
         Bytes {
             rest: bytes,

@@ -161,7 +161,8 @@ fn failed_read(error: io::Error) -> io::Error
 /// or `OutOfMemory` if the buffer can't be grown.
 pub fn read_piece<S: Source>(source: &mut S, bytes: &mut Vec<u8>, room: usize) -> io::Result<usize>
     requires { 0 < room }
-    ensures read { IfOk result (λ count. ReadsPiece count (S.left source.old) (S.left source.new) bytes.old.items bytes.new.items) }
+    ensures read { IfOk result (λ count.
+        ReadsPiece count (S.left source.old) (S.left source.new) bytes.old.items bytes.new.items) }
     ensures most { TakesUpTo room (S.left source.old) (S.left source.new) }
     ensures within { IfOk result (λ count. count ≤ room) }
     ensures end { IfOk result (λ count. count ≡ 0 → IsAtEnd (S.left source.new)) }
@@ -182,9 +183,11 @@ pub fn read_piece<S: Source>(source: &mut S, bytes: &mut Vec<u8>, room: usize) -
 /// Reads to the end, or `limit` bytes. Err: the error of a failed read, or `OutOfMemory` if the buffer can't be grown.
 pub fn read_up_to<S: Source>(alloc: Global, source: &mut S, limit: usize) -> io::Result<Vec<u8>>
     // If the bytes are known, the result is their prefix.
-    ensures first { IfOk result (λ bytes. IfSome (S.left source.old) (λ known. bytes.items ≡ take limit known)) }
+    ensures first { IfOk result (λ bytes.
+        IfSome (S.left source.old) (λ known. bytes.items ≡ take limit known)) }
     // The bytes are taken from the front; fewer than the limit only if these are all.
-    ensures taken { IfOk result (λ bytes. Consumes (S.left source.old) (S.left source.new) bytes.items) }
+    ensures taken { IfOk result (λ bytes.
+        Consumes (S.left source.old) (S.left source.new) bytes.items) }
     ensures end { IfOk result (λ bytes. length bytes.items < limit → IsAtEnd (S.left source.new)) }
     ensures most { TakesUpTo limit (S.left source.old) (S.left source.new) }
     ensures calm { OnOk result (S.failures source.new ≡ S.failures source.old) }
@@ -206,11 +209,13 @@ pub fn read_up_to<S: Source>(alloc: Global, source: &mut S, limit: usize) -> io:
 /// Writes all the bytes. Err: the number of bytes written before a call failed.
 pub fn write_all<S: Sink>(sink: &mut S, bytes: &[u8]) -> Result<(), usize>
     ensures whole { OnOk result (Appends (S.written sink.old) (S.written sink.new) bytes.now) }
-    ensures part { IfErr result (λ count. (count ≤ length bytes.now) × Appends (S.written sink.old) (S.written sink.new) (take count bytes.now)) }
+    ensures part { IfErr result (λ count. (count ≤ length bytes.now) ×
+        Appends (S.written sink.old) (S.written sink.new) (take count bytes.now)) }
     ensures calm { OnOk result (S.failures sink.new ≡ S.failures sink.old) }
     ensures cause { OnErr result (Rises (S.failures sink.old) (S.failures sink.new)) }
     // The first call that fails is the last one: nothing is written once more.
-    ensures last { IfErr result (λ count. EndsByFailing S.written S.failures S.fails (take count bytes.now) sink.old sink.new) }
+    ensures last { IfErr result (λ count.
+        EndsByFailing S.written S.failures S.fails (take count bytes.now) sink.old sink.new) }
 {
     let mut rest = bytes;
     while !rest.is_empty() {

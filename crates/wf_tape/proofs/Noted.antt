@@ -6,7 +6,7 @@ use Rattle.wf_tape.specs.declared.earlier.Earlier.{Earlier}
 use Rattle.wf_tape.specs.declared.earlier.Earlier.TheVariants.{Front, Replaced}
 use Rattle.wf_tape.specs.declared.fuse.Fuse.{Fuse}
 use Rattle.wf_tape.specs.Tape.{LeavesNoOther, LeavesOldOr, LeavesOldOrNew, Elapses}
-use Rattle.wf_tape.specs.MemoryTape.{State, Kept, IsImageOf, WasLeft, state_of, moment_of, IsLeftSince, states_before, appended, replaced, settled}
+use Rattle.wf_tape.specs.MemoryTape.{State, TapeValue, IsImageOf, WasLeft, state_of, moment_of, IsLeftSince, states_before, appended, replaced, settled}
 use Rattle.wf_tape.specs.MemoryMoments.{none_later}
 use Rattle.wf_tape.proofs.Images.{only_synced, sync_leaves}
 
@@ -50,7 +50,7 @@ past_synced bytes n synced notes noted n_is noted_is =
 -- ---- the moments of a tape in memory
 
 -- A call that changes the tape ends a moment.
-pub time_changed : (old new : Kept) → new.past ≡ state_of old ∷ old.past → Elapses (moment_of old) (moment_of new) (IsLeftSince old) (IsLeftSince new)
+pub time_changed : (old new : TapeValue) → new.past ≡ state_of old ∷ old.past → Elapses (moment_of old) (moment_of new) (IsLeftSince old) (IsLeftSince new)
 unfolding WasLeft
 time_changed old new ended = record {
   later = omega (arith, ap length ended);
@@ -62,7 +62,7 @@ time_changed old new ended = record {
 }
 
 -- Inside it a crash leaves what one could before, or what one can after.
-pub inside_changed : (old new : Kept) → new.past ≡ state_of old ∷ old.past → LeavesOldOrNew (IsImageOf old) (IsImageOf new) (IsLeftSince new (moment_of old))
+pub inside_changed : (old new : TapeValue) → new.past ≡ state_of old ∷ old.past → LeavesOldOrNew (IsImageOf old) (IsImageOf new) (IsLeftSince new (moment_of old))
 unfolding WasLeft
 inside_changed old new ended image left = elim left [
   | inl now ↦ inr now.1
@@ -73,30 +73,30 @@ inside_changed old new ended image left = elim left [
 ]
 
 -- Inside a sync it leaves what one could before.
-pub inside_synced : (old new : Kept) → new.past ≡ state_of old ∷ old.past → new.bytes ≡ old.bytes → new.synced ≡ length new.bytes → LeavesNoOther (IsImageOf old) (IsLeftSince new (moment_of old))
+pub inside_synced : (old new : TapeValue) → new.past ≡ state_of old ∷ old.past → new.bytes ≡ old.bytes → new.synced ≡ length new.bytes → LeavesNoOther (IsImageOf old) (IsLeftSince new (moment_of old))
 inside_synced old new ended same all image left = elim (inside_changed old new ended image left) [
   | inl was ↦ was
   | inr is ↦ sync_leaves old new same all image is
 ]
 
 -- Inside a replacement it leaves what one could before, or the new content.
-pub inside_replaced : (old new : Kept) → new.past ≡ state_of old ∷ old.past → new.synced ≡ length new.bytes → LeavesOldOr new.bytes (IsImageOf old) (IsLeftSince new (moment_of old))
+pub inside_replaced : (old new : TapeValue) → new.past ≡ state_of old ∷ old.past → new.synced ≡ length new.bytes → LeavesOldOr new.bytes (IsImageOf old) (IsLeftSince new (moment_of old))
 inside_replaced old new ended all image left = elim (inside_changed old new ended image left) [
   | inl was ↦ inl was
   | inr is ↦ inr ((only_synced new all).no_other image is)
 ]
 
 -- A call that changes nothing ends none.
-pub time_same : (old new : Kept) → new ≡ old → Elapses (moment_of old) (moment_of new) (IsLeftSince old) (IsLeftSince new)
+pub time_same : (old new : TapeValue) → new ≡ old → Elapses (moment_of old) (moment_of new) (IsLeftSince old) (IsLeftSince new)
 time_same old new same = record {
   later = omega (arith, ap moment_of same);
-  kept = λ moment image before left. subst (λ (k : Kept). IsLeftSince k moment image) (sym same) left;
-  nothing_else = λ moment image before left. inl (subst (λ (k : Kept). IsLeftSince k moment image) same left);
+  kept = λ moment image before left. subst (λ (k : TapeValue). IsLeftSince k moment image) (sym same) left;
+  nothing_else = λ moment image before left. inl (subst (λ (k : TapeValue). IsLeftSince k moment image) same left);
 }
 
-pub inside_same : (old new : Kept) → new ≡ old → LeavesNoOther (IsImageOf old) (IsLeftSince new (moment_of old))
+pub inside_same : (old new : TapeValue) → new ≡ old → LeavesNoOther (IsImageOf old) (IsLeftSince new (moment_of old))
 unfolding WasLeft
-inside_same old new same image left = elim (subst (λ (k : Kept). IsLeftSince k (moment_of old) image) same left) [
+inside_same old new same image left = elim (subst (λ (k : TapeValue). IsLeftSince k (moment_of old) image) same left) [
   | inl now ↦ now.1
   | inr before ↦ absurd (none_later old.past (moment_of old) image (le_refl (moment_of old)) before)
 ]
@@ -104,7 +104,7 @@ inside_same old new same image left = elim (subst (λ (k : Kept). IsLeftSince k 
 -- ---- the tape after a change
 
 -- the tape of these parts
-abbrev kept_of : List ℕ → ℕ → List State → Option Fuse → ℕ → Kept
+abbrev kept_of : List ℕ → ℕ → List State → Option Fuse → ℕ → TapeValue
 kept_of bytes synced past fuse failures = record { bytes = bytes; synced = synced; past = past; fuse = fuse; failures = failures }
 
 same_kept : (a b : List ℕ) (m n : ℕ) (p q : List State) (fuse : Option Fuse) (failures : ℕ) → a ≡ b → m ≡ n → p ≡ q → kept_of a m p fuse failures ≡ kept_of b n q fuse failures
@@ -133,7 +133,7 @@ settled_is bytes n synced fuse failures notes noted n_is some noted_is =
     (past_synced bytes n synced notes noted n_is noted_is ∙ sym (ap (λ (b : Bool). if b then record { bytes = bytes; synced = synced } ∷ before else before) some))
 
 -- A sync that had nothing to do changes nothing.
-pub settled_same : (tape : Kept) → tape.synced ≡ length tape.bytes → nat_lt tape.synced (length tape.bytes) ≡ false → tape ≡ settled tape
+pub settled_same : (tape : TapeValue) → tape.synced ≡ length tape.bytes → nat_lt tape.synced (length tape.bytes) ≡ false → tape ≡ settled tape
 settled_same tape all none =
     same_kept tape.bytes tape.bytes tape.synced (length tape.bytes) tape.past (if nat_lt tape.synced (length tape.bytes) then state_of tape ∷ tape.past else tape.past) tape.fuse tape.failures
     refl all (sym (ap (λ (b : Bool). if b then state_of tape ∷ tape.past else tape.past) none))

@@ -2,3 +2,4 @@ pub mod Tape
 pub mod Fuse
 pub mod MemoryTape
 pub mod MemoryMoments
+pub mod Change

@@ -2,7 +2,7 @@
 use Rattle.std.specs.Prelude.{ℕ, ◌≤◌, List, [], ◌∷◌, length}
 use Rattle.std.proofs.Common.{inl, inr, le_refl, le_trans, le_of_lt, lt_irrefl, lt_of_lt_of_le}
 use Rattle.wf_tape.specs.Tape.{IsNow, AreNested}
-use Rattle.wf_tape.specs.MemoryTape.{State, Kept, IsImageOf, IsLeftSince, WasLeft, state_of, moment_of}
+use Rattle.wf_tape.specs.MemoryTape.{State, TapeValue, IsImageOf, IsLeftSince, WasLeft, state_of, moment_of}
 
 -- no state stood at a moment that hasn't come
 pub none_later : (states : List State) (moment : ℕ) (image : List ℕ) → length states ≤ moment → WasLeft states moment image → ⊥
@@ -13,7 +13,7 @@ none_later (state ∷ older) moment image late left = elim left [
   | inr before ↦ none_later older moment image (le_of_lt late) before
 ]
 
-pub memory_now : (kept : Kept) → IsNow (IsImageOf kept) (IsLeftSince kept (moment_of kept))
+pub memory_now : (kept : TapeValue) → IsNow (IsImageOf kept) (IsLeftSince kept (moment_of kept))
 unfolding WasLeft
 memory_now kept = record {
   counts = λ image is. inl (le_refl (length kept.past), is);
@@ -31,5 +31,5 @@ left_earlier (state ∷ older) moment later image before left = elim left [
   | inr past ↦ inr (left_earlier older moment later image before past)
 ]
 
-pub memory_nested : (kept : Kept) → AreNested (IsLeftSince kept)
+pub memory_nested : (kept : TapeValue) → AreNested (IsLeftSince kept)
 memory_nested kept = left_earlier (state_of kept ∷ kept.past)

@@ -42,9 +42,9 @@ impl Drop for MemoryTape {
 
 impl Model for MemoryTape {
     ghost use Rattle.std.specs.Prelude.{length, reverse, ◌≤◌, ◌<◌, vec_len, vec_capacity};
-    ghost use Rattle.wf_tape.specs.MemoryTape.{Kept, states_before};
+    ghost use Rattle.wf_tape.specs.MemoryTape.{TapeValue, states_before};
 
-    ghost Value = { Kept };
+    ghost Value = { TapeValue };
 
     ghost view = { λ t. record { bytes = t.bytes.items; synced = t.synced; past = states_before t.bytes.items (reverse t.earlier.items); fuse = t.fuse; failures = t.failures } };
 
@@ -55,7 +55,13 @@ impl MemoryTape {
     /// A tape with these bytes, all of them synced.
     #[tactic(auto, unfolding(crate::specs::MemoryTape::states_before))]
     pub fn new(bytes: Vec<u8>) -> MemoryTape
-        ensures { result ≡ record { bytes = bytes.items; synced = length bytes.items; past = []; fuse = None; failures = 0 } }
+        ensures { result ≡ record {
+          bytes = bytes.items;
+          synced = length bytes.items;
+          past = [];
+          fuse = None;
+          failures = 0;
+        } }
     {
         let synced = bytes.len();
         let earlier = Vec::new(*bytes.allocator());

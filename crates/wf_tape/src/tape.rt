@@ -41,9 +41,12 @@ pub trait Tape {
     fn read(&mut self, alloc: Global) -> Result<Vec<u8>, TapeFault>
         ensures ok { honest → IfOk result (λ bytes. bytes.items ≡ content self.old) }
         ensures image { honest → OnOk result (images self.old (content self.old)) }
-        ensures same { honest → IsUnchanged (content self.old) (content self.new) (images self.old) (images self.new) }
-        ensures time { honest → Elapses (moment self.old) (moment self.new) (left_since self.old) (left_since self.new) }
-        ensures inside { honest → LeavesNoOther (images self.old) (left_since self.new (moment self.old)) }
+        ensures same { honest →
+            IsUnchanged (content self.old) (content self.new) (images self.old) (images self.new) }
+        ensures time { honest → Elapses
+            (moment self.old) (moment self.new) (left_since self.old) (left_since self.new) }
+        ensures inside { honest →
+            LeavesNoOther (images self.old) (left_since self.new (moment self.old)) }
         ensures cause { HasCause (failed self.old) (failed self.new) result }
         ensures sturdy { never_fails self.old → never_fails self.new }
         ensures sound { never_fails self.old → IfErr result (λ fault. fault ≢ Device) }
@@ -53,11 +56,16 @@ pub trait Tape {
     /// there, and no more. A crash inside the call leaves what one could before it, or what one can after it.
     fn append(&mut self, bytes: &[u8]) -> Result<(), TapeFault>
         ensures ok { honest → OnOk result (content self.new ≡ content self.old ++ bytes.now) }
-        ensures err { honest → OnErr result (IsExtended (content self.old) bytes.now (content self.new)) }
-        ensures images { honest → IsNotMemory result → IsCutShort (content self.new) (images self.old) (images self.new) }
-        ensures memory { honest → IsErrOf result Memory → IsUnchanged (content self.old) (content self.new) (images self.old) (images self.new) }
-        ensures time { honest → Elapses (moment self.old) (moment self.new) (left_since self.old) (left_since self.new) }
-        ensures inside { honest → LeavesOldOrNew (images self.old) (images self.new) (left_since self.new (moment self.old)) }
+        ensures err { honest →
+            OnErr result (IsExtended (content self.old) bytes.now (content self.new)) }
+        ensures images { honest → IsNotMemory result →
+            IsCutShort (content self.new) (images self.old) (images self.new) }
+        ensures memory { honest → IsErrOf result Memory →
+            IsUnchanged (content self.old) (content self.new) (images self.old) (images self.new) }
+        ensures time { honest → Elapses
+            (moment self.old) (moment self.new) (left_since self.old) (left_since self.new) }
+        ensures inside { honest → LeavesOldOrNew
+            (images self.old) (images self.new) (left_since self.new (moment self.old)) }
         ensures cause { HasCause (failed self.old) (failed self.new) result }
         ensures sturdy { never_fails self.old → never_fails self.new }
         ensures sound { never_fails self.old → IfErr result (λ fault. fault ≢ Device) }
@@ -69,8 +77,10 @@ pub trait Tape {
         ensures same { honest → content self.new ≡ content self.old }
         ensures images { honest → LeavesNoOther (images self.old) (images self.new) }
         ensures memory { IsNotMemory result }
-        ensures time { honest → Elapses (moment self.old) (moment self.new) (left_since self.old) (left_since self.new) }
-        ensures inside { honest → LeavesNoOther (images self.old) (left_since self.new (moment self.old)) }
+        ensures time { honest → Elapses
+            (moment self.old) (moment self.new) (left_since self.old) (left_since self.new) }
+        ensures inside { honest →
+            LeavesNoOther (images self.old) (left_since self.new (moment self.old)) }
         ensures cause { HasCause (failed self.old) (failed self.new) result }
         ensures sturdy { never_fails self.old → never_fails self.new }
         ensures sound { never_fails self.old → IfErr result (λ fault. fault ≢ Device) }
@@ -81,11 +91,16 @@ pub trait Tape {
     fn replace(&mut self, bytes: &[u8]) -> Result<(), TapeFault>
         ensures ok { honest → OnOk result (content self.new ≡ bytes.now) }
         ensures synced { honest → OnOk result (IsOnlyImage bytes.now (images self.new)) }
-        ensures err { honest → OnErr result ((content self.new ≡ content self.old) ⊎ (content self.new ≡ bytes.now)) }
-        ensures images { honest → OnErr result (LeavesOldOr bytes.now (images self.old) (images self.new)) }
-        ensures memory { honest → IsErrOf result Memory → IsUnchanged (content self.old) (content self.new) (images self.old) (images self.new) }
-        ensures time { honest → Elapses (moment self.old) (moment self.new) (left_since self.old) (left_since self.new) }
-        ensures inside { honest → LeavesOldOr bytes.now (images self.old) (left_since self.new (moment self.old)) }
+        ensures err { honest →
+            OnErr result ((content self.new ≡ content self.old) ⊎ (content self.new ≡ bytes.now)) }
+        ensures images { honest →
+            OnErr result (LeavesOldOr bytes.now (images self.old) (images self.new)) }
+        ensures memory { honest → IsErrOf result Memory →
+            IsUnchanged (content self.old) (content self.new) (images self.old) (images self.new) }
+        ensures time { honest → Elapses
+            (moment self.old) (moment self.new) (left_since self.old) (left_since self.new) }
+        ensures inside { honest →
+            LeavesOldOr bytes.now (images self.old) (left_since self.new (moment self.old)) }
         ensures cause { HasCause (failed self.old) (failed self.new) result }
         ensures sturdy { never_fails self.old → never_fails self.new }
         ensures sound { never_fails self.old → IfErr result (λ fault. fault ≢ Device) }

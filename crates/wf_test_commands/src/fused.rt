@@ -4,7 +4,7 @@ ghost use Rattle.std.specs.Prelude.{◌<◌};
 
 use std::alloc::{AllocError, Global};
 use wf_canon::Canon;
-use wf_farm::{Event, FarmFault, Fused, Kept, run_fused};
+use wf_farm::{Action, Event, FarmFault, Fused, Kept, run_fused};
 use wf_test_table::{Answer, Answered, Asked, Unanswered};
 
 /// The nodes of the farm.
@@ -37,10 +37,10 @@ pub(crate) fn fused(mut asked: Asked<'_>, answer: &mut Answer) -> Answered {
 /// A proposal of node 0, and then each message to each node.
 fn publish(alloc: Global, map: Canon) -> Result<Vec<Event>, AllocError> {
     let mut events = Vec::new(alloc);
-    events.push(Event::Propose(0, map))?;
+    events.push(Event::Act(0, Action::Propose(map)))?;
     for number in 0..MESSAGES {
         for node in 0..NODES {
-            events.push(Event::Deliver(node as usize, number))?;
+            events.push(Event::Act(node as usize, Action::Deliver(number)))?;
         }
     }
     Ok(events)

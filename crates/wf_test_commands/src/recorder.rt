@@ -57,7 +57,7 @@ fn write_service<K: Sink>(
     sink: &mut K,
 ) -> Result<(), ServeFault>
     ensures writes { CountsWrites result (K.failures sink.old) (K.failures sink.new) }
-    ensures last { FailsLast K.written K.failures K.fails sink.old sink.new }
+    ensures last { FailsLast K.Sink sink.old sink.new }
 {
     let (open, folder, close) = match service.state {
         Some(folder) => ("[", folder, "]"),

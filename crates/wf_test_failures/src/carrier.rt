@@ -4,7 +4,7 @@ use crate::value::{MAP_A, ballot, map, slot};
 use std::alloc::Global;
 use std::process::Abort;
 use wf_codec::Message;
-use wf_farm::{Carrier, CarrierFault, Copies, Event, Farm, FarmFault};
+use wf_farm::{Action, Carrier, CarrierFault, Copies, Event, Farm, FarmFault};
 
 /// A carrier that brings its first two messages.
 #[derive(Drop)]
@@ -52,7 +52,7 @@ fn proposed(rt: &impl Abort, alloc: Global) -> Farm {
         Ok(farm) => farm,
         Err(_) => Farm::new(alloc, 1).expect(rt, "a farm"),
     };
-    let events = [Event::Propose(0, map(rt, alloc, MAP_A))];
+    let events = [Event::Act(0, Action::Propose(map(rt, alloc, MAP_A)))];
     if farm.run(alloc, &events).is_err() {
         farm.run(alloc, &events).expect(rt, "a proposal");
     }

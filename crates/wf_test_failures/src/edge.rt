@@ -1,11 +1,11 @@
 //! Requests that a node serves: over a real connection, on one thread (the client writes before the server accepts), and after
 //! allocation failures. A request for which an allocation failed is repeated once: the node is unchanged.
+use crate::value::{PUBLISH, first_node};
 use std::alloc::Global;
 use std::io;
 use std::io::{Read, Write};
 use std::net::{Ipv4Addr, SocketAddr, TcpListener, TcpStream};
 use std::process::Abort;
-use wf_ballot::NodeId;
 use wf_edge::outcome::Outcome;
 use wf_edge::serve::serve_one;
 use wf_node::Node;
@@ -20,17 +20,7 @@ const RESPONSE: &[u8] =
 
 /// Node 0 of 3, on an empty tape.
 fn new_node(rt: &impl Abort, alloc: Global) -> Node<MemoryTape> {
-    let id = NodeId::new(0).expect(rt, "a node");
-    match Node::open(alloc, MemoryTape::new(Vec::new(alloc)), id, 3) {
-        Ok(node) => node,
-        Err((tape, _)) => match Node::open(alloc, tape, id, 3) {
-            Ok(node) => node,
-            Err(refused) => {
-                drop(refused);
-                panic!(rt; "no node opens")
-            }
-        },
-    }
+    first_node(rt, alloc, MemoryTape::new(Vec::new(alloc)), 3)
 }
 
 /// The outcome of one request received on a stream.
@@ -74,9 +64,6 @@ fn a_request_over_a_connection_is_answered(rt: HostRuntime) {
     assert!(rt; answer.as_slice() == RESPONSE);
     drop(answer);
 }
-
-const PUBLISH: &[u8] =
-    b"POST /publish HTTP/1.1\r\nContent-Length: 63\r\n\r\nMAP NAME \"a\" EXTENT 0 0 4 4 PROJECTION \"init=epsg:4326\" END END";
 
 /// The outcome of a request, and the number of messages sent. The response is written without allocating.
 fn asked(alloc: Global, node: &mut Node<MemoryTape>, request: &[u8]) -> (Outcome, usize) {

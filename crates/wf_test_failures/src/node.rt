@@ -1,10 +1,9 @@
 //! A node that is alone in its farm, with allocation failures or a failing tape. Whatever met an allocation failure is repeated
 //! once: node and tape are unchanged.
 use crate::tape::Unsynced;
-use crate::value::{MAP_A, ballot, map, slot};
+use crate::value::{MAP_A, ballot, first_node, map, slot};
 use std::alloc::Global;
 use std::process::Abort;
-use wf_ballot::NodeId;
 use wf_codec::Message;
 use wf_node::{Input, Node, NodeFault};
 use wf_proposer::Standing;
@@ -23,21 +22,6 @@ const BEFORE_PUBLISHED: &[u8] = &[2, 4, 0, 0, 0, 166, 0, 1];
 fn behind_proposal(bytes: &[u8]) -> Option<&[u8]> {
     let voted = bytes.strip_prefix(BEFORE_VOTE)?.strip_prefix(MAP_A)?;
     voted.strip_prefix(BEFORE_PUBLISHED)?.strip_prefix(MAP_A)
-}
-
-/// The node on this tape.
-fn opened<T: Tape + Drop>(rt: &impl Abort, alloc: Global, tape: T) -> Node<T> {
-    let id = NodeId::new(0).expect(rt, "a node");
-    match Node::open(alloc, tape, id, 1) {
-        Ok(node) => node,
-        Err((tape, _)) => match Node::open(alloc, tape, id, 1) {
-            Ok(node) => node,
-            Err(refused) => {
-                drop(refused);
-                panic!(rt; "no node opens")
-            }
-        },
-    }
 }
 
 /// Whether these are the records of a proposal of the map `a`. The tape isn't used any more.
@@ -98,7 +82,7 @@ fn answers_to_first(
 
 /// The tape of a node that proposed the map `a` and received its own messages until the map was published.
 fn proposed(rt: &impl Abort, alloc: Global) -> MemoryTape {
-    let mut node = opened(rt, alloc, MemoryTape::new(Vec::new(alloc)));
+    let mut node = first_node(rt, alloc, MemoryTape::new(Vec::new(alloc)), 1);
     let prepare = propose(rt, alloc, &mut node);
     let promise = answers_to_first(rt, alloc, &mut node, prepare);
     let accept = answers_to_first(rt, alloc, &mut node, promise);
@@ -116,7 +100,7 @@ fn each_record_of_a_proposal_is_stored_once(rt: HostRuntime) {
 
 #[test]
 fn a_node_opens_on_its_tape_and_leaves_it(rt: HostRuntime) {
-    let node = opened(&rt, rt.alloc(), proposed(&rt, rt.alloc()));
+    let node = first_node(&rt, rt.alloc(), proposed(&rt, rt.alloc()), 1);
     assert_eq!(rt; node.published().number(), 1);
     assert!(rt; is_of_proposal(node.close()));
 }
@@ -159,7 +143,7 @@ fn a_node_whose_tape_fails_is_halted(rt: HostRuntime) {
         sound: 1,
         failures: 0,
     };
-    let mut node = opened(&rt, rt.alloc(), tape);
+    let mut node = first_node(&rt, rt.alloc(), tape, 1);
     let promised = match fault_of_prepare(&rt, rt.alloc(), &mut node) {
         Some(NodeFault::Memory) => fault_of_prepare(&rt, rt.alloc(), &mut node),
         promised => promised,
@@ -193,7 +177,7 @@ fn a_node_whose_tape_cannot_be_shortened_is_halted(rt: HostRuntime) {
         sound: 1,
         failures: 0,
     };
-    let mut node = opened(&rt, rt.alloc(), tape);
+    let mut node = first_node(&rt, rt.alloc(), tape, 1);
     assert_eq!(&rt;
         fault_of_shortening(rt.alloc(), &mut node),
         Some(NodeFault::TapeFailed)

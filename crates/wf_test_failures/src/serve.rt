@@ -4,6 +4,7 @@ ghost use Rattle.std.specs.Prelude.{◌≤◌};
 ghost use Rattle.wf_service.specs.Service.{IsService};
 
 use crate::tape::{TORN, holds, new_folder};
+use crate::value::PUBLISH;
 use std::alloc::Global;
 use std::fs;
 use std::io::{Read, Write};
@@ -13,9 +14,6 @@ use wf_serve::{ServeFault, Service, listen, serve, serve_at};
 use wf_stream::Output;
 
 const STATUS: &[u8] = b"GET /status HTTP/1.1\r\n\r\n";
-
-const PUBLISH: &[u8] =
-    b"POST /publish HTTP/1.1\r\nContent-Length: 63\r\n\r\nMAP NAME \"a\" EXTENT 0 0 4 4 PROJECTION \"init=epsg:4326\" END END";
 
 /// The responses to clients that publish the first map at node 0, and ask nodes 1 and 2 for their status.
 const AFTER_PUBLISH: &[u8] =

@@ -1,11 +1,10 @@
 //! Requests to a node that hears its own messages, as the only node of a farm does.
 use crate::exchange::Exchange;
 use crate::published::open;
-use crate::serving::tell;
+use crate::serving::tell_served;
 use std::alloc::Global;
 use std::mem::replace;
 use wf_codec::Message;
-use wf_edge::serve::serve_one;
 use wf_node::{Input, Node, NodeFault};
 use wf_tape::Tape;
 use wf_test_table::{Answer, Answered, Asked, Unanswered};
@@ -30,25 +29,22 @@ pub(crate) fn serve_alone(mut asked: Asked<'_>, answer: &mut Answer) -> Answered
 fn serve_each<T: Tape>(asked: Asked<'_>, node: &mut Node<T>, answer: &mut Answer) -> Answered {
     let way = Exchange::read(asked.words)?;
     for request in asked.input.split(|byte| *byte == 0) {
-        tell_serving(asked.alloc, node, way, request, answer)?;
+        serve_and_hear(asked.alloc, node, way, request, answer)?;
     }
     Ok(())
 }
 
-fn tell_serving<T: Tape>(
+fn serve_and_hear<T: Tape>(
     alloc: Global,
     node: &mut Node<T>,
     way: Exchange,
     request: &[u8],
     answer: &mut Answer,
 ) -> Answered {
-    let mut reader = way.reader(request)?;
-    let mut writer = way.writer(alloc);
-    let served = serve_one(alloc, &mut reader, &mut writer, node);
-    tell(&served, writer.bytes(), answer);
-    drop(writer);
-    drop(reader);
-    hear_own(alloc, node, served.messages)
+    match tell_served(alloc, node, way, request, answer) {
+        Ok(messages) => hear_own(alloc, node, messages),
+        Err(unanswered) => Err(unanswered),
+    }
 }
 
 // The node hears the first of the messages, and the first of its answers in turn.

@@ -1,25 +1,13 @@
 //! Requests that are answered by a cache of pictures.
-ghost use Rattle.wf_wms.specs.Kept.{AllKept};
+ghost use Rattle.wf_wms.specs.KeptPictures.{AllKept};
 
-use crate::maps::{is_same, letter_of, read_canon};
-use std::alloc::{AllocError, Global};
-use wf_canon::Canon;
+use crate::maps::{is_same, learn_next, letter_of, read_canon};
+use std::alloc::Global;
 use wf_learner::History;
 use wf_test_table::{Answer, Answered, Asked, Unanswered};
 use wf_wms::Answer as Given;
 use wf_wms::cache::Cache;
 use wf_wms::service::{answer as answer_query, answer_cached};
-
-fn learn_next(history: &mut History, canon: Canon) -> Result<(), AllocError> {
-    let Some(slot) = history.next_slot() else {
-        drop(canon);
-        return Ok(());
-    };
-    match history.learn(slot, canon) {
-        Ok(_) => Ok(()),
-        Err(error) => Err(error),
-    }
-}
 
 fn publish(alloc: Global, history: &mut History, mapfile: &[u8]) -> Answered {
     match read_canon(alloc, mapfile) {

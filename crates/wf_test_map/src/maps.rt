@@ -1,9 +1,8 @@
 //! Requests to a server that publishes one map.
-ghost use Rattle.wf_wms.specs.Kept.{AllKept};
+ghost use Rattle.wf_wms.specs.KeptPictures.{AllKept};
 
 use crate::requests::tell_summary;
 use std::alloc::{AllocError, Global};
-use wf_ballot::Slot;
 use wf_canon::{Canon, CanonFault};
 use wf_def::map::MapDef;
 use wf_learner::History;
@@ -37,8 +36,9 @@ pub(crate) fn read_canon(alloc: Global, mapfile: &[u8]) -> Result<Canon, Unanswe
     }
 }
 
-fn learn_first(history: &mut History, canon: Canon) -> Result<(), AllocError> {
-    let Some(slot) = Slot::new(1) else {
+/// Publishes the definition under the next sequence, if there is one.
+pub(crate) fn learn_next(history: &mut History, canon: Canon) -> Result<(), AllocError> {
+    let Some(slot) = history.next_slot() else {
         drop(canon);
         return Ok(());
     };
@@ -119,7 +119,7 @@ fn ask_history(
     canon: Canon,
     query: &[u8],
 ) -> Result<Option<Given>, AllocError> {
-    match learn_first(history, canon) {
+    match learn_next(history, canon) {
         Ok(()) => ask_published(alloc, history, query),
         Err(error) => Err(error),
     }

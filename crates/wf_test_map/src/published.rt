@@ -1,5 +1,5 @@
 //! Requests that a node serves which has published a map.
-ghost use Rattle.wf_wms.specs.Kept.{AllKept};
+ghost use Rattle.wf_wms.specs.KeptPictures.{AllKept};
 
 use crate::exchange::Exchange;
 use crate::maps::read_canon;

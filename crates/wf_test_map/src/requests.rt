@@ -1,7 +1,8 @@
 //! Requests and their answers.
 use wf_ballot::Seq;
 use wf_def::map::MapDef;
-use wf_test_table::{Answer, Answered, Asked, Unanswered, Words};
+use wf_test_calls::words::sequence;
+use wf_test_table::{Answer, Answered, Asked};
 use wf_wms::{Answer as Given, Exception, Kind, describe};
 
 /// Map `a`: 0 0 4 4 in degrees, with every default.
@@ -49,13 +50,6 @@ pub(crate) fn tell_summary(given: Given, answer: &mut Answer) {
     drop(given);
 }
 
-fn sequence(mut words: Words<'_>) -> Result<Seq, Unanswered> {
-    match Seq::new(words.short()?) {
-        Some(sequence) => Ok(sequence),
-        None => Err(Unanswered::BadWords),
-    }
-}
-
 fn tell_described(asked: Asked<'_>, sequence: Seq, map: &MapDef, answer: &mut Answer) {
     match describe(asked.alloc, sequence.number(), map, asked.input) {
         Ok(given) => tell_summary(given, answer),
@@ -64,8 +58,8 @@ fn tell_described(asked: Asked<'_>, sequence: Seq, map: &MapDef, answer: &mut An
 }
 
 /// `request SEQ`: the kind, the media type and the length of the answer to a query about map `a` at an update sequence.
-pub(crate) fn request(asked: Asked<'_>, answer: &mut Answer) -> Answered {
-    let sequence = sequence(asked.words)?;
+pub(crate) fn request(mut asked: Asked<'_>, answer: &mut Answer) -> Answered {
+    let sequence = sequence(&mut asked.words)?;
     match wf_mapfile::read(asked.alloc, MAP_A.as_bytes()) {
         Ok(map) => {
             tell_described(asked, sequence, &map, answer);

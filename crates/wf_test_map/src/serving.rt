@@ -1,6 +1,7 @@
 //! Requests that a node serves, one after the other.
 use crate::exchange::{Exchange, tell_outcome, tell_written};
 use std::alloc::Global;
+use wf_codec::Message;
 use wf_edge::serve::{Served, serve_one};
 use wf_node::Node;
 use wf_tape::Tape;
@@ -64,14 +65,30 @@ fn tell_serving<T: Tape>(
     request: &[u8],
     answer: &mut Answer,
 ) -> Answered {
+    match tell_served(alloc, node, way, request, answer) {
+        Ok(messages) => {
+            drop(messages);
+            Ok(())
+        }
+        Err(unanswered) => Err(unanswered),
+    }
+}
+
+/// Appends the same of one request, and returns what is sent.
+pub(crate) fn tell_served<T: Tape>(
+    alloc: Global,
+    node: &mut Node<T>,
+    way: Exchange,
+    request: &[u8],
+    answer: &mut Answer,
+) -> Result<Vec<Message>, Unanswered> {
     let mut reader = way.reader(request)?;
     let mut writer = way.writer(alloc);
     let served = serve_one(alloc, &mut reader, &mut writer, node);
     tell(&served, writer.bytes(), answer);
-    drop(served);
     drop(writer);
     drop(reader);
-    Ok(())
+    Ok(served.messages)
 }
 
 /// Appends what became of a request, what was written and what is sent.

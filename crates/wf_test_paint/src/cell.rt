@@ -1,13 +1,13 @@
 //! Cells of the grid of tiles.
-use crate::frame::{Frame, read_box};
+use crate::section::{Section, read_box};
 use wf_paint::cell::GridCell;
 use wf_test_table::{Answer, Answered, Asked, Words};
 
 /// Appends level, column and row of the cell of the extent's grid whose tile `BOX, W by H` is; none where no cell fits.
 pub(crate) fn ask(asked: Asked<'_>, answer: &mut Answer) -> Answered {
     let extent = read_box(asked.words)?;
-    let frame = Frame::read(&mut Words::new(asked.text()?))?;
-    match GridCell::of(extent, frame.bbox, frame.width, frame.height) {
+    let section = Section::read(&mut Words::new(asked.text()?))?;
+    match GridCell::of(extent, section.bbox, section.width, section.height) {
         Some(cell) => tell_cell(cell, answer),
         None => answer.line("none"),
     }

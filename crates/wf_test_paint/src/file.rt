@@ -1,6 +1,6 @@
 //! Pictures of a map's layers with their labels, as files.
-use crate::frame::read_map;
-use crate::request::{Request, are_below, places_of};
+use crate::request::{Request, are_below, indices_of};
+use crate::section::read_map;
 use wf_def::map::MapDef;
 use wf_test_table::{Answer, Answered, Asked, Unanswered};
 
@@ -18,13 +18,13 @@ pub(crate) fn ask(mut asked: Asked<'_>, answer: &mut Answer) -> Answered {
 }
 
 fn tell_file(asked: Asked<'_>, map: &MapDef, request: Request, answer: &mut Answer) -> Answered {
-    let layers = places_of(asked, map)?;
+    let layers = indices_of(asked, map)?;
     if !are_below(&layers, map.layer_count()) {
         drop(layers);
         return Err(Unanswered::BadWords);
     }
     match request
-        .frame
+        .section
         .file(asked.alloc, map, layers, request.background)
     {
         Ok(file) => {

@@ -9,12 +9,12 @@
 
 mod cell;
 mod file;
-mod frame;
 mod letter;
 mod picture;
-mod place;
+mod position;
 mod questions;
 mod request;
+mod section;
 mod window;
 
 use questions::Painter;

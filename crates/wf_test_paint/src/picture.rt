@@ -1,8 +1,8 @@
 //! Pictures of a map's layers with their labels.
 ghost use Rattle.std.specs.Prelude.{◌<◌, All, length};
 
-use crate::frame::read_map;
-use crate::request::{Request, are_below, places_of};
+use crate::request::{Request, are_below, indices_of};
+use crate::section::read_map;
 use crate::window::Window;
 use std::alloc::Global;
 use wf_def::map::MapDef;
@@ -43,7 +43,7 @@ fn tell_layers(
     window: Option<Window>,
     answer: &mut Answer,
 ) -> Answered {
-    let layers = places_of(asked, map)?;
+    let layers = indices_of(asked, map)?;
     let told = tell_picture(asked.alloc, map, &layers, request, window, answer);
     drop(layers);
     told
@@ -57,7 +57,7 @@ fn tell_picture(
     window: Option<Window>,
     answer: &mut Answer,
 ) -> Answered {
-    let view = request.frame.view(map)?;
+    let view = request.section.view(map)?;
     if !are_below(layers, map.layer_count()) {
         return Err(Unanswered::BadWords);
     }

@@ -6,14 +6,14 @@
 //! part COLUMN ROW, W by H of PICTURE             a mapfile            the same of W columns and H rows of the view's
 //!                                                                     picture from this pixel on
 //! file BOX, W by H, BACKGROUND[, LAYER ..]       a mapfile            the layers' picture as a file, cut to its tile
-//! place BOX, W by H, X Y                         a mapfile            where the view shows the point, in sixteenths of a pixel
+//! position BOX, W by H, X Y                      a mapfile            where the view shows the point, in sixteenths of a pixel
 //!                                                                     from the left and from the bottom; for a tile also the
 //!                                                                     pixel at which it is cut out
 //! cell EXTENT                                    BOX, W by H          level, column and row of the extent's grid, none
 //! ```
 //!
 //! [`crate::letter`] has the letters.
-use crate::{cell, file, picture, place};
+use crate::{cell, file, picture, position};
 use wf_test_table::{Answer, Answered, Asked, Questions, Unanswered};
 
 /// The questions about the painter.
@@ -25,7 +25,7 @@ impl Questions for Painter {
             "picture" => picture::ask(asked, answer),
             "part" => picture::ask_part(asked, answer),
             "file" => file::ask(asked, answer),
-            "place" => place::ask(asked, answer),
+            "position" => position::ask(asked, answer),
             "cell" => cell::ask(asked, answer),
             _ => Err(Unanswered::UnknownQuestion),
         }

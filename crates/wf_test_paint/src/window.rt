@@ -1,6 +1,6 @@
 //! Which pixels of a picture are written.
-use crate::frame::read_other_side;
 use crate::letter::letter_of;
+use crate::section::read_other_side;
 use wf_def::color::Color;
 use wf_paint::pixmap::Pixmap;
 use wf_test_table::{Answer, Answered, Unanswered, Words};

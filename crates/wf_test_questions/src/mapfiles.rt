@@ -109,7 +109,7 @@ pub(crate) fn class(asked: Asked<'_>, answer: &mut Answer) -> Answered {
             drop(map);
             return Err(Unanswered::BadWords);
         }
-        Err(MapFault::MissingEnd(place)) => tell_class(asked, place, answer),
+        Err(MapFault::MissingEnd(end)) => tell_class(asked, end, answer),
         Err(cut) => write_fault(cut, open.front.len(), answer),
     }
     Ok(())
@@ -166,9 +166,9 @@ pub(crate) fn sizes(asked: Asked<'_>, answer: &mut Answer) -> Answered {
 
 fn write_class_of(layer: &Layer, feature: &Feature, answer: &mut Answer) {
     match layer.class_of(feature) {
-        Some(place) => {
+        Some(index) => {
             answer.text("class ");
-            answer.count(place);
+            answer.count(index);
             answer.line("");
         }
         None => answer.line("none"),

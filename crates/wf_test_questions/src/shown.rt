@@ -186,10 +186,10 @@ pub(crate) fn write_class(class: &Class, answer: &mut Answer) {
 }
 
 // Appends an error's name, and its byte offset in a piece that follows `front` bytes.
-fn write_placed(name: &str, place: usize, front: usize, answer: &mut Answer) {
+fn write_at(name: &str, offset: usize, front: usize, answer: &mut Answer) {
     answer.text(name);
     answer.text(" at ");
-    answer.count(place.saturating_sub(front));
+    answer.count(offset.saturating_sub(front));
     answer.line("");
 }
 
@@ -198,15 +198,15 @@ pub(crate) fn write_fault(fault: MapFault, front: usize, answer: &mut Answer) {
     match fault {
         MapFault::Memory => answer.cut(),
         MapFault::TooLong => answer.line("M2"),
-        MapFault::NotUtf8(place) => write_placed("M3", place, front, answer),
-        MapFault::BadToken(place) => write_placed("M4", place, front, answer),
-        MapFault::UnexpectedWord(place) => write_placed("M5", place, front, answer),
-        MapFault::MissingEnd(place) => write_placed("M6", place, front, answer),
-        MapFault::BadNumber(place) => write_placed("M7", place, front, answer),
-        MapFault::OutOfRange(place) => write_placed("M8", place, front, answer),
+        MapFault::NotUtf8(offset) => write_at("M3", offset, front, answer),
+        MapFault::BadToken(offset) => write_at("M4", offset, front, answer),
+        MapFault::UnexpectedWord(offset) => write_at("M5", offset, front, answer),
+        MapFault::MissingEnd(offset) => write_at("M6", offset, front, answer),
+        MapFault::BadNumber(offset) => write_at("M7", offset, front, answer),
+        MapFault::OutOfRange(offset) => write_at("M8", offset, front, answer),
         MapFault::Missing => answer.line("M9"),
-        MapFault::Repeated(place) => write_placed("M10", place, front, answer),
+        MapFault::Repeated(offset) => write_at("M10", offset, front, answer),
         MapFault::TooMany => answer.line("M11"),
-        MapFault::Trailing(place) => write_placed("M12", place, front, answer),
+        MapFault::Trailing(offset) => write_at("M12", offset, front, answer),
     }
 }

@@ -101,11 +101,11 @@ struct Filling<'a> {
 
 impl Filling<'_> {
     // Appends the lines one after the other, with the other gap after the line of this number.
-    fn write(self, text: &str, place: usize, out: &mut Answer) {
+    fn write(self, text: &str, chosen: usize, out: &mut Answer) {
         let mut number = 0usize;
         for line in text.split('\n') {
             out.text(line);
-            out.bytes(if number == place {
+            out.bytes(if number == chosen {
                 self.other
             } else {
                 self.gap
@@ -133,13 +133,13 @@ fn take_gap(
     alloc: Global,
     text: &str,
     gaps: Filling<'_>,
-    place: usize,
+    line: usize,
     runs: &mut Runs,
     answer: &mut Answer,
 ) {
     let mut mapfile = Answer::new(alloc);
     let mut shown = Answer::new(alloc);
-    gaps.write(text, place, &mut mapfile);
+    gaps.write(text, line, &mut mapfile);
     tell_meant(alloc, &mapfile, &mut shown);
     runs.take(&shown, answer);
     drop(shown);
@@ -148,8 +148,8 @@ fn take_gap(
 
 fn take_gaps(alloc: Global, text: &str, gaps: Filling<'_>, answer: &mut Answer) {
     let mut runs = Runs::new(alloc);
-    for place in 0..text.split('\n').count() {
-        take_gap(alloc, text, gaps, place, &mut runs, answer);
+    for line in 0..text.split('\n').count() {
+        take_gap(alloc, text, gaps, line, &mut runs, answer);
     }
     runs.write(answer);
     drop(runs);

@@ -6,7 +6,7 @@ use crate::questions::Unanswered;
 
 // The state of the reader of a spelled text.
 #[derive(Clone, Copy)]
-enum Place {
+enum State {
     Outside,
     BehindBackslash,
     BehindX,
@@ -26,12 +26,12 @@ pub fn digit(byte: u8) -> Option<u8>
 }
 
 // Reads a byte that follows no backslash.
-fn take_plain(byte: u8, out: &mut Answer) -> Place {
+fn take_plain(byte: u8, out: &mut Answer) -> State {
     if byte == b'\\' {
-        return Place::BehindBackslash;
+        return State::BehindBackslash;
     }
     out.bytes(&[byte]);
-    Place::Outside
+    State::Outside
 }
 
 // The byte that a backslash and this letter spell.
@@ -46,49 +46,49 @@ fn letter(byte: u8) -> Option<u8> {
     }
 }
 
-fn take_letter(byte: u8, out: &mut Answer) -> Result<Place, Unanswered> {
+fn take_letter(byte: u8, out: &mut Answer) -> Result<State, Unanswered> {
     if byte == b'x' {
-        return Ok(Place::BehindX);
+        return Ok(State::BehindX);
     }
     match letter(byte) {
         Some(meant) => out.bytes(&[meant]),
         None => return Err(Unanswered::BadWords),
     }
-    Ok(Place::Outside)
+    Ok(State::Outside)
 }
 
-fn take_first_digit(byte: u8) -> Result<Place, Unanswered> {
+fn take_first_digit(byte: u8) -> Result<State, Unanswered> {
     match digit(byte) {
-        Some(high) => Ok(Place::BehindDigit(high * 16)),
+        Some(high) => Ok(State::BehindDigit(high * 16)),
         None => Err(Unanswered::BadWords),
     }
 }
 
-fn take_second_digit(high: u8, byte: u8, out: &mut Answer) -> Result<Place, Unanswered> {
+fn take_second_digit(high: u8, byte: u8, out: &mut Answer) -> Result<State, Unanswered> {
     match digit(byte) {
         Some(low) => out.bytes(&[high | low]),
         None => return Err(Unanswered::BadWords),
     }
-    Ok(Place::Outside)
+    Ok(State::Outside)
 }
 
-fn take(place: Place, byte: u8, out: &mut Answer) -> Result<Place, Unanswered> {
-    match place {
-        Place::Outside => Ok(take_plain(byte, out)),
-        Place::BehindBackslash => take_letter(byte, out),
-        Place::BehindX => take_first_digit(byte),
-        Place::BehindDigit(high) => take_second_digit(high, byte, out),
+fn take(state: State, byte: u8, out: &mut Answer) -> Result<State, Unanswered> {
+    match state {
+        State::Outside => Ok(take_plain(byte, out)),
+        State::BehindBackslash => take_letter(byte, out),
+        State::BehindX => take_first_digit(byte),
+        State::BehindDigit(high) => take_second_digit(high, byte, out),
     }
 }
 
 /// Appends the bytes that a text spells. Returns an error where a backslash begins no escape; then a part is appended.
 pub fn unescape(text: &str, out: &mut Answer) -> Result<(), Unanswered> {
-    let mut place = Place::Outside;
+    let mut state = State::Outside;
     for byte in text.as_bytes() {
-        place = take(place, *byte, out)?;
+        state = take(state, *byte, out)?;
     }
-    match place {
-        Place::Outside => Ok(()),
+    match state {
+        State::Outside => Ok(()),
         _ => Err(Unanswered::BadWords),
     }
 }

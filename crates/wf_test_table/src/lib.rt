@@ -20,11 +20,11 @@ mod asked;
 mod counts;
 pub mod escape;
 mod fault;
-mod line;
 mod program;
 mod questions;
 mod runner;
 mod runs;
+mod table_line;
 mod words;
 
 pub use answer::Answer;

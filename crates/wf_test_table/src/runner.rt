@@ -6,8 +6,8 @@ use crate::asked::Asked;
 use crate::counts::Counts;
 use crate::escape::{escape, unescape};
 use crate::fault::Fault;
-use crate::line::{Content, Line, read_line};
 use crate::questions::Questions;
+use crate::table_line::{Content, TableLine, read_line};
 use crate::words::Words;
 use std::alloc::{AllocError, Global};
 use std::mem;
@@ -100,7 +100,7 @@ fn write_content(
     }
 }
 
-fn write_place(number: u64, report: &mut Answer) {
+fn write_line_number(number: u64, report: &mut Answer) {
     report.text("line ");
     report.value(number);
     report.text(": ");
@@ -147,7 +147,7 @@ impl<'a> Runner<'a> {
             return Err(AllocError);
         }
         self.counts.count_fault();
-        write_place(number, report);
+        write_line_number(number, report);
         report.line(fault.words());
         Ok(())
     }
@@ -176,7 +176,7 @@ impl<'a> Runner<'a> {
         if self.counts.compare(&self.expected.text, given) {
             return;
         }
-        write_place(number, report);
+        write_line_number(number, report);
         report.line(name);
         write_escaped("  expected: ", &self.expected.text, report);
         write_escaped("  given:    ", given, report);
@@ -365,19 +365,19 @@ impl<'a> Runner<'a> {
         &mut self,
         questions: &Q,
         number: u64,
-        line: Line<'a>,
+        line: TableLine<'a>,
         report: &mut Answer,
     ) -> Result<(), Fault>
         ensures kept { self.old.counts.differing ≤ self.new.counts.differing }
     {
         match line {
-            Line::Nothing => Ok(()),
-            Line::Text(name) => self.begin(questions, Block::Text(number, name), report),
-            Line::Case(name) => self.begin(questions, Block::Case(number, name), report),
-            Line::Ask(words) => self.take_question(words),
-            Line::Row(input, answer) => self.row(questions, number, input, answer, report),
-            Line::Input(content) => self.add_input(content),
-            Line::Expected(content) => self.add_expected(content),
+            TableLine::Nothing => Ok(()),
+            TableLine::Text(name) => self.begin(questions, Block::Text(number, name), report),
+            TableLine::Case(name) => self.begin(questions, Block::Case(number, name), report),
+            TableLine::Ask(words) => self.take_question(words),
+            TableLine::Row(input, answer) => self.row(questions, number, input, answer, report),
+            TableLine::Input(content) => self.add_input(content),
+            TableLine::Expected(content) => self.add_expected(content),
         }
     }
 

@@ -49,6 +49,10 @@ after_fraction (b ∷ rest) = if b == 46 then after_digits rest else b ∷ rest
 abbrev pub spelled_onto : ℕ → List ℕ → ℕ
 spelled_onto value digits = fold (λ v b. v * 10 + (b - 48)) value digits
 
+-- the number of any number of decimal digits
+abbrev pub number_of_digits : List ℕ → ℕ
+number_of_digits digits = spelled_onto 0 digits
+
 abbrev pub signed : Bool → ℕ → ℤ
 signed negative magnitude = if negative then neg_ℤ (pos magnitude) else pos magnitude
 

@@ -11,6 +11,7 @@
 //! (wf_token).
 #![tactic(auto)]
 
+pub mod digits;
 pub mod fault;
 pub mod limits;
 pub mod micro;

@@ -1,11 +1,12 @@
 //! Reading a number's text: the text is cut into parts, and the parts have a value.
 ghost use Rattle.std.specs.Prelude.{◌≡◌, ◌+◌, ◌*◌, ◌/◌, ◌^◌, ◌<◌, ◌≤◌, ◌==◌, ◌++◌, ◌+ℤ◌, ◌-ℤ◌, pos, min, length, IfOk};
 ghost use Rattle.std.specs.Char.{is_ascii_digit};
-ghost use Rattle.std.specs.List.{list_all, prefix_len};
+ghost use Rattle.std.specs.List.{prefix_len};
 ghost use Rattle.wf_text.specs.Micro.{IsMicro};
 ghost use Rattle.wf_text.specs.Number.{Numeral as NumeralValue, is_negative, after_sign, leading_digits, after_digits, fraction_digits, after_fraction, spelled_onto, is_sign, is_power_digits, is_power_mark, signed_power, power_of, numeral_from, numeral, scaled, signed, has_too_many_digits, magnitude, in_range};
 ghost use Rattle.wf_text.specs.Limit.{most_fraction_digits, most_millionths, most_power_digits, most_whole_digits};
 
+use crate::digits::are_digits;
 use crate::fault::NumberFault;
 use crate::limits::{MOST_FRACTION_DIGITS, MOST_MILLIONTHS, MOST_POWER_DIGITS, MOST_WHOLE_DIGITS};
 use std::marker::Model;
@@ -151,12 +152,6 @@ fn is_power_digits(digits: &[u8]) -> bool
     ensures { result ≡ is_power_digits digits.now }
 {
     !digits.is_empty() && digits.len() <= MOST_POWER_DIGITS && are_digits(digits)
-}
-
-fn are_digits(text: &[u8]) -> bool
-    ensures { result ≡ list_all is_ascii_digit text.now }
-{
-    text.iter().all(|byte| byte.is_ascii_digit())
 }
 
 /// The value that the digits spell, appended to the digits of a value.

@@ -7,5 +7,6 @@ ghost use Rattle.wf_text.specs.NumberText.{number_text};
 
 /// Reading the text of a number returns that number. A theorem about the definitions: the call does nothing.
 pub fn number_is_read_again()
-    ensures { (millionths : ℤ) → IsMicro millionths → number (number_text millionths) ≡ Ok millionths }
+    ensures { (millionths : ℤ) → IsMicro millionths →
+        number (number_text millionths) ≡ Ok millionths }
 {}

@@ -66,7 +66,8 @@ pub fn write_number(number: Micro, out: &mut Vec<u8>) -> Result<(), AllocError>
 
 /// Appends the bytes if there is room for them.
 fn extend(out: &mut ArrayVec<u8, MOST_NUMBER_BYTES>, bytes: &[u8])
-    ensures { length out.old.items + length bytes.now ≤ most_number_bytes → out.new.items ≡ out.old.items ++ bytes.now }
+    ensures { length out.old.items + length bytes.now ≤ most_number_bytes →
+        out.new.items ≡ out.old.items ++ bytes.now }
 {
     let _ = out.try_extend_from_slice(bytes);
 }

@@ -45,7 +45,8 @@ impl Text {
     pub fn new(alloc: Global, bytes: &[u8]) -> Result<Self, TextFault>
         ensures value { IfOk result (λ text. text ≡ bytes.now) }
         ensures within { IfOk result IsText }
-        ensures refused { IfErr result (λ fault. is_memory fault ≡ false → is_text bytes.now ≡ false) }
+        ensures refused { IfErr result
+            (λ fault. is_memory fault ≡ false → is_text bytes.now ≡ false) }
         ensures first { IfErr result (λ fault. IsFirstFault fault bytes.now) }
     {
         let text = checked(bytes)?;

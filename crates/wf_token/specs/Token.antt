@@ -51,26 +51,26 @@ is_plain b =
     not (is_quote b || is_hash b || b == 92 || b == 40 || b == 41 || b == 91 || b == 93 || b == 123 || b == 125)
 
 -- the state of the automaton
-pub data Place : Type 0 where
+pub data State : Type 0 where
   -- between tokens, where one may begin
-  Between : Place
+  Between : State
   -- after a `/` between tokens: it begins a comment, or is a word's first byte
-  BehindSlash : Place
-  LineComment : Place
-  BlockComment : Place
+  BehindSlash : State
+  LineComment : State
+  BlockComment : State
   -- after a `*` in a block comment
-  BehindStar : Place
+  BehindStar : State
   -- in a word, after these bytes of it
-  InWord : List ℕ → Place
+  InWord : List ℕ → State
   -- in a string in this quote, after these bytes of it
-  InString : ℕ → List ℕ → Place
+  InString : ℕ → List ℕ → State
   -- in a list, after these bytes of it
-  InList : List ℕ → Place
+  InList : List ℕ → State
 
 -- the effect of one byte: a new state, the end of a token and a new state, or the text has no tokens
 pub data Step : Type 0 where
-  Goes : Place → Step
-  Ends : Token → Place → Step
+  Goes : State → Step
+  Ends : Token → State → Step
   Refuses : Step
 
 -- the step between tokens
@@ -105,7 +105,7 @@ step_in_list s b =
     then (if is_value_list s then Ends (Braced s) Between else Refuses)
     else Goes (InList (s ++ b ∷ []))
 
-unfoldable pub step : Place → ℕ → Step
+unfoldable pub step : State → ℕ → Step
 step Between b = step_between b
 step BehindSlash b = if is_star b then Goes BlockComment else step_in_word (47 ∷ []) b
 step LineComment b = if ends_line b then Goes Between else Goes LineComment
@@ -117,7 +117,7 @@ step (InString q s) b = step_in_string q s b
 step (InList s) b = step_in_list s b
 
 -- at the end of the text: a word and a line comment end there, a string, a list and a block comment don't
-unfoldable pub at_end : Place → Option (List Token)
+unfoldable pub at_end : State → Option (List Token)
 at_end Between = Some []
 at_end BehindSlash = Some (Word (47 ∷ []) ∷ [])
 at_end LineComment = Some []
@@ -137,13 +137,13 @@ abbrev pub prepend_all : List Token → Option (List Token) → Option (List Tok
 prepend_all [] rest = rest
 prepend_all (t ∷ ts) rest = prepend t (prepend_all ts rest)
 
-abbrev pub follow : Step → (Place → Option (List Token)) → Option (List Token)
+abbrev pub follow : Step → (State → Option (List Token)) → Option (List Token)
 follow (Goes p) rest = rest p
 follow (Ends t p) rest = prepend t (rest p)
 follow Refuses rest = None
 
 -- the tokens of the rest of a text, from a state
-unfoldable pub tokens_from : Place → List ℕ → Option (List Token)
+unfoldable pub tokens_from : State → List ℕ → Option (List Token)
 tokens_from p [] = at_end p
 tokens_from p (b ∷ bs) = follow (step p b) (λ q. tokens_from q bs)
 

@@ -144,7 +144,8 @@ fn after_line(bytes: &[u8]) -> &[u8]
 
 /// What follows a `/`, if it is at the front.
 fn after_slash(bytes: &[u8]) -> Option<&[u8]>
-    ensures found { IfSome result (λ after. (byte : ℕ) × (is_slash byte ≡ true) × (bytes.now ≡ byte ∷ after.now)) }
+    ensures found { IfSome result
+        (λ after. (byte : ℕ) × (is_slash byte ≡ true) × (bytes.now ≡ byte ∷ after.now)) }
     ensures absent { IfNone result (begins is_slash bytes.now ≡ false) }
 {
     match bytes.split_first() {
@@ -156,7 +157,8 @@ fn after_slash(bytes: &[u8]) -> Option<&[u8]>
 /// What follows the block comment that these bytes continue, if it ends.
 #[tactic(auto, using(crate::proofs::TokenLemmas::block_steps))]
 fn after_comment(bytes: &[u8]) -> Option<&[u8]>
-    ensures closed { IfSome result (λ after. tokens_from Between after.now ≡ tokens_from BlockComment bytes.now) }
+    ensures closed { IfSome result
+        (λ after. tokens_from Between after.now ≡ tokens_from BlockComment bytes.now) }
     ensures within { IfSome result (λ after. length after.now ≤ length bytes.now) }
     ensures open { IfNone result (tokens_from BlockComment bytes.now ≡ None) }
 {
@@ -303,7 +305,8 @@ fn list<'a>(opening: &'a [u8], inside: &'a [u8]) -> Lexeme<'a>
 /// What follows `/*`, if that is at the front.
 #[tactic(auto, using(crate::proofs::TokenLemmas::comment_steps), unfolding(crate::specs::Lexeme::opens_comment))]
 fn comment_inside(bytes: &[u8]) -> Option<&[u8]>
-    ensures tokens { IfSome result (λ inside. tokens_from BlockComment inside.now ≡ tokens_from Between bytes.now) }
+    ensures tokens { IfSome result
+        (λ inside. tokens_from BlockComment inside.now ≡ tokens_from Between bytes.now) }
     ensures within { IfSome result (λ inside. length inside.now < length bytes.now) }
     ensures absent { IfNone result (opens_comment bytes.now ≡ false) }
 {
@@ -373,7 +376,8 @@ fn without_mark(bytes: &[u8]) -> &[u8]
 /// order mark.
 #[tactic(auto, using(crate::proofs::TokenLemmas::token_list), unfolding(crate::specs::Token::tokens))]
 pub fn tokenize<'a>(alloc: Global, bytes: &'a [u8]) -> Result<Tokens<'a>, AllocError>
-    ensures lexed { IfOk result (λ lexed. IfNone lexed.fault (tokens bytes.now ≡ Some (token_values lexed.tokens.items))) }
+    ensures lexed { IfOk result
+        (λ lexed. IfNone lexed.fault (tokens bytes.now ≡ Some (token_values lexed.tokens.items))) }
     ensures refused { IfOk result (λ lexed. OnSome lexed.fault (tokens bytes.now ≡ None)) }
 {
     let mut tokens = Vec::new(alloc);

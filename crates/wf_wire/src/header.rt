@@ -24,7 +24,8 @@ pub fn known_length(bytes: &[u8]) -> usize
 /// After allocation failure some may have been moved.
 #[tactic(auto, using(crate::proofs::Headers::filled_on, crate::proofs::Headers::front_stays))]
 pub fn complete(rest: &mut Vec<u8>, piece: &[u8]) -> Result<(), AllocError>
-    ensures ok { OnOk result ((left : _) × IsFilled rest.old.items piece.now rest.new.items left (known_length rest.new.items)) }
+    ensures ok { OnOk result ((left : _) ×
+        IsFilled rest.old.items piece.now rest.new.items left (known_length rest.new.items)) }
     ensures err { OnErr result (take (length rest.old.items) rest.new.items ≡ rest.old.items) }
 {
     let left = fill(rest, piece, HEADER_BYTES)?;
@@ -35,7 +36,8 @@ pub fn complete(rest: &mut Vec<u8>, piece: &[u8]) -> Result<(), AllocError>
 /// Moves the piece's first bytes behind the rest until it has that length or none are left, and returns what is left.
 #[tactic(auto, using(crate::proofs::Headers::filled_by))]
 fn fill<'a>(rest: &mut Vec<u8>, piece: &'a [u8], length: usize) -> Result<&'a [u8], AllocError>
-    ensures ok { IfOk result (λ left. IsFilled rest.old.items piece.now rest.new.items left.now length) }
+    ensures ok { IfOk result (λ left.
+        IsFilled rest.old.items piece.now rest.new.items left.now length) }
     ensures err { OnErr result (rest.new.items ≡ rest.old.items) }
 {
     let (moved, left) = piece.split_at(length.saturating_sub(rest.len()).min(piece.len()));

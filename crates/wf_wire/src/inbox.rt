@@ -52,13 +52,16 @@ impl Inbox {
     pub fn feed(&mut self, piece: &[u8]) -> Result<Vec<Message>, InboxFault>
         // The rest before, followed by the piece, is the encodings of the messages followed by the rest after. That begins with
         // no whole message, and has no error so far.
-        ensures ok { IfOk result (λ messages. IsFed self.old piece.now (map view messages.items) self.new) }
+        ensures ok { IfOk result (λ messages.
+            IsFed self.old piece.now (map view messages.items) self.new) }
 
         // The rest before, followed by the piece, is whole messages followed by bytes with this error; it is kept.
-        ensures broken { IfErr result (λ fault. fault ≢ InboxFault.Memory → IsBroken self.old piece.now fault self.new) }
+        ensures broken { IfErr result (λ fault. fault ≢ InboxFault.Memory →
+            IsBroken self.old piece.now fault self.new) }
 
         // An error is returned again by each later call.
-        ensures again { (fault : InboxFault) → self.old ≡ Failed fault → (result ≡ Err fault) × (self.new ≡ self.old) }
+        ensures again { (fault : InboxFault) → self.old ≡ Failed fault →
+            (result ≡ Err fault) × (self.new ≡ self.old) }
 
         ensures memory { IsErrOf result InboxFault.Memory → self.new ≡ self.old }
         ensures kept { kept_bytes self.new < most_message_bytes }

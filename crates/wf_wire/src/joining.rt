@@ -20,8 +20,10 @@ pub fn take_in(
 ) -> Result<(), InboxFault>
     requires empty { messages.old.items ≡ [] }
     requires part { IsPart rest.old.items }
-    ensures ok { OnOk result (Reads (rest.old.items ++ piece.now) (map view messages.new.items) rest.new.items) }
-    ensures err { IfErr result (λ fault. fault ≢ InboxFault.Memory → Breaks (rest.old.items ++ piece.now) fault) }
+    ensures ok { OnOk result
+        (Reads (rest.old.items ++ piece.now) (map view messages.new.items) rest.new.items) }
+    ensures err { IfErr result (λ fault. fault ≢ InboxFault.Memory →
+        Breaks (rest.old.items ++ piece.now) fault) }
     ensures memory { IsErrOf result InboxFault.Memory → rest.new.items ≡ rest.old.items }
 {
     let before = rest.len();
@@ -47,8 +49,10 @@ fn join(
 ) -> Result<(), InboxFault>
     requires empty { messages.old.items ≡ [] }
     requires part { IsPart rest.old.items }
-    ensures ok { OnOk result (Reads (rest.old.items ++ piece.now) (map view messages.new.items) rest.new.items) }
-    ensures err { IfErr result (λ fault. fault ≢ InboxFault.Memory → Breaks (rest.old.items ++ piece.now) fault) }
+    ensures ok { OnOk result
+        (Reads (rest.old.items ++ piece.now) (map view messages.new.items) rest.new.items) }
+    ensures err { IfErr result (λ fault. fault ≢ InboxFault.Memory →
+        Breaks (rest.old.items ++ piece.now) fault) }
     ensures front { OnErr result (take (length rest.old.items) rest.new.items ≡ rest.old.items) }
 {
     // The theorem: no body is longer than the longest.
@@ -72,8 +76,10 @@ fn keep_after(
     rest: &mut Vec<u8>,
     piece: &[u8],
 ) -> Result<(), InboxFault>
-    ensures ok { (stream : List ℕ) → Splits stream (map view messages.old.items) piece.now → OnOk result (Reads stream (map view messages.new.items) rest.new.items) }
-    ensures err { (stream : List ℕ) → Splits stream (map view messages.old.items) piece.now → IfErr result (λ fault. fault ≢ InboxFault.Memory → Breaks stream fault) }
+    ensures ok { (stream : List ℕ) → Splits stream (map view messages.old.items) piece.now →
+        OnOk result (Reads stream (map view messages.new.items) rest.new.items) }
+    ensures err { (stream : List ℕ) → Splits stream (map view messages.old.items) piece.now →
+        IfErr result (λ fault. fault ≢ InboxFault.Memory → Breaks stream fault) }
     ensures unchanged { OnErr result (rest.new.items ≡ rest.old.items) }
 {
     let left = read_whole(alloc, messages, piece)?;

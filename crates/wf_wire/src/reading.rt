@@ -16,8 +16,10 @@ pub fn read_whole<'a>(
     messages: &mut Vec<Message>,
     bytes: &'a [u8],
 ) -> Result<&'a [u8], InboxFault>
-    ensures ok { (stream : List ℕ) → Splits stream (map view messages.old.items) bytes.now → IfOk result (λ left. Reads stream (map view messages.new.items) left.now) }
-    ensures err { (stream : List ℕ) → Splits stream (map view messages.old.items) bytes.now → IfErr result (λ fault. fault ≢ InboxFault.Memory → Breaks stream fault) }
+    ensures ok { (stream : List ℕ) → Splits stream (map view messages.old.items) bytes.now →
+        IfOk result (λ left. Reads stream (map view messages.new.items) left.now) }
+    ensures err { (stream : List ℕ) → Splits stream (map view messages.old.items) bytes.now →
+        IfErr result (λ fault. fault ≢ InboxFault.Memory → Breaks stream fault) }
 {
     // The theorem: an encoding has at least one byte.
     no_spelling_is_empty();
@@ -39,7 +41,9 @@ pub fn read_next(
     messages: &mut Vec<Message>,
     bytes: &[u8],
 ) -> Result<Option<usize>, InboxFault>
-    ensures ok { IfOk result (λ found. MatchOption found (TakesNone bytes.now (map view messages.old.items) (map view messages.new.items)) (λ n. TakesOne bytes.now n (map view messages.old.items) (map view messages.new.items))) }
+    ensures ok { IfOk result (λ found. MatchOption found
+        (TakesNone bytes.now (map view messages.old.items) (map view messages.new.items))
+        (λ n. TakesOne bytes.now n (map view messages.old.items) (map view messages.new.items))) }
     ensures err { IfErr result (λ fault. fault ≢ InboxFault.Memory → IsWrong bytes.now fault) }
 {
     match decode(alloc, bytes) {

@@ -34,7 +34,7 @@ picture_rejected history sequence map pairs e answer there rejected is other oth
 
 -- or they request a picture
 pub picture_wanted : (history : List Definition) (map : Definition) (pairs : List (List ℕ × List ℕ)) (asked : Asked) → asked.sequence ≤ length history →
-    map_at history asked.sequence ≡ Some map → Ok asked.request ≡ picture_in map pairs → All (λ place. place < length map.layers) asked.request.layers →
+    map_at history asked.sequence ≡ Some map → Ok asked.request ≡ picture_in map pairs → All (λ index. index < length map.layers) asked.request.layers →
     (other : Definition) → map_at history asked.sequence ≡ Some other → IsAsked history (IsMapAnswer other (picture_in other pairs)) asked
 picture_wanted history map pairs asked within there wanted layers other other_there =
     let same : map ≡ other = same_Some map other (sym there ∙ other_there) in

@@ -51,37 +51,37 @@ pub passed_over : (d : Definition) (name given : List ℕ) (layer : LayerDefinit
 passed_over d name given layer i here before other = below_more _ _ before (ap (bytes_eq name) (name_at d.layers i given layer here) ∙ other)
 
 -- the index is that of a layer
-layer_within : (d : Definition) (name : List ℕ) → IfSome (layer_of d name) (λ place. place < length d.layers)
+layer_within : (d : Definition) (name : List ℕ) → IfSome (layer_of d name) (λ index. index < length d.layers)
 unfolding layer_of
 layer_within d name =
     IfSome_then (layer_of d name) (found_within (bytes_eq name) (layer_names d.layers) (layer_of d name) refl)
-    (λ place within. rw (length-map d.layers (λ entry. entry.0)) at within)
+    (λ index within. rw (length-map d.layers (λ entry. entry.0)) at within)
 
-one_more_within : (most : ℕ) (found : Option ℕ) (places : List ℕ) → IfSome found (λ place. place < most) → All (λ place. place < most) places →
-    All (λ place. place < most) (cons_option found places)
-one_more_within most None places here others = others
-one_more_within most (Some place) places here others = All-cons (λ p. p < most) place places here others
+one_more_within : (most : ℕ) (found : Option ℕ) (indices : List ℕ) → IfSome found (λ index. index < most) → All (λ index. index < most) indices →
+    All (λ index. index < most) (cons_option found indices)
+one_more_within most None indices here others = others
+one_more_within most (Some index) indices here others = All-cons (λ p. p < most) index indices here others
 
-pub layers_within : (d : Definition) (names : List (List ℕ)) → All (λ place. place < length d.layers) (filter_map (layer_of d) names)
-layers_within d [] = All-nil (λ place. place < length d.layers)
+pub layers_within : (d : Definition) (names : List (List ℕ)) → All (λ index. index < length d.layers) (filter_map (layer_of d) names)
+layers_within d [] = All-nil (λ index. index < length d.layers)
 layers_within d (name ∷ names) =
     one_more_within (length d.layers) (layer_of d name) (filter_map (layer_of d) names) (layer_within d name) (layers_within d names)
 
 -- the next name is a layer's
-pub one_more_place : (d : Definition) (names : List (List ℕ)) (n place : ℕ) (name : List ℕ) (old new : List ℕ) → n < length names → get_or names n [] ≡ name →
-    layer_of d name ≡ Some place → old ≡ filter_map (layer_of d) (take n names) → new ≡ old ++ place ∷ [] → new ≡ filter_map (layer_of d) (take (n + 1) names)
-one_more_place d names n place name old new within is found so_far written =
-    let one : filter_map (layer_of d) (get_or names n [] ∷ []) ≡ place ∷ [] = ap (λ (o : Option ℕ). cons_option o []) (ap (layer_of d) is ∙ found) in
+pub one_more_index : (d : Definition) (names : List (List ℕ)) (n index : ℕ) (name : List ℕ) (old new : List ℕ) → n < length names → get_or names n [] ≡ name →
+    layer_of d name ≡ Some index → old ≡ filter_map (layer_of d) (take n names) → new ≡ old ++ index ∷ [] → new ≡ filter_map (layer_of d) (take (n + 1) names)
+one_more_index d names n index name old new within is found so_far written =
+    let one : filter_map (layer_of d) (get_or names n [] ∷ []) ≡ index ∷ [] = ap (λ (o : Option ℕ). cons_option o []) (ap (layer_of d) is ∙ found) in
     written
-    ∙ ap (λ (l : List ℕ). l ++ place ∷ []) so_far
+    ∙ ap (λ (l : List ℕ). l ++ index ∷ []) so_far
     ∙ ap (λ (l : List ℕ). filter_map (layer_of d) (take n names) ++ l) (sym one)
     ∙ sym (filter_map-append (layer_of d) (take n names) (get_or names n [] ∷ []))
     ∙ ap (filter_map (layer_of d)) (sym (take_more names n [] within))
 
 -- and none of the names up to it is unknown
-pub one_more_known : (d : Definition) (names : List (List ℕ)) (n place : ℕ) (name : List ℕ) → get_or names n [] ≡ name → layer_of d name ≡ Some place →
+pub one_more_known : (d : Definition) (names : List (List ℕ)) (n index : ℕ) (name : List ℕ) → get_or names n [] ≡ name → layer_of d name ≡ Some index →
     ((k : ℕ) → k < n → is_none (layer_of d (get_or names k [])) ≡ false) → (k : ℕ) → k < n + 1 → is_none (layer_of d (get_or names k [])) ≡ false
-one_more_known d names n place name is found before = below_more _ _ before (ap (λ (o : Option ℕ). is_none o) (ap (layer_of d) is ∙ found))
+one_more_known d names n index name is found before = below_more _ _ before (ap (λ (o : Option ℕ). is_none o) (ap (layer_of d) is ∙ found))
 
 -- the next name isn't a layer's
 pub unknown_at : (d : Definition) (names : List (List ℕ)) (n : ℕ) (name : List ℕ) → n < length names → get_or names n [] ≡ name → layer_of d name ≡ None →

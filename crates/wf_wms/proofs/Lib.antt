@@ -1,7 +1,7 @@
 pub mod EntriesLaw
 pub mod HistoryLaw
 pub mod JudgedLaw
-pub mod KeptLaw
+pub mod KeptPicturesLaw
 pub mod LayerLines
 pub mod LayersLaw
 pub mod RejectionLaw

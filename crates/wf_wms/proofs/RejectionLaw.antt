@@ -6,19 +6,19 @@ use Rattle.std.specs.List.{list_all}
 use Rattle.wf_def.specs.Definition.{Definition}
 use Rattle.wf_picture.specs.Request.{RequestValue}
 use Rattle.wf_wms.specs.Answer.{AnswerValue, IsAnswerOf, IsAnswerOn, IsMapAnswer, check_sequence, check_service, first_failing, metadata_answer, metadata_fault, operation_of, rejection, rejection_or_metadata}
-use Rattle.wf_wms.specs.Digits.{number_of_digits}
+use Rattle.wf_text.specs.Number.{number_of_digits}
 use Rattle.wf_wms.specs.Limit.{most_entries}
 use Rattle.wf_wms.specs.MapRequest.{◌>>=◌, check_layers, check_version, entries, layers_in, listed_names, map_request, map_sequence, named_layers, passed_or, picture_in, request_in, sequence_in, styled_layers}
 use Rattle.wf_wms.specs.Query.{pairs_of, parameter}
 use Rattle.wf_wms.specs.Rejection.{IsRejectedByText, TextsAreRejectedAlike, check_digits, check_names, from_sequence, map_text, metadata_text, operation_text, passed}
-use Rattle.wf_wms.specs.UpdateSequence.{sequence_rule, standing_of}
+use Rattle.wf_wms.specs.UpdateSequence.{sequence_rule, comparison_of}
 use Rattle.wf_wms.specs.declared.exception.Exception.{Exception}
 use Rattle.wf_wms.specs.declared.exception.Exception.TheVariants as exception
 use Rattle.wf_wms.specs.declared.exception.Parameter.TheVariants as parameters
 use Rattle.wf_wms.specs.declared.operation.Operation.{Operation}
 use Rattle.wf_wms.specs.declared.operation.Operation.TheVariants.{Capabilities, Map}
-use Rattle.wf_wms.specs.declared.standing.Standing.{Standing}
-use Rattle.wf_wms.specs.declared.standing.Standing.TheVariants as standing
+use Rattle.wf_wms.specs.declared.comparison.Comparison.{Comparison}
+use Rattle.wf_wms.specs.declared.comparison.Comparison.TheVariants as comparison
 
 abbrev fails : {A : Type 0} → Exception → Result A Exception
 fails e = Err e
@@ -41,8 +41,8 @@ fails_too {A} e other is = ap (λ x. fails {A = A} x) (same e other is)
 -- ---- GetCapabilities
 
 -- an UPDATESEQUENCE that isn't digits, at whatever sequence
-digits_step : (digits : Bool) (stands : Standing) (e : Exception) → passed_or exception.InvalidUpdateSequence digits ≡ Err e →
-    first_failing (check_sequence (if digits then stands else standing.NoNumber) ∷ []) ≡ Some e
+digits_step : (digits : Bool) (stands : Comparison) (e : Exception) → passed_or exception.InvalidUpdateSequence digits ≡ Err e →
+    first_failing (check_sequence (if digits then stands else comparison.NoNumber) ∷ []) ≡ Some e
 digits_step true stands e is = none e is
 digits_step false stands e is = ap (λ (x : Exception). Some x) (same exception.InvalidUpdateSequence e is)
 
@@ -51,7 +51,7 @@ sequence_step : (s : ℕ) (value : Option (List ℕ)) (e : Exception) → check_
 sequence_step s None e is = none e is
 sequence_step s (Some []) e is = none e is
 sequence_step s (Some (byte ∷ bytes)) e is =
-    digits_step (list_all is_ascii_digit (byte ∷ bytes)) (standing_of (number_of_digits (byte ∷ bytes)) s) e is
+    digits_step (list_all is_ascii_digit (byte ∷ bytes)) (comparison_of (number_of_digits (byte ∷ bytes)) s) e is
 
 service_step : (s : ℕ) (service : Option Exception) (value : Option (List ℕ)) (e : Exception) →
     (passed service >>= λ _. check_digits exception.InvalidUpdateSequence value) ≡ Err e →

@@ -9,8 +9,8 @@ use Rattle.wf_wms.specs.Query.{pairs_of, parameter}
 use Rattle.wf_wms.specs.UpdateSequence.{sequence_rule}
 use Rattle.wf_wms.specs.Exception.{exception_report}
 use Rattle.wf_wms.specs.Capabilities.{capabilities}
-use Rattle.wf_wms.specs.declared.standing.Standing.{Standing}
-use Rattle.wf_wms.specs.declared.standing.Standing.TheVariants as standing
+use Rattle.wf_wms.specs.declared.comparison.Comparison.{Comparison}
+use Rattle.wf_wms.specs.declared.comparison.Comparison.TheVariants as comparison
 use Rattle.wf_wms.specs.declared.exception.Parameter.TheVariants.{Request, Service}
 use Rattle.wf_wms.specs.declared.exception.Exception.{Exception}
 use Rattle.wf_wms.specs.declared.exception.Exception.TheVariants as exception
@@ -55,12 +55,12 @@ check_service None = Some (exception.MissingParameter Service)
 check_service (Some service) = if bytes_eq service (codes "WMS") then None else Some (exception.BadValue Service)
 
 -- the client's metadata is older than the server's, or the client has none (7.2.3.5)
-abbrev pub check_sequence : Standing → Option Exception
-check_sequence standing.Absent = None
-check_sequence standing.NoNumber = Some exception.InvalidUpdateSequence
-check_sequence standing.Below = None
-check_sequence standing.Equal = Some exception.CurrentUpdateSequence
-check_sequence standing.Above = Some exception.InvalidUpdateSequence
+abbrev pub check_sequence : Comparison → Option Exception
+check_sequence comparison.Absent = None
+check_sequence comparison.NoNumber = Some exception.InvalidUpdateSequence
+check_sequence comparison.Below = None
+check_sequence comparison.Equal = Some exception.CurrentUpdateSequence
+check_sequence comparison.Above = Some exception.InvalidUpdateSequence
 
 -- the exception if a query gets no metadata at the sequence s
 unfoldable pub metadata_fault : ℕ → List (List ℕ × List ℕ) → Option Exception

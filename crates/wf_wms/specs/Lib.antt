@@ -1,10 +1,9 @@
 pub mod Answer
 pub mod Background
 pub mod Capabilities
-pub mod Digits
 pub mod Exception
 pub mod Judged
-pub mod Kept
+pub mod KeptPictures
 pub mod Limit
 pub mod MapRequest
 pub mod Query

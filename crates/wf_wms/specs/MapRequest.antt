@@ -16,7 +16,7 @@ use Rattle.wf_paint.specs.Limit.{least_cell, most_pixels}
 use Rattle.wf_picture.specs.Request.{RequestValue}
 use Rattle.wf_picture.specs.declared.size.Size.{Size}
 use Rattle.wf_wms.specs.Background.{background_in}
-use Rattle.wf_wms.specs.Digits.{number_of_digits}
+use Rattle.wf_text.specs.Number.{number_of_digits}
 use Rattle.wf_wms.specs.Limit.{most_entries}
 use Rattle.wf_wms.specs.Query.{parameter}
 use Rattle.wf_wms.specs.declared.axes.Axes.{Axes}
@@ -69,7 +69,7 @@ layer_of d name = position (bytes_eq name) (layer_names d.layers)
 
 -- the indices are those of layers of the map
 abbrev pub AreLayersOf : Definition → List ℕ → Type 0
-AreLayersOf d places = All (λ place. place < length d.layers) places
+AreLayersOf d indices = All (λ index. index < length d.layers) indices
 
 -- checks LAYERS: no more names than a request may have, each of a layer of the map; a name may occur twice (7.3.3.3)
 unfoldable pub check_layers : Definition → List (List ℕ) → Result ⊤ Exception

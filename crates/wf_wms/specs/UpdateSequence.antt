@@ -3,17 +3,17 @@
 use Rattle.std.specs.Prelude.{ℕ, List, [], ◌∷◌, nat_lt, ◌==◌, Option, Some, None, if◌then◌else◌}
 use Rattle.std.specs.List.{list_all}
 use Rattle.std.specs.Char.{is_ascii_digit}
-use Rattle.wf_wms.specs.Digits.{number_of_digits}
-use Rattle.wf_wms.specs.declared.standing.Standing.{Standing}
-use Rattle.wf_wms.specs.declared.standing.Standing.TheVariants.{Absent, NoNumber, Below, Equal, Above}
+use Rattle.wf_text.specs.Number.{number_of_digits}
+use Rattle.wf_wms.specs.declared.comparison.Comparison.{Comparison}
+use Rattle.wf_wms.specs.declared.comparison.Comparison.TheVariants.{Absent, NoNumber, Below, Equal, Above}
 
 -- how a number compares with the sequence s
-abbrev pub standing_of : ℕ → ℕ → Standing
-standing_of number s = if number == s then Equal else (if nat_lt number s then Below else Above)
+abbrev pub comparison_of : ℕ → ℕ → Comparison
+comparison_of number s = if number == s then Equal else (if nat_lt number s then Below else Above)
 
 -- how the value of UPDATESEQUENCE compares with the sequence s
-abbrev pub sequence_rule : Option (List ℕ) → ℕ → Standing
+abbrev pub sequence_rule : Option (List ℕ) → ℕ → Comparison
 sequence_rule None s = Absent
 sequence_rule (Some []) s = Absent
 sequence_rule (Some (byte ∷ bytes)) s =
-    if list_all is_ascii_digit (byte ∷ bytes) then standing_of (number_of_digits (byte ∷ bytes)) s else NoNumber
+    if list_all is_ascii_digit (byte ∷ bytes) then comparison_of (number_of_digits (byte ∷ bytes)) s else NoNumber

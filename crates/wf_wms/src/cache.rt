@@ -4,7 +4,7 @@ ghost use Rattle.std.specs.Map.{lookup};
 ghost use Rattle.wf_def.specs.Definition.{Definition};
 ghost use Rattle.wf_paint.specs.Exact.{quotient};
 ghost use Rattle.wf_paint.specs.Limit.{shared_tiles};
-ghost use Rattle.wf_wms.specs.Kept.{most_kept, background_of, AllKept, IsCellOf, IsKept, IsTileAt, IsTileOf};
+ghost use Rattle.wf_wms.specs.KeptPictures.{most_kept, background_of, AllKept, IsCellOf, IsKept, IsTileAt, IsTileOf};
 
 use crate::asked::Asked;
 use crate::key::Key;
@@ -37,7 +37,7 @@ pub struct Cache {
 }
 
 impl Model for Cache {
-    ghost use Rattle.wf_wms.specs.Kept.{CacheValue};
+    ghost use Rattle.wf_wms.specs.KeptPictures.{CacheValue};
 
     ghost Value = { CacheValue };
 

@@ -4,11 +4,11 @@ ghost use Rattle.wf_ballot.specs.Sequence.{last_sequence};
 ghost use Rattle.wf_wms.specs.Answer.{check_service, check_sequence, description, metadata_answer, metadata_fault, operation_of};
 
 use crate::answer::Answer;
+use crate::comparison::Comparison;
 use crate::exception::{Exception, Parameter};
 use crate::operation::Operation;
 use crate::query::Query;
-use crate::standing::Standing;
-use crate::update_sequence::standing;
+use crate::update_sequence::comparison;
 use std::alloc::{AllocError, Global};
 use wf_def::map::MapDef;
 
@@ -34,13 +34,13 @@ fn check_service(service: Option<&str>) -> Option<Exception>
     }
 }
 
-fn check_sequence(standing: Standing) -> Option<Exception>
-    ensures { result ≡ check_sequence standing }
+fn check_sequence(comparison: Comparison) -> Option<Exception>
+    ensures { result ≡ check_sequence comparison }
 {
-    match standing {
-        Standing::Absent | Standing::Below => None,
-        Standing::Equal => Some(Exception::CurrentUpdateSequence),
-        Standing::NoNumber | Standing::Above => Some(Exception::InvalidUpdateSequence),
+    match comparison {
+        Comparison::Absent | Comparison::Below => None,
+        Comparison::Equal => Some(Exception::CurrentUpdateSequence),
+        Comparison::NoNumber | Comparison::Above => Some(Exception::InvalidUpdateSequence),
     }
 }
 
@@ -49,7 +49,7 @@ fn check_sequence(standing: Standing) -> Option<Exception>
 fn metadata_fault(query: &Query, seq: u16) -> Option<Exception>
     ensures { result ≡ metadata_fault seq query.now }
 {
-    check_service(query.parameter("SERVICE")).or_else(|| check_sequence(standing(
+    check_service(query.parameter("SERVICE")).or_else(|| check_sequence(comparison(
         query.parameter("UPDATESEQUENCE"),
         seq,
     )))

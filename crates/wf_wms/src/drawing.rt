@@ -1,7 +1,7 @@
 //! Draws the requested picture, or cuts it out of a kept one.
 ghost use Rattle.std.specs.Prelude.{◌≡◌, IfOk};
 ghost use Rattle.wf_wms.specs.Judged.{IsAskedOf, IsPictureFor};
-ghost use Rattle.wf_wms.specs.Kept.{AllKept};
+ghost use Rattle.wf_wms.specs.KeptPictures.{AllKept};
 
 use crate::answer::Answer;
 use crate::asked::Asked;

@@ -1,6 +1,6 @@
 //! Theorems about answers.
 ghost use Rattle.wf_wms.specs.Answer.{AnswersAreDescriptions, AskedMapsAreAnsweredAlike, EachQueryHasOneAnswer};
-ghost use Rattle.wf_wms.specs.Kept.{GrowthKeepsAll};
+ghost use Rattle.wf_wms.specs.KeptPictures.{GrowthKeepsAll};
 ghost use Rattle.wf_wms.specs.Rejection.{TextsAreRejectedAlike};
 
 /// A query has exactly one answer in all histories with the same map at the requested sequence: the answer is a function of the

@@ -28,50 +28,50 @@ pub(crate) fn named_layers(
     if count_entries(names) > MOST_ENTRIES {
         return Ok(Err(Exception::BadValue(Parameter::Layers)));
     }
-    match layer_places(alloc, map, names)? {
-        Ok(places) => Ok(Ok(places)),
+    match layer_indices(alloc, map, names)? {
+        Ok(indices) => Ok(Ok(indices)),
         Err(index) => Ok(Err(Exception::LayerNotDefined(index + 1))),
     }
 }
 
 /// The indices of the named layers in the map, in the order of the list; or the index of the first name that isn't a layer's.
-fn layer_places(
+fn layer_indices(
     alloc: Global,
     map: &MapDef,
     names: &str,
 ) -> Result<Result<Vec<usize>, usize>, AllocError>
     requires { length (entries names.now) ≤ most_entries }
-    ensures places { IfOk result (λ found.
-        IfOk found (λ places. places.items ≡ filter_map (layer_of map.now) (entries names.now))) }
+    ensures indices { IfOk result (λ found.
+        IfOk found (λ indices. indices.items ≡ filter_map (layer_of map.now) (entries names.now))) }
     ensures known { IfOk result (λ found. IfOk found
-        (λ places. position (λ name. is_none (layer_of map.now name)) (entries names.now) ≡ None)) }
+        (λ all. position (λ name. is_none (layer_of map.now name)) (entries names.now) ≡ None)) }
     ensures count { IfOk result
-        (λ found. IfOk found (λ places. length places.items ≡ length (entries names.now))) }
+        (λ found. IfOk found (λ indices. length indices.items ≡ length (entries names.now))) }
     ensures within { IfOk result
-        (λ found. IfOk found (λ places. AreLayersOf map.now places.items)) }
+        (λ found. IfOk found (λ indices. AreLayersOf map.now indices.items)) }
     ensures unknown { IfOk result (λ found. IfErr found (λ index.
         position (λ name. is_none (layer_of map.now name)) (entries names.now) ≡ Some index)) }
     ensures index { IfOk result (λ found. IfErr found (λ index. index < most_entries)) }
 {
-    let mut places = Vec::new(alloc);
+    let mut indices = Vec::new(alloc);
     for name in names.as_bytes().split(|byte| *byte == b',') {
         match layer_of(map, name) {
-            Some(place) => places.push(place)?,
-            None => return Ok(Err(places.len())),
+            Some(index) => indices.push(index)?,
+            None => return Ok(Err(indices.len())),
         }
     }
-    Ok(Ok(places))
+    Ok(Ok(indices))
 }
 
 /// The index in the map of the layer of this name.
 fn layer_of(map: &MapDef, name: &[u8]) -> Option<usize>
-    ensures place { result ≡ layer_of map.now name.now }
-    ensures within { IfSome result (λ place. place < length map.now.layers) }
+    ensures index { result ≡ layer_of map.now name.now }
+    ensures within { IfSome result (λ index. index < length map.now.layers) }
 {
-    for place in 0..map.layer_count() {
-        let (layer_name, _) = map.layer(place);
+    for index in 0..map.layer_count() {
+        let (layer_name, _) = map.layer(index);
         if name == layer_name.as_bytes() {
-            return Some(place);
+            return Some(index);
         }
     }
     None

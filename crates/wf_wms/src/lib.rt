@@ -16,7 +16,7 @@
 //! - a request that its text alone rejects has one answer at every server, whatever it has published
 //!   ([`law::texts_are_rejected_alike`]); `specs/Rejection.antt` has the checks that look neither at a map nor at a sequence
 //! - [`service::answer_cached`] returns the same answer by a [`cache::Cache`] of pictures, if each entry is its key's picture in
-//!   this history (`specs/Kept.antt`); each still is afterwards, also in any history that extends this one
+//!   this history (`specs/KeptPictures.antt`); each still is afterwards, also in any history that extends this one
 //!   ([`law::kept_pictures_outlast_growth`])
 //!
 //! It says nothing about the transport of queries and answers, nor about which pictures are kept.
@@ -29,9 +29,9 @@ mod background;
 mod bounding_box;
 pub mod cache;
 mod capabilities;
+mod comparison;
 mod crs;
 mod description;
-mod digits;
 mod drawing;
 mod entries;
 mod exception;
@@ -52,7 +52,6 @@ mod query;
 pub mod report;
 pub mod service;
 mod size;
-mod standing;
 mod styles;
 mod update_sequence;
 mod xml;

@@ -2,10 +2,10 @@
 ghost use Rattle.std.specs.Prelude.{◌≡◌, ◌≤◌, IfOk, option_map};
 ghost use Rattle.wf_wms.specs.MapRequest.{map_sequence, sequence_in};
 
-use crate::digits::{is_all_digits, number_of};
 use crate::exception::{Exception, Parameter};
 use crate::format::check_version;
 use crate::query::Query;
+use wf_text::digits::{are_digits, number_of_digits};
 
 /// The sequence of the map that a query requests at a server at update sequence `seq`; VERSION is checked first.
 #[tactic(auto, unfolding(crate::specs::MapRequest::map_sequence))]
@@ -25,10 +25,10 @@ fn sequence_in(value: Option<&str>, seq: u16) -> Result<u16, Exception>
     let Some(text) = value else {
         return Ok(seq);
     };
-    if !is_all_digits(text) {
+    if !are_digits(text.as_bytes()) {
         return Err(Exception::BadValue(Parameter::MapSequence));
     }
-    let number = number_of(text);
+    let number = number_of_digits(text.as_bytes());
     if number > u64::from(seq) {
         Err(Exception::MapNotPublished)
     } else {

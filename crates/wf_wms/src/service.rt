@@ -1,7 +1,7 @@
 //! Requests to a server that publishes a history.
 ghost use Rattle.std.specs.Prelude.{◌≡◌, ◌≤◌, ◌∷◌, [], IfOk, length};
 ghost use Rattle.wf_wms.specs.Answer.{IsAnswerOf};
-ghost use Rattle.wf_wms.specs.Kept.{AllKept};
+ghost use Rattle.wf_wms.specs.KeptPictures.{AllKept};
 
 use crate::answer::Answer;
 use crate::asked::Judged;

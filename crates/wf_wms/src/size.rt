@@ -4,11 +4,11 @@ ghost use Rattle.wf_paint.specs.Limit.{most_pixels};
 ghost use Rattle.wf_picture.specs.Request.{IsSize};
 ghost use Rattle.wf_wms.specs.MapRequest.{picture_size, size_in};
 
-use crate::digits::{is_all_digits, number_of};
 use crate::exception::{Exception, Parameter};
 use crate::query::Query;
 use wf_paint::limits::MOST_PIXELS;
 use wf_picture::size::Size;
+use wf_text::digits::{are_digits, number_of_digits};
 
 /// The size that WIDTH and HEIGHT give.
 #[tactic(auto, unfolding(crate::specs::MapRequest::picture_size))]
@@ -30,10 +30,10 @@ fn size(name: Parameter, value: Option<&str>) -> Result<u32, Exception>
     let Some(text) = value else {
         return Err(Exception::MissingParameter(name));
     };
-    if !is_all_digits(text) {
+    if !are_digits(text.as_bytes()) {
         return Err(Exception::BadValue(name));
     }
-    let number = number_of(text);
+    let number = number_of_digits(text.as_bytes());
     if number < 1 || number > u64::from(MOST_PIXELS) {
         return Err(Exception::BadValue(name));
     }

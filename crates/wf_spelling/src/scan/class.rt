@@ -39,7 +39,8 @@ fn style_of(
     width: u8,
     size: u8,
 ) -> Option<Style>
-    ensures { IfSome result (λ style. style ≡ record { color = color; outline_color = outline_color; width = width; size = size }) }
+    ensures { IfSome result (λ style. style ≡ record
+        { color = color; outline_color = outline_color; width = width; size = size }) }
 {
     let width = Whole::new(width)?;
     let size = Whole::new(size)?;
@@ -53,7 +54,8 @@ fn style_of(
 
 /// Scans the styles of a class.
 fn scan_styles(cursor: &mut Cursor<'_>) -> Option<Styles>
-    ensures { IfSome result (λ styles. Scans cursor.old (text_of (flat_map style_lines styles)) cursor.new) }
+    ensures { IfSome result (λ styles. Scans cursor.old (text_of (flat_map style_lines styles))
+        cursor.new) }
 {
     let mut styles = Styles::new(cursor.alloc());
     for _ in 0..cursor.len() {
@@ -140,7 +142,14 @@ fn label_of(
     force: bool,
     buffer: u8,
 ) -> Option<Label>
-    ensures { IfSome result (λ label. label ≡ record { color = color; size = size; position = position; priority = priority; force = force; buffer = buffer }) }
+    ensures { IfSome result (λ label. label ≡ record {
+      color = color;
+      size = size;
+      position = position;
+      priority = priority;
+      force = force;
+      buffer = buffer;
+    }) }
 {
     let priority = Whole::new(priority)?;
     let buffer = Whole::new(buffer)?;
@@ -156,7 +165,8 @@ fn label_of(
 
 /// Scans a label, if one is ahead; `Some(None)` if none is.
 fn scan_optional_label(cursor: &mut Cursor<'_>) -> Option<Option<Label>>
-    ensures { IfSome result (λ label. Scans cursor.old (text_of (optional_label_lines label)) cursor.new) }
+    ensures { IfSome result (λ label. Scans cursor.old (text_of (optional_label_lines label))
+        cursor.new) }
 {
     if !cursor.is_at(b"LABEL") {
         return Some(None);

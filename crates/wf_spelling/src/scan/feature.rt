@@ -43,7 +43,8 @@ fn scan_part(cursor: &mut Cursor<'_>) -> Option<Part>
 
 /// Scans the parts of a shape.
 fn scan_parts(cursor: &mut Cursor<'_>) -> Option<Parts>
-    ensures { IfSome result (λ parts. Scans cursor.old (text_of (flat_map part_lines parts)) cursor.new) }
+    ensures { IfSome result (λ parts. Scans cursor.old (text_of (flat_map part_lines parts))
+        cursor.new) }
 {
     let mut parts = Parts::new(cursor.alloc());
     for _ in 0..cursor.len() {
@@ -64,7 +65,8 @@ fn scan_parts(cursor: &mut Cursor<'_>) -> Option<Parts>
 
 /// Scans a feature.
 pub fn scan_feature(cursor: &mut Cursor<'_>) -> Option<Feature>
-    ensures { IfSome result (λ feature. Scans cursor.old (text_of (feature_lines feature)) cursor.new) }
+    ensures { IfSome result (λ feature. Scans cursor.old (text_of (feature_lines feature))
+        cursor.new) }
 {
     // A map is read in the time of its features, so their lines are compared in pieces of at most eight bytes: each is a comparison.
     cursor.take(b"FEATURE\n");

@@ -35,7 +35,8 @@ fn kind_ahead(cursor: &Cursor<'_>) -> LayerKind {
 /// Scans the line of the names of a layer's attributes.
 #[tactic(auto, unfolding(wf_token::specs::Spelling::line))]
 fn scan_attribute_names(cursor: &mut Cursor<'_>) -> Option<Text>
-    ensures { IfSome result (λ names. Scans cursor.old (line (with_text (codes "PROCESSING") (codes "ITEMS=" ++ names))) cursor.new) }
+    ensures { IfSome result (λ names. Scans cursor.old
+        (line (with_text (codes "PROCESSING") (codes "ITEMS=" ++ names))) cursor.new) }
 {
     cursor.take(b"PROCESSING ");
     let bytes = cursor.quoted()?;
@@ -49,7 +50,8 @@ fn scan_attribute_names(cursor: &mut Cursor<'_>) -> Option<Text>
 
 /// Scans a layer's METADATA block, and returns the title.
 fn scan_metadata(cursor: &mut Cursor<'_>) -> Option<Text>
-    ensures { IfSome result (λ title. Scans cursor.old (text_of (metadata_lines title)) cursor.new) }
+    ensures { IfSome result (λ title. Scans cursor.old (text_of (metadata_lines title))
+        cursor.new) }
 {
     scan_alone(cursor, "METADATA");
     let title = scan_with_key(cursor, "wms_title");
@@ -59,7 +61,8 @@ fn scan_metadata(cursor: &mut Cursor<'_>) -> Option<Text>
 
 /// Scans the classes of a layer.
 fn scan_classes(cursor: &mut Cursor<'_>) -> Option<Classes>
-    ensures { IfSome result (λ classes. Scans cursor.old (text_of (flat_map class_lines classes)) cursor.new) }
+    ensures { IfSome result (λ classes. Scans cursor.old (text_of (flat_map class_lines classes))
+        cursor.new) }
 {
     let mut classes = Classes::new(cursor.alloc());
     for _ in 0..cursor.len() {
@@ -83,7 +86,8 @@ fn scan_classes(cursor: &mut Cursor<'_>) -> Option<Classes>
 
 /// Scans the features of a layer.
 fn scan_features(cursor: &mut Cursor<'_>) -> Option<Features>
-    ensures { IfSome result (λ features. Scans cursor.old (text_of (flat_map feature_lines features)) cursor.new) }
+    ensures { IfSome result (λ features. Scans cursor.old
+        (text_of (flat_map feature_lines features)) cursor.new) }
 {
     let mut features = Features::new(cursor.alloc());
     for _ in 0..cursor.len() {
@@ -117,7 +121,9 @@ struct Heading {
 
 /// Scans the lines of a layer before its classes.
 fn scan_heading(cursor: &mut Cursor<'_>) -> Option<Heading>
-    ensures { IfSome result (λ h. Scans cursor.old (text_of (layer_heading_lines h.name h.kind h.class_item h.label_item h.items h.title)) cursor.new) }
+    ensures { IfSome result (λ h. Scans cursor.old
+        (text_of (layer_heading_lines h.name h.kind h.class_item h.label_item h.items h.title))
+        cursor.new) }
 {
     let name = scan_with_text(cursor, "NAME")?;
     let kind = kind_ahead(cursor);
@@ -188,7 +194,8 @@ fn count_points(features: &[Feature]) -> Option<usize>
 /// The layer with its name, if it is within the limits.
 fn whole_layer(heading: Heading, classes: Classes, features: Features) -> Option<LayerRead>
     ensures value { IfSome result (λ read. IsWhole heading classes features read.name read.layer) }
-    ensures counted { IfSome result (λ read. read.points ≡ sum_by points_of_feature read.layer.features) }
+    ensures counted { IfSome result
+        (λ read. read.points ≡ sum_by points_of_feature read.layer.features) }
 {
     let Some(points) = count_points(features.as_slice()) else {
         drop(heading);
@@ -223,8 +230,10 @@ fn whole_layer(heading: Heading, classes: Classes, features: Features) -> Option
 
 /// Scans a layer with its name.
 pub fn scan_layer(cursor: &mut Cursor<'_>) -> Option<LayerRead>
-    ensures scanned { IfSome result (λ read. Scans cursor.old (text_of (layer_lines (read.name, read.layer))) cursor.new) }
-    ensures counted { IfSome result (λ read. read.points ≡ sum_by points_of_feature read.layer.features) }
+    ensures scanned { IfSome result
+        (λ read. Scans cursor.old (text_of (layer_lines (read.name, read.layer))) cursor.new) }
+    ensures counted { IfSome result
+        (λ read. read.points ≡ sum_by points_of_feature read.layer.features) }
 {
     scan_alone(cursor, "LAYER");
     let heading = scan_heading(cursor)?;

@@ -92,7 +92,8 @@ pub fn scan_quoted(cursor: &mut Cursor<'_>, text: &[u8])
 /// Scans a line of a keyword and a text.
 #[tactic(auto, unfolding(wf_token::specs::Spelling::line))]
 pub fn scan_with_text(cursor: &mut Cursor<'_>, keyword: &str) -> Option<Text>
-    ensures { IfSome result (λ text. Scans cursor.old (line (with_text keyword.now text)) cursor.new) }
+    ensures { IfSome result (λ text. Scans cursor.old (line (with_text keyword.now text))
+        cursor.new) }
 {
     cursor.take(keyword.as_bytes());
     cursor.take(b" ");
@@ -104,7 +105,8 @@ pub fn scan_with_text(cursor: &mut Cursor<'_>, keyword: &str) -> Option<Text>
 /// Scans a line of a keyword and an expression.
 #[tactic(auto, unfolding(wf_token::specs::Spelling::line))]
 fn scan_with_expression(cursor: &mut Cursor<'_>, keyword: &str) -> Option<Expression>
-    ensures { IfSome result (λ e. Scans cursor.old (line (with_expression keyword.now e)) cursor.new) }
+    ensures { IfSome result (λ e. Scans cursor.old (line (with_expression keyword.now e))
+        cursor.new) }
 {
     cursor.take(keyword.as_bytes());
     cursor.take(b" ");
@@ -118,7 +120,8 @@ pub fn scan_optional_expression(
     cursor: &mut Cursor<'_>,
     keyword: &str,
 ) -> Option<Option<Expression>>
-    ensures { IfSome result (λ e. Scans cursor.old (text_of (when_there (with_expression keyword.now) e)) cursor.new) }
+    ensures { IfSome result (λ e. Scans cursor.old
+        (text_of (when_there (with_expression keyword.now) e)) cursor.new) }
 {
     if !cursor.is_at(keyword.as_bytes()) {
         return Some(None);
@@ -134,7 +137,8 @@ pub fn scan_optional_expression(
 #[inline(always)]
 pub fn scan_with_rare_text(cursor: &mut Cursor<'_>, keyword: &str, empty: &[u8]) -> Option<Text>
     requires { empty.now ++ 10 ∷ [] ≡ line (with_text keyword.now []) }
-    ensures { IfSome result (λ text. Scans cursor.old (line (with_text keyword.now text)) cursor.new) }
+    ensures { IfSome result (λ text. Scans cursor.old (line (with_text keyword.now text))
+        cursor.new) }
 {
     if cursor.skip(empty) {
         cursor.take(b"\n");
@@ -157,7 +161,8 @@ pub fn scan_with_word(cursor: &mut Cursor<'_>, keyword: &str, word: &str)
 /// Scans a line of a keyword and an integer from 0 to 255.
 #[tactic(auto, unfolding(wf_token::specs::Spelling::line))]
 pub fn scan_with_whole(cursor: &mut Cursor<'_>, keyword: &str) -> Option<u8>
-    ensures { IfSome result (λ whole. Scans cursor.old (line (with_word keyword.now (decimal whole))) cursor.new) }
+    ensures { IfSome result (λ whole. Scans cursor.old
+        (line (with_word keyword.now (decimal whole))) cursor.new) }
 {
     cursor.take(keyword.as_bytes());
     let whole = scan_next_whole(cursor)?;
@@ -203,7 +208,8 @@ fn scan_next_whole(cursor: &mut Cursor<'_>) -> Option<u8>
 /// Scans a line of a keyword and a box.
 #[tactic(auto, unfolding(wf_token::specs::Spelling::line))]
 pub fn scan_with_extent(cursor: &mut Cursor<'_>, keyword: &str) -> Option<Extent>
-    ensures { IfSome result (λ extent. Scans cursor.old (line (with_extent keyword.now extent)) cursor.new) }
+    ensures { IfSome result (λ extent. Scans cursor.old (line (with_extent keyword.now extent))
+        cursor.new) }
 {
     cursor.take(keyword.as_bytes());
     let minx = scan_next_number(cursor)?;
@@ -217,7 +223,8 @@ pub fn scan_with_extent(cursor: &mut Cursor<'_>, keyword: &str) -> Option<Extent
 /// Scans a line of a keyword and a colour.
 #[tactic(auto, unfolding(wf_token::specs::Spelling::line))]
 pub fn scan_with_color(cursor: &mut Cursor<'_>, keyword: &str) -> Option<Color>
-    ensures { IfSome result (λ color. Scans cursor.old (line (with_color keyword.now color)) cursor.new) }
+    ensures { IfSome result (λ color. Scans cursor.old (line (with_color keyword.now color))
+        cursor.new) }
 {
     cursor.take(keyword.as_bytes());
     let r = scan_next_whole(cursor)?;
@@ -229,7 +236,8 @@ pub fn scan_with_color(cursor: &mut Cursor<'_>, keyword: &str) -> Option<Color>
 
 /// Scans a line of a keyword and a colour, if the keyword is ahead; `Some(None)` if it isn't.
 pub fn scan_optional_color(cursor: &mut Cursor<'_>, keyword: &str) -> Option<Option<Color>>
-    ensures { IfSome result (λ color. Scans cursor.old (text_of (when_there (with_color keyword.now) color)) cursor.new) }
+    ensures { IfSome result (λ color. Scans cursor.old
+        (text_of (when_there (with_color keyword.now) color)) cursor.new) }
 {
     if !cursor.is_at(keyword.as_bytes()) {
         return Some(None);

@@ -51,7 +51,8 @@ struct Service {
 
 /// Scans a map's WEB block.
 fn scan_web(cursor: &mut Cursor<'_>) -> Option<Service>
-    ensures { IfSome result (λ s. Scans cursor.old (text_of (web_lines_of s.title s.abstract_text s.address)) cursor.new) }
+    ensures { IfSome result (λ s. Scans cursor.old
+        (text_of (web_lines_of s.title s.abstract_text s.address)) cursor.new) }
 {
     scan_alone(cursor, "WEB");
     scan_alone(cursor, "METADATA");
@@ -76,7 +77,10 @@ fn scan_web(cursor: &mut Cursor<'_>) -> Option<Service>
 
 /// Scans the lines of a map before its layers.
 fn scan_heading(cursor: &mut Cursor<'_>) -> Option<MapDef>
-    ensures scanned { IfSome result (λ map. Scans cursor.old (text_of (heading_lines map ++ projection_lines map.projection ++ web_lines map)) cursor.new) }
+    ensures scanned { IfSome result
+        (λ map. Scans cursor.old
+        (text_of (heading_lines map ++ projection_lines map.projection ++ web_lines map))
+        cursor.new) }
     ensures empty { IfSome result (λ map. map.layers ≡ []) }
 {
     scan_alone(cursor, "MAP");
@@ -133,7 +137,8 @@ fn push_layer(layers: &mut Layers, read: LayerRead) -> bool
 
 /// Scans the layers of a map.
 fn scan_layers(cursor: &mut Cursor<'_>) -> Option<Layers>
-    ensures { IfSome result (λ layers. Scans cursor.old (text_of (flat_map layer_lines layers)) cursor.new) }
+    ensures { IfSome result (λ layers. Scans cursor.old (text_of (flat_map layer_lines layers))
+        cursor.new) }
 {
     let mut layers = Layers::new(cursor.alloc());
     for _ in 0..cursor.len() {

@@ -43,7 +43,8 @@ pub fn scan_whole(cursor: &mut Cursor<'_>) -> Option<u32>
 /// Scans the digits of a fraction in millionths, the last of which isn't zero.
 #[inline(always)]
 fn scan_fraction_digits(cursor: &mut Cursor<'_>) -> Option<u32>
-    ensures scanned { IfSome result (λ parts. Scans cursor.old (fraction_digits 6 parts) cursor.new) }
+    ensures scanned { IfSome result
+        (λ parts. Scans cursor.old (fraction_digits 6 parts) cursor.new) }
     ensures most { IfSome result (λ parts. parts < 1000000) }
 {
     let mut places = FRACTION_DIGITS;
@@ -93,7 +94,8 @@ fn scan_fraction(cursor: &mut Cursor<'_>) -> Option<u32>
 /// Scans a number of millionths without its sign.
 #[inline(always)]
 fn scan_magnitude(cursor: &mut Cursor<'_>) -> Option<u64>
-    ensures scanned { IfSome result (λ millionths. Scans cursor.old (magnitude_text millionths) cursor.new) }
+    ensures scanned { IfSome result
+        (λ millionths. Scans cursor.old (magnitude_text millionths) cursor.new) }
     ensures most { IfSome result (λ millionths. millionths < 1000000000000000) }
 {
     let whole = scan_whole(cursor)?;

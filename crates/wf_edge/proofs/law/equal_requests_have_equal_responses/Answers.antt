@@ -2,4 +2,4 @@ use Rattle.wf_edge.proofs.ServiceLaw.{one_response}
 use Rattle.wf_edge.proofs.law.equal_requests_have_equal_responses.Goals as goal
 
 pub returns : goal.returns
-returns g c = one_response _ g.T.Tape.honest g.T.Tape.content g.T.Tape.images g.T.Tape.failed c.each_query_has_one_page.ensures
+returns g c = one_response _ g.T.Tape c.each_query_has_one_page.ensures

@@ -4,7 +4,7 @@ use Rattle.wf_model.specs.Table.{store}
 use Rattle.wf_node.specs.Input.{view}
 use Rattle.wf_node.specs.Node.{stored_of}
 use Rattle.wf_node.specs.Step.{row_of}
-use Rattle.wf_tape.specs.MemoryTape.{Kept}
+use Rattle.wf_tape.specs.MemoryTape.{TapeValue}
 use Rattle.wf_farm.specs.Fused.{IsTried}
 use Rattle.wf_farm.proofs.Tried.{crash_fares, done_fares, done_fits, reject_fares, reject_fits, tape_cut}
 use Rattle.wf_farm.proofs.crashing.try_running.Goals as goal
@@ -23,12 +23,12 @@ returns-in-Err-TapeFailed-clause-fares c =
     (c.crash.ensures.torn the_row.entry (stored_of c.args.node) (store (stored_of c.args.node) the_row.entry)
     (tape_cut (length c.bytes-long.result.now) the_row.entry (stored_of c.args.node) (store (stored_of c.args.node) the_row.entry) c.args.node.tape c.step.new.node.tape
     (c.tape.ensures.settled tt c.requires.member.2)
-    (ap length (c.bytes-long.ensures ∙ ap (λ (t : Kept). t.bytes) c.tape.ensures.value)) (tried.cut refl)))
+    (ap length (c.bytes-long.ensures ∙ ap (λ (t : TapeValue). t.bytes) c.tape.ensures.value)) (tried.cut refl)))
 
 pub returns-in-Err-clause-fares : goal.returns-in-Err-clause-fares
 returns-in-Err-clause-fares c =
-    reject_fares c.args.n c.args.id (view c.args.input) c.args.node c.step.new.node c.requires.member c.reject.result c.in-Err.fault c.in-Err.ensures.tried c.reject.ensures.place c.reject.ensures.fate c.reject.ensures.number
+    reject_fares c.args.n c.args.id (view c.args.input) c.args.node c.step.new.node c.requires.member c.reject.result c.in-Err.fault c.in-Err.ensures.tried c.reject.ensures.place c.reject.ensures.fate c.reject.ensures.rejection
 
 pub returns-in-Err-clause-member : goal.returns-in-Err-clause-member
 returns-in-Err-clause-member c =
-    reject_fits c.args.n c.args.id (view c.args.input) c.args.node c.step.new.node c.requires.member c.reject.result c.in-Err.fault c.in-Err.ensures.tried c.reject.ensures.place c.reject.ensures.number c.step.ensures.fuse
+    reject_fits c.args.n c.args.id (view c.args.input) c.args.node c.step.new.node c.requires.member c.reject.result c.in-Err.fault c.in-Err.ensures.tried c.reject.ensures.place c.reject.ensures.rejection c.step.ensures.fuse

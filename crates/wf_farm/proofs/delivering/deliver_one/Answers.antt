@@ -10,17 +10,17 @@ use Rattle.wf_farm.proofs.delivering.deliver_one.Goals as goal
 
 pub returns-then-is_err-clause-one : goal.returns-then-is_err-clause-one
 returns-then-is_err-clause-one g c =
-    subst (λ ms. IsOne g.T.Tape.honest g.T.Tape.images c.args.nodes.now c.args.sent.now.items c.args.nodes.now ms) (sym c.reserve.ensures.items)
-    (no_delivery g.T.Tape.honest g.T.Tape.images c.args.nodes.now c.args.sent.now.items)
+    subst (λ ms. IsOne g.T.Tape c.args.nodes.now c.args.sent.now.items c.args.nodes.now ms) (sym c.reserve.ensures.items)
+    (no_delivery g.T.Tape c.args.nodes.now c.args.sent.now.items)
 
 pub returns-clause-one : goal.returns-clause-one
 returns-clause-one g c =
     let node_at = slice_get_read c.args.nodes.now (length c.args.nodes.now) c.args.node c.index-nodes-node.result refl c.requires.node c.index-nodes-node.is in
     let message_there = slice_get_read c.reserve.new.self.items (length c.args.sent.now.items) c.args.number c.index.result.now (sym (ap length c.reserve.ensures.items)) c.requires.number c.index.ensures in
     let message_at = subst (λ ms. slice_get ms c.args.number ≡ Some c.index.result.now) c.reserve.ensures.items message_there in
-    let takes = subst (λ n. Takes g.T.Tape.honest g.T.Tape.content g.T.Tape.images c.hand-messages.result.lost (table.Deliver (view c.index.result.now)) n c.hand-messages.new.node c.hand-messages.result.messages.items) (sym c.index-nodes-node.is) c.hand-messages.ensures.takes in
-    subst (λ ms. IsOne g.T.Tape.honest g.T.Tape.images c.args.nodes.now c.args.sent.now.items (slice_set c.args.nodes.now c.args.node c.hand-messages.new.node) ms) (sym (c.send.ensures ∙ ap (λ ms. ms ++ c.hand-messages.result.messages.items) c.reserve.ensures.items))
-    (one_delivery g.T.Tape.honest g.T.Tape.content g.T.Tape.images c.args.nodes.now c.args.sent.now.items c.args.node c.args.number c.index-nodes-node.result c.hand-messages.new.node c.index.result.now c.hand-messages.result.messages.items
+    let takes = subst (λ n. Takes g.T.Tape c.hand-messages.result.lost (table.Deliver (view c.index.result.now)) n c.hand-messages.new.node c.hand-messages.result.messages.items) (sym c.index-nodes-node.is) c.hand-messages.ensures.takes in
+    subst (λ ms. IsOne g.T.Tape c.args.nodes.now c.args.sent.now.items (slice_set c.args.nodes.now c.args.node c.hand-messages.new.node) ms) (sym (c.send.ensures ∙ ap (λ ms. ms ++ c.hand-messages.result.messages.items) c.reserve.ensures.items))
+    (one_delivery g.T.Tape c.args.nodes.now c.args.sent.now.items c.args.node c.args.number c.index-nodes-node.result c.hand-messages.new.node c.index.result.now c.hand-messages.result.messages.items
     node_at message_at c.requires.in_turn c.hand-messages.result.lost takes)
 
 pub returns-clause-handed : goal.returns-clause-handed
@@ -33,7 +33,7 @@ returns-clause-handed g c =
       said = c.hand-messages.result.messages.items;
       at = slice_get_read c.args.nodes.now (length c.args.nodes.now) c.args.node c.index-nodes-node.result refl c.requires.node c.index-nodes-node.is;
       there = subst (λ ms. slice_get ms c.args.number ≡ Some c.index.result.now) c.reserve.ensures.items message_there;
-      takes = subst (λ n. Takes g.T.Tape.honest g.T.Tape.content g.T.Tape.images c.hand-messages.result.lost (table.Deliver (view c.index.result.now)) n c.hand-messages.new.node c.hand-messages.result.messages.items) (sym c.index-nodes-node.is) c.hand-messages.ensures.takes;
+      takes = subst (λ n. Takes g.T.Tape c.hand-messages.result.lost (table.Deliver (view c.index.result.now)) n c.hand-messages.new.node c.hand-messages.result.messages.items) (sym c.index-nodes-node.is) c.hand-messages.ensures.takes;
       nodes_are = refl;
       sent_are = c.send.ensures ∙ ap (λ ms. ms ++ c.hand-messages.result.messages.items) c.reserve.ensures.items;
     }

@@ -8,7 +8,7 @@ use Rattle.wf_farm.proofs.delivering.hand.Goals as goal
 
 pub returns-then-is_halted-clause-takes : goal.returns-then-is_halted-clause-takes
 returns-then-is_halted-clause-takes g c =
-    halted_takes g.T.Tape.honest g.T.Tape.content g.T.Tape.images (table.Deliver (view c.args.message.now)) c.args.node.now c.quiet.result.messages.items c.quiet.ensures.none c.quiet.result.lost c.quiet.ensures.lost
+    halted_takes g.T.Tape (table.Deliver (view c.args.message.now)) c.args.node.now c.quiet.result.messages.items c.quiet.ensures.none c.quiet.result.lost c.quiet.ensures.lost
     (sym c.is_halted.ensures ∙ c.if-is_halted.true)
 
 pub returns-then-is_halted-clause-few : goal.returns-then-is_halted-clause-few
@@ -16,11 +16,11 @@ returns-then-is_halted-clause-few g c = none_few c.quiet.result.messages.items c
 
 pub returns-in-Ok-clause-takes : goal.returns-in-Ok-clause-takes
 returns-in-Ok-clause-takes g c =
-    subst (λ m. Takes g.T.Tape.honest g.T.Tape.content g.T.Tape.images c.hear.result.lost (table.Deliver (view m)) c.args.node.now c.hear.new.node c.hear.result.messages.items) c.in-Ok.ensures.copy c.hear.ensures.takes
+    subst (λ m. Takes g.T.Tape c.hear.result.lost (table.Deliver (view m)) c.args.node.now c.hear.new.node c.hear.result.messages.items) c.in-Ok.ensures.copy c.hear.ensures.takes
 
 pub returns-in-Err-clause-takes : goal.returns-in-Err-clause-takes
 returns-in-Err-clause-takes g c =
-    unheard_takes g.T.Tape.honest g.T.Tape.content g.T.Tape.images (table.Deliver (view c.args.message.now)) c.args.node.now c.quiet-in-Err.result.messages.items c.quiet-in-Err.ensures.none c.quiet-in-Err.result.lost c.quiet-in-Err.ensures.lost
+    unheard_takes g.T.Tape (table.Deliver (view c.args.message.now)) c.args.node.now c.quiet-in-Err.result.messages.items c.quiet-in-Err.ensures.none c.quiet-in-Err.result.lost c.quiet-in-Err.ensures.lost
     (sym c.is_halted.ensures ∙ c.if-is_halted.false)
 
 pub returns-in-Err-clause-few : goal.returns-in-Err-clause-few

@@ -10,7 +10,7 @@ returns-in-Ok-clause-takes g c = c.in-Ok.ensures.answers
 
 pub returns-in-Err-clause-takes : goal.returns-in-Err-clause-takes
 returns-in-Err-clause-takes g c =
-    takes_as g.T.Tape.honest g.T.Tape.content g.T.Tape.images (view c.args.input) c.args.node.now c.step.new.node (is_memory c.in-Err.fault) c.quiet.result.lost [] c.quiet.result.messages.items
+    takes_as g.T.Tape (view c.args.input) c.args.node.now c.step.new.node (is_memory c.in-Err.fault) c.quiet.result.lost [] c.quiet.result.messages.items
     (c.quiet.ensures.lost ∙ c.wants_memory.ensures) c.quiet.ensures.none c.in-Err.ensures.takes
 
 pub returns-in-Err-clause-few : goal.returns-in-Err-clause-few

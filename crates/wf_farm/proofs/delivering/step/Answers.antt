@@ -5,11 +5,11 @@ use Rattle.wf_farm.proofs.delivering.step.Goals as goal
 
 pub returns-clause-answers : goal.returns-clause-answers
 returns-clause-answers g c =
-    any_answered g.T.Tape.honest g.T.Tape.content g.T.Tape.images c.args.node.now c.step.new.self (view c.args.input) c.step.result c.step.ensures.halted c.step.ensures.refused c.step.ensures.row c.step.ensures.content
+    any_answered g.T.Tape c.args.node.now c.step.new.self (view c.args.input) c.step.result c.step.ensures.halted c.step.ensures.refused c.step.ensures.row c.step.ensures.content
 
 pub returns-clause-takes : goal.returns-clause-takes
 returns-clause-takes g c =
-    any_rejected g.T.Tape.honest g.T.Tape.content g.T.Tape.images c.args.node.now c.step.new.self (view c.args.input) c.step.result c.step.ensures.halted c.step.ensures.running c.step.ensures.refused c.step.ensures.unchanged c.step.ensures.same
+    any_rejected g.T.Tape c.args.node.now c.step.new.self (view c.args.input) c.step.result c.step.ensures.halted c.step.ensures.running c.step.ensures.refused c.step.ensures.unchanged c.step.ensures.same
     c.step.ensures.memory c.step.ensures.same_tape c.step.ensures.halts c.step.ensures.part c.step.ensures.torn
 
 pub returns-clause-few : goal.returns-clause-few

@@ -29,8 +29,8 @@ returns-in-Ok-clause-members c =
 pub returns-in-Err-clause-done : goal.returns-in-Err-clause-done
 returns-in-Err-clause-done c = λ action given.
     let at = slice_get_read c.args.places.now (length c.args.places.now) c.args.node c.index-places-node.result refl (c.runs.ensures.within c.if-not-runs.false) c.index-places-node.is ∙ ap Some c.index-places-node.is in
-    subst (λ ms. IfOk c.answer.result (λ number. IsActed c.args.node action number c.args.places.now c.args.sent.now.items (slice_set c.args.places.now c.args.node c.step.new.self) ms)) (sym c.reserve.ensures.items)
-    (answered_acts c.args.places.now c.args.sent.now.items c.args.node (get_or c.args.places.now c.args.node c.index-places-node.result) c.step.new.self action (view c.args.input) at c.requires.members given c.answer.result c.in-Err.fault c.answer.ensures.number c.answer.ensures.some c.in-Err.ensures.denied)
+    subst (λ ms. IfOk c.answer.result (λ why. IsActed c.args.node action why c.args.places.now c.args.sent.now.items (slice_set c.args.places.now c.args.node c.step.new.self) ms)) (sym c.reserve.ensures.items)
+    (answered_acts c.args.places.now c.args.sent.now.items c.args.node (get_or c.args.places.now c.args.node c.index-places-node.result) c.step.new.self action (view c.args.input) at c.requires.members given c.answer.result c.in-Err.fault c.answer.ensures.rejection c.answer.ensures.some c.in-Err.ensures.denied)
 
 pub returns-in-Err-clause-err : goal.returns-in-Err-clause-err
 returns-in-Err-clause-err c =

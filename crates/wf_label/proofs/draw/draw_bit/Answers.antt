@@ -10,6 +10,6 @@ returns c =
     let label = placed_value c.args.label.now in
     let p = c.args.pixmap.now in
     let bit = one_bit c.args.across c.args.up in
-    let same : (k m : ℕ) → k < p.width → m < p.height → is_in_bits label bit k m ≡ is_in c.bit_frame.result k m =
-    λ k m wide high. rw c.bit_frame.ensures (in_one_bit label c.args.across c.args.up k m (some_scale c.args.label.now.scale)) in
-    IsColored-same c.args.label.now.color p c.fill.new.pixmap p (is_in c.bit_frame.result) (is_in_bits label bit) same c.fill.ensures
+    let same : (k m : ℕ) → k < p.width → m < p.height → is_in_bits label bit k m ≡ is_in c.bit_box.result k m =
+    λ k m wide high. rw c.bit_box.ensures (in_one_bit label c.args.across c.args.up k m (some_scale c.args.label.now.scale)) in
+    IsColored-same c.args.label.now.color p c.fill.new.pixmap p (is_in c.bit_box.result) (is_in_bits label bit) same c.fill.ensures

@@ -6,5 +6,5 @@ use Rattle.wf_label.proofs.BitLemmas.{text_so_far}
 use Rattle.wf_label.proofs.draw.draw_label.Given as goal
 
 -- the characters so far are drawn
-abbrev pub invariant-loop-place : goal.invariant-loop-place
-invariant-loop-place l = IsColored (is_in_bits (placed_value l.label) (text_so_far (chars l.label.text.now) (length l.yielded))) l.label.color l.initial.pixmap l.pixmap
+abbrev pub invariant-loop-index : goal.invariant-loop-index
+invariant-loop-index l = IsColored (is_in_bits (placed_value l.label) (text_so_far (chars l.label.text.now) (length l.yielded))) l.label.color l.initial.pixmap l.pixmap

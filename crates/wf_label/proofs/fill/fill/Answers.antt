@@ -6,7 +6,7 @@ use Rattle.wf_label.proofs.fill.fill.Goals as goal
 pub loop-row-preserved : goal.loop-row-preserved
 loop-row-preserved c =
     let p = c.args.pixmap.now in
-    let f = c.args.frame.now in
+    let f = c.args.pixel_box.now in
     let begins : IsCut p.width c.cut-left.result f.left = IsCut-same _ p.width c.cut-left.result _ f.left c.width.ensures.value (search rules) c.cut-left.ensures.value in
     let ends : IsCut p.width c.cut-right.result f.right = IsCut-same _ p.width c.cut-right.result _ f.right c.width-2.ensures.value (search rules) c.cut-right.ensures.value in
     rows_next f c.cut-left.result c.cut-right.result c.cut-bottom.result c.cut-top.result c.args.color p c.loop-row.pixmap c.fill_row.new.pixmap begins ends
@@ -15,7 +15,7 @@ loop-row-preserved c =
 pub returns : goal.returns
 returns c =
     let p = c.args.pixmap.now in
-    let f = c.args.frame.now in
+    let f = c.args.pixel_box.now in
     let begins : IsCut p.width c.cut-left.result f.left = IsCut-same _ p.width c.cut-left.result _ f.left c.width.ensures.value (search rules) c.cut-left.ensures.value in
     let ends : IsCut p.width c.cut-right.result f.right = IsCut-same _ p.width c.cut-right.result _ f.right c.width-2.ensures.value (search rules) c.cut-right.ensures.value in
     let low : IsCut p.height c.cut-bottom.result f.bottom = IsCut-same _ p.height c.cut-bottom.result _ f.bottom c.height.ensures.value (search rules) c.cut-bottom.ensures.value in

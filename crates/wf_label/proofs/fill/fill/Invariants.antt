@@ -4,4 +4,4 @@ use Rattle.wf_label.proofs.fill.fill.Given as goal
 
 -- the rows so far got the colour
 abbrev pub invariant-loop-row : goal.invariant-loop-row
-invariant-loop-row l = IsColored (in_rows l.frame l.bottom l.row) l.color l.initial.pixmap l.pixmap
+invariant-loop-row l = IsColored (in_rows l.pixel_box l.bottom l.row) l.color l.initial.pixmap l.pixmap

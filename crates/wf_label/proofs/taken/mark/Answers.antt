@@ -5,7 +5,7 @@ use Rattle.wf_label.proofs.taken.mark.Goals as goal
 
 pub loop-row-preserved : goal.loop-row-preserved
 loop-row-preserved c = λ k m wide high.
-    let f = c.args.frame.now in
+    let f = c.args.pixel_box.now in
     let w = c.args.view.now.width in
     let block = c.block_of-block in
     row_marked f block.result.left block.result.right block.result.bottom block.result.top w c.args.view.now.height block.ensures.left block.ensures.right block.ensures.wide
@@ -14,7 +14,7 @@ loop-row-preserved c = λ k m wide high.
 
 pub returns : goal.returns
 returns c = λ k m wide high.
-    let f = c.args.frame.now in
+    let f = c.args.pixel_box.now in
     let w = c.args.view.now.width in
     let block = c.block_of-block in
     let last : c.loop-row.row ≡ max block.result.top block.result.bottom = omega arith in

@@ -5,13 +5,13 @@ use Rattle.wf_label.specs.Taken.{is_marked}
 use Rattle.wf_label.proofs.TakenLemmas.{marked_more}
 use Rattle.wf_label.proofs.taken.mark_run.Goals as goal
 
-pub loop-place-init : goal.loop-place-init
-loop-place-init c = λ n. let none : (nat_le c.args.start n && nat_lt n c.args.start) ≡ false = grind (arith, nat_tests) in rw none refl
+pub loop-index-init : goal.loop-index-init
+loop-index-init c = λ n. let none : (nat_le c.args.start n && nat_lt n c.args.start) ≡ false = grind (arith, nat_tests) in rw none refl
 
-pub loop-place-preserved : goal.loop-place-preserved
-loop-place-preserved c = λ n. marked_more c.loop-place.marks c.args.marks.now c.args.start c.loop-place.place n (omega arith) (omega arith) (c.loop-place.invariant n)
+pub loop-index-preserved : goal.loop-index-preserved
+loop-index-preserved c = λ n. marked_more c.loop-index.marks c.args.marks.now c.args.start c.loop-index.index n (omega arith) (omega arith) (c.loop-index.invariant n)
 
 pub returns : goal.returns
 returns c = λ n.
-    let alike : (nat_le c.args.start n && nat_lt n c.loop-place.place) ≡ (nat_le c.args.start n && nat_lt n c.args.end) = grind (arith, nat_tests) in
-    c.loop-place.invariant n ∙ ap (λ (t : Bool). t || is_marked c.args.marks.now n) alike
+    let alike : (nat_le c.args.start n && nat_lt n c.loop-index.index) ≡ (nat_le c.args.start n && nat_lt n c.args.end) = grind (arith, nat_tests) in
+    c.loop-index.invariant n ∙ ap (λ (t : Bool). t || is_marked c.args.marks.now n) alike

@@ -4,5 +4,5 @@ use Rattle.wf_label.specs.Taken.{is_marked}
 use Rattle.wf_label.proofs.taken.mark_run.Given as goal
 
 -- the indices so far are marked
-abbrev pub invariant-loop-place : goal.invariant-loop-place
-invariant-loop-place l = (n : ℕ) → is_marked l.marks n ≡ ((nat_le l.start n && nat_lt n l.place) || is_marked l.initial.marks n)
+abbrev pub invariant-loop-index : goal.invariant-loop-index
+invariant-loop-index l = (n : ℕ) → is_marked l.marks n ≡ ((nat_le l.start n && nat_lt n l.index) || is_marked l.initial.marks n)

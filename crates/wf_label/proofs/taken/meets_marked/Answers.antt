@@ -6,13 +6,13 @@ pub loop-row-preserved : goal.loop-row-preserved
 loop-row-preserved c =
     let block = c.block_of-block in
     let none : c.greatest.result ≡ 0 = omega arith in
-    row_free c.args.frame.now block.result.left block.result.right block.result.bottom block.result.top c.args.view.now.width c.args.view.now.height block.ensures.left block.ensures.right block.ensures.wide
+    row_free c.args.pixel_box.now block.result.left block.result.right block.result.bottom block.result.top c.args.view.now.width c.args.view.now.height block.ensures.left block.ensures.right block.ensures.wide
     c.args.marks.now c.loop-row.row (omega arith) (rw c.width-width.ensures.value at (c.greatest.ensures.none none)) c.loop-row.invariant
 
 pub returns-then-greatest-gt0-clause-met : goal.returns-then-greatest-gt0-clause-met
 returns-then-greatest-gt0-clause-met c = λ met.
     let block = c.block_of-block in
-    row_met c.args.view.now c.args.frame.now c.args.marks.now block.result.left block.result.right block.result.bottom block.result.top c.loop-row.row
+    row_met c.args.view.now c.args.pixel_box.now c.args.marks.now block.result.left block.result.right block.result.bottom block.result.top c.loop-row.row
     block.ensures.left block.ensures.right block.ensures.bottom block.ensures.top block.ensures.wide block.ensures.tall (omega arith) (omega arith)
     (rw c.width-width.ensures.value at (c.greatest.ensures.some c.if-greatest-gt0.true))
 
@@ -21,4 +21,4 @@ returns-clause-free c = λ free k m wide high inside.
     let block = c.block_of-block in
     let last : c.loop-row.row ≡ max block.result.top block.result.bottom = omega arith in
     c.loop-row.invariant k m wide high
-    (sym (rows_are_in c.args.frame.now block.result.bottom block.result.top c.args.view.now.width c.args.view.now.height block.ensures.bottom block.ensures.top c.loop-row.row k m last high) ∙ inside)
+    (sym (rows_are_in c.args.pixel_box.now block.result.bottom block.result.top c.args.view.now.width c.args.view.now.height block.ensures.bottom block.ensures.top c.loop-row.row k m last high) ∙ inside)

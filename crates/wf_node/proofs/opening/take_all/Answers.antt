@@ -1,6 +1,6 @@
 -- Each iteration applies one more record.
 use Rattle.std.proofs.Common.{◌≡◌, refl, ◌∙◌, rules}
-use Rattle.wf_node.specs.Kept.{stored_of}
+use Rattle.wf_node.specs.StoredPart.{stored_of}
 use Rattle.wf_node.proofs.Folded.{none_taken, taken_more, room_there}
 use Rattle.wf_node.proofs.opening.take_all.Goals as goal
 

@@ -1,6 +1,6 @@
 -- The records so far are applied, and the others remain.
 use Rattle.std.proofs.Common.{◌≡◌}
-use Rattle.wf_node.specs.Kept.{stored_of}
+use Rattle.wf_node.specs.StoredPart.{stored_of}
 use Rattle.wf_node.proofs.Folded.{HasTaken}
 use Rattle.wf_node.proofs.opening.take_all.Given as goal
 

@@ -1,7 +1,7 @@
 -- Each iteration looks at one more vote.
 use Rattle.std.proofs.Common.{arith, sym, ◌∙◌}
 use Rattle.wf_ballot.specs.Sequence.{last_sequence}
-use Rattle.wf_node.specs.Kept.{stored_of}
+use Rattle.wf_node.specs.StoredPart.{stored_of}
 use Rattle.wf_node.proofs.Voted.{not_voted_yet, not_voted_next, voted_within}
 use Rattle.wf_node.proofs.shortening.is_voted.Goals as goal
 

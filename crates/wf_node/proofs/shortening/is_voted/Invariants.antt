@@ -1,6 +1,6 @@
 -- None of the votes so far is at the ballot.
 use Rattle.std.proofs.Common.{◌≡◌, ℕ, suc, ◌≤◌, false}
-use Rattle.wf_node.specs.Kept.{stored_of}
+use Rattle.wf_node.specs.StoredPart.{stored_of}
 use Rattle.wf_node.specs.Shortening.{is_voted}
 use Rattle.wf_node.proofs.shortening.is_voted.Given as goal
 

@@ -2,7 +2,7 @@
 use Rattle.std.proofs.Common.{◌<◌, ◌+◌, length, refl, sym, ap, subst, ◌∙◌}
 use Rattle.std.proofs.lemmas.Bool.{false≢true}
 use Rattle.wf_ballot.specs.Sequence.{last_sequence}
-use Rattle.wf_node.specs.Kept.{stored_of}
+use Rattle.wf_node.specs.StoredPart.{stored_of}
 use Rattle.wf_node.proofs.Pushed.{promised_next, promised_last}
 use Rattle.wf_node.proofs.shortening.promised_slot.Goals as goal
 

@@ -3,7 +3,7 @@ use Rattle.std.proofs.Common.{◌≡◌, [], ◌∷◌, Some, None, map, sym, ap
 use Rattle.std.specs.Option.{option_copied}
 use Rattle.wf_model.specs.Stored.{Published, definition_at}
 use Rattle.wf_journal.specs.Record.{view}
-use Rattle.wf_node.specs.Kept.{stored_of}
+use Rattle.wf_node.specs.StoredPart.{stored_of}
 use Rattle.wf_node.specs.Shortening.{vote_records, records_at}
 use Rattle.wf_node.proofs.Pushed.{appends_as, published_here, open_here}
 use Rattle.wf_node.proofs.shortening.push_sequence.Goals as goal

@@ -2,7 +2,7 @@
 use Rattle.std.proofs.Common.{◌≡◌, ℕ, ◌+◌, ◌≤◌, ◌++◌, map}
 use Rattle.wf_ballot.specs.Sequence.{last_sequence}
 use Rattle.wf_journal.specs.Record.{view}
-use Rattle.wf_node.specs.Kept.{stored_of}
+use Rattle.wf_node.specs.StoredPart.{stored_of}
 use Rattle.wf_node.specs.Shortening.{records_from}
 use Rattle.wf_node.proofs.shortening.push_sequences.Given as goal
 

@@ -4,7 +4,7 @@ use Rattle.wf_ballot.specs.Sequence.{last_sequence}
 use Rattle.wf_def.specs.Definition.{Definition}
 use Rattle.wf_model.specs.Stored.{Record}
 use Rattle.wf_journal.specs.Record.{view}
-use Rattle.wf_node.specs.Kept.{stored_of}
+use Rattle.wf_node.specs.StoredPart.{stored_of}
 use Rattle.wf_node.specs.Shortening.{tried_records, promise_records, records_from, shortened}
 use Rattle.wf_node.proofs.shortening.shortened.Goals as goal
 

@@ -1,18 +1,17 @@
 -- A record that is on the tape, and one that is there or not.
 use Rattle.wf_journal.specs.Record.{view}
 use Rattle.wf_node.proofs.Replies.{written, broken, spared_some}
-use Rattle.wf_node.specs.Storing.{left_from}
 use Rattle.wf_node.proofs.storing.add.Goals as goal
 
 pub returns-in-Ok : goal.returns-in-Ok
 returns-in-Ok g c =
-    written g.T.Tape.honest g.T.Tape.content g.T.Tape.images (left_from g.T.Tape.moment g.T.Tape.left_since) g.T.Tape.failed g.T.Tape.never_fails (view c.args.entry.now) c.args.journal.now c.add.new.self
+    written g.T.Tape (view c.args.entry.now) c.args.journal.now c.add.new.self
     c.in-Ok.ensures.running c.in-Ok.ensures.ok c.in-Ok.ensures.one_more
     (λ honest image left. let earlier = c.add.ensures.inside honest image left in (earlier.0, (g.met.T.Tape.is_now honest c.args.journal.now.tape).counts earlier.0 earlier.1, earlier.2)) c.add.ensures.sturdy
 
 pub returns-in-Err-TapeFailed : goal.returns-in-Err-TapeFailed
 returns-in-Err-TapeFailed g c =
-    broken g.T.Tape.honest g.T.Tape.content g.T.Tape.images (left_from g.T.Tape.moment g.T.Tape.left_since) g.T.Tape.failed g.T.Tape.never_fails (view c.args.entry.now) c.args.journal.now c.add.new.self
+    broken g.T.Tape (view c.args.entry.now) c.args.journal.now c.add.new.self
     (c.in-Err-TapeFailed.ensures.halted (cc (c.in-Err-TapeFailed.field-0-is))) (c.in-Err-TapeFailed.ensures.failed (cc (c.in-Err-TapeFailed.field-0-is)))
     (λ h. c.in-Err-TapeFailed.ensures.part h (cc (c.in-Err-TapeFailed.field-0-is))) c.in-Err-TapeFailed.ensures.images
     (λ honest image left. let earlier = c.add.ensures.inside honest image left in (earlier.0, (g.met.T.Tape.is_now honest c.args.journal.now.tape).counts earlier.0 earlier.1, earlier.2))
@@ -20,6 +19,6 @@ returns-in-Err-TapeFailed g c =
 
 pub returns-in-Err-Memory : goal.returns-in-Err-Memory
 returns-in-Err-Memory g c =
-    spared_some g.T.Tape.honest g.T.Tape.content g.T.Tape.images (left_from g.T.Tape.moment g.T.Tape.left_since) g.T.Tape.failed g.T.Tape.never_fails (view c.args.entry.now) c.args.journal.now c.add.new.self
+    spared_some g.T.Tape (view c.args.entry.now) c.args.journal.now c.add.new.self
     (c.add.ensures.still_running (cc (c.in-Err-Memory.is, c.in-Err-Memory.field-0-is))) (λ honest. c.add.ensures.memory honest (cc (c.in-Err-Memory.is, c.in-Err-Memory.field-0-is)))
     (λ honest image left. let earlier = c.add.ensures.inside honest image left in (earlier.0, (g.met.T.Tape.is_now honest c.args.journal.now.tape).counts earlier.0 earlier.1, earlier.2)) c.add.ensures.sturdy

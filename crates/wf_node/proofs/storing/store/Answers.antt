@@ -3,10 +3,9 @@ use Rattle.std.proofs.Common.{option_map, ap}
 use Rattle.std.specs.Option.{option_copied}
 use Rattle.wf_journal.specs.Record.{view}
 use Rattle.wf_node.proofs.Replies.{written_none}
-use Rattle.wf_node.specs.Storing.{left_from}
 use Rattle.wf_node.proofs.storing.store.Goals as goal
 
 pub returns-in-None : goal.returns-in-None
 returns-in-None g c =
-    written_none g.T.Tape.honest g.T.Tape.content g.T.Tape.images (left_from g.T.Tape.moment g.T.Tape.left_since) g.T.Tape.failed g.T.Tape.never_fails (option_map view (option_copied c.args.entry)) c.args.journal.now
+    written_none g.T.Tape (option_map view (option_copied c.args.entry)) c.args.journal.now
     (ap (λ e. option_map view (option_copied e)) c.in-None.is) c.requires

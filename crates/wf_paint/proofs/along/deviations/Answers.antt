@@ -1,7 +1,7 @@
 use Rattle.std.proofs.Common.{◌≡◌, pos, FitsSigned, w64, to_z-of_z, rules, ap, ◌∙◌}
 use Rattle.std.specs.Int.{w128}
 use Rattle.wf_paint.specs.Level.{level_at, row_level}
-use Rattle.wf_paint.specs.Place.{PlaceValue, centre}
+use Rattle.wf_paint.specs.Position.{PositionValue, centre}
 use Rattle.wf_paint.specs.Coverage.{deviation}
 use Rattle.wf_paint.proofs.AlongLemmas.{across_levels}
 use Rattle.wf_paint.proofs.along.deviations.Goals as goal
@@ -13,5 +13,5 @@ returns-clause-value c = λ u v.
     let runs : FitsSigned w64 c.run.result = search rules in
     let rises : FitsSigned w64 c.rise.result = search rules in
     let origin : c.deviation.result ≡ deviation (centre (pos 0) (pos 0)) c.args.left c.args.right =
-    c.deviation.ensures.value ∙ ap (λ (p : PlaceValue). deviation p c.args.left c.args.right) c.centre.ensures in
+    c.deviation.ensures.value ∙ ap (λ (p : PositionValue). deviation p c.args.left c.args.right) c.centre.ensures in
     rw (to_z-of_z origins, to_z-of_z runs, to_z-of_z rises, origin, c.rise.ensures.value, c.run.ensures.value) (across_levels u v c.args.left c.args.right)

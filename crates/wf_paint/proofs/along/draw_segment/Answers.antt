@@ -1,5 +1,5 @@
 use Rattle.std.proofs.Common.{pos, sym, ◌∙◌}
-use Rattle.wf_paint.specs.Place.{centre, turned}
+use Rattle.wf_paint.specs.Position.{centre, turned}
 use Rattle.wf_paint.specs.Coverage.{is_on_flat, is_on}
 use Rattle.wf_paint.specs.Shown.{IsColored}
 use Rattle.wf_paint.proofs.ColoredLemmas.{IsColored-alike}

@@ -1,6 +1,6 @@
 use Rattle.std.proofs.Common.{◌≡◌, true, false, pos, FitsSigned, w64, to_z-of_z, sym, ◌∙◌, rules}
 use Rattle.wf_paint.specs.Exact.{is_less}
-use Rattle.wf_paint.specs.Place.{centre, turned}
+use Rattle.wf_paint.specs.Position.{centre, turned}
 use Rattle.wf_paint.specs.Coverage.{is_across, is_on_flat}
 use Rattle.wf_paint.proofs.ColoredLemmas.{IsColored-alike}
 use Rattle.wf_paint.proofs.AlongLemmas.{flat_back, flat_forth}

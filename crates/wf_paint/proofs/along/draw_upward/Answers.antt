@@ -1,6 +1,6 @@
 use Rattle.std.proofs.Common.{pos, arith}
 use Rattle.wf_paint.specs.Coverage.{is_across}
-use Rattle.wf_paint.specs.Place.{centre, turned}
+use Rattle.wf_paint.specs.Position.{centre, turned}
 use Rattle.wf_paint.specs.Span.{is_within}
 use Rattle.wf_paint.specs.Strip.{is_in_strip}
 use Rattle.wf_paint.proofs.AlongLemmas.{across_level}

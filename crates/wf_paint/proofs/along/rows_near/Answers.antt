@@ -1,7 +1,7 @@
 use Rattle.std.proofs.Common.{◌≡◌, true, false, ℕ, ◌<◌, ◌*◌, pos, nat_lt, FitsSigned, w64, to_z-of_z, sym, ap, ◌∙◌, rules}
 use Rattle.std.proofs.lemmas.Bool.{lt-ltb, le-ltb}
 use Rattle.wf_paint.specs.Exact.{plus, difference, is_less}
-use Rattle.wf_paint.specs.Place.{middle, centre}
+use Rattle.wf_paint.specs.Position.{middle, centre}
 use Rattle.wf_paint.specs.Limit.{half_side}
 use Rattle.wf_paint.proofs.BandLemmas.{beyond_below, beyond_above, less_lowered, less_raised}
 use Rattle.wf_paint.proofs.along.rows_near.Goals as goal

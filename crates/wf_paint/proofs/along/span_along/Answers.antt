@@ -1,6 +1,6 @@
 use Rattle.std.proofs.Common.{◌&&◌, not, pos, FitsSigned, w64, to_z-of_z, rules}
 use Rattle.wf_paint.specs.Exact.{is_less}
-use Rattle.wf_paint.specs.Place.{middle}
+use Rattle.wf_paint.specs.Position.{middle}
 use Rattle.wf_paint.specs.Coverage.{is_along}
 use Rattle.wf_paint.specs.Span.{IsSpanOf}
 use Rattle.wf_paint.proofs.along.span_along.Goals as goal

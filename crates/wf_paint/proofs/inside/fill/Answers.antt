@@ -1,7 +1,7 @@
 use Rattle.std.proofs.Common.{◌≡◌, nat_lt, pos, FitsSigned, w64, to_z-of_z, ◌∙◌, rules, arith}
 use Rattle.std.proofs.lemmas.Bool.{lt-ltb, le-ltb}
 use Rattle.wf_paint.specs.Exact.{is_less}
-use Rattle.wf_paint.specs.Place.{middle, centre}
+use Rattle.wf_paint.specs.Position.{middle, centre}
 use Rattle.wf_paint.proofs.InsideLemmas.{inside_below, inside_above}
 use Rattle.wf_paint.proofs.WalkLemmas.{rows_none, rows_more, rows_all}
 use Rattle.wf_paint.proofs.inside.fill.Goals as goal

@@ -1,6 +1,6 @@
 use Rattle.std.proofs.Common.{◌≡◌, ℕ, ◌<◌, ℤ, nat_lt, pos, FitsSigned, to_z, of_z, w64, to_z-of_z, get_or, sym, ap, ◌∙◌, rules, arith}
 use Rattle.wf_paint.specs.Coverage.{crosses}
-use Rattle.wf_paint.specs.Place.{PlaceValue, middle, centre}
+use Rattle.wf_paint.specs.Position.{PositionValue, middle, centre}
 use Rattle.wf_paint.specs.declared.segment.Segment.{Segment}
 use Rattle.wf_paint.proofs.InsideLemmas.{reaches_more, reaches_skip}
 use Rattle.wf_paint.proofs.inside.find_reaches.Goals as goal
@@ -11,7 +11,7 @@ loop-edge-preserved c =
     let edge = c.edge-item.result in
     let fits : FitsSigned w64 c.y-level.result = search rules in
     let level : to_z w64 (of_z w64 c.y-level.result) ≡ middle (pos c.args.row) =
-    to_z-of_z fits ∙ c.y-level.ensures.value ∙ ap (λ (p : PlaceValue). p.y) c.centre.ensures in
+    to_z-of_z fits ∙ c.y-level.ensures.value ∙ ap (λ (p : PositionValue). p.y) c.centre.ensures in
     let crossed : (u : ℕ) → u < c.args.width → crosses (centre (pos u) (pos c.args.row)) (get_or c.args.edges.now c.loop-edge.edge-index edge) ≡ nat_lt u c.reach-reach.result =
     λ u within.
     ap (λ (e : Segment). crosses (centre (pos u) (pos c.args.row)) e) (sym c.edge-item.is)

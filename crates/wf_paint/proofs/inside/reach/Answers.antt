@@ -1,7 +1,7 @@
 use Rattle.std.proofs.Common.{◌≡◌, nat_lt, sym, ◌∙◌, pos, to_z-of_z, arith}
 use Rattle.std.proofs.lemmas.Bool.{le-ltb}
 use Rattle.wf_paint.specs.Coverage.{is_beside, is_left_of}
-use Rattle.wf_paint.specs.Place.{middle}
+use Rattle.wf_paint.specs.Position.{middle}
 use Rattle.wf_paint.proofs.InsideLemmas.{crosses_rising, crosses_falling, crosses_none}
 use Rattle.wf_paint.proofs.inside.reach.Goals as goal
 

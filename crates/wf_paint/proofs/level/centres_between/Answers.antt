@@ -1,6 +1,6 @@
 use Rattle.std.proofs.Common.{◌≡◌, ◌<◌, ◌&&◌, not, ℕ, pos, nat_lt, FitsSigned, w64, to_z-of_z, refl, sym, ap, ◌∙◌, rules}
 use Rattle.wf_paint.specs.Exact.{plus, is_less}
-use Rattle.wf_paint.specs.Place.{middle}
+use Rattle.wf_paint.specs.Position.{middle}
 use Rattle.wf_paint.proofs.LevelLemmas.{not_above}
 use Rattle.wf_paint.proofs.SpanLemmas.{IsSpanOf-ends}
 use Rattle.wf_paint.proofs.level.centres_between.Goals as goal

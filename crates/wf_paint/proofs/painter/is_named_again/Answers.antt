@@ -8,7 +8,7 @@ use Rattle.wf_paint.proofs.painter.is_named_again.Goals as goal
 
 pub returns : goal.returns
 returns c =
-    let later = drop (c.args.place + 1) c.args.layers.now in
-    let named = get_or c.args.layers.now c.args.place 0 in
-    let asked : IsAnyAnswer (λ y t. eqb y named ≡ t) later c.contains.result = rw (take_rest c.args.layers.now (c.args.place + 1)) at c.contains.ensures.cases in
+    let later = drop (c.args.index + 1) c.args.layers.now in
+    let named = get_or c.args.layers.now c.args.index 0 in
+    let asked : IsAnyAnswer (λ y t. eqb y named ≡ t) later c.contains.result = rw (take_rest c.args.layers.now (c.args.index + 1)) at c.contains.ensures.cases in
     Decides-contains later named c.contains.result (contains_decides eqb Decides-eqb later named c.contains.result asked)

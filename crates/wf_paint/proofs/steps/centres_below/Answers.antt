@@ -8,5 +8,5 @@ use Rattle.wf_paint.proofs.steps.centres_below.Goals as goal
 
 pub returns-clause-below : goal.returns-clause-below
 returns-clause-below c = λ u within.
-    let same : (to_z w128 (of_z w128 (to_z w128 (of_z w128 c.from.result) -ℤ pos half_side))) ≡ c.args.place -ℤ pos half_side = omega (arith, ints) in
-    centre_less (pos u) c.args.place ∙ ap (λ (z : ℤ). is_less (product (pos pixel_side) (pos u)) z) (sym same) ∙ c.steps_below.ensures.below u within
+    let same : (to_z w128 (of_z w128 (to_z w128 (of_z w128 c.from.result) -ℤ pos half_side))) ≡ c.args.position -ℤ pos half_side = omega (arith, ints) in
+    centre_less (pos u) c.args.position ∙ ap (λ (z : ℤ). is_less (product (pos pixel_side) (pos u)) z) (sym same) ∙ c.steps_below.ensures.below u within

@@ -41,9 +41,9 @@ returns-in-Err-write_all-clause-ended g c =
     c.in_default.ensures.tells (rw c.as_bytes.ensures.value at c.in-Err-write_all.ensures.part.1)
 
 pub returns-in-Err-clause-last : goal.returns-in-Err-clause-last
-returns-in-Err-clause-last g c = order_is_not_last g.K.Sink.written g.K.Sink.failures g.K.Sink.fails _ _ c.args.sink.now c.loop-number.sink c.in-Err.fault c.in-Err.ensures.fault
+returns-in-Err-clause-last g c = order_is_not_last g.K.Sink _ _ c.args.sink.now c.loop-number.sink c.in-Err.fault c.in-Err.ensures.fault
 
 pub returns-in-Err-write_all-clause-last : goal.returns-in-Err-write_all-clause-last
 returns-in-Err-write_all-clause-last g c =
-    written_last g.K.Sink.written g.K.Sink.failures g.K.Sink.fails c.loop-number.number c.args.session.now.script (stage c.args.session.now) (stage c.loop-number.session) c.args.sink.now c.loop-number.sink c.write_all.new.sink _
+    written_last g.K.Sink c.loop-number.number c.args.session.now.script (stage c.args.session.now) (stage c.loop-number.session) c.args.sink.now c.loop-number.sink c.write_all.new.sink _
     c.loop-number.invariant.plays c.loop-number.invariant.writes c.in-Err-write_all.ensures.last

@@ -18,4 +18,4 @@ pub returns-in-Err-clause-begun : goal.returns-in-Err-clause-begun
 returns-in-Err-clause-begun g c = nothing_begun (g.S.Source.left c.args.source.now) (g.K.Sink.written c.args.sink.now) c.in-Err.fault c.in-Err.ensures.err
 
 pub returns-in-Err-clause-last : goal.returns-in-Err-clause-last
-returns-in-Err-clause-last g c = input_is_not_last g.K.Sink.written g.K.Sink.failures g.K.Sink.fails (g.S.Source.left c.args.source.now) c.args.sink.now c.in-Err.fault c.in-Err.ensures.err
+returns-in-Err-clause-last g c = input_is_not_last g.K.Sink (g.S.Source.left c.args.source.now) c.args.sink.now c.in-Err.fault c.in-Err.ensures.err

@@ -6,7 +6,7 @@ use Rattle.wf_serve.proofs.connections.serve_connections.Goals as goal
 
 pub loop-connection-init : goal.loop-connection-init
 loop-connection-init g c = record {
-  come = none_came g.T.Tape.honest g.T.Tape.content g.T.Tape.images g.T.Tape.failed (length c.args.nodes.now) c.args.nodes.now;
+  come = none_came g.T.Tape (length c.args.nodes.now) c.args.nodes.now;
   led = c.leading_goes_on.ensures.still c.args.nodes.now;
   kept = c.requires.kept;
 }
@@ -22,7 +22,7 @@ serve_next-requires-clause-kept g c = c.loop-connection.invariant.kept
 
 pub loop-connection-preserved : goal.loop-connection-preserved
 loop-connection-preserved g c = record {
-  come = one_more_came g.T.Tape.honest g.T.Tape.content g.T.Tape.images g.T.Tape.failed (length c.args.nodes.now) c.loop-connection.connection c.turn_of.result c.args.nodes.now c.loop-connection.nodes c.serve_next.new.nodes
+  come = one_more_came g.T.Tape (length c.args.nodes.now) c.loop-connection.connection c.turn_of.result c.args.nodes.now c.loop-connection.nodes c.serve_next.new.nodes
       c.turn_of.ensures.turn c.loop-connection.invariant.come c.serve_next.ensures.answered;
   led = c.leading_goes_on.ensures.again c.args.nodes.now c.loop-connection.nodes c.serve_next.new.nodes c.loop-connection.invariant.led c.serve_next.ensures.led;
   kept = c.serve_next.ensures.kept;
@@ -31,7 +31,7 @@ loop-connection-preserved g c = record {
 pub returns-clause-come : goal.returns-clause-come
 returns-clause-come g c =
     let all : c.loop-connection.connection ≡ c.args.requests = omega (arith, c.loop-connection-test.false) in
-    subst (λ k. HaveCome g.T.Tape.honest g.T.Tape.content g.T.Tape.images g.T.Tape.failed (length c.args.nodes.now) k c.args.nodes.now c.loop-connection.nodes) all c.loop-connection.invariant.come
+    subst (λ k. HaveCome g.T.Tape (length c.args.nodes.now) k c.args.nodes.now c.loop-connection.nodes) all c.loop-connection.invariant.come
 
 pub returns-clause-led : goal.returns-clause-led
 returns-clause-led g c = c.loop-connection.invariant.led

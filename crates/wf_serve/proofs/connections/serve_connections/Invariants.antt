@@ -7,7 +7,7 @@ use Rattle.wf_serve.proofs.connections.serve_connections.Given as goal
 
 abbrev pub invariant-loop-connection : goal.invariant-loop-connection
 invariant-loop-connection g l = record {
-  come : HaveCome g.T.Tape.honest g.T.Tape.content g.T.Tape.images g.T.Tape.failed (length l.initial.nodes) l.connection l.initial.nodes l.nodes;
-  led : AreLedOn g.T.Tape.honest g.T.Tape.images l.initial.nodes l.nodes;
+  come : HaveCome g.T.Tape (length l.initial.nodes) l.connection l.initial.nodes l.nodes;
+  led : AreLedOn g.T.Tape l.initial.nodes l.nodes;
   kept : AreKept l.nodes l.caches;
 }

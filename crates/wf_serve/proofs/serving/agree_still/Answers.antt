@@ -9,5 +9,5 @@ returns g c = λ before reached led.
     record {
       reached = now_reached;
       history = history;
-      alike = respond_alike g.T.Tape.honest g.T.Tape.content g.T.Tape.images g.T.Tape.failed c.equal_requests_have_equal_responses.ensures c.args.nodes.now history;
+      alike = respond_alike g.T.Tape c.equal_requests_have_equal_responses.ensures c.args.nodes.now history;
     }

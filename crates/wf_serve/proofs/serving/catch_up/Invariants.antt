@@ -5,6 +5,6 @@ use Rattle.wf_serve.proofs.serving.catch_up.Given as goal
 
 abbrev pub invariant-loop-number : goal.invariant-loop-number
 invariant-loop-number g l = record {
-  caught : HaveCaughtUp g.T.Tape.honest g.T.Tape.content g.T.Tape.images g.T.Tape.failed l.number l.initial.nodes l.nodes;
-  led : AreLedOn g.T.Tape.honest g.T.Tape.images l.initial.nodes l.nodes;
+  caught : HaveCaughtUp g.T.Tape l.number l.initial.nodes l.nodes;
+  led : AreLedOn g.T.Tape l.initial.nodes l.nodes;
 }

@@ -3,7 +3,7 @@ use Rattle.std.proofs.Common.{length, refl, sym, subst, subst₂, arith}
 use Rattle.std.proofs.lemmas.Option.{slice_get_read}
 use Rattle.wf_edge.specs.Serving.{IsOutcome, MovesOnce}
 use Rattle.wf_node.specs.Node.{Node}
-use Rattle.wf_wms.specs.Kept.{AllKept, CacheValue}
+use Rattle.wf_wms.specs.KeptPictures.{AllKept, CacheValue}
 use Rattle.wf_serve.proofs.Caches.{kept_set}
 use Rattle.wf_serve.proofs.Ended.{ends}
 use Rattle.wf_serve.proofs.Led.{moved_leads}
@@ -17,13 +17,13 @@ returns-clause-served g c = record {
     was = slice_get_read c.args.nodes.now (length c.args.nodes.now) c.args.place c.index-nodes-place.result refl c.requires.within c.index-nodes-place.is;
     is = refl;
   };
-  served = subst (λ n. IsOutcome g.T.Tape.honest g.T.Tape.content g.T.Tape.images g.T.Tape.failed (g.S.Source.left c.args.source.now) (g.K.Sink.written c.args.sink.now) (g.K.Sink.written c.serve_one_cached.new.sink) n c.serve_one_cached.result.messages c.serve_one_cached.new.node c.serve_one_cached.result.outcome) (sym c.index-nodes-place.is) c.serve_one_cached.ensures.outcome;
-  moves = subst (λ n. MovesOnce g.T.Tape.honest g.T.Tape.content g.T.Tape.images g.T.Tape.failed n c.serve_one_cached.result.messages c.serve_one_cached.new.node) (sym c.index-nodes-place.is) c.serve_one_cached.ensures.moves;
+  served = subst (λ n. IsOutcome g.T.Tape (g.S.Source.left c.args.source.now) (g.K.Sink.written c.args.sink.now) (g.K.Sink.written c.serve_one_cached.new.sink) n c.serve_one_cached.result.messages c.serve_one_cached.new.node c.serve_one_cached.result.outcome) (sym c.index-nodes-place.is) c.serve_one_cached.ensures.outcome;
+  moves = subst (λ n. MovesOnce g.T.Tape n c.serve_one_cached.result.messages c.serve_one_cached.new.node) (sym c.index-nodes-place.is) c.serve_one_cached.ensures.moves;
 }
 
 pub returns-clause-last : goal.returns-clause-last
 returns-clause-last g c =
-    ends g.T.Tape.honest g.T.Tape.content g.T.Tape.images g.T.Tape.failed g.K.Sink.written g.K.Sink.failures g.K.Sink.fails (g.S.Source.left c.args.source.now) c.args.sink.now c.serve_one_cached.new.sink
+    ends g.T.Tape g.K.Sink (g.S.Source.left c.args.source.now) c.args.sink.now c.serve_one_cached.new.sink
     _ c.serve_one_cached.new.node c.serve_one_cached.result.messages c.serve_one_cached.result.outcome c.serve_one_cached.ensures.last
 
 pub returns-clause-says : goal.returns-clause-says
@@ -32,8 +32,8 @@ returns-clause-says g c =
     let after = c.serve_one_cached.new.node in
     let said = c.serve_one_cached.result.messages in
     let at = slice_get_read c.args.nodes.now (length c.args.nodes.now) c.args.place node refl c.requires.within c.index-nodes-place.is in
-    let moves = subst (λ n. MovesOnce g.T.Tape.honest g.T.Tape.content g.T.Tape.images g.T.Tape.failed n said after) (sym c.index-nodes-place.is) c.serve_one_cached.ensures.moves in
-    moved_leads g.T.Tape.honest g.T.Tape.content g.T.Tape.images g.T.Tape.failed c.a_step_leads_on.ensures c.args.nodes.now c.args.place node after at c.requires.in_turn said c.leading_goes_on.ensures.quiet moves
+    let moves = subst (λ n. MovesOnce g.T.Tape n said after) (sym c.index-nodes-place.is) c.serve_one_cached.ensures.moves in
+    moved_leads g.T.Tape c.a_step_leads_on.ensures c.args.nodes.now c.args.place node after at c.requires.in_turn said c.leading_goes_on.ensures.quiet moves
 
 pub serve_one_cached-requires : goal.serve_one_cached-requires
 serve_one_cached-requires g c =

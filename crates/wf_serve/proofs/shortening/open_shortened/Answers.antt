@@ -4,5 +4,5 @@ use Rattle.wf_serve.proofs.shortening.open_shortened.Goals as goal
 
 pub returns-in-Ok-clause-opened : goal.returns-in-Ok-clause-opened
 returns-in-Ok-clause-opened g c =
-    opened_again g.T.Tape.honest g.T.Tape.content g.T.Tape.images c.args.tape c.in-Ok.node c.shorten.result
+    opened_again g.T.Tape c.args.tape c.in-Ok.node c.shorten.result
     c.in-Ok.ensures.running c.in-Ok.ensures.working c.in-Ok.ensures.stored c.shorten.ensures.same c.shorten.ensures.short c.shorten.ensures.stands

@@ -4,7 +4,7 @@ use Rattle.wf_paint.specs.Grid.{fits}
 use Rattle.wf_paint.specs.declared.cell.GridCell.{GridCell}
 use Rattle.wf_picture.specs.declared.size.Size.{Size}
 use Rattle.wf_wms.specs.Judged.{IsPictureFor}
-use Rattle.wf_wms.proofs.KeptLaw.{picture_asked, tile_asked}
+use Rattle.wf_wms.proofs.KeptPicturesLaw.{picture_asked, tile_asked}
 use Rattle.wf_wms.proofs.drawing.drawn_by.Goals as goal
 
 fits_asked : (e extent b box : ExtentValue) (s size : Size) (cell : GridCell) → e ≡ extent → b ≡ box → s ≡ size → fits e b s.width s.height cell ≡ true →

@@ -1,4 +1,4 @@
-use Rattle.wf_wms.proofs.KeptLaw.{growth_keeps}
+use Rattle.wf_wms.proofs.KeptPicturesLaw.{growth_keeps}
 use Rattle.wf_wms.proofs.law.kept_pictures_outlast_growth.Goals as goal
 
 pub returns : goal.returns

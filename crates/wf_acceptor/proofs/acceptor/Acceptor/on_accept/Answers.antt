@@ -2,8 +2,9 @@
 use Rattle.std.proofs.Common.{Some, sym, ◌∙◌, ap}
 use Rattle.wf_codec.specs.declared.message.Message.TheVariants as message
 use Rattle.wf_acceptor.specs.Acceptor.{Acceptor}
-use Rattle.wf_acceptor.specs.Prepared.{nack_of}
-use Rattle.wf_acceptor.proofs.Answered.{replying, voting, accept_row, answers_as, answers_if_ok, stores_if_err, nack_answers, again_answers, voting_answers, voting_stores}
+use Rattle.wf_acceptor.specs.Answer.{accept_row}
+use Rattle.wf_acceptor.specs.Prepared.{nack_of, replying, voting}
+use Rattle.wf_acceptor.proofs.Answered.{answers_as, answers_if_ok, stores_if_err, nack_answers, again_answers, voting_answers, voting_stores}
 use Rattle.wf_acceptor.proofs.acceptor.Acceptor.on_accept.Goals as goal
 
 pub returns-then-is_refused-clause-row : goal.returns-then-is_refused-clause-row

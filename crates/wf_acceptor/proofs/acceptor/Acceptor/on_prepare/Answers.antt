@@ -1,7 +1,8 @@
 -- By cases: the ballot compared with the promise.
 use Rattle.std.proofs.Common.{None, sym, ◌∙◌}
-use Rattle.wf_acceptor.specs.Prepared.{nack_of}
-use Rattle.wf_acceptor.proofs.Answered.{promising, replying, prepare_row, answers_as, answers_if_ok, stores_if_err, promising_answers, promising_stores, refusal_answers, silence_answers}
+use Rattle.wf_acceptor.specs.Answer.{prepare_row}
+use Rattle.wf_acceptor.specs.Prepared.{nack_of, promising, replying}
+use Rattle.wf_acceptor.proofs.Answered.{answers_as, answers_if_ok, stores_if_err, promising_answers, promising_stores, refusal_answers, silence_answers}
 use Rattle.wf_acceptor.proofs.acceptor.Acceptor.on_prepare.Goals as goal
 
 pub returns-then-is_above-clause-row : goal.returns-then-is_above-clause-row

@@ -4,10 +4,10 @@ use Rattle.wf_def.proofs.layer.Layer.new.Goals as goal
 
 pub invariant_of-result : goal.invariant_of-result
 invariant_of-result c = record {
-  title = c.as_bytes.ensures.within;
-  class_item = c.as_bytes-2.ensures.within;
-  label_item = c.as_bytes-3.ensures.within;
-  items = c.as_bytes-4.ensures.within;
+  title = c.know_text.ensures;
+  class_item = c.know_text-2.ensures;
+  label_item = c.know_text-3.ensures;
+  items = c.as_bytes.ensures.within;
   items_most = search rules;
   classes_most = c.as_slice.ensures.most;
   classes = c.as_slice.ensures.within;

@@ -3,10 +3,10 @@ use Rattle.wf_def.proofs.map.MapDef.new.Goals as goal
 
 pub invariant_of-result : goal.invariant_of-result
 invariant_of-result c = record {
-  name = c.as_bytes.ensures.within;
-  title = c.as_bytes-2.ensures.within;
-  abstract_text = c.as_bytes-3.ensures.within;
-  address = c.as_bytes-4.ensures.within;
+  name = c.know_text.ensures;
+  title = c.know_text-2.ensures;
+  abstract_text = c.know_text-3.ensures;
+  address = c.know_text-4.ensures;
   extent = c.minx.ensures.within;
   layers_most = rw c.new.ensures.empty (search rules);
   names = rw c.new.ensures.empty (search rules);

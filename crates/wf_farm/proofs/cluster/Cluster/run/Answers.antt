@@ -23,7 +23,7 @@ returns-in-Err-clause-may c =
 pub loop-done-preserved : goal.loop-done-preserved
 loop-done-preserved c =
     let at = slice_get_read c.args.events.now (length c.args.events.now) c.loop-done.done c.index-events-done.result refl (omega (arith, c.loop-done-test.true)) c.index-events-done.is in (
-      next_run c.args.self.now.places.items c.args.self.now.sent.items c.args.events.now c.loop-done.done (c.loop-done.done + 1) c.index-events-done.result c.loop-done.refused c.in-Ok.number c.loop-done.self.places.items c.happen.new.self.places.items c.loop-done.self.sent.items c.happen.new.self.sent.items (omega arith) at c.loop-done.invariant.0 c.in-Ok.ensures.done,
+      next_run c.args.self.now.places.items c.args.self.now.sent.items c.args.events.now c.loop-done.done (c.loop-done.done + 1) c.index-events-done.result c.loop-done.refused c.in-Ok.why c.loop-done.self.places.items c.happen.new.self.places.items c.loop-done.self.sent.items c.happen.new.self.sent.items (omega arith) at c.loop-done.invariant.0 c.in-Ok.ensures.done,
       keep_twice c.args.self.now.places.items c.loop-done.self.places.items c.happen.new.self.places.items c.loop-done.invariant.1 c.happen.ensures.members,
       omega (arith, c.loop-done.invariant.2, c.happen.ensures.grows),
     )

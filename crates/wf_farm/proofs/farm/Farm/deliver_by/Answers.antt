@@ -3,7 +3,7 @@ use Rattle.std.proofs.Common.{ℕ, [], ◌∷◌, slice_get, subst, arith}
 use Rattle.wf_def.specs.Definition.{Definition}
 use Rattle.wf_law.specs.Laws.{IsBeginning}
 use Rattle.wf_model.specs.Stored.{Stored}
-use Rattle.wf_model.specs.World.{Deliver}
+use Rattle.wf_model.specs.World.{deliver}
 use Rattle.wf_farm.specs.Agreement.{HasStored, HistoriesGrow}
 use Rattle.wf_farm.specs.Cluster.{Moves}
 use Rattle.wf_farm.specs.Farm.{Farm}
@@ -22,7 +22,7 @@ pub returns-clause-done : goal.returns-clause-done
 returns-clause-done g c =
     elim c.match-deliver_by.branch [
       | in-Ok w ↦ rw w.result-is
-          (subst (λ (farm : Farm). Moves (Deliver c.args.node c.args.number ∷ []) farm.places farm.sent c.deliver_by.new.self.places.items c.deliver_by.new.self.sent.items) c.self.view_is
+          (subst (λ (farm : Farm). Moves (deliver c.args.node c.args.number ∷ []) farm.places farm.sent c.deliver_by.new.self.places.items c.deliver_by.new.self.sent.items) c.self.view_is
           (acted_moves c.self.inside.cluster.places.items c.deliver_by.new.self.places.items c.self.inside.cluster.sent.items c.deliver_by.new.self.sent.items c.args.node c.args.number w.in-Ok.ensures.done))
       | in-Err w ↦ rw w.result-is tt
     ]

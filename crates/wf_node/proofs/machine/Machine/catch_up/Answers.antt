@@ -8,12 +8,11 @@ use Rattle.wf_node.specs.Parts.{stored_of}
 use Rattle.wf_proposer.specs.Proposer.{working_of}
 use Rattle.wf_node.proofs.Acts.{act_says, catch_up_unrefused, row_catch_up}
 use Rattle.wf_node.proofs.Rows.{catch_up_asks, catch_up_rests}
-use Rattle.wf_node.specs.Storing.{left_from}
 use Rattle.wf_node.proofs.machine.Machine.catch_up.Goals as goal
 
 pub returns-in-Some-clause-act : goal.returns-in-Some-clause-act
 returns-in-Some-clause-act g c =
-    act_says g.T.Tape.honest g.T.Tape.content g.T.Tape.images (left_from g.T.Tape.moment g.T.Tape.left_since) g.T.Tape.failed g.T.Tape.never_fails CatchUp (Ask c.in-Some.slot ∷ []) c.args.self.now.journal c.args.self.now.kept.parts c.args.self.now.proposer c.reply.result
+    act_says g.T.Tape CatchUp (Ask c.in-Some.slot ∷ []) c.args.self.now.journal c.args.self.now.kept.parts c.args.self.now.proposer c.reply.result
     (catch_up_unrefused _ _) c.requires.running
     (row_catch_up c.args.self.now.kept.parts c.args.self.now.proposer ∙ catch_up_asks (stored_of c.args.self.now.kept.parts) (working_of c.args.self.now.proposer) c.in-Some.slot
     (subst (λ h. length h < last_sequence) c.history.ensures (c.in-Some.ensures.open.0 refl))
@@ -22,7 +21,7 @@ returns-in-Some-clause-act g c =
 
 pub returns-in-None-clause-act : goal.returns-in-None-clause-act
 returns-in-None-clause-act g c =
-    act_says g.T.Tape.honest g.T.Tape.content g.T.Tape.images (left_from g.T.Tape.moment g.T.Tape.left_since) g.T.Tape.failed g.T.Tape.never_fails CatchUp [] c.args.self.now.journal c.args.self.now.kept.parts c.args.self.now.proposer c.reply-in-None.result
+    act_says g.T.Tape CatchUp [] c.args.self.now.journal c.args.self.now.kept.parts c.args.self.now.proposer c.reply-in-None.result
     (catch_up_unrefused _ _) c.requires.running
     (row_catch_up c.args.self.now.kept.parts c.args.self.now.proposer ∙ catch_up_rests (stored_of c.args.self.now.kept.parts) (working_of c.args.self.now.proposer)
     (λ below. false≢true (c.in-None.ensures.open.1 (subst (λ h. length h < last_sequence) (sym c.history.ensures) below))))

@@ -8,7 +8,6 @@ use Rattle.wf_proposer.specs.Proposer.{row_of, working_of}
 use Rattle.wf_node.specs.Act.{IsOwn}
 use Rattle.wf_node.proofs.Acts.{act_done, act_sends, delivered, row_fits, row_accepted}
 use Rattle.wf_node.proofs.Rows.{accepted_own}
-use Rattle.wf_node.specs.Storing.{left_from}
 use Rattle.wf_node.proofs.machine.Machine.on_accepted.Goals as goal
 
 pub perform-requires-clause-fits : goal.perform-requires-clause-fits
@@ -21,11 +20,11 @@ perform-requires-clause-own g c = subst (λ (r : Row Definition). IsOwn r.entry)
 
 pub returns-in-Ok-clause-act : goal.returns-in-Ok-clause-act
 returns-in-Ok-clause-act g c =
-    act_done g.T.Tape.honest g.T.Tape.content g.T.Tape.images (left_from g.T.Tape.moment g.T.Tape.left_since) g.T.Tape.failed g.T.Tape.never_fails (Deliver (model.Accepted c.args.from c.args.slot c.args.ballot)) (row_of c.args.self.now.proposer c.in-Ok.next) c.args.self.now.journal c.perform.new.self.journal c.args.self.now.kept.parts c.perform.new.self.kept.parts c.args.self.now.proposer c.perform.new.self.proposer c.perform.result
+    act_done g.T.Tape (Deliver (model.Accepted c.args.from c.args.slot c.args.ballot)) (row_of c.args.self.now.proposer c.in-Ok.next) c.args.self.now.journal c.perform.new.self.journal c.args.self.now.kept.parts c.perform.new.self.kept.parts c.args.self.now.proposer c.perform.new.self.proposer c.perform.result
     (delivered _ _ _) (c.in-Ok.ensures.row ∙ row_accepted c.args.self.now.kept.parts c.args.self.now.proposer c.args.from c.args.slot c.args.ballot) c.perform.ensures.change
 
 pub returns-in-Err-clause-act : goal.returns-in-Err-clause-act
 returns-in-Err-clause-act g c =
-    act_sends g.T.Tape.honest g.T.Tape.content g.T.Tape.images (left_from g.T.Tape.moment g.T.Tape.left_since) g.T.Tape.failed g.T.Tape.never_fails _ _ (Deliver (model.Accepted c.args.from c.args.slot c.args.ballot)) c.in-Err.refusal c.fault_of.result c.args.self.now.journal c.args.self.now.kept.parts c.args.self.now.proposer c.fault_of.ensures
+    act_sends g.T.Tape _ _ (Deliver (model.Accepted c.args.from c.args.slot c.args.ballot)) c.in-Err.refusal c.fault_of.result c.args.self.now.journal c.args.self.now.kept.parts c.args.self.now.proposer c.fault_of.ensures
     (delivered _ _ _) c.requires.running
     (let short = c.in-Err.ensures.memory refl in (subst Sends (row_accepted c.args.self.now.kept.parts c.args.self.now.proposer c.args.from c.args.slot c.args.ballot) short.0, short.1))

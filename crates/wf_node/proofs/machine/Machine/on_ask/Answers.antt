@@ -5,18 +5,17 @@ use Rattle.wf_model.specs.Table.{Deliver, told_from, most_told}
 use Rattle.wf_node.specs.declared.fault.NodeFault.TheVariants.{Memory}
 use Rattle.wf_node.proofs.Acts.{act_says, delivered, row_ask}
 use Rattle.wf_node.proofs.Rows.{ask_told}
-use Rattle.wf_node.specs.Storing.{left_from}
 use Rattle.wf_node.proofs.machine.Machine.on_ask.Goals as goal
 
 pub returns-in-Ok-clause-act : goal.returns-in-Ok-clause-act
 returns-in-Ok-clause-act g c =
-    act_says g.T.Tape.honest g.T.Tape.content g.T.Tape.images (left_from g.T.Tape.moment g.T.Tape.left_since) g.T.Tape.failed g.T.Tape.never_fails (Deliver (model.Ask c.args.slot)) (told_from c.args.self.now.kept.parts.history c.args.slot most_told) c.args.self.now.journal c.args.self.now.kept.parts c.args.self.now.proposer (Ok c.in-Ok.messages)
+    act_says g.T.Tape (Deliver (model.Ask c.args.slot)) (told_from c.args.self.now.kept.parts.history c.args.slot most_told) c.args.self.now.journal c.args.self.now.kept.parts c.args.self.now.proposer (Ok c.in-Ok.messages)
     (delivered _ _ _) c.requires.running (row_ask c.args.self.now.kept.parts c.args.self.now.proposer c.args.slot)
     (c.in-Ok.ensures.row ∙ ap (λ h. told_from h c.args.slot most_told) c.history.ensures)
 
 pub returns-in-Err-clause-act : goal.returns-in-Err-clause-act
 returns-in-Err-clause-act g c =
-    act_says g.T.Tape.honest g.T.Tape.content g.T.Tape.images (left_from g.T.Tape.moment g.T.Tape.left_since) g.T.Tape.failed g.T.Tape.never_fails (Deliver (model.Ask c.args.slot)) (told_from c.args.self.now.kept.parts.history c.args.slot most_told) c.args.self.now.journal c.args.self.now.kept.parts c.args.self.now.proposer (Err Memory)
+    act_says g.T.Tape (Deliver (model.Ask c.args.slot)) (told_from c.args.self.now.kept.parts.history c.args.slot most_told) c.args.self.now.journal c.args.self.now.kept.parts c.args.self.now.proposer (Err Memory)
     (delivered _ _ _) c.requires.running (row_ask c.args.self.now.kept.parts c.args.self.now.proposer c.args.slot)
-    (ask_told c.args.self.now.kept.parts.history c.args.slot (subst (λ n. 1 ≤ n) c.number.ensures.value c.number.ensures.in_range.from_one)
+    (ask_told c.args.self.now.kept.parts.history c.args.slot c.counts_from_one.ensures
     (subst (λ h. c.args.slot ≤ length h) c.history.ensures c.in-Err.ensures.memory))

@@ -6,7 +6,6 @@ use Rattle.wf_model.specs.Table.{Deliver, Row}
 use Rattle.wf_proposer.specs.Proposer.{row_of, working_of}
 use Rattle.wf_node.proofs.Acts.{act_done, delivered, row_fits, row_nack}
 use Rattle.wf_node.proofs.Rows.{none_own, nack_stores_none}
-use Rattle.wf_node.specs.Storing.{left_from}
 use Rattle.wf_node.proofs.machine.Machine.on_nack.Goals as goal
 
 pub perform-requires-clause-fits : goal.perform-requires-clause-fits
@@ -20,5 +19,5 @@ perform-requires-clause-own g c =
 
 pub returns-clause-act : goal.returns-clause-act
 returns-clause-act g c =
-    act_done g.T.Tape.honest g.T.Tape.content g.T.Tape.images (left_from g.T.Tape.moment g.T.Tape.left_since) g.T.Tape.failed g.T.Tape.never_fails (Deliver (model.Nack c.args.from c.args.slot c.args.ballot c.args.promised)) (row_of c.args.self.now.proposer c.on_nack-next.result) c.args.self.now.journal c.perform.new.self.journal c.args.self.now.kept.parts c.perform.new.self.kept.parts c.args.self.now.proposer c.perform.new.self.proposer c.perform.result
+    act_done g.T.Tape (Deliver (model.Nack c.args.from c.args.slot c.args.ballot c.args.promised)) (row_of c.args.self.now.proposer c.on_nack-next.result) c.args.self.now.journal c.perform.new.self.journal c.args.self.now.kept.parts c.perform.new.self.kept.parts c.args.self.now.proposer c.perform.new.self.proposer c.perform.result
     (delivered _ _ _) (c.on_nack-next.ensures ∙ row_nack c.args.self.now.kept.parts c.args.self.now.proposer c.args.from c.args.slot c.args.ballot c.args.promised) c.perform.ensures.change

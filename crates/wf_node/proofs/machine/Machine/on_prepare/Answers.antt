@@ -7,12 +7,11 @@ use Rattle.wf_node.specs.declared.fault.NodeFault.TheVariants.{Memory}
 use Rattle.wf_node.specs.Parts.{stored_of}
 use Rattle.wf_node.proofs.Acts.{act_given, act_says, act_short, answer_fits, delivered, prepare_row, stored_takes}
 use Rattle.wf_node.proofs.Rows.{prepare_told}
-use Rattle.wf_node.specs.Storing.{left_from}
 use Rattle.wf_node.proofs.machine.Machine.on_prepare.Goals as goal
 
 pub returns-then-is_published-clause-act : goal.returns-then-is_published-clause-act
 returns-then-is_published-clause-act g c =
-    act_says g.T.Tape.honest g.T.Tape.content g.T.Tape.images (left_from g.T.Tape.moment g.T.Tape.left_since) g.T.Tape.failed g.T.Tape.never_fails (Deliver (model.Prepare c.args.slot c.args.ballot)) (told c.args.self.now.kept.parts.history c.args.slot) c.args.self.now.journal c.args.self.now.kept.parts c.args.self.now.proposer c.tell.result
+    act_says g.T.Tape (Deliver (model.Prepare c.args.slot c.args.ballot)) (told c.args.self.now.kept.parts.history c.args.slot) c.args.self.now.journal c.args.self.now.kept.parts c.args.self.now.proposer c.tell.result
     (delivered _ _ _) c.requires.running
     (sym (prepare_row c.args.self.now.proposer.node c.args.self.now.kept.parts c.args.self.now.proposer c.args.slot c.args.ballot refl) ∙
     prepare_told c.args.self.now.proposer.node (stored_of c.args.self.now.kept.parts) (working_of c.args.self.now.proposer) c.args.slot c.args.ballot (sym c.is_published.ensures ∙ c.if-is_published.true))
@@ -25,11 +24,11 @@ give-requires-clause-fits g c =
 
 pub returns-in-Ok-clause-act : goal.returns-in-Ok-clause-act
 returns-in-Ok-clause-act g c =
-    act_given g.T.Tape.honest g.T.Tape.content g.T.Tape.images (left_from g.T.Tape.moment g.T.Tape.left_since) g.T.Tape.failed g.T.Tape.never_fails (Deliver (model.Prepare c.args.slot c.args.ballot)) (λ working. on_prepare c.args.self.now.kept.id (stored_of c.args.self.now.kept.parts) working c.args.slot c.args.ballot) c.in-Ok.answer c.args.self.now.journal c.give.new.self.journal c.args.self.now.kept.parts c.on_prepare.new.self.parts c.give.new.self.kept.parts c.args.self.now.proposer c.give.new.self.proposer c.give.result
+    act_given g.T.Tape (Deliver (model.Prepare c.args.slot c.args.ballot)) (λ working. on_prepare c.args.self.now.kept.id (stored_of c.args.self.now.kept.parts) working c.args.slot c.args.ballot) c.in-Ok.answer c.args.self.now.journal c.give.new.self.journal c.args.self.now.kept.parts c.on_prepare.new.self.parts c.give.new.self.kept.parts c.args.self.now.proposer c.give.new.self.proposer c.give.result
     (delivered _ _ _) c.in-Ok.ensures.row (prepare_row c.args.self.now.kept.id c.args.self.now.kept.parts c.args.self.now.proposer c.args.slot c.args.ballot c.requires.same_node) c.on_prepare.ensures.parts c.give.ensures.change
 
 pub returns-in-Err-clause-act : goal.returns-in-Err-clause-act
 returns-in-Err-clause-act g c =
-    act_short g.T.Tape.honest g.T.Tape.content g.T.Tape.images (left_from g.T.Tape.moment g.T.Tape.left_since) g.T.Tape.failed g.T.Tape.never_fails (Deliver (model.Prepare c.args.slot c.args.ballot)) c.args.self.now.journal c.args.self.now.kept.parts c.on_prepare.new.self.parts c.args.self.now.proposer (Err Memory)
+    act_short g.T.Tape (Deliver (model.Prepare c.args.slot c.args.ballot)) c.args.self.now.journal c.args.self.now.kept.parts c.on_prepare.new.self.parts c.args.self.now.proposer (Err Memory)
     (delivered _ _ _) c.requires.running refl c.on_prepare.ensures.parts
     (stored_takes (Deliver (model.Prepare c.args.slot c.args.ballot)) (λ working. on_prepare c.args.self.now.kept.id (stored_of c.args.self.now.kept.parts) working c.args.slot c.args.ballot) c.args.self.now.kept.parts c.args.self.now.proposer c.in-Err.ensures.memory (prepare_row c.args.self.now.kept.id c.args.self.now.kept.parts c.args.self.now.proposer c.args.slot c.args.ballot c.requires.same_node))

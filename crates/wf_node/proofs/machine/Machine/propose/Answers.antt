@@ -9,17 +9,16 @@ use Rattle.wf_node.specs.Memory.{TakesMemory}
 use Rattle.wf_node.specs.Parts.{stored_of}
 use Rattle.wf_node.proofs.Acts.{act_done, act_proposer_refuses, act_refused, refusal_propose, row_fits, row_propose}
 use Rattle.wf_node.proofs.Rows.{busy, full, has_stored, propose_own, propose_takes}
-use Rattle.wf_node.specs.Storing.{left_from}
 use Rattle.wf_node.proofs.machine.Machine.propose.Goals as goal
 
 pub returns-then-runs-clause-act : goal.returns-then-runs-clause-act
 returns-then-runs-clause-act g c =
-    act_refused g.T.Tape.honest g.T.Tape.content g.T.Tape.images (left_from g.T.Tape.moment g.T.Tape.left_since) g.T.Tape.failed g.T.Tape.never_fails (Propose c.args.own) Busy c.args.self.now.journal c.args.self.now.kept.parts c.args.self.now.proposer (Err fault.Busy)
+    act_refused g.T.Tape (Propose c.args.own) Busy c.args.self.now.journal c.args.self.now.kept.parts c.args.self.now.proposer (Err fault.Busy)
     (refusal_propose (stored_of c.args.self.now.kept.parts) (working_of c.args.self.now.proposer) c.args.own ∙ busy (stored_of c.args.self.now.kept.parts) (working_of c.args.self.now.proposer).leadership (working_of c.args.self.now.proposer).proposing (sym c.runs.ensures ∙ c.if-runs.true)) refl
 
 pub returns-then-is_full-clause-act : goal.returns-then-is_full-clause-act
 returns-then-is_full-clause-act g c =
-    act_refused g.T.Tape.honest g.T.Tape.content g.T.Tape.images (left_from g.T.Tape.moment g.T.Tape.left_since) g.T.Tape.failed g.T.Tape.never_fails (Propose c.args.own) SequenceFull c.args.self.now.journal c.args.self.now.kept.parts c.args.self.now.proposer (Err fault.SequenceFull)
+    act_refused g.T.Tape (Propose c.args.own) SequenceFull c.args.self.now.journal c.args.self.now.kept.parts c.args.self.now.proposer (Err fault.SequenceFull)
     (refusal_propose (stored_of c.args.self.now.kept.parts) (working_of c.args.self.now.proposer) c.args.own ∙ full (stored_of c.args.self.now.kept.parts) (working_of c.args.self.now.proposer).leadership (working_of c.args.self.now.proposer).proposing (sym c.runs.ensures ∙ c.if-runs.false) (sym c.is_full.ensures ∙ c.if-is_full.true)) refl
 
 pub perform-requires-clause-fits : goal.perform-requires-clause-fits
@@ -33,11 +32,11 @@ perform-requires-clause-own g c =
 
 pub returns-in-Ok-clause-act : goal.returns-in-Ok-clause-act
 returns-in-Ok-clause-act g c =
-    act_done g.T.Tape.honest g.T.Tape.content g.T.Tape.images (left_from g.T.Tape.moment g.T.Tape.left_since) g.T.Tape.failed g.T.Tape.never_fails (Propose c.args.own) (row_of c.args.self.now.proposer c.in-Ok.next) c.args.self.now.journal c.perform.new.self.journal c.args.self.now.kept.parts c.perform.new.self.kept.parts c.args.self.now.proposer c.perform.new.self.proposer c.perform.result
+    act_done g.T.Tape (Propose c.args.own) (row_of c.args.self.now.proposer c.in-Ok.next) c.args.self.now.journal c.perform.new.self.journal c.args.self.now.kept.parts c.perform.new.self.kept.parts c.args.self.now.proposer c.perform.new.self.proposer c.perform.result
     (refusal_propose (stored_of c.args.self.now.kept.parts) (working_of c.args.self.now.proposer) c.args.own ∙ sym (c.in-Ok.ensures.refused (stored_of c.args.self.now.kept.parts) (has_stored (stored_of c.args.self.now.kept.parts) c.tried-tried.result c.published-published.result c.tried-tried.ensures (c.published-published.ensures.value ∙ ap length c.history.ensures)))) (c.in-Ok.ensures.row (stored_of c.args.self.now.kept.parts) (has_stored (stored_of c.args.self.now.kept.parts) c.tried-tried.result c.published-published.result c.tried-tried.ensures (c.published-published.ensures.value ∙ ap length c.history.ensures)) ∙ row_propose c.args.self.now.kept.parts c.args.self.now.proposer c.args.own) c.perform.ensures.change
 
 pub returns-in-Err-clause-act : goal.returns-in-Err-clause-act
 returns-in-Err-clause-act g c =
-    act_proposer_refuses g.T.Tape.honest g.T.Tape.content g.T.Tape.images (left_from g.T.Tape.moment g.T.Tape.left_since) g.T.Tape.failed g.T.Tape.never_fails _ (Propose c.args.own) c.in-Err.refusal c.fault_of.result c.args.self.now.journal c.args.self.now.kept.parts c.args.self.now.proposer c.fault_of.ensures
+    act_proposer_refuses g.T.Tape _ (Propose c.args.own) c.in-Err.refusal c.fault_of.result c.args.self.now.journal c.args.self.now.kept.parts c.args.self.now.proposer c.fault_of.ensures
     (c.in-Err.ensures.refused (stored_of c.args.self.now.kept.parts) (has_stored (stored_of c.args.self.now.kept.parts) c.tried-tried.result c.published-published.result c.tried-tried.ensures (c.published-published.ensures.value ∙ ap length c.history.ensures)) ∙ sym (refusal_propose (stored_of c.args.self.now.kept.parts) (working_of c.args.self.now.proposer) c.args.own)) c.requires.running
     (λ short. subst TakesMemory (row_propose c.args.self.now.kept.parts c.args.self.now.proposer c.args.own) (propose_takes c.args.self.now.proposer.node (stored_of c.args.self.now.kept.parts) (working_of c.args.self.now.proposer) c.args.own))

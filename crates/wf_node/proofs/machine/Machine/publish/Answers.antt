@@ -10,12 +10,11 @@ use Rattle.wf_node.specs.Memory.{ByEntry}
 use Rattle.wf_node.specs.Parts.{stored_of}
 use Rattle.wf_node.proofs.Replies.{change_as, spared, write_fails}
 use Rattle.wf_node.proofs.Rows.{chosen_next, ends_at_next, next_fits, publishing}
-use Rattle.wf_node.specs.Storing.{left_from}
 use Rattle.wf_node.proofs.machine.Machine.publish.Goals as goal
 
 pub returns-then-is_err-clause-change : goal.returns-then-is_err-clause-change
 returns-then-is_err-clause-change g c = (
-  spared g.T.Tape.honest g.T.Tape.content g.T.Tape.images (left_from g.T.Tape.moment g.T.Tape.left_since) g.T.Tape.failed g.T.Tape.never_fails c.args.self.now.journal c.requires.ready.running,
+  spared g.T.Tape c.args.self.now.journal c.requires.ready.running,
   record { parts = c.make_room_for.ensures.parts; proposer = refl },
   ByEntry (subst (λ (r : Row Definition). IsSome r.entry) (sym (chosen_next (stored_of c.args.self.now.kept.parts) (working_of c.args.self.now.proposer) c.args.slot c.args.canon c.requires.next)) refl),
   λ h stored fits stands image left. inl (stands image left),
@@ -27,7 +26,7 @@ apply_entry-requires-clause-fits g c =
 
 pub returns-in-Ok-clause-change : goal.returns-in-Ok-clause-change
 returns-in-Ok-clause-change g c =
-    change_as g.T.Tape.honest g.T.Tape.content g.T.Tape.images (left_from g.T.Tape.moment g.T.Tape.left_since) g.T.Tape.failed g.T.Tape.never_fails (publishing (working_of c.args.self.now.proposer) c.args.slot c.args.canon) (on_chosen definition_eq (stored_of c.args.self.now.kept.parts) (working_of c.args.self.now.proposer) c.args.slot c.args.canon) c.args.self.now.journal c.store.new.journal c.args.self.now.kept.parts c.apply_entry.new.self.parts c.args.self.now.proposer c.end_proposal.new.proposer (Ok c.new.result) (sym (chosen_next (stored_of c.args.self.now.kept.parts) (working_of c.args.self.now.proposer) c.args.slot c.args.canon c.requires.next)) (
+    change_as g.T.Tape (publishing (working_of c.args.self.now.proposer) c.args.slot c.args.canon) (on_chosen definition_eq (stored_of c.args.self.now.kept.parts) (working_of c.args.self.now.proposer) c.args.slot c.args.canon) c.args.self.now.journal c.store.new.journal c.args.self.now.kept.parts c.apply_entry.new.self.parts c.args.self.now.proposer c.end_proposal.new.proposer (Ok c.new.result) (sym (chosen_next (stored_of c.args.self.now.kept.parts) (working_of c.args.self.now.proposer) c.args.slot c.args.canon c.requires.next)) (
       c.in-Ok.ensures,
       record {
         stored = c.apply_entry.ensures.stored ∙ ap (λ parts. store (stored_of parts) (Some (Published c.args.slot c.args.canon))) c.make_room_for.ensures.parts;
@@ -40,5 +39,5 @@ returns-in-Ok-clause-change g c =
 
 pub returns-in-Err-clause-change : goal.returns-in-Err-clause-change
 returns-in-Err-clause-change g c =
-    change_as g.T.Tape.honest g.T.Tape.content g.T.Tape.images (left_from g.T.Tape.moment g.T.Tape.left_since) g.T.Tape.failed g.T.Tape.never_fails {A = Global} (publishing (working_of c.args.self.now.proposer) c.args.slot c.args.canon) (on_chosen definition_eq (stored_of c.args.self.now.kept.parts) (working_of c.args.self.now.proposer) c.args.slot c.args.canon) c.args.self.now.journal c.store.new.journal c.args.self.now.kept.parts c.make_room_for.new.self.parts c.args.self.now.proposer c.args.self.now.proposer (Err c.in-Err.fault) (sym (chosen_next (stored_of c.args.self.now.kept.parts) (working_of c.args.self.now.proposer) c.args.slot c.args.canon c.requires.next))
-    (write_fails g.T.Tape.honest g.T.Tape.content g.T.Tape.images (left_from g.T.Tape.moment g.T.Tape.left_since) g.T.Tape.failed g.T.Tape.never_fails Global (Unit {0}) (publishing (working_of c.args.self.now.proposer) c.args.slot c.args.canon) c.args.self.now.journal c.store.new.journal c.args.self.now.kept.parts c.make_room_for.new.self.parts c.args.self.now.proposer c.in-Err.fault c.make_room_for.ensures.parts c.in-Err.ensures)
+    change_as g.T.Tape {A = Global} (publishing (working_of c.args.self.now.proposer) c.args.slot c.args.canon) (on_chosen definition_eq (stored_of c.args.self.now.kept.parts) (working_of c.args.self.now.proposer) c.args.slot c.args.canon) c.args.self.now.journal c.store.new.journal c.args.self.now.kept.parts c.make_room_for.new.self.parts c.args.self.now.proposer c.args.self.now.proposer (Err c.in-Err.fault) (sym (chosen_next (stored_of c.args.self.now.kept.parts) (working_of c.args.self.now.proposer) c.args.slot c.args.canon c.requires.next))
+    (write_fails g.T.Tape Global (Unit {0}) (publishing (working_of c.args.self.now.proposer) c.args.slot c.args.canon) c.args.self.now.journal c.store.new.journal c.args.self.now.kept.parts c.make_room_for.new.self.parts c.args.self.now.proposer c.in-Err.fault c.make_room_for.ensures.parts c.in-Err.ensures)

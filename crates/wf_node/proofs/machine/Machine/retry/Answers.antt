@@ -9,7 +9,6 @@ use Rattle.wf_node.specs.Memory.{ByEntry}
 use Rattle.wf_node.specs.Parts.{stored_of}
 use Rattle.wf_node.proofs.Acts.{act_done, act_proposer_refuses, refusal_retry, row_fits, row_retry}
 use Rattle.wf_node.proofs.Rows.{retry_own, retry_stores}
-use Rattle.wf_node.specs.Storing.{left_from}
 use Rattle.wf_node.proofs.machine.Machine.retry.Goals as goal
 
 pub perform-requires-clause-fits : goal.perform-requires-clause-fits
@@ -23,12 +22,12 @@ perform-requires-clause-own g c =
 
 pub returns-in-Ok-clause-act : goal.returns-in-Ok-clause-act
 returns-in-Ok-clause-act g c =
-    act_done g.T.Tape.honest g.T.Tape.content g.T.Tape.images (left_from g.T.Tape.moment g.T.Tape.left_since) g.T.Tape.failed g.T.Tape.never_fails Retry (row_of c.args.self.now.proposer c.in-Ok.next) c.args.self.now.journal c.perform.new.self.journal c.args.self.now.kept.parts c.perform.new.self.kept.parts c.args.self.now.proposer c.perform.new.self.proposer c.perform.result
+    act_done g.T.Tape Retry (row_of c.args.self.now.proposer c.in-Ok.next) c.args.self.now.journal c.perform.new.self.journal c.args.self.now.kept.parts c.perform.new.self.kept.parts c.args.self.now.proposer c.perform.new.self.proposer c.perform.result
     (refusal_retry (stored_of c.args.self.now.kept.parts) (working_of c.args.self.now.proposer) ∙ sym (c.in-Ok.ensures.refused (stored_of c.args.self.now.kept.parts) (sym c.tried.ensures))) (c.in-Ok.ensures.row (stored_of c.args.self.now.kept.parts) (sym c.tried.ensures) c.requires.for_next ∙ row_retry c.args.self.now.kept.parts c.args.self.now.proposer) c.perform.ensures.change
 
 pub returns-in-Err-clause-act : goal.returns-in-Err-clause-act
 returns-in-Err-clause-act g c =
-    act_proposer_refuses g.T.Tape.honest g.T.Tape.content g.T.Tape.images (left_from g.T.Tape.moment g.T.Tape.left_since) g.T.Tape.failed g.T.Tape.never_fails _ Retry c.in-Err.refusal c.fault_of.result c.args.self.now.journal c.args.self.now.kept.parts c.args.self.now.proposer c.fault_of.ensures
+    act_proposer_refuses g.T.Tape _ Retry c.in-Err.refusal c.fault_of.result c.args.self.now.journal c.args.self.now.kept.parts c.args.self.now.proposer c.fault_of.ensures
     (c.in-Err.ensures.refused (stored_of c.args.self.now.kept.parts) (sym c.tried.ensures) ∙ sym (refusal_retry (stored_of c.args.self.now.kept.parts) (working_of c.args.self.now.proposer))) c.requires.running
     (λ short. ByEntry (subst (λ (r : Row Definition). IsSome r.entry) (row_retry c.args.self.now.kept.parts c.args.self.now.proposer)
     (retry_stores c.args.self.now.proposer.node (stored_of c.args.self.now.kept.parts) (working_of c.args.self.now.proposer) (sym (c.in-Err.ensures.refused (stored_of c.args.self.now.kept.parts) (sym c.tried.ensures)) ∙ ap refusal_of short))))

@@ -2,17 +2,17 @@
 use Rattle.std.proofs.Common.{map, refl, ap, subst, ◌∙◌, inl}
 use Rattle.wf_journal.specs.Journal.{Follows, IsSameOrReads}
 use Rattle.wf_journal.specs.Record.{view}
-use Rattle.wf_node.specs.Storing.{IsReplacement, left_from}
+use Rattle.wf_node.specs.Storing.{IsReplacement}
 use Rattle.wf_node.proofs.Replies.{spared}
 use Rattle.wf_node.proofs.machine.Machine.rewrite.Goals as goal
 
 pub returns-in-Ok-clause-replacement : goal.returns-in-Ok-clause-replacement
 returns-in-Ok-clause-replacement g c =
-    subst (λ records. IsReplacement g.T.Tape.honest g.T.Tape.content g.T.Tape.images (left_from g.T.Tape.moment g.T.Tape.left_since) g.T.Tape.failed g.T.Tape.never_fails records c.args.self.now.journal c.replace-replaced.result c.replace-replaced.new.journal)
+    subst (λ records. IsReplacement g.T.Tape records c.args.self.now.journal c.replace-replaced.result c.replace-replaced.new.journal)
     (ap (map view) c.deref.ensures.value ∙ c.in-Ok.ensures) c.replace-replaced.ensures.replacement
 
 pub returns-in-Err-clause-replacement : goal.returns-in-Err-clause-replacement
-returns-in-Err-clause-replacement g c = spared g.T.Tape.honest g.T.Tape.content g.T.Tape.images (left_from g.T.Tape.moment g.T.Tape.left_since) g.T.Tape.failed g.T.Tape.never_fails c.args.self.now.journal c.requires
+returns-in-Err-clause-replacement g c = spared g.T.Tape c.args.self.now.journal c.requires
 
 pub returns-in-Ok-clause-inside : goal.returns-in-Ok-clause-inside
 returns-in-Ok-clause-inside g c = λ honest.

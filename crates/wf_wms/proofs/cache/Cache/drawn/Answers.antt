@@ -1,5 +1,5 @@
 use Rattle.std.proofs.lemmas.Result.{IfOk-weaker}
-use Rattle.wf_wms.proofs.KeptLaw.{drawn_kept, drawn_shows, shows_request}
+use Rattle.wf_wms.proofs.KeptPicturesLaw.{drawn_kept, drawn_shows, shows_request}
 use Rattle.wf_wms.proofs.cache.Cache.drawn.Goals as goal
 
 pub returns-clause-file : goal.returns-clause-file

@@ -1,8 +1,8 @@
 use Rattle.std.proofs.Common.{◌≡◌, subst}
 use Rattle.std.specs.Prelude.{option_copied}
 use Rattle.std.specs.Map.{lookup}
-use Rattle.wf_wms.specs.Kept.{CacheValue}
-use Rattle.wf_wms.proofs.KeptLaw.{eq, found_in}
+use Rattle.wf_wms.specs.KeptPictures.{CacheValue}
+use Rattle.wf_wms.proofs.KeptPicturesLaw.{eq, found_in}
 use Rattle.wf_wms.proofs.cache.Cache.find.Goals as goal
 
 pub returns : goal.returns

@@ -1,6 +1,6 @@
 use Rattle.std.proofs.Common.{ap}
-use Rattle.wf_wms.specs.Kept.{CacheValue}
-use Rattle.wf_wms.proofs.KeptLaw.{none_kept}
+use Rattle.wf_wms.specs.KeptPictures.{CacheValue}
+use Rattle.wf_wms.proofs.KeptPicturesLaw.{none_kept}
 use Rattle.wf_wms.proofs.cache.Cache.new.Goals as goal
 
 pub returns-clause-kept : goal.returns-clause-kept

@@ -1,6 +1,6 @@
 use Rattle.std.proofs.Common.{sym, subst}
-use Rattle.wf_wms.specs.Kept.{AllKept}
-use Rattle.wf_wms.proofs.KeptLaw.{touched_kept}
+use Rattle.wf_wms.specs.KeptPictures.{AllKept}
+use Rattle.wf_wms.proofs.KeptPicturesLaw.{touched_kept}
 use Rattle.wf_wms.proofs.cache.Cache.touch.Goals as goal
 
 pub returns-clause-kept : goal.returns-clause-kept

@@ -1,0 +1,12 @@
+/// A step of a node. `D` is the type of a definition, `M` that of a message or of its number.
+#[derive(Clone, Copy, Drop)]
+pub enum Action<D, M> {
+    /// The node starts a proposal of the definition.
+    Propose(D),
+    /// The node restarts its running proposal.
+    Retry,
+    /// The node asks for the next definition.
+    CatchUp,
+    /// The message is delivered to the node.
+    Deliver(M),
+}

@@ -1,0 +1,272 @@
+-- Kept pictures: each stays the picture of its key, and what is cut out of it is the requested image.
+use Rattle.std.proofs.Common.{◌≡◌, ◌∙◌, ◌<◌, ◌≤◌, ap, refl, sym, subst, subst₂, ℕ, zero, suc, nat_eq, ◌&&◌, Bool, true, inl, inr, List, [], ◌∷◌, ◌++◌, length, ℤ, arith}
+use Rattle.std.specs.Prelude.{Option, Some, None, IfSome, Contains, slice_get, option_copied, Result, Ok, Err, OnOk, OnErr}
+use Rattle.std.specs.List.{All}
+use Rattle.std.specs.Map.{lookup}
+use Rattle.std.specs.Ordering.{int_eq}
+use Rattle.std.specs.Str.{bytes_eq}
+use Rattle.std.proofs.lemmas.Bool.{and_parts}
+use Rattle.std.proofs.lemmas.Bool.Decides.{Decides-eqb, Decides-int_eq, nat_tests}
+use Rattle.std.proofs.lemmas.Slice.Eq.{bytes_eq-Decides}
+use Rattle.std.proofs.lemmas.Option.{same_Some}
+use denote.Ref.{Bor}
+use Rattle.lru.specs.LruCache.{lru_cache, promoted, put_entries}
+use Rattle.lru.proofs.CallerLemmas.{Contains-lookup, Contains-promoted, Contains-put_entries}
+use Rattle.lru.proofs.Splits.{Contains-nil}
+use Rattle.wf_def.specs.Definition.{Definition}
+use Rattle.wf_def.specs.Extent.{ExtentValue}
+use Rattle.wf_def.specs.declared.color.Color.{Color}
+use Rattle.wf_learner.specs.History.{map_at}
+use Rattle.wf_model.specs.Stored.{definition_at}
+use Rattle.wf_paint.specs.Grid.{fits}
+use Rattle.wf_paint.specs.Limit.{most_pixels, tile_pixels}
+use Rattle.wf_paint.specs.Pixmap.{PixmapValue, IsPicture}
+use Rattle.wf_paint.specs.Tile.{tile_view}
+use Rattle.wf_paint.specs.View.{ViewValue}
+use Rattle.wf_paint.specs.declared.cell.GridCell.{GridCell}
+use Rattle.wf_picture.specs.Picture.{labelled, IsViewFor, LiesIn}
+use Rattle.wf_picture.specs.Request.{RequestValue}
+use Rattle.wf_picture.specs.Tiles.{ShareAView, SharedViewsHaveOnePicture}
+use Rattle.wf_picture.specs.declared.size.Size.{Size}
+use Rattle.wf_wms.specs.Answer.{picture_answer}
+use Rattle.wf_wms.specs.Judged.{IsAskedOf, IsPictureFor}
+use Rattle.wf_wms.specs.KeptPictures.{AllKept, CacheValue, GrowthKeepsAll, IsCellOf, IsKept, IsRequestOf, IsTileAt, IsTileOf, background_of, tile_size}
+use Rattle.wf_wms.specs.contracts.key.KeyPartialEq.TheImpl as keys
+use Rattle.wf_wms.specs.declared.asked.Asked.{Asked}
+use Rattle.wf_wms.specs.declared.key.Key.{Key}
+
+-- ---- a history that grows
+
+same_index : {X : Type 0} (xs more : List X) (k : ℕ) (x : X) → slice_get xs k ≡ Some x → slice_get (xs ++ more) k ≡ Some x
+same_index [] more k x there = cc
+same_index (y ∷ xs) more zero x there = there
+same_index (y ∷ xs) more (suc k) x there = same_index xs more k x there
+
+same_map : (history more : List Definition) (s : ℕ) (map : Definition) → map_at history s ≡ Some map → map_at (history ++ more) s ≡ Some map
+unfolding map_at definition_at
+same_map history more zero map there = there
+same_map history more (suc k) map there = same_index history more k map there
+
+pub growth_keeps : GrowthKeepsAll
+unfolding AllKept
+growth_keeps history more cache kept key p there =
+    let is = kept key p there in
+    record { map = is.map; is_published = same_map history more key.sequence is.map is.is_published; shows = is.shows }
+
+-- ---- keys
+
+-- keys that name one picture
+pub record SameKey (key other : Key) : Type 0 where
+  pub sequence : key.sequence ≡ other.sequence
+  pub layers : key.layers.items ≡ other.layers.items
+  pub background : background_of key ≡ background_of other
+  pub level : key.level ≡ other.level
+  pub column : key.column ≡ other.column
+  pub row : key.row ≡ other.row
+
+same_back : (key other : Key) → SameKey key other → SameKey other key
+same_back key other same = record {
+  sequence = sym same.sequence;
+  layers = sym same.layers;
+  background = sym same.background;
+  level = sym same.level;
+  column = sym same.column;
+  row = sym same.row;
+}
+
+kept_under : (history : List Definition) (key other : Key) (p : PixmapValue) → SameKey key other → IsKept history other p → IsKept history key p
+kept_under history key other p same kept = record {
+  map = kept.map;
+  is_published = ap (map_at history) same.sequence ∙ kept.is_published;
+  shows = λ cell is_cell.
+      let other_cell : IsCellOf other cell = record { level = is_cell.level ∙ same.level; column = is_cell.column ∙ same.column; row = is_cell.row ∙ same.row } in
+      subst₂ (λ (l : List ℕ) (b : Color). IsPicture most_pixels most_pixels (labelled kept.map l (tile_view kept.map.extent cell) b) p) (sym same.layers) (sym same.background)
+      (kept.shows cell other_cell);
+}
+
+-- the derived equality of two keys
+abbrev pub eq : Key → Key → Bool
+eq = (keys.ghosts).eq
+
+same_number : (x y : ℕ) → nat_eq x y ≡ true → x ≡ y
+same_number x y = (Decides-eqb x y).0
+
+same_whole : (x y : ℤ) → int_eq x y ≡ true → x ≡ y
+same_whole x y = (Decides-int_eq x y).0
+
+module _ (key other : Key) where
+  abbrev sequences : Bool
+  sequences = nat_eq key.sequence other.sequence
+
+  abbrev layerings : Bool
+  layerings = bytes_eq key.layers.items other.layers.items
+
+  abbrev reds : Bool
+  reds = nat_eq key.red other.red
+
+  abbrev greens : Bool
+  greens = nat_eq key.green other.green
+
+  abbrev blues : Bool
+  blues = nat_eq key.blue other.blue
+
+  abbrev levels : Bool
+  levels = nat_eq key.level other.level
+
+  abbrev columns : Bool
+  columns = int_eq key.column other.column
+
+  abbrev rows : Bool
+  rows = int_eq key.row other.row
+
+  joined : sequences ≡ true → layerings ≡ true → reds ≡ true → greens ≡ true → blues ≡ true → levels ≡ true → columns ≡ true → rows ≡ true → SameKey key other
+  joined sequence layers red green blue level column row =
+      let of_red = same_number key.red other.red red in
+      let of_green = same_number key.green other.green green in
+      let of_blue = same_number key.blue other.blue blue in
+      record {
+        sequence = same_number key.sequence other.sequence sequence;
+        layers = (bytes_eq-Decides key.layers.items other.layers.items).0 layers;
+        background = λ i. record { r = of_red i; g = of_green i; b = of_blue i };
+        level = same_number key.level other.level level;
+        column = same_whole key.column other.column column;
+        row = same_whole key.row other.row row;
+      }
+
+  from_parts : (sequences && (layerings && (reds && (greens && (blues && (levels && (columns && rows))))))) ≡ true → SameKey key other
+  from_parts test =
+      let p1 = and_parts sequences (layerings && (reds && (greens && (blues && (levels && (columns && rows)))))) test in
+      let p2 = and_parts layerings (reds && (greens && (blues && (levels && (columns && rows))))) p1.1 in
+      let p3 = and_parts reds (greens && (blues && (levels && (columns && rows)))) p2.1 in
+      let p4 = and_parts greens (blues && (levels && (columns && rows))) p3.1 in
+      let p5 = and_parts blues (levels && (columns && rows)) p4.1 in
+      let p6 = and_parts levels (columns && rows) p5.1 in
+      let p7 = and_parts columns rows p6.1 in
+      joined p1.0 p2.0 p3.0 p4.0 p5.0 p6.0 p7.0 p7.1
+
+  pub same_key : eq key other ≡ true → SameKey key other
+  same_key test = from_parts test
+
+-- ---- what the cache does
+
+pub none_kept : (history : List Definition) (cache : CacheValue) → cache.entries ≡ [] → AllKept history cache
+unfolding AllKept
+none_kept history cache none key p there = absurd (Contains-nil (key, p) (subst (λ (es : List (Key × PixmapValue)). Contains es (key, p)) none there))
+
+module _ (history : List Definition) (cache : CacheValue) where
+  pub found_kept : (key : Key) (p : PixmapValue) → lookup (eq key) cache.entries ≡ Some p → AllKept history cache → IsKept history key p
+  unfolding AllKept
+  found_kept key p found kept =
+      let entry = Contains-lookup (eq key) cache.entries p found in
+      kept_under history key entry.0 p (same_key key entry.0 entry.2) (kept entry.0 p entry.1)
+
+  pub touched_kept : (key : Key) → AllKept history cache → AllKept history (lru_cache (promoted (eq key) cache.entries) cache.cap)
+  unfolding AllKept
+  touched_kept key kept other p there = kept other p (Contains-promoted (eq key) cache.entries (other, p) there)
+
+  pub put_kept : (key : Key) (p : PixmapValue) → AllKept history cache → IsKept history key p → AllKept history (lru_cache (put_entries eq cache key p) cache.cap)
+  unfolding AllKept
+  put_kept key p kept new other q there =
+      elim (Contains-put_entries eq cache key p (other, q) there) [
+        | inl was ↦ kept other q was
+        | inr is ↦ subst (IsKept history other) (sym is.0) (elim is.1 [
+          | inl named ↦ subst (λ (k : Key). IsKept history k p) (sym named) new
+          | inr stood ↦ kept_under history other key p (same_back key other (same_key key other stood.2)) new
+        ])
+      ]
+
+pub found_in : (cache : CacheValue) (key : Key) (found : Option (Bor PixmapValue)) → option_copied found ≡ lookup (eq key) cache.entries →
+    IfSome found (λ pixmap. (history : List Definition) → AllKept history cache → IsKept history key pixmap.now)
+found_in cache key None is = tt
+found_in cache key (Some pixmap) is = λ history kept. found_kept history cache key pixmap.now (sym is) kept
+
+-- after a put each entry is its key's picture, also if the allocation failed
+pub put_or_not : {X E : Type 0} (history : List Definition) (old new : CacheValue) (key : Key) (p : PixmapValue) (result : Result X E) →
+    OnOk result (new ≡ lru_cache (put_entries eq old key p) old.cap) → OnErr result (new ≡ old) → AllKept history old → IsKept history key p → AllKept history new
+put_or_not history old new key p (Ok x) put stays kept is = subst (AllKept history) (sym put) (put_kept history old key p kept is)
+put_or_not history old new key p (Err e) put stays kept is = subst (AllKept history) (sym stays) kept
+
+-- ---- the picture of a tile
+
+module _ (history : List Definition) (key : Key) (view : ViewValue) (p : PixmapValue) (tile : IsTileAt history key view) where
+  -- what is drawn for the key
+  pub drawn_shows : (map : Definition) (layers : List ℕ) (background : Color) → map_at history key.sequence ≡ Some map → layers ≡ key.layers.items → background ≡ background_of key →
+      IsPicture view.width view.height (labelled map layers view background) p → IsPicture view.width view.height (labelled tile.map key.layers.items view (background_of key)) p
+  drawn_shows map layers background there same_layers same_background shows =
+      let same : map ≡ tile.map = same_Some map tile.map (sym there ∙ tile.is_published) in
+      subst (λ (m : Definition). IsPicture view.width view.height (labelled m key.layers.items view (background_of key)) p) same
+      (subst₂ (λ (l : List ℕ) (b : Color). IsPicture view.width view.height (labelled map l view b) p) same_layers same_background shows)
+
+  -- what is drawn for one of the key's cells is the picture for all of them
+  pub drawn_kept : SharedViewsHaveOnePicture → IsPicture view.width view.height (labelled tile.map key.layers.items view (background_of key)) p → IsKept history key p
+  drawn_kept shared shows = record {
+    map = tile.map;
+    is_published = tile.is_published;
+    shows = λ other is_cell.
+        let share : ShareAView tile.cell other = record {
+          level = tile.is_cell.level ∙ sym is_cell.level;
+          columns = tile.is_cell.column ∙ sym is_cell.column;
+          rows = tile.is_cell.row ∙ sym is_cell.row;
+        } in
+        let here = subst (λ (v : ViewValue). IsPicture v.width v.height (labelled tile.map key.layers.items v (background_of key)) p) tile.is_view shows in
+        subst (λ (whole : ℤ → ℤ → Color). IsPicture most_pixels most_pixels whole p) (shared tile.map key.layers.items (background_of key) tile.cell other share) here;
+  }
+
+  module _ (kept : IsKept history key p) where
+    pub as_wide : p.width ≡ view.width
+    as_wide = (kept.shows tile.cell tile.is_cell).wide ∙ sym (ap (λ (v : ViewValue). v.width) tile.is_view)
+
+    pub as_high : p.height ≡ view.height
+    as_high = (kept.shows tile.cell tile.is_cell).high ∙ sym (ap (λ (v : ViewValue). v.height) tile.is_view)
+
+    -- the kept picture is the one of each request of the key
+    pub shows_request : (map : Definition) (request : RequestValue) → map_at history key.sequence ≡ Some map → IsRequestOf key request →
+        IsPicture view.width view.height (labelled map request.layers view request.background) p
+    shows_request map request there is =
+        let kept_map : kept.map ≡ map = same_Some kept.map map (sym kept.is_published ∙ there) in
+        let tile_map : tile.map ≡ map = same_Some tile.map map (sym tile.is_published ∙ there) in
+        let of_map = subst (λ (m : Definition). IsPicture most_pixels most_pixels (labelled m key.layers.items (tile_view m.extent tile.cell) (background_of key)) p) kept_map
+        (kept.shows tile.cell tile.is_cell) in
+        let viewed : tile_view map.extent tile.cell ≡ view = sym (tile.is_view ∙ ap (λ (m : Definition). tile_view m.extent tile.cell) tile_map) in
+        let of_view = subst (λ (v : ViewValue). IsPicture v.width v.height (labelled map key.layers.items v (background_of key)) p) viewed of_map in
+        subst₂ (λ (l : List ℕ) (b : Color). IsPicture view.width view.height (labelled map l view b) p) is.layers is.background of_view
+
+-- ---- the request
+
+tile_sized : (e box : ExtentValue) (width height : ℕ) (cell : GridCell) → fits e box width height cell ≡ true → (width ≡ tile_pixels) × (height ≡ tile_pixels)
+unfolding fits
+tile_sized e box width height cell found = grind (arith, nat_tests)
+
+module _ (history : List Definition) (asked : Asked) (of : IsAskedOf history asked) (map : Definition) (there : map_at history asked.sequence ≡ Some map) (cell : GridCell) (view : ViewValue) (key : Key)
+    (found : fits map.extent asked.request.bbox asked.request.size.width asked.request.size.height cell ≡ true) (is : IsViewFor map.extent asked.request view)
+    (sequence : key.sequence ≡ asked.sequence) (layers : key.layers.items ≡ asked.request.layers) where
+  tile_size_asked : asked.request.size ≡ tile_size
+  tile_size_asked =
+      let sized = tile_sized map.extent asked.request.bbox asked.request.size.width asked.request.size.height cell found in
+      λ i. record { width = sized.0 i; height = sized.1 i }
+
+  -- the tile's view and its key
+  pub tile_asked : IsCellOf key cell → LiesIn asked.request.size view → IsTileAt history key view
+  tile_asked is_cell lies = record {
+    within = subst (λ (s : ℕ). s ≤ length history) (sym sequence) of.within;
+    map = map;
+    is_published = ap (map_at history) sequence ∙ there;
+    layers =
+        let same : of.map ≡ map = same_Some of.map map (sym of.is_published ∙ there) in
+        subst₂ (λ (m : Definition) (l : List ℕ). All (λ index. index < length m.layers) l) same (sym layers) of.layers;
+    cell = cell;
+    is_cell = is_cell;
+    is_view = is.tile cell found;
+    lies = subst (λ (s : Size). LiesIn s view) tile_size_asked lies;
+  }
+
+  -- the tile's file is the requested picture
+  pub picture_asked : background_of key ≡ asked.request.background → (file : List ℕ) → IsTileOf history key view file → IsPictureFor history asked (picture_answer file)
+  picture_asked background file tile = λ other other_there.
+      let same : map ≡ other = same_Some map other (sym there ∙ other_there) in
+      record {
+        of_kind = refl;
+        of_media = refl;
+        image = tile other asked.request (ap (map_at history) sequence ∙ other_there) (record { layers = layers; background = background; size = tile_size_asked })
+            (subst (λ (m : Definition). IsViewFor m.extent asked.request view) same is);
+      }
