@@ -43,8 +43,10 @@ module _ {T A : Type 0} (tapes : Tape T) (before after : Node T) (input : Input 
       → (answer ≡ Err fault.TapeFailed → after.halted ≡ true)
       → (tapes.honest → answer ≡ Err fault.TapeFailed → IsExtended (tapes.content before.tape) (bytes_of (entry_of before input)) (tapes.content after.tape))
       → (tapes.honest → answer ≡ Err fault.TapeFailed → EachStandsFor (stored_of before) (stored_next before input) (tapes.images after.tape))
+      → (tapes.never_fails before.tape → tapes.never_fails after.tape)
+      → (tapes.never_fails before.tape → IfErr answer (λ why. why ≢ fault.TapeFailed))
       → IsAnswer tapes input before answer after
-  answered answer halted running refused row on_tape grown unchanged same memory same_tape takes failed writes halts part torn = record {
+  answered answer halted running refused row on_tape grown unchanged same memory same_tape takes failed writes halts part torn sturdy sound = record {
     refused = λ is. (halted is, stays answer (halted is) unchanged);
     steps = λ is. record {
       running = not_halted answer running is;
@@ -63,4 +65,6 @@ module _ {T A : Type 0} (tapes : Tape T) (before after : Node T) (input : Input 
       part = part;
       torn = torn;
     };
+    sturdy = sturdy;
+    sound = sound;
   }

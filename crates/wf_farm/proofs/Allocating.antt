@@ -9,17 +9,16 @@ use Rattle.wf_def.specs.Equality.{definition_eq}
 use Rattle.wf_model.specs.Table as table
 use Rattle.wf_model.specs.Table.{Action, Input, refusal}
 use Rattle.wf_model.specs.World as world
-use Rattle.wf_model.specs.World.{World, Event, input_of, refusal_of, turn_of, steps}
+use Rattle.wf_model.specs.World.{Event, input_of, refusal_of, turn_of, steps}
 use Rattle.wf_node.specs.Node.{Node, stored_of, working_of}
 use Rattle.wf_tape.specs.MemoryTape.{TapeValue}
 use Rattle.wf_farm.specs.declared.event.Event as declared
-use Rattle.wf_farm.specs.declared.place.Place.{Place}
 use Rattle.wf_farm.specs.declared.place.Place.TheVariants.{Running, Stopped}
 use Rattle.wf_farm.specs.Allocating.{IsStopped, MayAllocate, MayAllocateAt, MayAllocateIn, TakesStep, is_stopped, may_allocate}
 use Rattle.wf_farm.specs.Cluster.{AreMembers, Moves}
 use Rattle.wf_farm.specs.Event.{view}
 use Rattle.wf_farm.specs.Farm.{running_in}
-use Rattle.wf_farm.specs.Place.{IsNode, TellsWhyNot}
+use Rattle.wf_farm.specs.Place.{MemoryPlace, IsNode, TellsWhyNot}
 use Rattle.wf_farm.specs.Pump.{NextMayAllocate, deliveries}
 use Rattle.wf_farm.proofs.Events.{as_many, member_at, node_at}
 use Rattle.wf_farm.proofs.Turns.{running_refusal, turn_goes, turn_is}
@@ -34,9 +33,9 @@ runs_free node x n i input is free =
     sym (running_refusal (stored_of node) (working_of node) input) ∙ ap (λ y. refusal_of (Some y) (Some input)) (sym is) ∙ free in
     ap is_some (ap (λ y. turn_of definition_eq n i (Some y) (Some input)) is ∙ turn_goes definition_eq n i (stored_of node) (working_of node) input goes)
 
-module _ (places : List Place) (sent : List Message) (i : ℕ) (action : Action Definition ℕ) (input : Input Definition) (runs : is_some (running_in (slice_get places i)) ≡ true)
+module _ (places : List MemoryPlace) (sent : List Message) (i : ℕ) (action : Action Definition ℕ) (input : Input Definition) (runs : is_some (running_in (slice_get places i)) ≡ true)
     (members : AreMembers places) (given : input_of (map message.view sent) action ≡ Some input) where
-  taken_in : (place : Place) → slice_get places i ≡ Some place → is_some (running_in (Some place)) ≡ true → TellsWhyNot place action None → TakesStep i action places sent
+  taken_in : (place : MemoryPlace) → slice_get places i ≡ Some place → is_some (running_in (Some place)) ≡ true → TellsWhyNot place action None → TakesStep i action places sent
   unfolding TakesStep TellsWhyNot
   taken_in (Running node) at here free = λ w shows.
       let there = node_at places w.nodes i (Running node) shows.nodes at in
@@ -46,20 +45,20 @@ module _ (places : List Place) (sent : List Message) (i : ℕ) (action : Action 
   taken_in (Stopped tape) at here free = absurd (false≢true here)
 
   -- A node runs at the index, its input is there, and the table doesn't reject it: the step is taken.
-  pub taken_there : (place : Place) → slice_get places i ≡ Some place → TellsWhyNot place action None → TakesStep i action places sent
+  pub taken_there : (place : MemoryPlace) → slice_get places i ≡ Some place → TellsWhyNot place action None → TakesStep i action places sent
   taken_there place at free = taken_in place at (subst (λ there. is_some (running_in there) ≡ true) at runs) free
 
-  taken_at : (there : Option Place) → slice_get places i ≡ there → ((place : Place) → TellsWhyNot place action None) → TakesStep i action places sent
+  taken_at : (there : Option MemoryPlace) → slice_get places i ≡ there → ((place : MemoryPlace) → TellsWhyNot place action None) → TakesStep i action places sent
   taken_at None at free = absurd (false≢true (subst (λ there. is_some (running_in there) ≡ true) at runs))
   taken_at (Some place) at free = taken_there place at (free place)
 
   -- The same for a step that no node rejects.
-  pub taken_anyway : ((place : Place) → TellsWhyNot place action None) → TakesStep i action places sent
+  pub taken_anyway : ((place : MemoryPlace) → TellsWhyNot place action None) → TakesStep i action places sent
   taken_anyway free = taken_at (slice_get places i) refl free
 
 -- ---- an event that may allocate
 
-module _ (places : List Place) (sent : List Message) (i : ℕ) where
+module _ (places : List MemoryPlace) (sent : List Message) (i : ℕ) where
   pub step_may : (action : Action Definition ℕ) → TakesStep i action places sent → MayAllocate (world.Act i action) places sent
   unfolding TakesStep MayAllocate may_allocate
   step_may action taken = taken
@@ -69,14 +68,14 @@ module _ (places : List Place) (sent : List Message) (i : ℕ) where
   torn_may action taken = taken
 
   -- A stopped node restarts.
-  pub restart_may : (place : Place) → slice_get places i ≡ Some place → IsStopped place → MayAllocate (world.Restart i) places sent
+  pub restart_may : (place : MemoryPlace) → slice_get places i ≡ Some place → IsStopped place → MayAllocate (world.Restart i) places sent
   unfolding MayAllocate may_allocate
   restart_may (Running node) at stopped = absurd stopped
   restart_may (Stopped tape) at stopped = λ w shows.
       let there = node_at places w.nodes i (Stopped tape) shows.nodes at in
       ap is_stopped there.1 ∙ ap is_none there.2.0
 
-pub stopped_there : (place : Place) (tape : TapeValue) → place ≡ Stopped tape → IsStopped place
+pub stopped_there : (place : MemoryPlace) (tape : TapeValue) → place ≡ Stopped tape → IsStopped place
 stopped_there place tape is = subst IsStopped (sym is) tt
 
 pub err_map : {A E P Q : Type 0} (result : Result A E) → (P → Q) → OnErr result P → OnErr result Q
@@ -85,7 +84,7 @@ err_map (Err e) so is = so is
 
 -- ---- runs
 
-module _ (places middle : List Place) (sent said : List Message) where
+module _ (places middle : List MemoryPlace) (sent said : List Message) where
   -- the next event of a run
   pub next_may : (events : List declared.Event) (done : ℕ) (event : declared.Event) → slice_get events done ≡ Some event → Moves (take done (map view events)) places sent middle said →
       MayAllocate (view event) middle said → MayAllocateAt done (map view events) places sent

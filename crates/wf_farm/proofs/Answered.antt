@@ -8,17 +8,17 @@ use Rattle.wf_node.specs.Node.{Node, stored_of}
 use Rattle.wf_tape.specs.MemoryTape.{TapeValue}
 use Rattle.wf_wms.specs.Answer.{AnswerValue, AskedMapsAreAnsweredAlike, EachQueryHasOneAnswer, IsAnswerOf, subject}
 use Rattle.wf_farm.specs.declared.fault.FarmFault.TheVariants.{Memory, NoNode}
-use Rattle.wf_farm.specs.declared.place.Place.{Place}
 use Rattle.wf_farm.specs.declared.place.Place.TheVariants.{Running, Stopped}
 use Rattle.wf_farm.specs.Agreement.{HasOneHistory, HasStored}
 use Rattle.wf_farm.specs.Answering.{Answers, HasOneAnswer, HasOneMapAnswer, IsNoAnswer, sequence_at, sequence_in}
-use Rattle.wf_farm.specs.Farm.{Farm, running_in}
+use Rattle.wf_farm.specs.Farm.{MemoryFarm, running_in}
 use Rattle.wf_farm.specs.Leading.{HaveOneAnswer, HaveOneHistory, HaveOneMapAnswer}
+use Rattle.wf_farm.specs.Place.{MemoryPlace}
 
 -- ---- an answer and an error
 
 -- The running node answered, from as many definitions as its list has.
-pub answered : (farm : Farm) (i s : ℕ) (node : Node TapeValue) (history : List Definition) (query : List ℕ) (answer : AnswerValue) → Some node ≡ running_in (slice_get farm.places i) →
+pub answered : (farm : MemoryFarm) (i s : ℕ) (node : Node TapeValue) (history : List Definition) (query : List ℕ) (answer : AnswerValue) → Some node ≡ running_in (slice_get farm.places i) →
     history ≡ node.parts.history → s ≡ length history → IsAnswerOf s history query answer → Answers farm i (sequence_at farm i) query answer
 answered farm i s node history query answer runs same long is =
     let stands : s ≡ length node.parts.history = long ∙ ap (λ (h : List Definition). length h) same in
@@ -34,7 +34,7 @@ memory_wanted there node runs = subst (λ t. IsNoAnswer t (Memory 0)) runs refl
 -- ---- one answer
 
 -- the stored part of a running node is the one it shows
-running_stored : (there : Option Place) (node : Node TapeValue) → running_in there ≡ Some node → HasStored there (stored_of node)
+running_stored : (there : Option MemoryPlace) (node : Node TapeValue) → running_in there ≡ Some node → HasStored there (stored_of node)
 running_stored None node runs = absurd (none-some node runs)
 running_stored (Some (Running held)) node runs = ap (λ (x : Node TapeValue). stored_of x) (sym (same_Some held node runs))
 running_stored (Some (Stopped tape)) node runs = absurd (none-some node runs)
@@ -47,7 +47,7 @@ one_map_of history other agree zero map another here there = same_Some map anoth
 one_map_of history other agree (suc k) map another here there = agree (suc k) map another here there
 
 -- what two nodes published under one sequence is one definition
-one_entry : (farm : Farm) (i j k : ℕ) (node other : Node TapeValue) (map another : Definition) → HasOneHistory farm →
+one_entry : (farm : MemoryFarm) (i j k : ℕ) (node other : Node TapeValue) (map another : Definition) → HasOneHistory farm →
     running_in (slice_get farm.places i) ≡ Some node → running_in (slice_get farm.places j) ≡ Some other →
     definition_at node.parts.history k ≡ Some map → definition_at other.parts.history k ≡ Some another → map ≡ another
 unfolding HasOneHistory
@@ -72,20 +72,20 @@ one_of law history other agree s query answer another is is_other =
     law s history other query answer another (here.1 ∙ ap (λ m. Some m) same ∙ sym there.1) is is_other
 
 -- one answer at the sequence s, of two nodes' lists
-one_at : EachQueryHasOneAnswer → (farm : Farm) → HasOneHistory farm → (i j s : ℕ) (node other : Node TapeValue) (query : List ℕ) (answer another : AnswerValue) →
+one_at : EachQueryHasOneAnswer → (farm : MemoryFarm) → HasOneHistory farm → (i j s : ℕ) (node other : Node TapeValue) (query : List ℕ) (answer another : AnswerValue) →
     running_in (slice_get farm.places i) ≡ Some node → running_in (slice_get farm.places j) ≡ Some other →
     IsAnswerOf s node.parts.history query answer → IsAnswerOf s other.parts.history query another → another ≡ answer
 one_at law farm one i j s node other query answer another runs also is is_other =
     one_of law node.parts.history other.parts.history (λ k map more here there. one_entry farm i j k node other map more one runs also here there) s query answer another is is_other
 
-pub one_answer : EachQueryHasOneAnswer → (farm : Farm) → HasOneHistory farm → HasOneAnswer farm
+pub one_answer : EachQueryHasOneAnswer → (farm : MemoryFarm) → HasOneHistory farm → HasOneAnswer farm
 unfolding HasOneAnswer
 one_answer law farm one = λ i j s query answer another first second.
     one_at law farm one i j s first.node second.node query answer another first.runs second.runs first.is_answer second.is_answer
 
 -- ---- one map that is asked for
 
-pub one_map_answer : EachQueryHasOneAnswer → AskedMapsAreAnsweredAlike → (farm : Farm) → HasOneHistory farm → HasOneMapAnswer farm
+pub one_map_answer : EachQueryHasOneAnswer → AskedMapsAreAnsweredAlike → (farm : MemoryFarm) → HasOneHistory farm → HasOneMapAnswer farm
 unfolding HasOneMapAnswer
 one_map_answer law elsewhere farm one = λ i j s t m query answer another asks also first second.
     one_at law farm one i j s first.node second.node query answer another first.runs second.runs first.is_answer

@@ -10,7 +10,6 @@ use Rattle.wf_farm.specs.declared.rejection.Rejection.{Rejection}
 use Rattle.wf_farm.specs.declared.carrier.CarrierFault.{CarrierFault}
 use Rattle.wf_farm.specs.declared.carrier.CarrierFault.TheVariants as carrier
 use Rattle.wf_farm.specs.declared.fault.FarmFault.{FarmFault}
-use Rattle.wf_farm.specs.declared.place.Place.{Place}
 use Rattle.wf_farm.specs.Allocating.{TakesStep}
 use Rattle.wf_farm.specs.Carrying.{ChangesByStep, IsMemory, IsUndelivered, fault_after}
 use Rattle.wf_farm.specs.Cluster.{IsActed, Moves, StayShown}
@@ -20,6 +19,7 @@ use Rattle.wf_farm.specs.declared.progress.Progress.{Progress}
 use Rattle.wf_farm.specs.Farm.{IsAtOnce}
 use Rattle.wf_farm.specs.Progress.{outcome}
 use Rattle.wf_farm.specs.Round.{IsForMemory}
+use Rattle.wf_farm.specs.Place.{MemoryPlace}
 
 -- what is Ok has no error
 pub no_error : {A E : Type 0} (P : E → Type 0) (result : Result A E) → IsOk result → IfErr result P
@@ -42,7 +42,7 @@ memory_at p (Failed fault) is = subst (λ f. IsMemory (fault_after f p.done)) (s
 pub pump_for_memory : (p : Progress) (end : End) (result : Result Bool FarmFault) → result ≡ outcome p end → IsForMemory end → IfErr result IsMemory
 pump_for_memory p end result told is = subst (λ r. IfErr r IsMemory) (sym told) (memory_at p end is)
 
-module _ (places after : List Place) (sent more : List Message) where
+module _ (places after : List MemoryPlace) (sent more : List Message) where
   -- a delivery is one event
   pub acted_moves : (i k : ℕ) {rejection : Option Rejection} → IsActed i (table.Deliver k) rejection places sent after more → Moves (deliver i k ∷ []) places sent after more
   unfolding Moves steps happens
@@ -59,7 +59,7 @@ module _ (places after : List Place) (sent more : List Message) where
   moves_some i k (Ok rejection) acted stays = (deliver i k ∷ [], acted_moves i k acted)
   moves_some i k (Err fault) acted stays = ([], stays_moves stays)
 
-module _ {C : Type 0} (i : ℕ) (action : Action Definition ℕ) (places : List Place) (sent : List Message) where
+module _ {C : Type 0} (i : ℕ) (action : Action Definition ℕ) (places : List MemoryPlace) (sent : List Message) where
   -- What isn't used is unchanged.
   pub unused : (before : C) → ChangesByStep i action places sent before before
   unfolding ChangesByStep

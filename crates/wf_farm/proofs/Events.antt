@@ -10,42 +10,37 @@ use Rattle.wf_def.specs.Equality.{definition_eq}
 use Rattle.wf_model.specs.Table as table
 use Rattle.wf_model.specs.Table.{Action, Input}
 use Rattle.wf_model.specs.World as world
-use Rattle.wf_model.specs.World.{World, Turn, input_of, delivered, refusal_of, refused, refused_at, turn, after_turn, after_torn, after_stop, after_restart, happens}
+use Rattle.wf_model.specs.World.{World, Turn, input_of, delivered, refused, after_turn, after_torn, after_stop, after_restart, happens}
 use Rattle.wf_node.specs.declared.fault.NodeFault.{NodeFault}
 use Rattle.wf_farm.specs.declared.rejection.Rejection.{Rejection}
-use Rattle.wf_farm.specs.declared.place.Place.{Place}
 use Rattle.wf_farm.specs.Cluster.{AreNodes, Shows, AreMembers, KeepMembers, IsActed, IsTorn, Happens, StayShown}
 use Rattle.wf_farm.specs.Fault.{told}
-use Rattle.wf_farm.specs.Place.{IsNode, IsMember, Stays, IsStepped, IsTornAt, KeepsMember, Stops, Restarts, Steps, DeniesStep, Tears, DeniesTear, rejection_in, turn_at}
+use Rattle.wf_farm.specs.Place.{MemoryPlace, IsNode, IsMember, Stays, IsStepped, IsTornAt, KeepsMember, Stops, Restarts, Steps, DeniesStep, Tears, DeniesTear, rejection_in, turn_at}
 use Rattle.wf_farm.specs.Turn.{node_after, messages_of, node_torn, node_stopped, node_restarted}
 use Rattle.wf_farm.proofs.Turns.{turn_is, turn_absent, turn_unsent, refused_is, refused_absent, refused_unsent, turn_sets, torn_sets, stop_sets, restart_sets}
+use Rattle.wf_farm.proofs.Entries as entries
+use Rattle.wf_tape.specs.MemoryTape.{IsImageOf}
 use Rattle.wf_farm.specs.PlaceLaws.{get_set_same, get_set_other, set_same}
 
 -- ---- entries and nodes
 
 -- if there is an entry, its node is at the same index
-pub node_at : (places : List Place) (nodes : List (world.Node Definition)) (i : ℕ) (place : Place) → AreNodes places nodes → slice_get places i ≡ Some place →
+pub node_at : (places : List MemoryPlace) (nodes : List (world.Node Definition)) (i : ℕ) (place : MemoryPlace) → AreNodes places nodes → slice_get places i ≡ Some place →
     (node : world.Node Definition) × (slice_get nodes i ≡ Some node) × IsNode place node
-node_at [] nodes i place are e = absurd (none-some place e)
-node_at (p ∷ places) [] i place are e = absurd are
-node_at (p ∷ places) (node ∷ nodes) zero place are e = (node, refl, subst (λ q. IsNode q node) (same_Some p place e) are.0)
-node_at (p ∷ places) (node ∷ nodes) (suc i) place are e = node_at places nodes i place are.1 e
+node_at places nodes i place are e = entries.node_at IsImageOf places nodes i place are e
 
 -- if there is none, there is no node
-pub none_at : (places : List Place) (nodes : List (world.Node Definition)) (i : ℕ) → AreNodes places nodes → slice_get places i ≡ None → slice_get nodes i ≡ None
+pub none_at : (places : List MemoryPlace) (nodes : List (world.Node Definition)) (i : ℕ) → AreNodes places nodes → slice_get places i ≡ None → slice_get nodes i ≡ None
 none_at [] [] i are e = refl
 none_at [] (node ∷ nodes) i are e = absurd are
 none_at (p ∷ places) [] i are e = absurd are
 none_at (p ∷ places) (node ∷ nodes) zero are e = absurd (none-some p (sym e))
 none_at (p ∷ places) (node ∷ nodes) (suc i) are e = none_at places nodes i are.1 e
 
-pub as_many : (places : List Place) (nodes : List (world.Node Definition)) → AreNodes places nodes → length nodes ≡ length places
-as_many [] [] are = refl
-as_many [] (node ∷ nodes) are = absurd are
-as_many (p ∷ places) [] are = absurd are
-as_many (p ∷ places) (node ∷ nodes) are = ap suc (as_many places nodes are.1)
+pub as_many : (places : List MemoryPlace) (nodes : List (world.Node Definition)) → AreNodes places nodes → length nodes ≡ length places
+as_many places nodes are = entries.as_many IsImageOf places nodes are
 
-pub set_nodes : (places : List Place) (nodes : List (world.Node Definition)) (i : ℕ) (place : Place) (node : world.Node Definition) → AreNodes places nodes → IsNode place node →
+pub set_nodes : (places : List MemoryPlace) (nodes : List (world.Node Definition)) (i : ℕ) (place : MemoryPlace) (node : world.Node Definition) → AreNodes places nodes → IsNode place node →
     AreNodes (slice_set places i place) (slice_set nodes i node)
 set_nodes [] [] i place node are is = tt
 set_nodes [] (x ∷ nodes) i place node are is = absurd are
@@ -56,11 +51,11 @@ set_nodes (p ∷ places) (x ∷ nodes) (suc i) place node are is = (are.0, set_n
 -- ---- members
 
 -- nothing has changed
-pub same_members : (places : List Place) → KeepMembers places places
+pub same_members : (places : List MemoryPlace) → KeepMembers places places
 same_members places = record { as_many = refl; members = λ are. are }
 
 -- A member that replaces one.
-pub place_members : (places : List Place) (i : ℕ) (place after : Place) → slice_get places i ≡ Some place →
+pub place_members : (places : List MemoryPlace) (i : ℕ) (place after : MemoryPlace) → slice_get places i ≡ Some place →
     (IsMember (length places) i place → IsMember (length places) i after) → KeepMembers places (slice_set places i after)
 unfolding AreMembers
 place_members places i place after at keeps = record {
@@ -73,7 +68,7 @@ place_members places i place after at keeps = record {
 }
 
 -- The same where the rejection of entries and the entry's index are given by other names.
-pub cast_members : (places : List Place) (i : ℕ) (place after : Place) (n id : ℕ) → slice_get places i ≡ Some place → n ≡ length places → id ≡ i → (IsMember n id place → IsMember n id after) →
+pub cast_members : (places : List MemoryPlace) (i : ℕ) (place after : MemoryPlace) (n id : ℕ) → slice_get places i ≡ Some place → n ≡ length places → id ≡ i → (IsMember n id place → IsMember n id after) →
     KeepMembers places (slice_set places i after)
 cast_members places i place after n id at many is keeps = place_members places i place after at
     (subst (λ k. IsMember (length places) k place → IsMember (length places) k after) is (subst (λ k. IsMember k id place → IsMember k id after) many keeps))
@@ -83,18 +78,18 @@ pub cast_id : (found : Option ℕ) (id number i : ℕ) → found ≡ Some id →
 cast_id None id number i is made same = absurd (none-some id is)
 cast_id (Some x) id number i is made same = sym (same_Some x id is) ∙ made ∙ same
 
-pub place_keeps : (places : List Place) (i : ℕ) (place after : Place) → slice_get places i ≡ Some place → KeepsMember place after → KeepMembers places (slice_set places i after)
+pub place_keeps : (places : List MemoryPlace) (i : ℕ) (place after : MemoryPlace) → slice_get places i ≡ Some place → KeepsMember place after → KeepMembers places (slice_set places i after)
 unfolding KeepsMember
 place_keeps places i place after at keeps = place_members places i place after at (keeps (length places) i)
 
-pub member_at : (places : List Place) (i : ℕ) (place : Place) → AreMembers places → slice_get places i ≡ Some place → IsMember (length places) i place
+pub member_at : (places : List MemoryPlace) (i : ℕ) (place : MemoryPlace) → AreMembers places → slice_get places i ≡ Some place → IsMember (length places) i place
 unfolding AreMembers
 member_at places i place members at = members i place at
 
 -- ---- a step
 
-module _ (places : List Place) (sent : List Message) (i : ℕ) where
-  module _ (place after : Place) (said : List Message) (action : Action Definition ℕ) (input : Input Definition) (rejection : Option Rejection)
+module _ (places : List MemoryPlace) (sent : List Message) (i : ℕ) where
+  module _ (place after : MemoryPlace) (said : List Message) (action : Action Definition ℕ) (input : Input Definition) (rejection : Option Rejection)
       (at : slice_get places i ≡ Some place) (given : input_of (map message.view sent) action ≡ Some input) where
     -- the input in a shown world
     given_in : (w : World Definition) → Shows places sent w → input_of w.sent action ≡ Some input
@@ -132,7 +127,7 @@ module _ (places : List Place) (sent : List Message) (i : ℕ) where
     }
 
   -- An entry that is unchanged.
-  pub place_stays : (place after : Place) → slice_get places i ≡ Some place → Stays place after → StayShown places sent (slice_set places i after) sent
+  pub place_stays : (place after : MemoryPlace) → slice_get places i ≡ Some place → Stays place after → StayShown places sent (slice_set places i after) sent
   unfolding Stays StayShown
   place_stays place after at stays = λ w shows.
       let here = node_at places w.nodes i place shows.nodes at in
@@ -140,7 +135,7 @@ module _ (places : List Place) (sent : List Message) (i : ℕ) where
 
   -- ---- from what an entry promises of its step, whatever its rejection and the rejection of nodes
 
-  module _ (place after : Place) (action : Action Definition ℕ) (input : Input Definition) (at : slice_get places i ≡ Some place) (members : AreMembers places)
+  module _ (place after : MemoryPlace) (action : Action Definition ℕ) (input : Input Definition) (at : slice_get places i ≡ Some place) (members : AreMembers places)
       (given : input_of (map message.view sent) action ≡ Some input) where
     pub step_acts : (said : List Message) → Steps input place after (map message.view said) → IsActed i action None places sent (slice_set places i after) (sent ++ said)
     unfolding Steps
@@ -182,12 +177,12 @@ module _ (places : List Place) (sent : List Message) (i : ℕ) where
         (place_tears place place [] action input rejection at given kept (torn (length places) i (member_at places i place members at)))
 
   -- The state after an error, whatever the input was.
-  pub denied_stays : (place after : Place) (input : Input Definition) (f : NodeFault) → slice_get places i ≡ Some place → AreMembers places → DeniesStep input place after f →
+  pub denied_stays : (place after : MemoryPlace) (input : Input Definition) (f : NodeFault) → slice_get places i ≡ Some place → AreMembers places → DeniesStep input place after f →
       StayShown places sent (slice_set places i after) sent
   unfolding DeniesStep
   denied_stays place after input f at members denied = place_stays place after at (denied (length places) i (member_at places i place members at)).stays
 
-  pub torn_stays : (kept : world.Kept) (place after : Place) (input : Input Definition) (f : NodeFault) → slice_get places i ≡ Some place → AreMembers places → DeniesTear kept input place after f →
+  pub torn_stays : (kept : world.Kept) (place after : MemoryPlace) (input : Input Definition) (f : NodeFault) → slice_get places i ≡ Some place → AreMembers places → DeniesTear kept input place after f →
       StayShown places sent (slice_set places i after) sent
   unfolding DeniesTear
   torn_stays kept place after input f at members denied = place_stays place after at (denied (length places) i (member_at places i place members at)).stays
@@ -230,7 +225,7 @@ module _ (places : List Place) (sent : List Message) (i : ℕ) where
 
   -- ---- a stop and a restart
 
-  pub place_stops : (place after : Place) → slice_get places i ≡ Some place → AreMembers places → Stops place after → Happens (world.Stop i) None places sent (slice_set places i after) sent
+  pub place_stops : (place after : MemoryPlace) → slice_get places i ≡ Some place → AreMembers places → Stops place after → Happens (world.Stop i) None places sent (slice_set places i after) sent
   unfolding happens refused Stops
   place_stops place after at members stopped = record {
     leads = λ w shows.
@@ -247,7 +242,7 @@ module _ (places : List Place) (sent : List Message) (i : ℕ) where
     why = λ w shows. refl;
   }
 
-  pub place_restarts : (place after : Place) → slice_get places i ≡ Some place → Restarts place after → Happens (world.Restart i) None places sent (slice_set places i after) sent
+  pub place_restarts : (place after : MemoryPlace) → slice_get places i ≡ Some place → Restarts place after → Happens (world.Restart i) None places sent (slice_set places i after) sent
   unfolding happens refused Restarts
   place_restarts place after at restarted = record {
     leads = λ w shows.
@@ -277,7 +272,7 @@ unsent_message sent k e = ap delivered (slice_get-map message.view sent k ∙ ap
 
 -- ---- steps and crashes within a step are events
 
-module _ (i : ℕ) (rejection : Option Rejection) (places after : List Place) (sent more : List Message) where
+module _ (i : ℕ) (rejection : Option Rejection) (places after : List MemoryPlace) (sent more : List Message) where
   pub acts : (action : Action Definition ℕ) → IsActed i action rejection places sent after more → Happens (world.Act i action) rejection places sent after more
   unfolding happens refused
   acts action acted = record { leads = acted.leads; why = acted.why }

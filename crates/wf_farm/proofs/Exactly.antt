@@ -19,7 +19,7 @@ use Rattle.wf_farm.specs.Cluster.{Moves}
 use Rattle.wf_farm.specs.Delivering.{AnyPart, Shows, StandInTurn, KeepHalted, KeepTurn, IsHanded, AreHanded, First, Next, AreHandedOut, counted}
 use Rattle.wf_farm.specs.DeliveringLaws.{none_before, keeps_turn, keeps_turn_itself, keeps_turn_twice}
 use Rattle.wf_farm.specs.Farm as farm
-use Rattle.wf_farm.specs.Farm.{Farm, size}
+use Rattle.wf_farm.specs.Farm.{MemoryFarm, size}
 use Rattle.wf_farm.specs.Giving as giving
 use Rattle.wf_farm.specs.Giving.{Answers}
 use Rattle.wf_farm.specs.PlaceLaws.{set_there}
@@ -220,7 +220,7 @@ module _ (w : World Definition) (targets : List ℕ) where
 
 -- ---- a pump and deliveries alike
 
-module _ (before now : Farm) (w : World Definition) (shows : farm.Shows before w) (first : before.pumped ≡ 0) (pumped : IsPumped [] before now false) where
+module _ (before now : MemoryFarm) (w : World Definition) (shows : farm.Shows before w) (first : before.pumped ≡ 0) (pumped : IsPumped [] before now false) where
   pump_rounds : deliveries pumped.0.targets before.pumped pumped.0.whole pumped.0.some ≡ rounds pumped.0.targets 0 pumped.0.whole
   pump_rounds =
       ap (λ f. deliveries pumped.0.targets f pumped.0.whole pumped.0.some) first ∙ ap (deliveries pumped.0.targets 0 pumped.0.whole) pumped.1.1 ∙ whole_rounds w pumped.0.targets pumped.0.whole
@@ -232,7 +232,7 @@ module _ (before now : Farm) (w : World Definition) (shows : farm.Shows before w
   pub pump_ended : pumped.0.whole ≡ length (after_rounds w pumped.0.targets pumped.0.whole).sent
   pump_ended = omega (arith, first, pumped.1.2, ap length pump_shown.messages ∙ length-map now.sent message.view)
 
-module _ {T : Type 0} (tapes : Tape T) (nodes after : List (Node T)) (messages : List Message) (done : ℕ) (w : World Definition) (before now : Farm)
+module _ {T : Type 0} (tapes : Tape T) (nodes after : List (Node T)) (messages : List Message) (done : ℕ) (w : World Definition) (before now : MemoryFarm)
     (turns : StandInTurn nodes) (shows : Shows AnyPart nodes messages w) (out : AreHandedOut tapes nodes messages done 0 false after) (none : NoneHalted after) (held : farm.Shows before w) (first : before.pumped ≡ 0)
     (pumped : IsPumped [] before now false) where
   same_size : size before ≡ length nodes

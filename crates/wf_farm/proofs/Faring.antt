@@ -9,26 +9,27 @@ use Rattle.wf_def.specs.Definition.{Definition}
 use Rattle.wf_def.specs.Equality.{definition_eq}
 use Rattle.wf_model.specs.Message as model
 use Rattle.wf_model.specs.Table as table
-use Rattle.wf_model.specs.Table.{Action, Input, Refusal, refusal}
+use Rattle.wf_model.specs.Table.{Action, Input}
 use Rattle.wf_model.specs.World as world
-use Rattle.wf_model.specs.World.{World, Event, deliver, delivered, happens, input_of, refusal_of, refusal_running, refused, refused_at, steps}
+use Rattle.wf_model.specs.World.{World, Event, deliver, happens, input_of, refused, refused_at, steps}
 use Rattle.wf_node.specs.Fault as fault
 use Rattle.wf_node.specs.declared.fault.NodeFault.{NodeFault}
 use Rattle.wf_model.specs.declared.kept.Kept.{Kept}
 use Rattle.wf_farm.specs.declared.rejection.Rejection.{Rejection}
-use Rattle.wf_farm.specs.declared.place.Place.{Place}
 use Rattle.wf_farm.specs.declared.progress.Progress.{Progress}
 use Rattle.wf_journal.specs.Records.{AreReadOneWay}
+use Rattle.wf_tape.specs.MemoryTape.{IsImageOf}
+use Rattle.wf_law.specs.Earlier.{EarlierMessages}
 use Rattle.wf_law.specs.Laws.{Agreement}
 use Rattle.wf_model.specs.Steps.{StepsInTurn}
 use Rattle.wf_farm.specs.Agreement.{HistoriesGrow}
-use Rattle.wf_farm.specs.Farm.{Farm, IsReached, size}
+use Rattle.wf_farm.specs.Farm.{MemoryFarm, IsReached, size}
 use Rattle.wf_farm.proofs.Worlds.{grown}
 use Rattle.wf_farm.specs.Cluster.{AreMembers, Moves, Shows, TellsWhy, Turns}
 use Rattle.wf_model.specs.Kept.{view as view_kept}
 use Rattle.wf_farm.specs.Fault.{told}
 use Rattle.wf_farm.specs.Fused.{GoesOn, HappensOrTears, HasFaredTo, HaveFared, IsDoneOrTorn, IsPumpEnd, PumpsOrTears, crash_at, step_of, torn_at}
-use Rattle.wf_farm.specs.Place.{TellsWhyNot, rejection_in}
+use Rattle.wf_farm.specs.Place.{MemoryPlace, TellsWhyNot, rejection_in}
 use Rattle.wf_farm.specs.Progress.{next}
 use Rattle.wf_farm.specs.Pump.{AreTargets, begun, deliveries, most_deliveries}
 use Rattle.wf_farm.proofs.Events.{member_at, node_at}
@@ -69,16 +70,16 @@ torn_last (x ∷ events) last kept = torn_later x (events ++ last ∷ []) (lengt
 
 -- ---- runs
 
-one_moves : (event : Event Definition) (places after : List Place) (sent more : List Message) → Turns (λ w. happens definition_eq w event) places sent after more → Moves (event ∷ []) places sent after more
+one_moves : (event : Event Definition) (places after : List MemoryPlace) (sent more : List Message) → Turns (λ w. happens definition_eq w event) places sent after more → Moves (event ∷ []) places sent after more
 unfolding Moves steps
 one_moves event places after sent more leads = leads
 
 -- Nothing has happened yet.
-pub none_fared : (node : ℕ) (places : List Place) (sent : List Message) → HaveFared node [] None places sent places sent
+pub none_fared : (node : ℕ) (places : List MemoryPlace) (sent : List Message) → HaveFared node [] None places sent places sent
 unfolding Moves steps
 none_fared node places sent = record { moves = λ w shows. shows; step = tt }
 
-module _ (node : ℕ) (events : List (Event Definition)) (event : Event Definition) (places middle after : List Place) (sent said more : List Message) where
+module _ (node : ℕ) (events : List (Event Definition)) (event : Event Definition) (places middle after : List MemoryPlace) (sent said more : List Message) where
   -- One event more.
   fared_at : (k : ℕ) (torn now : Option (ℕ × Kept)) → k ≡ length events → HaveFared node events torn places sent middle said → GoesOn node k event torn now middle said after more →
       HaveFared node (events ++ event ∷ []) now places sent after more
@@ -107,7 +108,7 @@ module _ (node : ℕ) (events : List (Event Definition)) (event : Event Definiti
   fared_on k torn now long fared goes = fared_at k torn now long fared goes
 
 -- A run of one event.
-module _ (node : ℕ) (event : Event Definition) (places after : List Place) (sent more : List Message) where
+module _ (node : ℕ) (event : Event Definition) (places after : List MemoryPlace) (sent more : List Message) where
   pub one_whole : HappensOrTears node event None places sent after more → HaveFared node (event ∷ []) None places sent after more
   one_whole happens = fared_at node [] event places places after sent sent more 0 None None refl (none_fared node places sent) happens
 
@@ -115,10 +116,11 @@ module _ (node : ℕ) (event : Event Definition) (places after : List Place) (se
   one_torn kept tears = fared_at node [] event places places after sent sent more 0 None (Some (0, kept)) refl (none_fared node places sent) (refl, tears)
 
 -- A farm after such a run: what its nodes have published is a beginning of what they publish then.
-pub farm_grown : Agreement Definition → AreReadOneWay → StepsInTurn Definition → (before after : Farm) (events : List (Event Definition)) → length after.places ≡ length before.places → IsReached before.places before.sent →
-    Moves events before.places before.sent after.places after.sent → HistoriesGrow before after
+pub farm_grown : Agreement Definition → AreReadOneWay → StepsInTurn Definition → EarlierMessages Definition → (before after : MemoryFarm) (events : List (Event Definition)) → length after.places ≡ length before.places →
+    (Unit {0} → IsReached IsImageOf before.complete before.places before.sent) → Moves events before.places before.sent after.places after.sent → HistoriesGrow before after
 unfolding HistoriesGrow
-farm_grown law one in_turn before after events long reached moves = λ i old new had has. grown law one in_turn before.places after.places before.sent after.sent events long reached moves i old new had has
+farm_grown law one in_turn shifts before after events long reached moves = λ i old new had has.
+    grown law one in_turn shifts before.places after.places before.sent after.sent before.complete events long reached moves i old new had has
 
 -- ---- one more delivery of a list
 
@@ -140,20 +142,20 @@ given_all : (to : ℕ) (messages : List ℕ) → given_to to messages (length me
 given_all to [] = refl
 given_all to (x ∷ messages) = ap (λ rest. deliver to x ∷ rest) (given_all to messages)
 
-module _ (node to : ℕ) (messages : List ℕ) (places middle after : List Place) (sent said more : List Message) where
+module _ (node to : ℕ) (messages : List ℕ) (places middle after : List MemoryPlace) (sent said more : List Message) where
   pub next_fared : (done more_done k : ℕ) (torn now : Option (ℕ × Kept)) → more_done ≡ suc done → slice_get messages done ≡ Some k → HaveFared node (given_to to messages done) torn places sent middle said →
       GoesOn node done (deliver to k) torn now middle said after more → HaveFared node (given_to to messages more_done) now places sent after more
   next_fared done more_done k torn now one at fared goes =
       subst (λ es. HaveFared node es now places sent after more) (sym (ap (given_to to messages) one ∙ given_more to messages done k at))
       (fared_on node (given_to to messages done) (deliver to k) places middle after sent said more done torn now (given_long to messages done k at) fared goes)
 
-pub all_fared : (node to : ℕ) (messages : List ℕ) (places after : List Place) (sent more : List Message) (done : ℕ) (torn : Option (ℕ × Kept)) → done ≡ length messages →
+pub all_fared : (node to : ℕ) (messages : List ℕ) (places after : List MemoryPlace) (sent more : List Message) (done : ℕ) (torn : Option (ℕ × Kept)) → done ≡ length messages →
     HaveFared node (given_to to messages done) torn places sent after more → HaveFared node (map (deliver to) messages) torn places sent after more
 all_fared node to messages places after sent more done torn all fared = subst (λ es. HaveFared node es torn places sent after more) (ap (given_to to messages) all ∙ given_all to messages) fared
 
 -- ---- the deliveries of a pump
 
-module _ (node : ℕ) (targets : List ℕ) (first : ℕ) (places : List Place) (sent : List Message) where
+module _ (node : ℕ) (targets : List ℕ) (first : ℕ) (places : List MemoryPlace) (sent : List Message) where
   pub pump_begins : 0 < length targets → first ≤ length sent → HasFaredTo node targets first (record { whole = 0; some = 0; done = 0 }) None places sent places sent
   pump_begins some within = record {
     fared = subst (λ es. HaveFared node es None places sent places sent) (sym (no_deliveries targets first)) (none_fared node places sent);
@@ -163,7 +165,7 @@ module _ (node : ℕ) (targets : List ℕ) (first : ℕ) (places : List Place) (
     most = omega arith;
   }
 
-  module _ (p : Progress) (torn now : Option (ℕ × Kept)) (middle after : List Place) (said more : List Message) (come : HasFaredTo node targets first p torn places sent middle said) (left : first + p.whole < length said)
+  module _ (p : Progress) (torn now : Option (ℕ × Kept)) (middle after : List MemoryPlace) (said more : List Message) (come : HasFaredTo node targets first p torn places sent middle said) (left : first + p.whole < length said)
       (may : p.done < most_deliveries) (goes : GoesOn node p.done (deliver (get_or targets p.some 0) (first + p.whole)) torn now middle said after more) (grows : length said ≤ length more) where
     fares_on : HaveFared node (deliveries targets first p.whole (p.some + 1)) now places sent after more
     fares_on =
@@ -212,7 +214,7 @@ module _ (first count sent : ℕ) (p : Progress) (same : count ≡ sent) (within
       (omega (arith, counted, most), none_begun p.some (omega (arith, all, same, within)), omega (arith, all, same, within))
 
 -- What a pump has done to a farm.
-pub pumps : (node : ℕ) (names : List ℕ) (before after : Farm) (n count : ℕ) (targets items : List ℕ) (p : Progress) (torn : Option (ℕ × Kept)) → n ≡ size before → targets ≡ items → AreTargets n names items →
+pub pumps : (node : ℕ) (names : List ℕ) (before after : MemoryFarm) (n count : ℕ) (targets items : List ℕ) (p : Progress) (torn : Option (ℕ × Kept)) → n ≡ size before → targets ≡ items → AreTargets n names items →
     HasFaredTo node targets before.pumped p torn before.places before.sent after.places after.sent → after.pumped ≡ before.pumped + p.whole + begun p.some → (before.pumped + p.whole < length after.sent → p.done ≡ most_deliveries) →
     count ≡ length after.sent → PumpsOrTears node names torn (nat_lt (before.pumped + p.whole) count) before after
 pumps node names before after n count targets items p torn many same are come pumped full all = record {
@@ -234,7 +236,7 @@ unfolding step_of
 step_delivery node k = refl
 
 -- The step of a delivery, with its message.
-pub heard : (node k : ℕ) (m : model.Message Definition) (torn : Option Kept) (places after : List Place) (sent more : List Message) →
+pub heard : (node k : ℕ) (m : model.Message Definition) (torn : Option Kept) (places after : List MemoryPlace) (sent more : List Message) →
     input_of (map message.view sent) (table.Deliver k) ≡ Some (table.Deliver m) →
     ((action : Action Definition ℕ) → input_of (map message.view sent) action ≡ Some (table.Deliver m) → IsDoneOrTorn torn true node action places sent after more) →
     HappensOrTears node (deliver node k) torn places sent after more
@@ -244,7 +246,7 @@ heard node k m torn places after sent more given done =
 
 -- ---- rejections
 
-module _ (i : ℕ) (places : List Place) (sent : List Message) where
+module _ (i : ℕ) (places : List MemoryPlace) (sent : List Message) where
   -- Why an event is rejected is why its step is.
   pub step_told : (action : Action Definition ℕ) (rejection : Option Rejection) → TellsWhy (λ w. refused_at w i action) rejection places sent → TellsWhy (λ w. refused w (world.Act i action)) rejection places sent
   unfolding refused
@@ -263,7 +265,7 @@ module _ (i : ℕ) (places : List Place) (sent : List Message) where
   torn_told action kept rejection why = why
 
   -- Why the node in the entry would reject the step is why the world does.
-  module _ (place : Place) (action : Action Definition ℕ) (input : Input Definition) (at : slice_get places i ≡ Some place) (members : AreMembers places)
+  module _ (place : MemoryPlace) (action : Action Definition ℕ) (input : Input Definition) (at : slice_get places i ≡ Some place) (members : AreMembers places)
       (given : input_of (map message.view sent) action ≡ Some input) where
     why_in : (why : Option NodeFault) (w : World Definition) → Shows places sent w → TellsWhyNot place action why → fault.IsWhyNot (refused_at w i action) why
     unfolding TellsWhyNot

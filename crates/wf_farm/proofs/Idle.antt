@@ -9,25 +9,24 @@ use Rattle.wf_model.specs.Table.{Action, Input}
 use Rattle.wf_model.specs.World.{After, input_of}
 use Rattle.wf_node.specs.declared.fault.NodeFault.{NodeFault}
 use Rattle.wf_farm.specs.declared.rejection.Rejection.{Rejection}
-use Rattle.wf_farm.specs.declared.place.Place.{Place}
 use Rattle.wf_farm.specs.declared.place.Place.TheVariants.{Running, Stopped}
 use Rattle.wf_farm.specs.Cluster.{AreMembers, IsActed, IsTorn}
 use Rattle.wf_farm.specs.Farm.{running_in}
-use Rattle.wf_farm.specs.Place.{IsMember, IsStepped, TellsWhyNot, Steps, rejection_in}
+use Rattle.wf_farm.specs.Place.{MemoryPlace, IsMember, IsStepped, TellsWhyNot, Steps, rejection_in}
 use Rattle.wf_farm.proofs.Events.{absent_acts, absent_torn, member_at, place_acts, tear_acts, unsent_acts, unsent_torn}
 use Rattle.wf_farm.proofs.Steps.{refused_step, same_member, step_stops, still_stopped, stopped_steps}
 use Rattle.wf_farm.specs.PlaceLaws.{set_same}
 
-module _ (places : List Place) (sent : List Message) (i : ℕ) (action : Action Definition ℕ) (members : AreMembers places) where
+module _ (places : List MemoryPlace) (sent : List Message) (i : ℕ) (action : Action Definition ℕ) (members : AreMembers places) where
   -- A step that changes nothing in its entry and sends nothing changes nothing.
-  keeps_acts : (place : Place) (input : Input Definition) (rejection : Option Rejection) → slice_get places i ≡ Some place → input_of (map message.view sent) action ≡ Some input →
+  keeps_acts : (place : MemoryPlace) (input : Input Definition) (rejection : Option Rejection) → slice_get places i ≡ Some place → input_of (map message.view sent) action ≡ Some input →
       ((n j : ℕ) → IsMember n j place → IsStepped n j input place place [] rejection) → IsActed i action rejection places sent places sent
   keeps_acts place input rejection at given stepped =
       subst (λ ps. IsActed i action rejection places sent ps sent) (set_same places i place at)
       (subst (λ ms. IsActed i action rejection places sent (slice_set places i place) ms) (append-nil sent)
       (place_acts places sent i place place [] action input rejection at given (stepped (length places) i (member_at places i place members at))))
 
-  idle_at : (there : Option Place) (given : Option (Input Definition)) → slice_get places i ≡ there → input_of (map message.view sent) action ≡ given → is_some (running_in there) ≡ false →
+  idle_at : (there : Option MemoryPlace) (given : Option (Input Definition)) → slice_get places i ≡ there → input_of (map message.view sent) action ≡ given → is_some (running_in there) ≡ false →
       IsActed i action None places sent places sent
   unfolding Steps
   idle_at None given at is idle = absent_acts places sent i action at
@@ -39,7 +38,7 @@ module _ (places : List Place) (sent : List Message) (i : ℕ) (action : Action 
   pub idle_acts : (runs : Bool) → runs ≡ is_some (running_in (slice_get places i)) → runs ≡ false → IsActed i action None places sent places sent
   idle_acts runs is not = idle_at (slice_get places i) (input_of (map message.view sent) action) refl refl (sym is ∙ not)
 
-  torn_at : (there : Option Place) (given : Option (Input Definition)) → slice_get places i ≡ there → input_of (map message.view sent) action ≡ given → is_some (running_in there) ≡ false →
+  torn_at : (there : Option MemoryPlace) (given : Option (Input Definition)) → slice_get places i ≡ there → input_of (map message.view sent) action ≡ given → is_some (running_in there) ≡ false →
       IsTorn i action After None places sent places sent
   torn_at None given at is idle = absent_torn places sent i action After at
   torn_at (Some (Running node)) given at is idle = absurd (false≢true (sym idle))
@@ -54,7 +53,7 @@ module _ (places : List Place) (sent : List Message) (i : ℕ) (action : Action 
   idle_torn runs is not = torn_at (slice_get places i) (input_of (map message.view sent) action) refl refl (sym is ∙ not)
 
   -- A rejected step changes nothing, and the rejection is reported.
-  pub denied_acts : (place : Place) (input : Input Definition) (f : NodeFault) → slice_get places i ≡ Some place → input_of (map message.view sent) action ≡ Some input → TellsWhyNot place action (Some f) →
+  pub denied_acts : (place : MemoryPlace) (input : Input Definition) (f : NodeFault) → slice_get places i ≡ Some place → input_of (map message.view sent) action ≡ Some input → TellsWhyNot place action (Some f) →
       IsActed i action (rejection_in f) places sent places sent
   unfolding TellsWhyNot
   denied_acts place input f at given why =

@@ -1,5 +1,6 @@
 mod Turns
 mod Steps
+mod Entries
 mod Events
 mod Idle
 mod Allocating
@@ -17,6 +18,8 @@ mod ThreeNodes
 mod Exactly
 mod Published
 mod NewNodes
+mod Nodes
+mod Exchanges
 mod Reopened
 mod CutTapes
 mod Tried

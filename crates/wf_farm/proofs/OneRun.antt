@@ -25,7 +25,7 @@ use Rattle.wf_node.specs.Step.{row_of, IsStep}
 use Rattle.wf_node.specs.declared.fault.NodeFault.{NodeFault}
 use Rattle.wf_node.specs.declared.fault.NodeFault.TheVariants as fault_case
 use Rattle.wf_farm.specs.Delivering as delivering
-use Rattle.wf_farm.specs.Delivering.{AnyPart, StandFor, IsNode, AreNodes, Shows, StandInTurn, MayLeave, IsLed, Lead, AreDelivered, KeepHalted, KeepTurn, IsDelivered}
+use Rattle.wf_farm.specs.Delivering.{AnyPart, StandFor, AreNodes, Shows, StandInTurn, IsLed, Lead, AreDelivered}
 use Rattle.wf_farm.specs.Giving as giving
 use Rattle.wf_farm.specs.Giving.{Answers, Takes, is_memory}
 use Rattle.wf_farm.specs.DeliveringLaws.{halted_itself, halted_twice, keeps_turn, keeps_turn_itself, keeps_turn_twice}

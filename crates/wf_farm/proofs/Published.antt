@@ -14,16 +14,15 @@ use Rattle.wf_model.specs.World.{World, propose, happens, input_of, start, steps
 use Rattle.wf_node.specs.Growth.{row_grown}
 use Rattle.wf_node.specs.Node.{Node}
 use Rattle.wf_node.specs.Step.{IsStep, row_of}
-use Rattle.wf_farm.specs.declared.place.Place.{Place}
 use Rattle.wf_farm.specs.declared.place.Place.TheVariants.{Running, Stopped}
 use Rattle.wf_farm.specs.Agreement.{HasStored, Publishes}
 use Rattle.wf_farm.specs.Cluster.{Moves}
 use Rattle.wf_farm.specs.Delivering.{AnyPart, AreNodes, Shows, StandInTurn, KeepTurn, AreHandedOut}
 use Rattle.wf_farm.specs.DeliveringLaws.{keeps_turn}
 use Rattle.wf_farm.specs.Farm as farm
-use Rattle.wf_farm.specs.Farm.{Farm, Runs, size}
+use Rattle.wf_farm.specs.Farm.{MemoryFarm, Runs, size}
 use Rattle.wf_farm.specs.Leading.{AreFresh}
-use Rattle.wf_farm.specs.Place.{IsNode}
+use Rattle.wf_farm.specs.Place.{MemoryPlace, IsNode}
 use Rattle.wf_farm.specs.Publishing.{NoneHalted, AllPublish, ArePumped, PublishedOnAll, PublishedByPump}
 use Rattle.wf_farm.specs.Pump.{AreTargets, IsPumped, deliveries, rounds}
 use Rattle.wf_farm.proofs.Deliveries.{is_running, steps_shown}
@@ -138,12 +137,12 @@ published_on_all tapes = λ nodes after i before proposed d said done long turns
 -- ---- a farm
 
 -- an entry's node has stored what the world's node has
-stored_in : (place : Place) (x : world.Node Definition) → IsNode place x → HasStored (Some place) x.stored
+stored_in : (place : MemoryPlace) (x : world.Node Definition) → IsNode place x → HasStored (Some place) x.stored
 stored_in (Running node) x is = ap (λ (y : world.Node Definition). y.stored) is
 stored_in (Stopped tape) x is = is.1
 
-module _ (now : Farm) (w : World Definition) (d : Definition) (shows : farm.Shows now w) (each : (i : ℕ) (x : world.Node Definition) → slice_get w.nodes i ≡ Some x → IsEnded d x) where
-  published_at : (j : ℕ) (place : Place) → slice_get now.places j ≡ Some place → Publishes now j 1 d
+module _ (now : MemoryFarm) (w : World Definition) (d : Definition) (shows : farm.Shows now w) (each : (i : ℕ) (x : world.Node Definition) → slice_get w.nodes i ≡ Some x → IsEnded d x) where
+  published_at : (j : ℕ) (place : MemoryPlace) → slice_get now.places j ≡ Some place → Publishes now j 1 d
   unfolding definition_at
   published_at j place at =
       let here = node_at now.places w.nodes j place shows.nodes at in
@@ -159,7 +158,7 @@ module _ (now : Farm) (w : World Definition) (d : Definition) (shows : farm.Show
     | inr past ↦ absurd (omega (arith, within, past.0))
   ]
 
-module _ (before proposed now : Farm) (i : ℕ) (d : Definition) (new : farm.Shows before (start 3)) (first : before.pumped ≡ 0) (node : i < 3) (runs : Runs (propose i d ∷ []) before proposed) (same : proposed.pumped ≡ before.pumped)
+module _ (before proposed now : MemoryFarm) (i : ℕ) (d : Definition) (new : farm.Shows before (start 3)) (first : before.pumped ≡ 0) (node : i < 3) (runs : Runs (propose i d ∷ []) before proposed) (same : proposed.pumped ≡ before.pumped)
     (pumped : IsPumped [] proposed now false) where
   farm_began : farm.Shows proposed (began d i node)
   unfolding Moves steps

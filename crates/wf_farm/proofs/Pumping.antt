@@ -5,11 +5,11 @@ use Rattle.wf_farm.specs.declared.fault.FarmFault.{FarmFault}
 use Rattle.wf_farm.specs.declared.progress.End.{End}
 use Rattle.wf_farm.specs.declared.progress.End.TheVariants.{Done, Stopped, Failed}
 use Rattle.wf_farm.specs.declared.progress.Progress.{Progress}
-use Rattle.wf_farm.specs.Farm.{Farm, size}
+use Rattle.wf_farm.specs.Farm.{MemoryFarm, size}
 use Rattle.wf_farm.specs.Progress.{HasCome, IsEnd, MayEnd, outcome}
 use Rattle.wf_farm.specs.Pump.{AreTargets, begun, Pumps, IsPumped, IsPumpedPart, most_deliveries}
 
-module _ (names : List ℕ) (before after : Farm) (n : ℕ) (targets items : List ℕ) (p : Progress) (many : n ≡ size before) (same : targets ≡ items) (are : AreTargets n names items)
+module _ (names : List ℕ) (before after : MemoryFarm) (n : ℕ) (targets items : List ℕ) (p : Progress) (many : n ≡ size before) (same : targets ≡ items) (are : AreTargets n names items)
     (come : HasCome targets before.pumped p before.places before.sent after.places after.sent) (pumped : after.pumped ≡ before.pumped + p.whole + begun p.some) where
   abbrev a_pump : Pumps names before after
   a_pump = record {

@@ -6,7 +6,6 @@ use Rattle.wf_def.specs.Equality.{definition_eq}
 use Rattle.wf_model.specs.Table as table
 use Rattle.wf_model.specs.World.{deliver, happens, steps}
 use Rattle.wf_farm.specs.declared.rejection.Rejection.{Rejection}
-use Rattle.wf_farm.specs.declared.place.Place.{Place}
 use Rattle.wf_farm.specs.declared.progress.End.{End}
 use Rattle.wf_farm.specs.declared.progress.End.TheVariants.{Done, Stopped, Failed}
 use Rattle.wf_farm.specs.declared.progress.Progress.{Progress}
@@ -19,6 +18,7 @@ use Rattle.wf_farm.proofs.Allocating.{next_delivery_may}
 use Rattle.wf_farm.proofs.Counting.{done_on}
 use Rattle.wf_farm.proofs.Events.{same_members}
 use Rattle.wf_farm.proofs.Runs.{keep_twice, steps_more}
+use Rattle.wf_farm.specs.Place.{MemoryPlace}
 
 -- ---- the deliveries
 
@@ -62,13 +62,13 @@ begun_most (suc some) = omega arith
 -- ---- the entries lent
 
 -- Entries that were lent are those that came back, if there are as many.
-pub lent_back : (places after : List Place) (n : ℕ) → n ≡ length places → length after ≡ length places → take n (after ++ drop (length after) places) ≡ after
+pub lent_back : {A : Type 0} (places after : List A) (n : ℕ) → n ≡ length places → length after ≡ length places → take n (after ++ drop (length after) places) ≡ after
 lent_back places after n all same =
     ap (λ rest. take n (after ++ rest)) (drop_all (length after) places (omega (arith, same))) ∙ ap (take n) (append-nil after) ∙ take_all n after (omega (arith, all, same))
 
 -- ---- the progress of a pump
 
-module _ (targets : List ℕ) (first : ℕ) (places : List Place) (sent : List Message) where
+module _ (targets : List ℕ) (first : ℕ) (places : List MemoryPlace) (sent : List Message) where
   -- Nothing is delivered yet.
   pub come_start : 0 < length targets → first ≤ length sent → HasCome targets first (record { whole = 0; some = 0; done = 0 }) places sent places sent
   unfolding Moves steps
@@ -80,7 +80,7 @@ module _ (targets : List ℕ) (first : ℕ) (places : List Place) (sent : List M
     most = omega arith;
   }
 
-  module _ (p : Progress) (middle after : List Place) (said more : List Message) where
+  module _ (p : Progress) (middle after : List MemoryPlace) (said more : List Message) where
     -- A delivery that changes nothing.
     pub come_still : HasCome targets first p places sent middle said → StayShown middle said after more → length said ≤ length more → HasCome targets first p places sent after more
     unfolding Moves StayShown
@@ -128,7 +128,7 @@ module _ (targets : List ℕ) (first : ℕ) (places : List Place) (sent : List M
       come_on = come_by (p.some + 1 == length targets) refl
 
   -- The rounds that were made are these deliveries.
-  come_along : (p : Progress) (lost : ℕ) (after : List Place) (more : List Message) → HaveGone IsGiven targets (length targets) first places sent p lost after more → 0 < length targets → first ≤ length sent →
+  come_along : (p : Progress) (lost : ℕ) (after : List MemoryPlace) (more : List Message) → HaveGone IsGiven targets (length targets) first places sent p lost after more → 0 < length targets → first ≤ length sent →
       p.done ≤ most_deliveries → HasCome targets first p places sent after more × KeepMembers places after
   come_along _ _ _ _ Begin some within most = (come_start some within, same_members places)
   come_along _ _ _ _ (Go p lost loses middle after said more gone left one) some within most =
@@ -139,7 +139,7 @@ module _ (targets : List ℕ) (first : ℕ) (places : List Place) (sent : List M
         keep_twice places middle after come.1 one.members,
       )
 
-  module _ (p : Progress) (middle after : List Place) (said more : List Message) (come : HasCome targets first p places sent middle said × KeepMembers places middle) where
+  module _ (p : Progress) (middle after : List MemoryPlace) (said more : List Message) (come : HasCome targets first p places sent middle said × KeepMembers places middle) where
     left_come : (end : End) → IsLeft IsWithheld end (get_or targets p.some p.some) (first + p.whole) middle said after more → HasCome targets first p places sent after more × KeepMembers places after
     left_come Done left =
         subst (λ ps. HasCome targets first p places sent ps more × KeepMembers places ps) (sym left.0) (subst (λ ms. HasCome targets first p places sent middle ms × KeepMembers places middle) (sym left.1) come)
@@ -153,7 +153,7 @@ module _ (targets : List ℕ) (first : ℕ) (places : List Place) (sent : List M
     left_may (Failed fault) left =
         next_delivery_may places middle sent said targets first p.whole p.some come.0.moves (subst (λ i. TakesStep i (table.Deliver (first + p.whole)) middle said) (get_or_default targets p.some p.some 0 come.0.part) left.1.taken)
 
-  module _ (p : Progress) (lost : ℕ) (end : End) (after : List Place) (more : List Message) (ended : HaveEnded IsGiven IsWithheld targets (length targets) first places sent p lost end after more)
+  module _ (p : Progress) (lost : ℕ) (end : End) (after : List MemoryPlace) (more : List Message) (ended : HaveEnded IsGiven IsWithheld targets (length targets) first places sent p lost end after more)
       (some : 0 < length targets) (within : first ≤ length sent) (most : p.done ≤ most_deliveries) where
     -- What the rounds left is what these deliveries lead to.
     pub come_ended : HasCome targets first p places sent after more × KeepMembers places after

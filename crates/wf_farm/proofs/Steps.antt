@@ -12,9 +12,9 @@ use Rattle.wf_model.specs.Message as model
 use Rattle.wf_model.specs.Stored.{Stored, fold, fold_from, nothing_stored}
 use Rattle.wf_model.specs.Working.{Working, at_start}
 use Rattle.wf_model.specs.Table as table
-use Rattle.wf_model.specs.Table.{Input, Refusal, most_told, refusal, refuse_proposal, refuse_retry, row, store}
+use Rattle.wf_model.specs.Table.{Input, Refusal, most_told, refusal, refuse_proposal, refuse_retry, row}
 use Rattle.wf_model.specs.World as world
-use Rattle.wf_model.specs.World.{refusal_of, turn_of, stored_after, kept_part, input_of, delivered}
+use Rattle.wf_model.specs.World.{refusal_of, stored_after, kept_part, input_of, delivered}
 use Rattle.wf_node.specs.Fault as fault
 use Rattle.wf_node.specs.Images.{AllStandFor, StandsFor}
 use Rattle.wf_node.specs.Node.{Node, stored_of, working_of}
@@ -28,12 +28,11 @@ use Rattle.wf_tape.specs.MemoryTape.{IsImageOf, NeverFails}
 use Rattle.wf_journal.specs.Records.{AreReadOneWay, IsReadAsNone}
 use Rattle.wf_tape.specs.Tape.{IsBeginning}
 use Rattle.wf_farm.specs.declared.rejection.Rejection.{Rejection}
-use Rattle.wf_farm.specs.declared.place.Place.{Place}
 use Rattle.wf_farm.specs.declared.place.Place.TheVariants.{Running, Stopped}
 use Rattle.wf_farm.specs.Fault.{rejection_of, told}
 use Rattle.wf_farm.specs.Leading.{IsFresh}
 use Rattle.wf_farm.specs.Reopening.{HasStoredAgain, IsReopened}
-use Rattle.wf_farm.specs.Place.{IsNode, IsMember, IsChanged, Stays, turn_at, IsStepped, IsTornAt, rejection_in, IsDenied, IsDeniedTorn, KeepsMember, Stops, Restarts, Steps, DeniesStep, Tears, DeniesTear, TellsWhyNot}
+use Rattle.wf_farm.specs.Place.{MemoryPlace, IsNode, IsMember, IsChanged, Stays, turn_at, IsStepped, IsTornAt, rejection_in, IsDenied, IsDeniedTorn, KeepsMember, Stops, Restarts, Steps, DeniesStep, Tears, DeniesTear, TellsWhyNot}
 use Rattle.wf_farm.specs.Start.{fresh_node}
 use Rattle.wf_farm.specs.Turn.{node_after, messages_of, node_torn, node_stopped, working_restarted, node_restarted}
 use Rattle.wf_farm.proofs.Turns.{turn_goes, turn_refused, turn_stopped, running_refusal, stopped_refusal}
@@ -203,11 +202,11 @@ stopped_steps kept input = λ n i member. record {
   refusal = λ x is. sym (ap told (stopped_refusal x input is.0));
 }
 
-pub same_member : (place : Place) → KeepsMember place place
+pub same_member : (place : MemoryPlace) → KeepsMember place place
 unfolding KeepsMember
 same_member place = λ n i member. member
 
-pub member_twice : (before middle after : Place) → KeepsMember before middle → KeepsMember middle after → KeepsMember before after
+pub member_twice : (before middle after : MemoryPlace) → KeepsMember before middle → KeepsMember middle after → KeepsMember before after
 unfolding KeepsMember
 member_twice before middle after first second = λ n i member. second n i (first n i member)
 
@@ -259,11 +258,11 @@ opened one kept node fold_of idle = λ x is.
     ∙ node_eq _ _ _ _ (one_stand one kept.bytes x.stored (stored_of node) stands found) (ap Some (sym idle))
 
 -- A node opened from a tape without a fuse is on such a tape, and a tape that is returned is still one.
-pub opened_member : (n i : ℕ) (before : Place) (kept : tape.TapeValue) (node : Node tape.TapeValue) → before ≡ Stopped kept → node.id ≡ i → node.n ≡ n → node.halted ≡ false → (NeverFails kept → NeverFails node.tape) →
+pub opened_member : (n i : ℕ) (before : MemoryPlace) (kept : tape.TapeValue) (node : Node tape.TapeValue) → before ≡ Stopped kept → node.id ≡ i → node.n ≡ n → node.halted ≡ false → (NeverFails kept → NeverFails node.tape) →
     IsMember n i before → IsMember n i (Running node)
 opened_member n i before kept node was id many runs sturdy member = (id, many, runs, sturdy (subst (IsMember n i) was member))
 
-pub returned_member : (n i : ℕ) (before : Place) (kept left : tape.TapeValue) → before ≡ Stopped kept → (NeverFails kept → NeverFails left) → IsMember n i before → IsMember n i (Stopped left)
+pub returned_member : (n i : ℕ) (before : MemoryPlace) (kept left : tape.TapeValue) → before ≡ Stopped kept → (NeverFails kept → NeverFails left) → IsMember n i before → IsMember n i (Stopped left)
 returned_member n i before kept left was sturdy member = sturdy (subst (IsMember n i) was member)
 
 pub still_running : (node : Node tape.TapeValue) → Restarts (Running node) (Running node)
@@ -348,7 +347,7 @@ module _ (n i : ℕ) (input : Input Definition) (stored : Stored Definition) whe
   stop_torn_before (Some working) free = stops_before_running working (refusal stored working input) refl (free ∙ ap told (running_refusal stored working input))
 
 -- A step, and then a stop: a crash after the step's record.
-pub torn_after : (n i : ℕ) (input : Input Definition) (before middle after : Place) (said : List (model.Message Definition)) → IsStepped n i input before middle said None →
+pub torn_after : (n i : ℕ) (input : Input Definition) (before middle after : MemoryPlace) (said : List (model.Message Definition)) → IsStepped n i input before middle said None →
     IsChanged node_stopped middle after → IsTornAt world.After n i input before after None
 torn_after n i input before middle after said stepped stopped = record {
   node = λ x is. subst (IsNode after) (stops_after n i input x.stored x.working (stepped.refusal x is)) (stopped (node_after (turn_at n i input x) x) (stepped.node x is));
@@ -356,7 +355,7 @@ torn_after n i input before middle after said stepped stopped = record {
 }
 
 -- A stop alone, where the step would be done: a crash before the step's record.
-pub torn_before : (n i : ℕ) (input : Input Definition) (before after : Place) → ((x : world.Node Definition) → IsNode before x → None ≡ told (refusal_of (Some x) (Some input))) →
+pub torn_before : (n i : ℕ) (input : Input Definition) (before after : MemoryPlace) → ((x : world.Node Definition) → IsNode before x → None ≡ told (refusal_of (Some x) (Some input))) →
     IsChanged node_stopped before after → IsTornAt world.Before n i input before after None
 torn_before n i input before after free stopped = record {
   node = λ x is. subst (IsNode after) (stop_torn_before n i input x.stored x.working (free x is)) (stopped x is);
@@ -364,7 +363,7 @@ torn_before n i input before after free stopped = record {
 }
 
 -- A crash within a rejected step changes nothing, whatever would be kept.
-pub torn_refused : (kept : world.Kept) (n i : ℕ) (input : Input Definition) (before after : Place) (rejection : Rejection) → IsStepped n i input before after [] (Some rejection) → Stays before after →
+pub torn_refused : (kept : world.Kept) (n i : ℕ) (input : Input Definition) (before after : MemoryPlace) (rejection : Rejection) → IsStepped n i input before after [] (Some rejection) → Stays before after →
     ((x : world.Node Definition) → IsNode before x → turn_at n i input x ≡ None) → IsTornAt kept n i input before after (Some rejection)
 unfolding node_torn Stays
 torn_refused kept n i input before after rejection stepped stays none = record {
@@ -388,7 +387,7 @@ pub no_turn : (n i : ℕ) (input : Input Definition) (x : world.Node Definition)
 no_turn n i input x rejection is = no_turn_parts n i input x.stored x.working rejection is
 
 -- A step that ends in an error likewise: nothing has changed.
-pub torn_denied : (kept : world.Kept) (n i : ℕ) (input : Input Definition) (before after : Place) (f : NodeFault) → IsDenied n i input before after f → IsDeniedTorn kept n i input before after f
+pub torn_denied : (kept : world.Kept) (n i : ℕ) (input : Input Definition) (before after : MemoryPlace) (f : NodeFault) → IsDenied n i input before after f → IsDeniedTorn kept n i input before after f
 torn_denied kept n i input before after f denied = record {
   stays = denied.stays;
   refused = λ rejection e.
@@ -405,7 +404,7 @@ some_told None not_none = absurd (not_none refl)
 some_told (Some why) not_none = (rejection_of why, refl)
 
 -- A crash within a step that would be rejected: nothing has changed, and the rejection is reported.
-pub refused_before : (kept : world.Kept) (n i : ℕ) (input : Input Definition) (place : Place) (f : NodeFault) →
+pub refused_before : (kept : world.Kept) (n i : ℕ) (input : Input Definition) (place : MemoryPlace) (f : NodeFault) →
     ((x : world.Node Definition) → IsNode place x → fault.IsWhyNot (refusal_of (Some x) (Some input)) (Some f)) → IsTornAt kept n i input place place (rejection_in f)
 unfolding node_torn
 refused_before kept n i input place f why = record {
@@ -458,24 +457,24 @@ why_not_stopped kept x input is = stopped_refusal x input is.0
 -- ---- crashes within a step, whichever node is there
 
 -- A step, and then a stop.
-pub step_stops : (input : Input Definition) (before middle after : Place) (said : List (model.Message Definition)) → Steps input before middle said → KeepsMember before middle → Stops middle after →
+pub step_stops : (input : Input Definition) (before middle after : MemoryPlace) (said : List (model.Message Definition)) → Steps input before middle said → KeepsMember before middle → Stops middle after →
     Tears world.After input before after
 unfolding Steps Stops Tears KeepsMember
 step_stops input before middle after said steps keeps stops = λ n i member. torn_after n i input before middle after said (steps n i member) (stops n i (keeps n i member))
 
-pub denied_tears : (kept : world.Kept) (input : Input Definition) (before after : Place) (f : NodeFault) → DeniesStep input before after f → DeniesTear kept input before after f
+pub denied_tears : (kept : world.Kept) (input : Input Definition) (before after : MemoryPlace) (f : NodeFault) → DeniesStep input before after f → DeniesTear kept input before after f
 unfolding DeniesStep DeniesTear
 denied_tears kept input before after f denies = λ n i member. torn_denied kept n i input before after f (denies n i member)
 
 -- A stop alone, if the table has no rejection.
-pub stops_before : (action : table.Action Definition ℕ) (sent : List (model.Message Definition)) (input : Input Definition) (before after : Place) → TellsWhyNot before action None →
+pub stops_before : (action : table.Action Definition ℕ) (sent : List (model.Message Definition)) (input : Input Definition) (before after : MemoryPlace) → TellsWhyNot before action None →
     input_of sent action ≡ Some input → Stops before after → Tears world.Before input before after
 unfolding TellsWhyNot Stops Tears
 stops_before action sent input before after free given stops = λ n i member.
     torn_before n i input before after (λ x is. free_where_none (refusal_of (Some x) (Some input)) (free n i x sent input member is given)) (stops n i member)
 
 -- Nothing, if it has one.
-pub refused_stays : (kept : world.Kept) (action : table.Action Definition ℕ) (sent : List (model.Message Definition)) (input : Input Definition) (place : Place) (f : NodeFault) → TellsWhyNot place action (Some f) →
+pub refused_stays : (kept : world.Kept) (action : table.Action Definition ℕ) (sent : List (model.Message Definition)) (input : Input Definition) (place : MemoryPlace) (f : NodeFault) → TellsWhyNot place action (Some f) →
     input_of sent action ≡ Some input → (n i : ℕ) → IsMember n i place → IsTornAt kept n i input place place (rejection_in f)
 unfolding TellsWhyNot
 refused_stays kept action sent input place f why given n i member = refused_before kept n i input place f (λ x is. why n i x sent input member is given)
@@ -491,16 +490,16 @@ unfolding TellsWhyNot
 tells_stopped kept action = λ n i x sent input member is given. why_not_stopped kept x input is
 
 -- A catch-up and a delivery are never rejected.
-pub tells_no_question : (place : Place) → TellsWhyNot place table.CatchUp None
+pub tells_no_question : (place : MemoryPlace) → TellsWhyNot place table.CatchUp None
 tells_no_question (Running node) = tells_running node table.CatchUp None (λ runs. refl)
 tells_no_question (Stopped kept) = tells_stopped kept table.CatchUp
 
-pub tells_no_delivery : (place : Place) (k : ℕ) → TellsWhyNot place (table.Deliver k) None
+pub tells_no_delivery : (place : MemoryPlace) (k : ℕ) → TellsWhyNot place (table.Deliver k) None
 tells_no_delivery (Running node) k = tells_running node (table.Deliver k) None (λ runs. refl)
 tells_no_delivery (Stopped kept) k = tells_stopped kept (table.Deliver k)
 
 -- A step that is rejected changes nothing.
-pub refused_step : (n i : ℕ) (input : Input Definition) (place : Place) (f : NodeFault) →
+pub refused_step : (n i : ℕ) (input : Input Definition) (place : MemoryPlace) (f : NodeFault) →
     ((x : world.Node Definition) → IsNode place x → fault.IsWhyNot (refusal_of (Some x) (Some input)) (Some f)) → IsStepped n i input place place [] (rejection_in f)
 unfolding node_after messages_of
 refused_step n i input place f why = record {

@@ -11,7 +11,7 @@ use Rattle.wf_model.specs.Stored.{Stored, Record}
 use Rattle.wf_model.specs.Table.{Input, store}
 use Rattle.wf_model.specs.Working.{at_start}
 use Rattle.wf_model.specs.World as world
-use Rattle.wf_model.specs.World.{Turn, refusal_of, stored_after, kept_part}
+use Rattle.wf_model.specs.World.{refusal_of, stored_after, kept_part}
 use Rattle.wf_node.specs.Fault as fault
 use Rattle.wf_node.specs.Images.{AllStandFor, EachIsCut}
 use Rattle.wf_node.specs.Node.{Node, stored_of, working_of}
@@ -27,12 +27,11 @@ use Rattle.wf_model.specs.declared.kept.Kept as declared
 use Rattle.wf_farm.specs.declared.rejection.Rejection.{Rejection}
 use Rattle.wf_farm.specs.declared.fate.Fate.{Fate}
 use Rattle.wf_farm.specs.declared.fate.Fate.TheVariants as fate
-use Rattle.wf_farm.specs.declared.place.Place.{Place}
 use Rattle.wf_farm.specs.declared.place.Place.TheVariants.{Running, Stopped}
 use Rattle.wf_model.specs.Kept.{view as view_kept}
 use Rattle.wf_farm.specs.Fault.{rejection_of, told}
 use Rattle.wf_farm.specs.Fused.{Fares, IsCutTape, IsTornTo, IsTried, stored_by}
-use Rattle.wf_farm.specs.Place.{IsNode, IsMember, IsStepped, Restarts, Stays, Steps, rejection_in, turn_at}
+use Rattle.wf_farm.specs.Place.{MemoryPlace, IsNode, IsMember, IsStepped, Restarts, Stays, Steps, rejection_in, turn_at}
 use Rattle.wf_farm.specs.Turn.{node_torn, node_restarted, working_restarted}
 use Rattle.wf_farm.proofs.Steps.{goes_of, node_eq, node_of, not_opened, rejection_why, one_stored, opened, same_stays, shown, step_done, step_refused, stopped_steps}
 use Rattle.wf_farm.proofs.Turns.{running_refusal}
@@ -101,21 +100,21 @@ module _ {A : Type 0} (input : Input Definition) where
 -- ---- opening
 
 -- A node that is opened with a fuse on its tape is the one that restarts, and the fuse is taken away.
-pub opened_tried : AreReadOneWay → (call kept : ℕ) (tape there : TapeValue) (node : Node TapeValue) (place : Place) → there ≡ with_fuse call kept tape → place ≡ Running (armed 0 0 node) →
+pub opened_tried : AreReadOneWay → (call kept : ℕ) (tape there : TapeValue) (node : Node TapeValue) (place : MemoryPlace) → there ≡ with_fuse call kept tape → place ≡ Running (armed 0 0 node) →
     IsFoldOf (stored_of node) there.bytes → working_of node ≡ at_start → Restarts (Stopped tape) place
 opened_tried one call kept tape there node place is_there is fold_of idle =
     subst (Restarts (Stopped tape)) (sym is) (opened one tape (armed 0 0 node) (subst (λ (t : TapeValue). IsFoldOf (stored_of node) t.bytes) is_there fold_of) idle)
 
-pub opened_fits : (n i : ℕ) (node : Node TapeValue) (place : Place) → place ≡ Running (armed 0 0 node) → node.id ≡ i → node.n ≡ n → node.halted ≡ false → IsMember n i place
+pub opened_fits : (n i : ℕ) (node : Node TapeValue) (place : MemoryPlace) → place ≡ Running (armed 0 0 node) → node.id ≡ i → node.n ≡ n → node.halted ≡ false → IsMember n i place
 unfolding fuse_at
 opened_fits n i node place is id many runs = subst (IsMember n i) (sym is) (id, many, runs, refl)
 
 -- An entry that is opened from a tape that reads as another's is that one's.
-after_same : (before middle after : Place) → Stays before middle → Restarts middle after → Restarts before after
+after_same : (before middle after : MemoryPlace) → Stays before middle → Restarts middle after → Restarts before after
 unfolding Stays Restarts
 after_same before middle after stays restarts = λ x is. restarts x (stays x is)
 
-pub opened_after : {E : Type 0} (call kept : ℕ) (tape there left : TapeValue) (result : Result Place E) → there ≡ with_fuse call kept tape → Follows ReadsSame (IsImageOf there) (IsImageOf left) →
+pub opened_after : {E : Type 0} (call kept : ℕ) (tape there left : TapeValue) (result : Result MemoryPlace E) → there ≡ with_fuse call kept tape → Follows ReadsSame (IsImageOf there) (IsImageOf left) →
     IfOk result (Restarts (Stopped left)) → IfOk result (Restarts (Stopped tape))
 opened_after call kept tape there left (Ok place) is_there follows restarts =
     after_same (Stopped tape) (Stopped left) place (not_opened tape left (subst (λ (t : TapeValue). Follows ReadsSame (IsImageOf t) (IsImageOf left)) is_there follows)) restarts
@@ -125,14 +124,14 @@ same_images : (call kept : ℕ) (tape : TapeValue) → Stays (Stopped tape) (Sto
 unfolding Stays
 same_images call kept tape = λ x is. is
 
-pub opened_laid : {E : Type 0} (tape laid : TapeValue) (result : Result Place E) → laid ≡ with_fuse 0 0 tape → IfOk result (Restarts (Stopped laid)) → IfOk result (Restarts (Stopped tape))
+pub opened_laid : {E : Type 0} (tape laid : TapeValue) (result : Result MemoryPlace E) → laid ≡ with_fuse 0 0 tape → IfOk result (Restarts (Stopped laid)) → IfOk result (Restarts (Stopped tape))
 opened_laid tape laid (Ok place) is restarts = after_same (Stopped tape) (Stopped laid) place (subst (λ (t : TapeValue). Stays (Stopped tape) (Stopped t)) (sym is) (same_images 0 0 tape)) restarts
 opened_laid tape laid (Err e) is restarts = tt
 
 -- ---- what becomes of a step
 
 -- What is the same as the entry in the middle is what the step led to.
-changed_on : (n i : ℕ) (input : Input Definition) (before middle last : Place) (said : List (model.Message Definition)) (rejection : Option Rejection) → IsStepped n i input before middle said rejection → Stays middle last → IsStepped n i input before last said rejection
+changed_on : (n i : ℕ) (input : Input Definition) (before middle last : MemoryPlace) (said : List (model.Message Definition)) (rejection : Option Rejection) → IsStepped n i input before middle said rejection → Stays middle last → IsStepped n i input before last said rejection
 unfolding Stays
 changed_on n i input before middle last said rejection is stays = record { node = λ x e. stays _ (is.node x e); messages = is.messages; refusal = is.refusal }
 
@@ -168,13 +167,13 @@ module _ {A : Type 0} (n i : ℕ) (input : Input Definition) (node after : Node 
       (ap (λ (x : Node TapeValue). x.id) is.same ∙ member.0, ap (λ (x : Node TapeValue). x.n) is.same ∙ member.1, is.running member.2 other.0 other.1, fuse)
 
   -- The entry of a node that rejected the step.
-  pub reject_fares : {E : Type 0} (result : Result (Place × Fate) E) (why : NodeFault) → IsTried {A = A} node input (Err why) after → IfOk result (λ x. x.0 ≡ Running after) → IfOk result (λ x. x.1 ≡ fate.Rejected) →
+  pub reject_fares : {E : Type 0} (result : Result (MemoryPlace × Fate) E) (why : NodeFault) → IsTried {A = A} node input (Err why) after → IfOk result (λ x. x.0 ≡ Running after) → IfOk result (λ x. x.1 ≡ fate.Rejected) →
       OnOk result (IsSome (rejection_in why)) → IfOk result (λ x. Fares n i input x.1 (Running node) x.0)
   reject_fares (Ok x) why is place what some =
       subst (λ p. Fares n i input x.1 (Running node) p) (sym place) (subst (λ f. Fares n i input f (Running node) (Running after)) (sym what) (rejected_fares why is some))
   reject_fares (Err e) why is place what some = tt
 
-  pub reject_fits : {E : Type 0} (result : Result (Place × Fate) E) (why : NodeFault) → IsTried {A = A} node input (Err why) after → IfOk result (λ x. x.0 ≡ Running after) → OnOk result (IsSome (rejection_in why)) → NeverFails after.tape →
+  pub reject_fits : {E : Type 0} (result : Result (MemoryPlace × Fate) E) (why : NodeFault) → IsTried {A = A} node input (Err why) after → IfOk result (λ x. x.0 ≡ Running after) → OnOk result (IsSome (rejection_in why)) → NeverFails after.tape →
       IfOk result (λ x. IsMember n i x.0)
   reject_fits (Ok x) why is place some fuse = subst (IsMember n i) (sym place) (rejected_fits why is some fuse)
   reject_fits (Err e) why is place some fuse = tt
@@ -234,13 +233,13 @@ module _ (one : AreReadOneWay) (n i : ℕ) (input : Input Definition) (node : No
     )
 
   -- What the crash leaves, as it is returned.
-  torn_to : (what : Fate) (place : Place) → IsTornTo (stored_of node) (store (stored_of node) (row_of node input).entry) what place → Fares n i input what (Running node) place
+  torn_to : (what : Fate) (place : MemoryPlace) → IsTornTo (stored_of node) (store (stored_of node) (row_of node input).entry) what place → Fares n i input what (Running node) place
   torn_to (fate.Torn kept) (Running again) is = torn_fares kept again is.0 is.1 is.2
   torn_to (fate.Torn kept) (Stopped left) is = absurd is
   torn_to (fate.Done said) place is = absurd is
   torn_to fate.Rejected place is = absurd is
 
-pub crash_fares : {E : Type 0} → AreReadOneWay → (n i : ℕ) (input : Input Definition) (node : Node TapeValue) → IsMember n i (Running node) → refusal_at node input ≡ None → (result : Result (Place × Fate) E) →
+pub crash_fares : {E : Type 0} → AreReadOneWay → (n i : ℕ) (input : Input Definition) (node : Node TapeValue) → IsMember n i (Running node) → refusal_at node input ≡ None → (result : Result (MemoryPlace × Fate) E) →
     IfOk result (λ x. IsTornTo (stored_of node) (store (stored_of node) (row_of node input).entry) x.1 x.0) → IfOk result (λ x. Fares n i input x.1 (Running node) x.0)
 crash_fares one n i input node member goes (Ok x) is = torn_to one n i input node member goes x.1 x.0 is
 crash_fares one n i input node member goes (Err e) is = tt

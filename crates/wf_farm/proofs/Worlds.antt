@@ -1,26 +1,37 @@
 -- A farm is one world, which is reached from the start: so its nodes agree.
-use Rattle.std.proofs.Common.{◌≡◌, ℕ, zero, suc, ◌+◌, ◌≤◌, List, [], ◌∷◌, ◌++◌, length, replicate, slice_get, Option, Some, None, refl, sym, ap, subst, ◌∙◌, arith}
+use Rattle.std.proofs.Common.{◌≡◌, ℕ, zero, suc, ◌+◌, ◌≤◌, Bool, true, List, [], map, ◌∷◌, ◌++◌, length, replicate, slice_get, Option, Some, None, refl, sym, ap, subst, ◌∙◌, arith}
+use Rattle.std.proofs.lemmas.List.{map-append}
 use Rattle.std.proofs.lemmas.Option.{none-some, same_Some}
+use Rattle.wf_codec.specs.Message as message
 use Rattle.wf_codec.specs.declared.message.Message.{Message}
 use Rattle.wf_def.specs.Definition.{Definition, empty_map}
 use Rattle.wf_def.specs.Equality.{definition_eq}
 use Rattle.wf_law.specs.Laws.{Agreement, IsBeginning}
+use Rattle.wf_law.specs.Earlier.{sent_before, raised, EarlierMessages}
 use Rattle.wf_model.specs.Chosen.{history_of, history, definition}
+use Rattle.wf_model.specs.Message as model
 use Rattle.wf_model.specs.Steps.{StepsInTurn}
 use Rattle.wf_model.specs.Stored.{Stored, definition_at}
 use Rattle.wf_model.specs.World as world
 use Rattle.wf_model.specs.World.{World, Event, start, after, steps}
+use Rattle.wf_model.specs.Working.{at_start}
+use Rattle.wf_node.specs.Node.{Node, working_of}
 use Rattle.wf_journal.specs.Records.{AreReadOneWay}
-use Rattle.wf_farm.specs.declared.place.Place.{Place}
 use Rattle.wf_farm.specs.declared.place.Place.TheVariants.{Running, Stopped}
 use Rattle.wf_farm.specs.Agreement.{HasStored, HasOneHistory, IsOneWorld}
 use Rattle.wf_farm.specs.Cluster.{AreNodes, AreMembers, KeepMembers, Moves}
 use Rattle.wf_farm.specs.Cluster as cluster
-use Rattle.wf_farm.specs.Farm.{Farm, IsFarm, IsReached}
-use Rattle.wf_farm.specs.Place.{IsNode, IsMember}
+use Rattle.wf_farm.specs.Places as entries
+use Rattle.wf_tape.specs.MemoryTape.{TapeValue, IsImageOf, NeverFails}
+use Rattle.wf_farm.specs.Leading as leading
+use Rattle.wf_farm.specs.Leading.{IsFresh}
+use Rattle.wf_farm.specs.Nodes.{AllRun, node_in, nodes_of}
+use Rattle.wf_farm.specs.NodesLaws.{nodes_back}
+use Rattle.wf_farm.specs.Farm.{MemoryFarm, IsMemoryFarm, IsReached}
+use Rattle.wf_farm.specs.Place.{MemoryPlace, IsNode, IsMember}
 use Rattle.wf_farm.specs.Start.{fresh_node, AreFresh}
 use Rattle.wf_farm.proofs.Events.{node_at}
-use Rattle.wf_farm.proofs.Steps.{node_of, one_stored}
+use Rattle.wf_farm.proofs.Steps.{content_is_image, node_of, one_stored}
 use Rattle.wf_farm.proofs.Turns.{world_of}
 
 -- ---- the start
@@ -28,78 +39,159 @@ use Rattle.wf_farm.proofs.Turns.{world_of}
 pub none_fresh : (n : ℕ) → AreFresh n 0 []
 none_fresh n = tt
 
-fresh_more : (n i : ℕ) (places : List Place) (place : Place) → AreFresh n i places → IsNode place fresh_node → IsMember n (i + length places) place → AreFresh n i (places ++ place ∷ [])
+fresh_more : (n i : ℕ) (places : List MemoryPlace) (place : MemoryPlace) → AreFresh n i places → IsNode place fresh_node → IsMember n (i + length places) place → AreFresh n i (places ++ place ∷ [])
 fresh_more n i [] place are is member = (is, subst (λ k. IsMember n k place) (omega arith) member, tt)
 fresh_more n i (p ∷ places) place are is member =
     (are.0, are.1, fresh_more n (suc i) places place are.2 is (subst (λ k. IsMember n k place) (omega arith) member))
 
 -- One more fresh node, appended.
-pub one_more_fresh : (n id : ℕ) (places : List Place) (place : Place) → AreFresh n 0 places → length places ≡ id → IsNode place fresh_node → IsMember n id place → AreFresh n 0 (places ++ place ∷ [])
+pub one_more_fresh : (n id : ℕ) (places : List MemoryPlace) (place : MemoryPlace) → AreFresh n 0 places → length places ≡ id → IsNode place fresh_node → IsMember n id place → AreFresh n 0 (places ++ place ∷ [])
 one_more_fresh n id places place are long is member = fresh_more n 0 places place are is (subst (λ k. IsMember n k place) (omega (arith, long)) member)
 
-fresh_nodes : (n i : ℕ) (places : List Place) → AreFresh n i places → AreNodes places (replicate (length places) fresh_node)
+fresh_nodes : (n i : ℕ) (places : List MemoryPlace) → AreFresh n i places → AreNodes places (replicate (length places) fresh_node)
 fresh_nodes n i [] are = tt
 fresh_nodes n i (p ∷ places) are = (are.0, fresh_nodes n (suc i) places are.2)
 
-fresh_member : (n i j : ℕ) (places : List Place) (place : Place) → AreFresh n i places → slice_get places j ≡ Some place → IsMember n (i + j) place
+fresh_member : (n i j : ℕ) (places : List MemoryPlace) (place : MemoryPlace) → AreFresh n i places → slice_get places j ≡ Some place → IsMember n (i + j) place
 fresh_member n i j [] place are e = absurd (none-some place e)
 fresh_member n i zero (p ∷ places) place are e = subst (λ q. IsMember n (i + 0) q) (same_Some p place e) (subst (λ k. IsMember n k p) (omega arith) are.1)
 fresh_member n i (suc j) (p ∷ places) place are e = subst (λ k. IsMember n k place) (omega arith) (fresh_member n (suc i) j places place are.2 e)
 
 -- n fresh nodes and no message are the start.
-pub start_shown : (n : ℕ) (places : List Place) → AreFresh n 0 places → length places ≡ n → cluster.Shows places [] (start n)
+pub start_shown : (n : ℕ) (places : List MemoryPlace) → AreFresh n 0 places → length places ≡ n → cluster.Shows places [] (start n)
 unfolding start
 start_shown n places are long = record { nodes = subst (λ k. AreNodes places (replicate k fresh_node)) long (fresh_nodes n 0 places are); messages = refl }
 
-pub start_members : (n : ℕ) (places : List Place) → AreFresh n 0 places → length places ≡ n → AreMembers places
+pub start_members : (n : ℕ) (places : List MemoryPlace) → AreFresh n 0 places → length places ≡ n → AreMembers places
 unfolding AreMembers
 start_members n places are long = λ i place e. subst (λ k. IsMember k i place) (sym long) (subst (λ j. IsMember n j place) (omega arith) (fresh_member n 0 i places place are e))
 
--- The start is reached by no events.
-pub started : (n : ℕ) (places : List Place) → length places ≡ n → cluster.Shows places [] (start n) → IsReached places []
-unfolding after steps
-started n places long shows = record { events = []; shows = subst (λ k. cluster.Shows places [] (start k)) (sym long) shows }
+-- Fresh nodes all run.
+fresh_place : (n i : ℕ) (place : MemoryPlace) → IsNode place fresh_node → IsMember n i place → (node : Node TapeValue) × (place ≡ Running node) × IsFresh node
+fresh_place n i (Running node) is member =
+    (node, refl, record { runs = member.2; stored = sym (ap (λ x. x.stored) is); working = sym (same_Some at_start (working_of node) (ap (λ x. x.working) is)) })
+fresh_place n i (Stopped kept) is member = absurd (none-some at_start (sym is.0))
 
--- What is reached stays so by any run.
-pub reached_on : StepsInTurn Definition → (places after_places : List Place) (sent after_sent : List Message) (more : List (Event Definition)) → length after_places ≡ length places →
-    IsReached places sent → Moves more places sent after_places after_sent → IsReached after_places after_sent
-unfolding after Moves
-reached_on in_turn places after_places sent after_sent more long reached moves = record {
-  events = reached.events ++ more;
-  shows = subst (cluster.Shows after_places after_sent) (sym (in_turn definition_eq (start (length after_places)) reached.events more))
-      (subst (λ k. cluster.Shows after_places after_sent (steps definition_eq (steps definition_eq (start k) reached.events) more)) (sym long)
-      (moves (steps definition_eq (start (length places)) reached.events) reached.shows));
-}
+fresh_at : (n i k : ℕ) (places : List MemoryPlace) (place : MemoryPlace) → AreFresh n i places → slice_get places k ≡ Some place → (node : Node TapeValue) × (place ≡ Running node) × IsFresh node
+fresh_at n i k [] place are e = absurd (none-some place e)
+fresh_at n i zero (p ∷ places) place are e =
+    let is = fresh_place n i p are.0 are.1 in
+    (is.0, sym (same_Some p place e) ∙ is.1, is.2)
+fresh_at n i (suc k) (p ∷ places) place are e = fresh_at n (suc i) k places place are.2 e
+
+pub fresh_run : (n : ℕ) (places : List MemoryPlace) → AreFresh n 0 places → AllRun places
+unfolding AllRun
+fresh_run n places are = λ i place at. let is = fresh_at n 0 i places place are at in (is.0, is.1)
+
+pub fresh_are_new : (n : ℕ) (places : List MemoryPlace) → AreFresh n 0 places → leading.AreFresh (nodes_of places)
+unfolding leading.AreFresh
+fresh_are_new n places are = λ i node at.
+    let back = nodes_back places i node at in
+    let is = fresh_at n 0 i places back.0 are back.1 in
+    subst (λ (x : Node TapeValue). IsFresh x) (ap (λ (p : MemoryPlace). node_in (length places) i p) (sym is.1) ∙ back.2) is.2
+
+-- The start is reached by no events.
+pub started : (n : ℕ) (places : List MemoryPlace) → length places ≡ n → cluster.Shows places [] (start n) → IsReached IsImageOf true places []
+unfolding after steps
+started n places long shows =
+    let is = subst (λ k. cluster.Shows places [] (start k)) (sym long) shows in
+    record { events = []; earlier = []; nodes = is.nodes; messages = is.messages; all = λ complete. refl }
+
+-- ---- a run goes on from where a farm is
+
+module _ (complete : Bool) (places : List MemoryPlace) (sent : List Message) (reached : IsReached IsImageOf complete places sent) where
+  -- the world reached, and the same with the messages that the farm still has
+  abbrev there : World Definition
+  there = after definition_eq (length places) reached.events
+
+  abbrev here : World Definition
+  here = world_of there.nodes (map message.view sent)
+
+  abbrev before : List (model.Message Definition)
+  before = map message.view reached.earlier
+
+  is_here : cluster.Shows places sent here
+  is_here = record { nodes = reached.nodes; messages = refl }
+
+  restored : sent_before before here ≡ there
+  unfolding sent_before
+  restored = ap (world_of there.nodes) (sym (reached.messages ∙ map-append message.view reached.earlier sent))
+
+  module _ (in_turn : StepsInTurn Definition) (shifts : EarlierMessages Definition) (after_places : List MemoryPlace) (after_sent : List Message) (more : List (Event Definition)) where
+    abbrev all_events : List (Event Definition)
+    all_events = reached.events ++ raised (length before) more
+
+    -- The run leads there too, with the earlier messages before.
+    run_on : (k : ℕ) → k ≡ length places → after definition_eq k all_events ≡ sent_before before (steps definition_eq here more)
+    unfolding after
+    run_on k long =
+        in_turn definition_eq (start k) reached.events (raised (length before) more)
+        ∙ ap (λ n. steps definition_eq (steps definition_eq (start n) reached.events) (raised (length before) more)) long
+        ∙ ap (λ w. steps definition_eq w (raised (length before) more)) (sym restored)
+        ∙ shifts definition_eq before here more
+
+    -- What is reached stays so by any run.
+    pub reached_on : length after_places ≡ length places → Moves more places sent after_places after_sent → IsReached IsImageOf complete after_places after_sent
+    unfolding Moves sent_before
+    reached_on long moves =
+        let ended = run_on (length after_places) long in
+        let shows = moves here is_here in
+        record {
+          events = all_events;
+          earlier = reached.earlier;
+          nodes = subst (λ w. AreNodes after_places w.nodes) (sym ended) shows.nodes;
+          messages = ap (λ w. w.sent) ended ∙ ap (λ ms. before ++ ms) shows.messages ∙ sym (map-append message.view reached.earlier after_sent);
+          all = reached.all;
+        }
+
+-- ---- the members
+
+-- of a farm in memory
+one_member : (n i : ℕ) (place : MemoryPlace) → entries.IsMember (Unit {0}) IsImageOf NeverFails n i place → IsMember n i place
+one_member n i (Running node) is = (is.0, is.1, (is.2 tt).0, (is.2 tt).1)
+one_member n i (Stopped kept) is = (is tt).0
+
+its_member : (n i : ℕ) (place : MemoryPlace) → IsMember n i place → entries.IsMember (Unit {0}) IsImageOf NeverFails n i place
+its_member n i (Running node) is = (is.0, is.1, λ honest. (is.2, is.3))
+its_member n i (Stopped kept) is = λ honest. (is, (kept.bytes, content_is_image kept))
+
+pub members_of : (places : List MemoryPlace) → entries.AreMembers (Unit {0}) IsImageOf NeverFails places → AreMembers places
+unfolding AreMembers entries.AreMembers
+members_of places are = λ i place at. one_member (length places) i place (are i place at)
+
+pub as_members : (places : List MemoryPlace) → AreMembers places → entries.AreMembers (Unit {0}) IsImageOf NeverFails places
+unfolding AreMembers entries.AreMembers
+as_members places are = λ i place at. its_member (length places) i place (are i place at)
 
 -- A farm after a run is a farm.
-pub farm_moved : StepsInTurn Definition → (places after_places : List Place) (sent after_sent : List Message) (pumped now : ℕ) (more : List (Event Definition)) → IsFarm places sent pumped →
-    KeepMembers places after_places → Moves more places sent after_places after_sent → now ≤ length after_sent → IsFarm after_places after_sent now
-farm_moved in_turn places after_places sent after_sent pumped now more farm keeps moves within = record {
+pub farm_moved : StepsInTurn Definition → EarlierMessages Definition → (places after_places : List MemoryPlace) (sent after_sent : List Message) (pumped now : ℕ) (complete : Bool) (more : List (Event Definition)) →
+    IsMemoryFarm places sent pumped complete → KeepMembers places after_places → Moves more places sent after_places after_sent → now ≤ length after_sent → IsMemoryFarm after_places after_sent now complete
+farm_moved in_turn shifts places after_places sent after_sent pumped now complete more farm keeps moves within = record {
   some = subst (λ k. 1 ≤ k) (sym keeps.as_many) farm.some;
   most = subst (λ k. k ≤ 64) (sym keeps.as_many) farm.most;
-  members = keeps.members farm.members;
+  members = as_members after_places (keeps.members (members_of places farm.members));
   pumped_within = within;
-  reached = reached_on in_turn places after_places sent after_sent more keeps.as_many farm.reached moves;
+  reached = λ honest. reached_on complete places sent (farm.reached honest) in_turn shifts after_places after_sent more keeps.as_many moves;
 }
 
 -- A new farm is one.
-pub farm_started : (n : ℕ) (places : List Place) → 1 ≤ n → n ≤ 64 → length places ≡ n → AreMembers places → cluster.Shows places [] (start n) → IsFarm places [] 0
+pub farm_started : (n : ℕ) (places : List MemoryPlace) → 1 ≤ n → n ≤ 64 → length places ≡ n → AreMembers places → cluster.Shows places [] (start n) → IsMemoryFarm places [] 0 true
 farm_started n places some most long members shows = record {
   some = subst (λ k. 1 ≤ k) (sym long) some;
   most = subst (λ k. k ≤ 64) (sym long) most;
-  members = members;
+  members = as_members places members;
   pumped_within = omega arith;
-  reached = started n places long shows;
+  reached = λ honest. started n places long shows;
 }
 
 -- ---- one world
 
-one_node : AreReadOneWay → (place : Place) (node other : world.Node Definition) → IsNode place node → IsNode place other → node ≡ other
+one_node : AreReadOneWay → (place : MemoryPlace) (node other : world.Node Definition) → IsNode place node → IsNode place other → node ≡ other
 one_node one (Running held) node other is again = is ∙ sym again
 one_node one (Stopped kept) node other is again =
     ap (λ s. node_of s node.working) (one_stored one kept node.stored other.stored is.1 again.1) ∙ ap (λ x. node_of other.stored x) (is.0 ∙ sym again.0)
 
-one_list : AreReadOneWay → (places : List Place) (nodes others : List (world.Node Definition)) → AreNodes places nodes → AreNodes places others → nodes ≡ others
+one_list : AreReadOneWay → (places : List MemoryPlace) (nodes others : List (world.Node Definition)) → AreNodes places nodes → AreNodes places others → nodes ≡ others
 one_list one [] [] [] are again = refl
 one_list one [] [] (y ∷ others) are again = absurd again
 one_list one [] (x ∷ nodes) others are again = absurd are
@@ -108,23 +200,26 @@ one_list one (p ∷ places) (x ∷ nodes) [] are again = absurd again
 one_list one (p ∷ places) (x ∷ nodes) (y ∷ others) are again =
     ap (λ z. z ∷ nodes) (one_node one p x y are.0 again.0) ∙ ap (λ zs. y ∷ zs) (one_list one places nodes others are.1 again.1)
 
--- A farm is the world that it was led to, and no other.
-pub one_world : AreReadOneWay → (farm : Farm) → IsReached farm.places farm.sent → IsOneWorld farm
-one_world one farm reached = record {
-  the_world = after definition_eq (length farm.places) reached.events;
-  shown = reached.shows;
-  events = reached.events;
-  reached = refl;
-  no_other = λ w shows.
-      let there = after definition_eq (length farm.places) reached.events in
-      ap (λ ns. world_of ns w.sent) (one_list one farm.places w.nodes there.nodes shows.nodes reached.shows.nodes)
-      ∙ ap (λ ms. world_of there.nodes ms) (shows.messages ∙ sym reached.shows.messages);
-}
+-- A farm that has all messages is the world that it was led to, and no other.
+pub one_world : AreReadOneWay → (farm : MemoryFarm) → (Unit {0} → IsReached IsImageOf farm.complete farm.places farm.sent) → farm.complete ≡ true → IsOneWorld farm
+one_world one farm known complete =
+    let reached = known tt in
+    let w = after definition_eq (length farm.places) reached.events in
+    let all : w.sent ≡ map message.view farm.sent = reached.messages ∙ ap (λ earlier. map message.view (earlier ++ farm.sent)) (reached.all complete) in
+    record {
+      the_world = w;
+      shown = record { nodes = reached.nodes; messages = all };
+      events = reached.events;
+      reached = refl;
+      no_other = λ v shows.
+          ap (λ ns. world_of ns v.sent) (one_list one farm.places v.nodes w.nodes shows.nodes reached.nodes)
+          ∙ ap (λ ms. world_of w.nodes ms) (shows.messages ∙ sym all);
+    }
 
 -- ---- the headline
 
 -- the stored part of an entry is that of its node
-stored_at : AreReadOneWay → (place : Place) (node : world.Node Definition) (stored : Stored Definition) → IsNode place node → HasStored (Some place) stored → stored ≡ node.stored
+stored_at : AreReadOneWay → (place : MemoryPlace) (node : world.Node Definition) (stored : Stored Definition) → IsNode place node → HasStored (Some place) stored → stored ≡ node.stored
 stored_at one (Running held) node stored is has = has ∙ sym (ap (λ x. x.stored) is)
 stored_at one (Stopped kept) node stored is has = one_stored one kept stored node.stored has is.1
 
@@ -134,7 +229,7 @@ unfolding definition definition_at
 entry_at definitions w i zero d same e = absurd (none-some d e)
 entry_at definitions w i (suc k) d same e = ap (λ ds. slice_get ds k) same ∙ e
 
-published_by : AreReadOneWay → (places : List Place) (w : World Definition) (i s : ℕ) (d : Definition) (there : Option Place) (stored : Stored Definition) → AreNodes places w.nodes →
+published_by : AreReadOneWay → (places : List MemoryPlace) (w : World Definition) (i s : ℕ) (d : Definition) (there : Option MemoryPlace) (stored : Stored Definition) → AreNodes places w.nodes →
     slice_get places i ≡ there → HasStored there stored → definition_at stored.history s ≡ Some d → definition empty_map w i s ≡ Some d
 unfolding history history_of
 published_by one places w i s d None stored are at has e = absurd has
@@ -143,7 +238,7 @@ published_by one places w i s d (Some place) stored are at has e =
     entry_at stored.history w i s d (ap history_of here.1 ∙ ap (λ (x : Stored Definition). x.history) (sym (stored_at one place here.0 stored here.2 has))) e
 
 -- the stored part of an entry has the list of the world's node
-history_at : AreReadOneWay → (places : List Place) (w : World Definition) (i : ℕ) (there : Option Place) (stored : Stored Definition) → AreNodes places w.nodes → slice_get places i ≡ there →
+history_at : AreReadOneWay → (places : List MemoryPlace) (w : World Definition) (i : ℕ) (there : Option MemoryPlace) (stored : Stored Definition) → AreNodes places w.nodes → slice_get places i ≡ there →
     HasStored there stored → history w i ≡ stored.history
 unfolding history history_of
 history_at one places w i None stored are at has = absurd has
@@ -152,29 +247,31 @@ history_at one places w i (Some place) stored are at has =
     ap history_of here.1 ∙ ap (λ (x : Stored Definition). x.history) (sym (stored_at one place here.0 stored here.2 has))
 
 -- What an entry's node has published before a run is a prefix of what it has published after it.
-pub grown : Agreement Definition → AreReadOneWay → StepsInTurn Definition → (places after_places : List Place) (sent after_sent : List Message) (more : List (Event Definition)) →
-    length after_places ≡ length places → IsReached places sent → Moves more places sent after_places after_sent →
+pub grown : Agreement Definition → AreReadOneWay → StepsInTurn Definition → EarlierMessages Definition → (places after_places : List MemoryPlace) (sent after_sent : List Message) (complete : Bool) (more : List (Event Definition)) →
+    length after_places ≡ length places → (Unit {0} → IsReached IsImageOf complete places sent) → Moves more places sent after_places after_sent →
     (i : ℕ) (old new : Stored Definition) → HasStored (slice_get places i) old → HasStored (slice_get after_places i) new → IsBeginning old.history new.history
 unfolding reached_on
-grown law one in_turn places after_places sent after_sent more long reached moves i old new was is =
-    let ended = reached_on in_turn places after_places sent after_sent more long reached moves in
+grown law one in_turn shifts places after_places sent after_sent complete more long known moves i old new was is =
+    let reached = known tt in
+    let ended = reached_on complete places sent reached in_turn shifts after_places after_sent more long moves in
     let before = after definition_eq (length places) reached.events in
-    let now = after definition_eq (length after_places) (reached.events ++ more) in
-    subst (λ h. IsBeginning h new.history) (history_at one places before i (slice_get places i) old reached.shows.nodes refl was)
-    (subst (λ h. IsBeginning (history before i) h) (history_at one after_places now i (slice_get after_places i) new ended.shows.nodes refl is)
-    (subst (λ k. IsBeginning (history before i) (history (after definition_eq k (reached.events ++ more)) i)) (sym long)
-    (law.grows definition_eq (length places) i reached.events more)))
+    let now = after definition_eq (length after_places) ended.events in
+    subst (λ h. IsBeginning h new.history) (history_at one places before i (slice_get places i) old reached.nodes refl was)
+    (subst (λ h. IsBeginning (history before i) h) (history_at one after_places now i (slice_get after_places i) new ended.nodes refl is)
+    (subst (λ k. IsBeginning (history before i) (history (after definition_eq k ended.events) i)) (sym long)
+    (law.grows definition_eq (length places) i reached.events (raised (length (map message.view reached.earlier)) more))))
 
-pub grown_still : Agreement Definition → AreReadOneWay → StepsInTurn Definition → (places : List Place) (sent : List Message) → IsReached places sent →
+pub grown_still : Agreement Definition → AreReadOneWay → StepsInTurn Definition → EarlierMessages Definition → (places : List MemoryPlace) (sent : List Message) (complete : Bool) → (Unit {0} → IsReached IsImageOf complete places sent) →
     (i : ℕ) (old new : Stored Definition) → HasStored (slice_get places i) old → HasStored (slice_get places i) new → IsBeginning old.history new.history
 unfolding Moves steps
-grown_still law one in_turn places sent reached = grown law one in_turn places places sent sent [] refl reached (λ w shows. shows)
+grown_still law one in_turn shifts places sent complete reached = grown law one in_turn shifts places places sent sent complete [] refl reached (λ w shows. shows)
 
 -- Whatever led to the farm, no two of its nodes publish different definitions under one sequence.
-pub agree_reached : Agreement Definition → AreReadOneWay → (farm : Farm) → IsReached farm.places farm.sent → HasOneHistory farm
+pub agree_reached : Agreement Definition → AreReadOneWay → (farm : MemoryFarm) → (Unit {0} → IsReached IsImageOf farm.complete farm.places farm.sent) → HasOneHistory farm
 unfolding HasOneHistory
-agree_reached law one farm reached = λ i j s c d first second.
+agree_reached law one farm known = λ i j s c d first second.
+    let reached = known tt in
     let w = after definition_eq (length farm.places) reached.events in
     (law.facts definition_eq (length farm.places) reached.events).same_definition empty_map i j s c d
-    (published_by one farm.places w i s c (slice_get farm.places i) first.stored reached.shows.nodes refl first.has first.entry)
-    (published_by one farm.places w j s d (slice_get farm.places j) second.stored reached.shows.nodes refl second.has second.entry)
+    (published_by one farm.places w i s c (slice_get farm.places i) first.stored reached.nodes refl first.has first.entry)
+    (published_by one farm.places w j s d (slice_get farm.places j) second.stored reached.nodes refl second.has second.entry)

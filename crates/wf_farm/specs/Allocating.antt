@@ -9,9 +9,9 @@ use Rattle.wf_model.specs.World as world
 use Rattle.wf_model.specs.World.{World, Event, turn, steps}
 use Rattle.wf_farm.specs.declared.fault.FarmFault.{FarmFault}
 use Rattle.wf_farm.specs.declared.fault.FarmFault.TheVariants.{Memory, NoNode, Carried}
-use Rattle.wf_farm.specs.declared.place.Place.{Place}
 use Rattle.wf_farm.specs.declared.place.Place.TheVariants.{Running, Stopped}
 use Rattle.wf_farm.specs.Cluster.{Shows}
+use Rattle.wf_farm.specs.Place.{MemoryPlace}
 
 -- whether node i takes the step: it runs, the step's message is sent, and the step isn't rejected
 abbrev pub is_taken : World Definition → ℕ → Action Definition ℕ → Bool
@@ -32,11 +32,11 @@ may_allocate w (world.Torn i action world.Before) = false
 may_allocate w (world.Torn i action world.After) = is_taken w i action
 
 -- in whatever world these are, node i takes the step
-unfoldable pub TakesStep : ℕ → Action Definition ℕ → List Place → List Message → Type 0
+unfoldable pub TakesStep : ℕ → Action Definition ℕ → List MemoryPlace → List Message → Type 0
 TakesStep i action places sent = (w : World Definition) → Shows places sent w → is_taken w i action ≡ true
 
 -- in whatever world these are, the event may allocate
-unfoldable pub MayAllocate : Event Definition → List Place → List Message → Type 0
+unfoldable pub MayAllocate : Event Definition → List MemoryPlace → List Message → Type 0
 MayAllocate event places sent = (w : World Definition) → Shows places sent w → may_allocate w event ≡ true
 
 -- there is an event, and it may allocate in the world
@@ -45,16 +45,16 @@ MayAllocateIn w None = ⊥
 MayAllocateIn w (Some event) = may_allocate w event ≡ true
 
 -- of these events the one of this number, counted from 0, may allocate in the world after those before it
-unfoldable pub MayAllocateAt : ℕ → List (Event Definition) → List Place → List Message → Type 0
+unfoldable pub MayAllocateAt : ℕ → List (Event Definition) → List MemoryPlace → List Message → Type 0
 MayAllocateAt done events places sent = (w : World Definition) → Shows places sent w → MayAllocateIn (steps definition_eq w (take done events)) (slice_get events done)
 
 -- the same for the number that a farm's error reports
-abbrev pub AllocatesAt : FarmFault → List (Event Definition) → List Place → List Message → Type 0
+abbrev pub AllocatesAt : FarmFault → List (Event Definition) → List MemoryPlace → List Message → Type 0
 AllocatesAt (Memory done) events places sent = MayAllocateAt done events places sent
 AllocatesAt NoNode events places sent = ⊥
 AllocatesAt (Carried done) events places sent = ⊥
 
 -- the entry has a stopped node
-abbrev pub IsStopped : Place → Type 0
+abbrev pub IsStopped : MemoryPlace → Type 0
 IsStopped (Running node) = ⊥
 IsStopped (Stopped tape) = Unit {0}

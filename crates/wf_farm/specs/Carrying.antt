@@ -8,9 +8,9 @@ use Rattle.wf_farm.specs.declared.carrier.CarrierFault.{CarrierFault}
 use Rattle.wf_farm.specs.declared.carrier.CarrierFault.TheVariants as carrier
 use Rattle.wf_farm.specs.declared.fault.FarmFault.{FarmFault}
 use Rattle.wf_farm.specs.declared.fault.FarmFault.TheVariants.{Memory, NoNode, Carried}
-use Rattle.wf_farm.specs.declared.place.Place.{Place}
 use Rattle.wf_farm.specs.Allocating.{is_taken}
 use Rattle.wf_farm.specs.Cluster.{Shows}
+use Rattle.wf_farm.specs.Place.{MemoryPlace}
 
 -- the farm's error after this number of deliveries, by why the next one wasn't made
 abbrev pub fault_after : CarrierFault → ℕ → FarmFault
@@ -28,5 +28,5 @@ abbrev pub IsUndelivered : FarmFault → Type 0
 IsUndelivered fault = (fault ≡ Memory 0) ⊎ (fault ≡ Carried 0)
 
 -- Only a step that node i takes changes this: it is unchanged from a world in which the node doesn't take the step.
-unfoldable pub ChangesByStep : {C : Type 0} → ℕ → Action Definition ℕ → List Place → List Message → C → C → Type 0
+unfoldable pub ChangesByStep : {C : Type 0} → ℕ → Action Definition ℕ → List MemoryPlace → List Message → C → C → Type 0
 ChangesByStep i action places sent before after = (w : World Definition) → Shows places sent w → is_taken w i action ≡ false → after ≡ before

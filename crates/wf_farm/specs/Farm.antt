@@ -1,60 +1,76 @@
 -- The model of a farm in contracts, and the invariant of every farm.
-use Rattle.std.specs.Prelude.{◌≡◌, ◌≤◌, ◌<◌, ℕ, List, length, take, Option, Some, None}
+use Rattle.std.specs.Prelude.{◌≡◌, ◌≤◌, ◌<◌, ◌++◌, ℕ, Bool, true, List, [], length, map, take, Option, Some, None}
+use Rattle.wf_codec.specs.Message as message
 use Rattle.wf_codec.specs.declared.message.Message.{Message}
 use Rattle.wf_def.specs.Definition.{Definition}
 use Rattle.wf_def.specs.Equality.{definition_eq}
 use Rattle.wf_model.specs.World.{World, Event, after}
 use Rattle.wf_node.specs.Node.{Node}
-use Rattle.wf_tape.specs.MemoryTape.{TapeValue}
+use Rattle.wf_tape.specs.MemoryTape.{TapeValue, IsImageOf, NeverFails}
 use Rattle.wf_farm.specs.declared.rejection.Rejection.{Rejection}
 use Rattle.wf_farm.specs.declared.place.Place.{Place}
 use Rattle.wf_farm.specs.declared.place.Place.TheVariants.{Running, Stopped}
 use Rattle.wf_farm.specs.declared.fault.FarmFault.{FarmFault}
 use Rattle.wf_farm.specs.declared.fault.FarmFault.TheVariants.{Memory, NoNode, Carried}
 use Rattle.wf_farm.specs.Cluster as cluster
-use Rattle.wf_farm.specs.Cluster.{AreMembers, Moves}
+use Rattle.wf_farm.specs.Cluster.{Moves}
+use Rattle.wf_farm.specs.Place.{MemoryPlace}
+use Rattle.wf_farm.specs.Places.{AreNodes, AreMembers}
 
--- Its nodes' entries and all messages ever sent; the number of the first message not pumped yet; and the rejection of the last run's
--- last event, if it was rejected.
-pub record Farm : Type 0 where
-  pub places : List Place
+-- Its nodes' entries and the messages sent; the number of the first message not pumped yet; the rejection of the last run's last
+-- event, if it was rejected; and whether these are all messages ever sent, or it has forgotten the earlier ones.
+pub record Farm (T : Type 0) : Type 0 where
+  pub places : List (Place T)
   pub sent : List Message
   pub pumped : ℕ
   pub refused : Option Rejection
+  pub complete : Bool
+
+-- a farm whose tapes are in memory
+abbrev pub MemoryFarm : Type 0
+MemoryFarm = Farm TapeValue
 
 -- The farm is this world.
-abbrev pub Shows : Farm → World Definition → Type 0
+abbrev pub Shows : MemoryFarm → World Definition → Type 0
 Shows farm w = cluster.Shows farm.places farm.sent w
 
 -- the number of its nodes
-abbrev pub size : Farm → ℕ
+abbrev pub size : {T : Type 0} → Farm T → ℕ
 size farm = length farm.places
 
 -- the node in an entry, if it runs
-abbrev pub running_in : Option Place → Option (Node TapeValue)
+abbrev pub running_in : {T : Type 0} → Option (Place T) → Option (Node T)
 running_in None = None
 running_in (Some (Running node)) = Some node
 running_in (Some (Stopped tape)) = None
 
--- Some events lead from the start to a world that these are.
-pub record IsReached (places : List Place) (sent : List Message) : Type 0 where
+-- Some events lead from the start to a world that these are; the messages are all that were sent, or the last of them.
+pub record IsReached {T : Type 0} (images : T → List ℕ → Type 0) (complete : Bool) (places : List (Place T)) (sent : List Message) : Type 0 where
   pub events : List (Event Definition)
-  pub shows : cluster.Shows places sent (after definition_eq (length places) events)
+  pub earlier : List Message
+  pub nodes : AreNodes images places (after definition_eq (length places) events).nodes
+  pub messages : (after definition_eq (length places) events).sent ≡ map message.view (earlier ++ sent)
+  pub all : complete ≡ true → earlier ≡ []
 
--- The invariant of every farm: it has 1 to 64 nodes, running or stopped; and some events have led to it.
-pub record IsFarm (places : List Place) (sent : List Message) (pumped : ℕ) : Type 0 where
+-- The invariant of every farm: it has 1 to 64 nodes, running or stopped; and if its tapes are honest, some events have led to it
+-- from the start.
+pub record IsFarm {T : Type 0} (honest : Type 0) (images : T → List ℕ → Type 0) (never_fails : T → Type 0) (places : List (Place T)) (sent : List Message) (pumped : ℕ) (complete : Bool) : Type 0 where
   pub some : 1 ≤ length places
   pub most : length places ≤ 64
-  pub members : AreMembers places
+  pub members : AreMembers honest images never_fails places
   pub pumped_within : pumped ≤ length sent
-  pub reached : IsReached places sent
+  pub reached : honest → IsReached images complete places sent
+
+-- the same of a farm in memory, whose tapes are honest
+abbrev pub IsMemoryFarm : List MemoryPlace → List Message → ℕ → Bool → Type 0
+IsMemoryFarm places sent pumped complete = IsFarm (Unit {0}) IsImageOf NeverFails places sent pumped complete
 
 -- the farm after these events
-abbrev pub Runs : List (Event Definition) → Farm → Farm → Type 0
+abbrev pub Runs : List (Event Definition) → MemoryFarm → MemoryFarm → Type 0
 Runs events before after = Moves events before.places before.sent after.places after.sent
 
 -- The farm after an allocation failure: the number of events that the error reports are done.
-abbrev pub RunsPart : FarmFault → List (Event Definition) → Farm → Farm → Type 0
+abbrev pub RunsPart : FarmFault → List (Event Definition) → MemoryFarm → MemoryFarm → Type 0
 RunsPart (Memory done) events before after = (done < length events) × Runs (take done events) before after
 RunsPart NoNode events before after = ⊥
 RunsPart (Carried done) events before after = ⊥

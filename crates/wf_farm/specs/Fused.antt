@@ -10,7 +10,7 @@ use Rattle.wf_model.specs.Stored.{Stored, Record}
 use Rattle.wf_model.specs.Table.{Action, Input, store}
 use Rattle.wf_model.specs.Working.{at_start}
 use Rattle.wf_model.specs.World as world
-use Rattle.wf_model.specs.World.{World, Event, turn, after_turn, after_torn, happens, input_of, refused}
+use Rattle.wf_model.specs.World.{Event, turn, after_turn, after_torn, happens, input_of, refused}
 use Rattle.wf_node.specs.Fault.{refused_by}
 use Rattle.wf_node.specs.Images.{AllStandFor, EachIsCut}
 use Rattle.wf_node.specs.Node.{Node, stored_of, working_of}
@@ -27,14 +27,13 @@ use Rattle.wf_farm.specs.declared.fate.Fate.{Fate}
 use Rattle.wf_farm.specs.declared.fate.Fate.TheVariants as fate
 use Rattle.wf_farm.specs.declared.fault.FarmFault.{FarmFault}
 use Rattle.wf_farm.specs.declared.fault.FarmFault.TheVariants.{Memory, NoNode, Carried}
-use Rattle.wf_farm.specs.declared.place.Place.{Place}
 use Rattle.wf_farm.specs.declared.place.Place.TheVariants.{Running, Stopped}
 use Rattle.wf_farm.specs.Cluster.{Turns, Moves, TellsWhy}
 use Rattle.wf_model.specs.Kept.{view as view_kept}
-use Rattle.wf_farm.specs.Farm.{Farm, Runs, size}
+use Rattle.wf_farm.specs.Farm.{MemoryFarm, Runs, size}
 use Rattle.wf_farm.specs.Pump.{AreTargets, begun, deliveries, most_deliveries}
 use Rattle.wf_farm.specs.declared.progress.Progress.{Progress}
-use Rattle.wf_farm.specs.Place.{IsStepped, IsTornAt, KeepsMember, Restarts, Stops}
+use Rattle.wf_farm.specs.Place.{MemoryPlace, IsStepped, IsTornAt, KeepsMember, Restarts, Stops}
 
 -- ---- the events of such a run
 
@@ -82,17 +81,17 @@ IsStepOfNode i events None = ⊤
 IsStepOfNode i events (Some torn) = (event : Event Definition) × (slice_get events torn.0 ≡ Some event) × IsStepOf i event
 
 -- These events happen to the farm; or one of them is a step of node i, within which the node crashes, and then it restarts.
-pub record RunsOrTears (i : ℕ) (events : List (Event Definition)) (torn : Option (ℕ × Kept)) (before after : Farm) : Type 0 where
+pub record RunsOrTears (i : ℕ) (events : List (Event Definition)) (torn : Option (ℕ × Kept)) (before after : MemoryFarm) : Type 0 where
   pub runs : Runs (with_torn events torn) before after
   pub step : IsStepOfNode i events torn
 
 -- What is reported of one event: why it was rejected, if it was. One whose step was torn wasn't.
-abbrev pub TellsWhyUnlessTorn : Event Definition → Option (ℕ × Kept) → Option Rejection → List Place → List Message → Type 0
+abbrev pub TellsWhyUnlessTorn : Event Definition → Option (ℕ × Kept) → Option Rejection → List MemoryPlace → List Message → Type 0
 TellsWhyUnlessTorn event None rejection places sent = TellsWhy (λ w. refused w event) rejection places sent
 TellsWhyUnlessTorn event (Some torn) rejection places sent = rejection ≡ None
 
 -- the same of a farm
-abbrev pub TellsUnlessTorn : Event Definition → Option (ℕ × Kept) → Farm → Farm → Type 0
+abbrev pub TellsUnlessTorn : Event Definition → Option (ℕ × Kept) → MemoryFarm → MemoryFarm → Type 0
 TellsUnlessTorn event torn before after = TellsWhyUnlessTorn event torn after.refused before.places before.sent
 
 -- Stopped early, after this many deliveries: the limit is reached and some are left. Otherwise each message sent by now was delivered to
@@ -103,7 +102,7 @@ IsPumpEnd false count next some sent = (count ≤ most_deliveries) × (some ≡ 
 
 -- A pump to the named nodes, as it would be without a failure (Pump.antt); or one of its deliveries is a step of node i, within which
 -- the node crashes, and then it restarts.
-pub record PumpsOrTears (i : ℕ) (names : List ℕ) (torn : Option (ℕ × Kept)) (stopped : Bool) (before after : Farm) : Type 0 where
+pub record PumpsOrTears (i : ℕ) (names : List ℕ) (torn : Option (ℕ × Kept)) (stopped : Bool) (before after : MemoryFarm) : Type 0 where
   pub targets : List ℕ
   pub are_targets : AreTargets (size before) names targets
   pub whole : ℕ
@@ -115,13 +114,13 @@ pub record PumpsOrTears (i : ℕ) (names : List ℕ) (torn : Option (ℕ × Kept
   pub end : IsPumpEnd stopped (length (deliveries targets before.pumped whole some)) (before.pumped + whole) some (length after.sent)
 
 -- the tape in an entry
-abbrev pub tape_in : Place → tape.TapeValue
+abbrev pub tape_in : MemoryPlace → tape.TapeValue
 tape_in (Running node) = node.tape
 tape_in (Stopped kept) = kept
 
 -- no tape has a fuse
-unfoldable pub NoneFails : List Place → Type 0
-NoneFails places = (i : ℕ) (place : Place) → slice_get places i ≡ Some place → NeverFails (tape_in place)
+unfoldable pub NoneFails : List MemoryPlace → Type 0
+NoneFails places = (i : ℕ) (place : MemoryPlace) → slice_get places i ≡ Some place → NeverFails (tape_in place)
 
 -- an allocation failed before the first of n events, or at one of them
 abbrev pub FailsWithin : ℕ → FarmFault → Type 0
@@ -132,23 +131,23 @@ FailsWithin n (Carried done) = ⊥
 -- ---- used only in this crate's contracts
 
 -- The event happened, or it is a step of this node, which crashed within it and restarted.
-abbrev pub HappensOrTears : ℕ → Event Definition → Option Kept → List Place → List Message → List Place → List Message → Type 0
+abbrev pub HappensOrTears : ℕ → Event Definition → Option Kept → List MemoryPlace → List Message → List MemoryPlace → List Message → Type 0
 HappensOrTears i event None places sent places_after sent_after = Turns (λ w. happens definition_eq w event) places sent places_after sent_after
 HappensOrTears i event (Some kept) places sent places_after sent_after = IsStepOf i event × Moves (crash_at (view_kept kept) (Some event)) places sent places_after sent_after
 
 -- The same of a farm's nodes and messages.
-pub record HaveFared (i : ℕ) (events : List (Event Definition)) (torn : Option (ℕ × Kept)) (places : List Place) (sent : List Message) (places_after : List Place) (sent_after : List Message) : Type 0 where
+pub record HaveFared (i : ℕ) (events : List (Event Definition)) (torn : Option (ℕ × Kept)) (places : List MemoryPlace) (sent : List Message) (places_after : List MemoryPlace) (sent_after : List Message) : Type 0 where
   pub moves : Moves (with_torn events torn) places sent places_after sent_after
   pub step : IsStepOfNode i events torn
 
 -- One more event of a run, number k: it happened, or it is a step of node i, within which the node crashed. That comes once in a run.
-abbrev pub GoesOn : (i k : ℕ) → Event Definition → Option (ℕ × Kept) → Option (ℕ × Kept) → List Place → List Message → List Place → List Message → Type 0
+abbrev pub GoesOn : (i k : ℕ) → Event Definition → Option (ℕ × Kept) → Option (ℕ × Kept) → List MemoryPlace → List Message → List MemoryPlace → List Message → Type 0
 GoesOn i k event (Some torn) now places sent places_after sent_after = (now ≡ Some torn) × Turns (λ w. happens definition_eq w event) places sent places_after sent_after
 GoesOn i k event None None places sent places_after sent_after = HappensOrTears i event None places sent places_after sent_after
 GoesOn i k event None (Some now) places sent places_after sent_after = (now.0 ≡ k) × HappensOrTears i event (Some now.1) places sent places_after sent_after
 
 -- The deliveries of a pump so far.
-pub record HasFaredTo (i : ℕ) (targets : List ℕ) (first : ℕ) (p : Progress) (torn : Option (ℕ × Kept)) (places : List Place) (sent : List Message) (places_after : List Place) (sent_after : List Message) : Type 0 where
+pub record HasFaredTo (i : ℕ) (targets : List ℕ) (first : ℕ) (p : Progress) (torn : Option (ℕ × Kept)) (places : List MemoryPlace) (sent : List Message) (places_after : List MemoryPlace) (sent_after : List Message) : Type 0 where
   pub fared : HaveFared i (deliveries targets first p.whole p.some) torn places sent places_after sent_after
   pub count : length (deliveries targets first p.whole p.some) ≡ p.done
   pub part : p.some < length targets
@@ -157,16 +156,16 @@ pub record HasFaredTo (i : ℕ) (targets : List ℕ) (first : ℕ) (p : Progress
 
 -- A step of node i was done: if it is heard its messages were sent, else the node stopped after it. Or the node crashed within it and
 -- restarted.
-abbrev pub IsDoneOrTorn : Option Kept → Bool → ℕ → Action Definition ℕ → List Place → List Message → List Place → List Message → Type 0
+abbrev pub IsDoneOrTorn : Option Kept → Bool → ℕ → Action Definition ℕ → List MemoryPlace → List Message → List MemoryPlace → List Message → Type 0
 IsDoneOrTorn None true i action places sent places_after sent_after = Turns (λ w. after_turn w i (turn definition_eq w i action)) places sent places_after sent_after
 IsDoneOrTorn None false i action places sent places_after sent_after = Turns (λ w. after_torn w i world.After (turn definition_eq w i action)) places sent places_after sent_after
 IsDoneOrTorn (Some kept) heard i action places sent places_after sent_after = Moves (crash_within (view_kept kept) (record { node = i; action = action })) places sent places_after sent_after
 
 -- The messages were sent, if the step is heard; else its node stopped.
-abbrev pub IsTold : Bool → ℕ → List Message → List Place → List Message → List Place → List Message → Type 0
+abbrev pub IsTold : Bool → ℕ → List Message → List MemoryPlace → List Message → List MemoryPlace → List Message → Type 0
 IsTold true i said places sent places_after sent_after = (places_after ≡ places) × (sent_after ≡ sent ++ said)
 IsTold false i said places sent places_after sent_after =
-    (sent_after ≡ sent) × ((before after : Place) × (slice_get places i ≡ Some before) × (places_after ≡ slice_set places i after) × Stops before after × KeepsMember before after)
+    (sent_after ≡ sent) × ((before after : MemoryPlace) × (slice_get places i ≡ Some before) × (places_after ≡ slice_set places i after) × Stops before after × KeepsMember before after)
 
 -- whether the messages of the event's step are sent
 abbrev pub is_heard : Event Definition → Bool
@@ -196,10 +195,10 @@ GivesInput sent event (Some input) = IsInputOf sent event input
 
 -- What became of a step of node i of n whose tape may fail: it was done, or rejected; or its node crashed within it, which left it
 -- in the middle, and restarted.
-abbrev pub Fares : ℕ → ℕ → Input Definition → Fate → Place → Place → Type 0
+abbrev pub Fares : ℕ → ℕ → Input Definition → Fate → MemoryPlace → MemoryPlace → Type 0
 Fares n i input (fate.Done said) before after = IsStepped n i input before after (map message.view said.items) None
 Fares n i input fate.Rejected before after = (rejection : Rejection) × IsStepped n i input before after [] (Some rejection)
-Fares n i input (fate.Torn kept) before after = (middle : Place) × IsTornAt (view_kept kept) n i input before middle None × Restarts middle after
+Fares n i input (fate.Torn kept) before after = (middle : MemoryPlace) × IsTornAt (view_kept kept) n i input before middle None × Restarts middle after
 
 -- A step of a node whose tape may fail; afterwards the tape doesn't fail.
 pub record IsTried {A : Type 0} (before : Node tape.TapeValue) (input : Input Definition) (result : Result (Vec Message A) NodeFault) (after : Node tape.TapeValue) : Type 0 where
@@ -219,7 +218,7 @@ abbrev pub kept_beyond : ℕ → ℕ → Kept
 kept_beyond long now = if nat_lt long now then kept.After else kept.Before
 
 -- The node crashed and was opened again, with what was kept of these two stored parts, and its tape stands for that.
-abbrev pub IsTornTo : Stored Definition → Stored Definition → Fate → Place → Type 0
+abbrev pub IsTornTo : Stored Definition → Stored Definition → Fate → MemoryPlace → Type 0
 IsTornTo before after (fate.Torn kept) (Running node) = (stored_of node ≡ stored_by (view_kept kept) before after) × (working_of node ≡ at_start) × AllStandFor (stored_of node) (IsImageOf node.tape)
 IsTornTo before after (fate.Torn kept) (Stopped left) = ⊥
 IsTornTo before after (fate.Done said) place = ⊥

@@ -1,6 +1,7 @@
 pub mod Event
 pub mod Turn
 pub mod Fault
+pub mod Places
 pub mod Place
 pub mod Cluster
 pub mod Allocating
@@ -17,6 +18,10 @@ pub mod Round
 pub mod PlaceLaws
 pub mod DeliveringLaws
 pub mod Leading
+pub mod Nodes
+pub mod NodesLaws
+pub mod Exchange
+pub mod ExchangeLaws
 pub mod Reopening
 pub mod Fused
 pub mod Publishing

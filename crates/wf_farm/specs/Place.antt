@@ -7,44 +7,45 @@ use Rattle.wf_model.specs.Table.{Action, Input}
 use Rattle.wf_model.specs.World as world
 use Rattle.wf_model.specs.World.{Turn, input_of, refusal_of, turn_of}
 use Rattle.wf_node.specs.Fault as fault
-use Rattle.wf_node.specs.Images.{AllStandFor}
-use Rattle.wf_node.specs.Node.{stored_of, working_of}
 use Rattle.wf_node.specs.declared.fault.NodeFault.{NodeFault}
-use Rattle.wf_tape.specs.MemoryTape.{IsImageOf, NeverFails}
+use Rattle.wf_tape.specs.MemoryTape.{TapeValue, IsImageOf, NeverFails}
 use Rattle.wf_farm.specs.declared.rejection.Rejection.{Rejection}
 use Rattle.wf_farm.specs.declared.place.Place.{Place}
 use Rattle.wf_farm.specs.declared.place.Place.TheVariants.{Running, Stopped}
 use Rattle.wf_farm.specs.Fault.{told}
+use Rattle.wf_farm.specs.Places as entries
 use Rattle.wf_farm.specs.Turn.{node_after, messages_of, node_torn, node_stopped, node_restarted}
 
--- The entry is this node of the model. A running node has both its parts. A stopped one has no working part, and its stored part
--- is what its tape stands for, whatever a crash leaves of it.
-abbrev pub IsNode : Place → world.Node Definition → Type 0
-IsNode (Running node) shown = shown ≡ record { stored = stored_of node; working = Some (working_of node) }
-IsNode (Stopped tape) shown = (shown.working ≡ None) × AllStandFor shown.stored (IsImageOf tape)
+-- the entry of a node whose tape is in memory
+abbrev pub MemoryPlace : Type 0
+MemoryPlace = Place TapeValue
+
+-- the entry is this node of the model
+abbrev pub IsNode : MemoryPlace → world.Node Definition → Type 0
+IsNode place shown = entries.IsNode IsImageOf place shown
 
 -- The entry has node i of n. Its tape has no fuse and hasn't failed.
-abbrev pub IsMember : ℕ → ℕ → Place → Type 0
+abbrev pub IsMember : ℕ → ℕ → MemoryPlace → Type 0
 IsMember n i (Running node) = (node.id ≡ i) × (node.n ≡ n) × (node.halted ≡ false) × NeverFails node.tape
 IsMember n i (Stopped tape) = NeverFails tape
 
 -- A node is changed so: whichever it was, `change` maps it to what it is now.
-abbrev pub IsChanged : (world.Node Definition → world.Node Definition) → Place → Place → Type 0
+abbrev pub IsChanged : (world.Node Definition → world.Node Definition) → MemoryPlace → MemoryPlace → Type 0
 IsChanged change before after = (node : world.Node Definition) → IsNode before node → IsNode after (change node)
 
-unfoldable pub Stays : Place → Place → Type 0
+unfoldable pub Stays : MemoryPlace → MemoryPlace → Type 0
 Stays before after = IsChanged (λ node. node) before after
 
 -- the entry still has the node that it had, of the same number of nodes
-unfoldable pub KeepsMember : Place → Place → Type 0
+unfoldable pub KeepsMember : MemoryPlace → MemoryPlace → Type 0
 KeepsMember before after = (n i : ℕ) → IsMember n i before → IsMember n i after
 
 -- The node stops; a stopped node stays stopped.
-unfoldable pub Stops : Place → Place → Type 0
+unfoldable pub Stops : MemoryPlace → MemoryPlace → Type 0
 Stops before after = (n i : ℕ) → IsMember n i before → IsChanged node_stopped before after
 
 -- A stopped node restarts; a running one is unchanged.
-unfoldable pub Restarts : Place → Place → Type 0
+unfoldable pub Restarts : MemoryPlace → MemoryPlace → Type 0
 Restarts before after = IsChanged node_restarted before after
 
 -- the turn of node i of n, if the entry has that node
@@ -52,13 +53,13 @@ abbrev pub turn_at : ℕ → ℕ → Input Definition → world.Node Definition 
 turn_at n i input node = turn_of definition_eq n i (Some node) (Some input)
 
 -- A step of node i of n: the node after its turn, the turn's messages, and its rejection, if it is rejected.
-pub record IsStepped (n i : ℕ) (input : Input Definition) (before after : Place) (said : List (model.Message Definition)) (refused : Option Rejection) : Type 0 where
+pub record IsStepped (n i : ℕ) (input : Input Definition) (before after : MemoryPlace) (said : List (model.Message Definition)) (refused : Option Rejection) : Type 0 where
   pub node : IsChanged (λ node. node_after (turn_at n i input node) node) before after
   pub messages : (node : world.Node Definition) → IsNode before node → said ≡ messages_of (turn_at n i input node)
   pub refusal : (node : world.Node Definition) → IsNode before node → refused ≡ told (refusal_of (Some node) (Some input))
 
 -- A crash within a step of node i of n, which kept this.
-pub record IsTornAt (kept : world.Kept) (n i : ℕ) (input : Input Definition) (before after : Place) (refused : Option Rejection) : Type 0 where
+pub record IsTornAt (kept : world.Kept) (n i : ℕ) (input : Input Definition) (before after : MemoryPlace) (refused : Option Rejection) : Type 0 where
   pub node : IsChanged (λ node. node_torn kept (turn_at n i input node) node) before after
   pub refusal : (node : world.Node Definition) → IsNode before node → refused ≡ told (refusal_of (Some node) (Some input))
 
@@ -67,28 +68,28 @@ abbrev pub rejection_in : NodeFault → Option Rejection
 rejection_in f = told (fault.refusal_of f)
 
 -- A step that ends in an error leaves the node unchanged. If the error is the table's rejection, that is the step.
-pub record IsDenied (n i : ℕ) (input : Input Definition) (before after : Place) (f : NodeFault) : Type 0 where
+pub record IsDenied (n i : ℕ) (input : Input Definition) (before after : MemoryPlace) (f : NodeFault) : Type 0 where
   pub stays : Stays before after
   pub refused : (rejection : Rejection) → rejection_in f ≡ Some rejection → IsStepped n i input before after [] (Some rejection)
 
-pub record IsDeniedTorn (kept : world.Kept) (n i : ℕ) (input : Input Definition) (before after : Place) (f : NodeFault) : Type 0 where
+pub record IsDeniedTorn (kept : world.Kept) (n i : ℕ) (input : Input Definition) (before after : MemoryPlace) (f : NodeFault) : Type 0 where
   pub stays : Stays before after
   pub refused : (rejection : Rejection) → rejection_in f ≡ Some rejection → IsTornAt kept n i input before after (Some rejection)
 
 -- The same for whichever node the entry has, of whatever number of nodes.
-unfoldable pub Steps : Input Definition → Place → Place → List (model.Message Definition) → Type 0
+unfoldable pub Steps : Input Definition → MemoryPlace → MemoryPlace → List (model.Message Definition) → Type 0
 Steps input before after said = (n i : ℕ) → IsMember n i before → IsStepped n i input before after said None
 
-unfoldable pub DeniesStep : Input Definition → Place → Place → NodeFault → Type 0
+unfoldable pub DeniesStep : Input Definition → MemoryPlace → MemoryPlace → NodeFault → Type 0
 DeniesStep input before after f = (n i : ℕ) → IsMember n i before → IsDenied n i input before after f
 
-unfoldable pub Tears : world.Kept → Input Definition → Place → Place → Type 0
+unfoldable pub Tears : world.Kept → Input Definition → MemoryPlace → MemoryPlace → Type 0
 Tears kept input before after = (n i : ℕ) → IsMember n i before → IsTornAt kept n i input before after None
 
-unfoldable pub DeniesTear : world.Kept → Input Definition → Place → Place → NodeFault → Type 0
+unfoldable pub DeniesTear : world.Kept → Input Definition → MemoryPlace → MemoryPlace → NodeFault → Type 0
 DeniesTear kept input before after f = (n i : ℕ) → IsMember n i before → IsDeniedTorn kept n i input before after f
 
 -- Why the node in the entry would reject an action's step: the error of the table's rejection, None if there is none.
-unfoldable pub TellsWhyNot : Place → Action Definition ℕ → Option NodeFault → Type 0
+unfoldable pub TellsWhyNot : MemoryPlace → Action Definition ℕ → Option NodeFault → Type 0
 TellsWhyNot place action why = (n i : ℕ) (node : world.Node Definition) (sent : List (model.Message Definition)) (input : Input Definition) → IsMember n i place → IsNode place node →
     input_of sent action ≡ Some input → fault.IsWhyNot (refusal_of (Some node) (Some input)) why

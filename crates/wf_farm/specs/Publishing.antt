@@ -15,7 +15,7 @@ use Rattle.wf_farm.specs.declared.progress.Progress.{Progress}
 use Rattle.wf_farm.specs.Agreement.{Publishes}
 use Rattle.wf_farm.specs.Delivering.{AnyPart, AreHandedOut, IsEnd, Shows, StandInTurn}
 use Rattle.wf_farm.specs.Farm as farm
-use Rattle.wf_farm.specs.Farm.{Farm, Runs, size}
+use Rattle.wf_farm.specs.Farm.{MemoryFarm, Runs, size}
 use Rattle.wf_farm.specs.Leading.{AreFresh, said_by}
 use Rattle.wf_farm.specs.Pump.{AreTargets, IsPumped, count, deliveries}
 use Rattle.wf_tape.specs.declared.tape.Tape.{Ghosts as Tape}
@@ -57,7 +57,7 @@ module _ {T : Type 0} (tapes : Tape T) where
   -- If the nodes and a farm of which nothing is pumped yet are one world, such deliveries until none is left, and a pump to every node
   -- until none is left, leave them one world; and these are as many deliveries.
   abbrev pub PumpedAlike : Type 0
-  PumpedAlike = (nodes after : List (Node T)) (messages : List Message) (done : ℕ) (w : World Definition) (before now : Farm) → StandInTurn nodes → Shows AnyPart nodes messages w →
+  PumpedAlike = (nodes after : List (Node T)) (messages : List Message) (done : ℕ) (w : World Definition) (before now : MemoryFarm) → StandInTurn nodes → Shows AnyPart nodes messages w →
       AreHandedOut tapes nodes messages done 0 false after → NoneHalted after → farm.Shows before w → before.pumped ≡ 0 → (pumped : IsPumped [] before now false) →
       (sent : List Message) × (x : World Definition) × Shows AnyPart after sent x × farm.Shows now x × (count pumped.0 ≡ done)
 
@@ -74,7 +74,7 @@ PublishedOnAll {T} tapes = (nodes after : List (Node T)) (i : ℕ) (before propo
 -- In a new farm of three nodes one proposed a definition, and then a pump to every node was made until none was left: all three
 -- have published the definition.
 abbrev pub PublishedByPump : Type 0
-PublishedByPump = (before proposed now : Farm) (i : ℕ) (d : Definition) → farm.Shows before (start 3) → before.pumped ≡ 0 → i < 3 → Runs (propose i d ∷ []) before proposed → proposed.pumped ≡ before.pumped →
+PublishedByPump = (before proposed now : MemoryFarm) (i : ℕ) (d : Definition) → farm.Shows before (start 3) → before.pumped ≡ 0 → i < 3 → Runs (propose i d ∷ []) before proposed → proposed.pumped ≡ before.pumped →
     IsPumped [] proposed now false → (j : ℕ) → j < size now → Publishes now j 1 d
 
 -- ---- new nodes that catch up

@@ -7,10 +7,10 @@ use Rattle.wf_def.specs.Equality.{definition_eq}
 use Rattle.wf_model.specs.World.{World, Event, deliver, steps}
 use Rattle.wf_farm.specs.declared.fault.FarmFault.{FarmFault}
 use Rattle.wf_farm.specs.declared.fault.FarmFault.TheVariants.{Memory, NoNode, Carried}
-use Rattle.wf_farm.specs.declared.place.Place.{Place}
 use Rattle.wf_farm.specs.Allocating.{may_allocate}
 use Rattle.wf_farm.specs.Cluster.{Shows}
-use Rattle.wf_farm.specs.Farm.{Farm, Runs, size}
+use Rattle.wf_farm.specs.Farm.{MemoryFarm, Runs, size}
+use Rattle.wf_farm.specs.Place.{MemoryPlace}
 
 -- the most deliveries of a pump
 abbrev pub most_deliveries : ℕ
@@ -41,7 +41,7 @@ unfoldable pub deliveries : List ℕ → ℕ → ℕ → ℕ → List (Event Def
 deliveries nodes first whole some = rounds nodes first whole ++ to_each (take some nodes) (first + whole)
 
 -- After these deliveries the next one may allocate: its node takes the step.
-unfoldable pub NextMayAllocate : (targets : List ℕ) (first whole some : ℕ) → List Place → List Message → Type 0
+unfoldable pub NextMayAllocate : (targets : List ℕ) (first whole some : ℕ) → List MemoryPlace → List Message → Type 0
 NextMayAllocate targets first whole some places sent = (w : World Definition) → Shows places sent w →
     may_allocate (steps definition_eq w (deliveries targets first whole some)) (deliver (get_or targets some 0) (first + whole)) ≡ true
 
@@ -52,7 +52,7 @@ begun (suc some) = 1
 
 -- What a pump has done: `whole` rounds from the first message not pumped before, and a part of the next. A message counts as
 -- pumped from its first delivery on.
-pub record Pumps (names : List ℕ) (before after : Farm) : Type 0 where
+pub record Pumps (names : List ℕ) (before after : MemoryFarm) : Type 0 where
   pub targets : List ℕ
   pub are_targets : AreTargets (size before) names targets
   pub whole : ℕ
@@ -63,21 +63,21 @@ pub record Pumps (names : List ℕ) (before after : Farm) : Type 0 where
   pub within : after.pumped ≤ length after.sent
 
 -- the number of these deliveries
-abbrev pub count : {names : List ℕ} {before after : Farm} → Pumps names before after → ℕ
+abbrev pub count : {names : List ℕ} {before after : MemoryFarm} → Pumps names before after → ℕ
 count {names} {before} {after} pumps = length (deliveries pumps.targets before.pumped pumps.whole pumps.some)
 
 -- Stopped early: the limit is reached and some deliveries are left. Otherwise each message sent by now was delivered to each
 -- target.
-abbrev pub IsEnd : {names : List ℕ} {before after : Farm} → Bool → Pumps names before after → Type 0
+abbrev pub IsEnd : {names : List ℕ} {before after : MemoryFarm} → Bool → Pumps names before after → Type 0
 IsEnd {names} {before} {after} true pumps = (count pumps ≡ most_deliveries) × (before.pumped + pumps.whole < length after.sent)
 IsEnd {names} {before} {after} false pumps = (count pumps ≤ most_deliveries) × (pumps.some ≡ 0) × (before.pumped + pumps.whole ≡ length after.sent)
 
-abbrev pub IsPumped : List ℕ → Farm → Farm → Bool → Type 0
+abbrev pub IsPumped : List ℕ → MemoryFarm → MemoryFarm → Bool → Type 0
 IsPumped names before after stopped = (pumps : Pumps names before after) × IsEnd stopped pumps
 
 -- An allocation failed after this number of deliveries, at the next one, which has an effect; or before the first one, and then
 -- nothing is changed. Or after this number the next one, which has an effect, wasn't carried.
-abbrev pub IsPumpedPart : List ℕ → Farm → Farm → FarmFault → Type 0
+abbrev pub IsPumpedPart : List ℕ → MemoryFarm → MemoryFarm → FarmFault → Type 0
 IsPumpedPart names before after (Memory done) = ((done ≡ 0) × (after ≡ before)) ⊎ ((pumps : Pumps names before after) × (count pumps ≡ done) × (done < most_deliveries)
     × NextMayAllocate pumps.targets before.pumped pumps.whole pumps.some before.places before.sent)
 IsPumpedPart names before after NoNode = ⊥

@@ -1,15 +1,16 @@
 //! The answers of a farm's nodes to clients.
 
-ghost use Rattle.std.specs.Prelude.{◌≡◌, slice_get, IfOk, IfErr};
+ghost use Rattle.std.specs.Prelude.{slice_get, IfOk, IfErr};
 ghost use Rattle.wf_farm.specs.Answering.{Answers, HasOneAnswer, HasOneMapAnswer, IsNoAnswer, sequence_at};
 ghost use Rattle.wf_farm.specs.Farm.{running_in};
 
 use crate::farm::Farm;
 use crate::fault::FarmFault;
 use std::alloc::Global;
+use wf_tape::MemoryTape;
 use wf_wms::Answer;
 
-impl Farm {
+impl Farm<MemoryTape> {
     /// Returns the answer of node `number` to the query of a web map service request (OGC 06-042), at the last sequence that the
     /// node published. Err: F2 iff no such node runs; F1 with 0 if an allocation fails.
     #[tactic(auto, using(crate::proofs::Answered::none_runs, crate::proofs::Answered::memory_wanted))]

@@ -21,7 +21,7 @@ use wf_journal::records_are_read_one_way;
 use wf_node::{Input, Node, NodeFault};
 use wf_tape::MemoryTape;
 
-impl Place {
+impl Place<MemoryTape> {
     /// A step of node `id` of n with the fuse on its tape: if the tape fails, the node crashes and is opened again. A stopped node
     /// sends nothing. Err if an allocation fails; the entry is lost then.
     pub(crate) fn try_step(
@@ -80,7 +80,7 @@ impl Place {
         alloc: Global,
         id: NodeId,
         n: u8,
-    ) -> Result<Place, AllocError>
+    ) -> Result<Place<MemoryTape>, AllocError>
         requires nodes { n ≤ 64 }
         requires id { id < n }
         ensures restarted { IfOk result (Restarts self) }
@@ -101,7 +101,7 @@ impl Place {
         id: NodeId,
         n: u8,
         input: Input,
-    ) -> Result<(Place, Fate), AllocError>
+    ) -> Result<(Place<MemoryTape>, Fate), AllocError>
         requires nodes { n ≤ 64 }
         requires member { IsMember n id self }
         requires id { id < n }
@@ -126,7 +126,7 @@ fn try_running(
     id: NodeId,
     n: u8,
     input: Input,
-) -> Result<(Place, Fate), AllocError>
+) -> Result<(Place<MemoryTape>, Fate), AllocError>
     requires nodes { n ≤ 64 }
     requires member { IsMember n id (Running node) }
     requires id { id < n }
@@ -145,7 +145,7 @@ fn try_running(
 }
 
 /// The entry of a node that rejected a step. Err if it didn't reject it, but an allocation failed.
-fn reject(node: Node<MemoryTape>, fault: NodeFault) -> Result<(Place, Fate), AllocError>
+fn reject(node: Node<MemoryTape>, fault: NodeFault) -> Result<(Place<MemoryTape>, Fate), AllocError>
     ensures place { IfOk result (λ x. x.0 ≡ Running node) }
     ensures fate { IfOk result (λ x. x.1 ≡ Fate.Rejected) }
     ensures rejection { OnOk result (IsSome (rejection_in fault)) }
@@ -168,7 +168,7 @@ fn crash(
     n: u8,
     long: usize,
     keep: usize,
-) -> Result<(Place, Fate), AllocError>
+) -> Result<(Place<MemoryTape>, Fate), AllocError>
     requires nodes { n ≤ 64 }
     requires id { id < n }
     requires fuse { NeverFails node.tape }

@@ -5,6 +5,7 @@ ghost use Rattle.wf_codec.specs.Message.{view as view_message};
 ghost use Rattle.wf_model.specs.Table.{most_told, Deliver};
 ghost use Rattle.wf_node.specs.Input.{view};
 ghost use Rattle.wf_farm.specs.Delivering.{AnyPart, AreDelivered, AreHandedOut, EachGrows, IsDelivered, IsHanded, IsOne, KeepHalted, MayLeave, StandFor, StandInTurn, is_early};
+ghost use Rattle.wf_farm.specs.Exchange.{IsSturdy};
 ghost use Rattle.wf_farm.specs.Giving.{Answers, Takes, is_halt, is_memory, tells_halt};
 ghost use Rattle.wf_farm.specs.Pump.{most_deliveries};
 
@@ -90,7 +91,7 @@ fn deliver_each<T: Tape>(alloc: Global, nodes: &mut [Node<T>], messages: Vec<Mes
 }
 
 /// Whether the deliveries ended before each message was delivered to each node.
-fn is_early(end: End) -> bool
+pub(crate) fn is_early(end: End) -> bool
     ensures { result ≡ is_early end }
 {
     match end {
@@ -152,18 +153,19 @@ fn deliver_one<T: Tape>(
 }
 
 /// The messages that a node sends on an input.
-struct Said {
-    messages: Vec<Message>,
+pub(crate) struct Said {
+    pub messages: Vec<Message>,
     // The input was lost: an allocation failed.
-    lost: bool,
+    pub lost: bool,
 }
 
 /// Delivers a copy of a message to a node, and returns the messages that it sends. If the copy can't be allocated, the message is
 /// lost and nothing is sent. A halted node gets no copy, so it loses nothing.
-fn hand<T: Tape>(alloc: Global, node: &mut Node<T>, message: &Message) -> Said
+pub(crate) fn hand<T: Tape>(alloc: Global, node: &mut Node<T>, message: &Message) -> Said
     ensures takes { Takes T.Tape result.lost (Deliver (view_message message.now)) node.old node.new
         result.messages.items }
     ensures few { length result.messages.items ≤ most_told }
+    ensures sturdy { IsSturdy T.Tape node.old node.new }
 {
     if is_halted(node) {
         return quiet(alloc, false);
@@ -178,6 +180,7 @@ fn hand<T: Tape>(alloc: Global, node: &mut Node<T>, message: &Message) -> Said
 fn hear<T: Tape>(alloc: Global, node: &mut Node<T>, input: Input) -> Said
     ensures takes { Takes T.Tape result.lost (view input) node.old node.new result.messages.items }
     ensures few { length result.messages.items ≤ most_told }
+    ensures sturdy { IsSturdy T.Tape node.old node.new }
 {
     match step(alloc, node, input) {
         Ok(messages) => Said {
@@ -189,7 +192,7 @@ fn hear<T: Tape>(alloc: Global, node: &mut Node<T>, input: Input) -> Said
 }
 
 /// No messages.
-fn quiet(alloc: Global, lost: bool) -> Said
+pub(crate) fn quiet(alloc: Global, lost: bool) -> Said
     ensures none { result.messages.items ≡ [] }
     ensures lost { result.lost ≡ lost }
 {
@@ -253,6 +256,7 @@ fn step<T: Tape>(alloc: Global, node: &mut Node<T>, input: Input) -> Result<Vec<
     ensures takes { IfErr result (λ fault.
         Takes T.Tape (is_memory fault) (view input) node.old node.new []) }
     ensures few { IfOk result (λ said. length said.items ≤ most_told) }
+    ensures sturdy { IsSturdy T.Tape node.old node.new }
 {
     // Theorem of the model: no transition sends more than eight messages.
     rows_are_short::<Canon>();

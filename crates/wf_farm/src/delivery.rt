@@ -19,15 +19,17 @@ use crate::rejection::Rejection;
 use std::alloc::Global;
 use wf_canon::Canon;
 use wf_journal::records_are_read_one_way;
+use wf_law::earlier_messages;
 use wf_model::steps_in_turn;
+use wf_tape::MemoryTape;
 
-impl Farm {
+impl Farm<MemoryTape> {
     /// Delivers message `number` to the node, as the carrier brings it: one event of the model, whatever the carrier. A delivery
     /// without effect (the message isn't sent, or the node is absent or stopped) is made without the carrier. No delivery is
     /// rejected, and the last run's rejection stands. Err: F1 with 0 if an allocation fails, F3 with 0 if the carrier fails or
     /// brings another message; the world is then unchanged, and the delivery would have an effect. Of a faithful carrier, F1 is the
     /// only error. Each node's published list before is a prefix of its list afterwards.
-    #[tactic(auto, using(crate::proofs::Carried::stays_moves, crate::proofs::Carried::undelivered, crate::proofs::Carried::at_once))]
+    #[tactic(auto, using(crate::proofs::Carried::stays_moves, crate::proofs::Carried::undelivered, crate::proofs::Carried::at_once, crate::proofs::Worlds::members_of))]
     pub fn deliver_by<C: Carrier>(
         &mut self,
         alloc: Global,
@@ -47,10 +49,12 @@ impl Farm {
         ensures grows { HistoriesGrow self.old self.new }
         ensures size { size self.new ≡ size self.old }
         ensures pumped { self.new.pumped ≡ self.old.pumped }
+        ensures complete { self.new.complete ≡ self.old.complete }
     {
-        // Theorems of the model and of the tape: applying two lists of events in turn is applying their concatenation, lists only
-        // grow, and a tape stands for exactly one stored part.
+        // Theorems of the model and of the tape: applying two lists of events in turn is applying their concatenation, messages sent
+        // earlier only shift message numbers, lists only grow, and a tape stands for exactly one stored part.
         steps_in_turn::<Canon>();
+        earlier_messages::<Canon>();
         crate::law::agreement();
         records_are_read_one_way();
         match self.cluster.deliver_by(alloc, carrier, node, number) {
@@ -60,7 +64,7 @@ impl Farm {
     }
 }
 
-impl Cluster {
+impl Cluster<MemoryTape> {
     /// Delivers to a node what the carrier brings of a message, if both exist and the node runs; the carrier isn't used otherwise.
     /// Err: an allocation failed; or the carrier failed or brought another message.
     #[tactic(auto, using(crate::proofs::Events::same_members))]

@@ -28,8 +28,9 @@ use wf_ballot::NodeId;
 use wf_canon::Canon;
 use wf_codec::Message;
 use wf_node::Input;
+use wf_tape::MemoryTape;
 
-impl Cluster {
+impl Cluster<MemoryTape> {
     /// Applies the events in order, with the fuse on the tape of this node. Returns the number of the event within whose step the tape
     /// failed, and what the crash left; None if it didn't fail within a step. Err: the number of events that were applied before an
     /// allocation failed.

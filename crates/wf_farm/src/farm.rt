@@ -9,27 +9,30 @@ use std::marker::Model;
 use wf_canon::Canon;
 use wf_codec::Message;
 use wf_journal::records_are_read_one_way;
+use wf_law::earlier_messages;
 use wf_model::steps_in_turn;
 use wf_node::Node;
-use wf_tape::MemoryTape;
+use wf_tape::{MemoryTape, Tape};
 
-/// A farm: its nodes, running or stopped, and all messages that they ever sent. Every farm is reached from the start by some
-/// events, so its nodes agree ([`Farm::agree`]).
+/// A farm: its nodes, running or stopped, over any kind of tape, and the messages that they sent. Every farm over an honest tape, as
+/// one in memory is, is reached from the start by some events, so its nodes agree ([`Farm::agree`]).
 #[derive(Drop)]
-pub struct Farm {
-    pub(crate) cluster: Cluster,
+pub struct Farm<T: Tape = MemoryTape> {
+    pub(crate) cluster: Cluster<T>,
     // The number of the first message that doesn't count as pumped.
     pub(crate) pumped: usize,
     // The last event's rejection.
     pub(crate) refused: Option<Rejection>,
+    // No message was forgotten.
+    pub(crate) complete: bool,
 }
 
-impl Model for Farm {
+impl<T: Tape> Model for Farm<T> {
     ghost use Rattle.std.specs.Coded.{codes};
     ghost use Rattle.std.specs.FinMap as map;
     ghost use Rattle.wf_farm.specs.Farm.{Farm, IsFarm};
 
-    ghost Value = { Farm };
+    ghost Value = { Farm T };
 
     ghost coded = { Prim.hlevel (codes, map.code) };
 
@@ -38,76 +41,17 @@ impl Model for Farm {
       sent = f.cluster.sent.items;
       pumped = f.pumped;
       refused = f.refused;
+      complete = f.complete;
     } };
 
-    ghost invariant = { λ f. IsFarm f.cluster.places.items f.cluster.sent.items f.pumped };
+    ghost invariant = { λ f. IsFarm T.honest T.images T.never_fails
+        f.cluster.places.items f.cluster.sent.items f.pumped f.complete };
 }
 
-impl Farm {
-    ghost use Rattle.std.specs.Prelude.{◌≡◌, ◌≤◌, length, map, slice_get, None, IfOk, IfErr, OnOk, OnErr};
+impl<T: Tape> Farm<T> {
+    ghost use Rattle.std.specs.Prelude.{◌≡◌, ◌≤◌, length, slice_get};
     ghost use Rattle.std.specs.Option.{option_copied};
-    ghost use Rattle.wf_model.specs.World.{World, start};
-    ghost use Rattle.wf_def.specs.Definition.{Definition};
-    ghost use Rattle.wf_farm.specs.Agreement.{HasOneHistory, HistoriesGrow, IsOneWorld};
-    ghost use Rattle.wf_farm.specs.Allocating.{AllocatesAt};
-    ghost use Rattle.wf_farm.specs.Cluster.{TellsWhy, last_refused};
-    ghost use Rattle.wf_farm.specs.Event.{view};
-    ghost use Rattle.wf_farm.specs.Farm.{IsAtOnce, Runs, RunsPart, Shows, running_in, size};
-
-    /// Returns a farm of n nodes, all running, with all parts empty: the model's start. Err: F1 with 0 if an allocation fails.
-    #[tactic(auto, using(crate::proofs::Worlds::farm_started))]
-    pub fn new(alloc: Global, n: u8) -> Result<Farm, FarmFault>
-        requires some { 1 ≤ n }
-        requires most { n ≤ 64 }
-        ensures start { IfOk result (λ farm. Shows farm (start n)) }
-        ensures size { IfOk result (λ farm. size farm ≡ n) }
-        ensures fresh { IfOk result (λ farm. (farm.pumped ≡ 0) × (farm.refused ≡ None)) }
-        ensures memory { IfErr result IsAtOnce }
-    {
-        match Cluster::new(alloc, n) {
-            Ok(cluster) => Ok(Farm {
-                cluster,
-                pumped: 0,
-                refused: None,
-            }),
-            Err(_) => Err(FarmFault::Memory(0)),
-        }
-    }
-
-    /// Applies the events in order: the farm becomes the model's world after them. Err: F1 with the number of events done if an
-    /// allocation fails; the farm is then the world after these, and the next event would have an effect. In either case each
-    /// node's published list before is a prefix of its list afterwards.
-    #[tactic(auto, using(crate::proofs::Worlds::farm_moved))]
-    pub fn run(&mut self, alloc: Global, events: &[Event]) -> Result<(), FarmFault>
-        ensures done { OnOk result (Runs (map view events.now) self.old self.new) }
-        ensures refused { OnOk result
-            (TellsWhy (λ w. last_refused w (map view events.now)) self.new.refused
-            self.old.places self.old.sent) }
-        ensures part { IfErr result (λ fault.
-            RunsPart fault (map view events.now) self.old self.new) }
-        ensures may { IfErr result (λ fault.
-            AllocatesAt fault (map view events.now) self.old.places self.old.sent) }
-        ensures none { OnErr result (self.new.refused ≡ None) }
-        ensures grows { HistoriesGrow self.old self.new }
-        ensures size { size self.new ≡ size self.old }
-        ensures pumped { self.new.pumped ≡ self.old.pumped }
-    {
-        // Theorems of the model and of the tape: applying two lists of events in turn is applying their concatenation, lists only
-        // grow, and a tape stands for exactly one stored part.
-        steps_in_turn::<Canon>();
-        crate::law::agreement();
-        records_are_read_one_way();
-        match self.cluster.run(alloc, events) {
-            Ok(why) => {
-                self.refused = why;
-                Ok(())
-            }
-            Err(done) => {
-                self.refused = None;
-                Err(FarmFault::Memory(done))
-            }
-        }
-    }
+    ghost use Rattle.wf_farm.specs.Farm.{running_in, size};
 
     /// Why the last event of the last run was rejected; None if it wasn't.
     pub fn refused(&self) -> Option<Rejection>
@@ -126,20 +70,20 @@ impl Farm {
     }
 
     /// The node of that number, if it exists and runs.
-    pub fn node(&self, number: usize) -> Option<&Node<MemoryTape>>
+    pub fn node(&self, number: usize) -> Option<&Node<T>>
         ensures { option_copied result ≡ running_in (slice_get self.now.places number) }
     {
         self.cluster.places.get(number)?.running()
     }
 
-    /// The message of that number, if it was sent.
+    /// The message of that number, if it was sent and isn't forgotten.
     pub fn sent(&self, number: usize) -> Option<&Message>
         ensures { option_copied result ≡ slice_get self.now.sent number }
     {
         self.cluster.sent.get(number)
     }
 
-    /// The number of messages sent.
+    /// The number of messages sent, those that are forgotten apart.
     pub fn sent_count(&self) -> usize
         ensures { result ≡ length self.now.sent }
     {
@@ -152,13 +96,86 @@ impl Farm {
     {
         self.pumped = self.cluster.sent.len();
     }
+}
+
+impl Farm<MemoryTape> {
+    ghost use Rattle.std.specs.Prelude.{◌≡◌, ◌≤◌, true, map, None, IfOk, IfErr, OnOk, OnErr};
+    ghost use Rattle.wf_model.specs.World.{start};
+    ghost use Rattle.wf_farm.specs.Agreement.{HasOneHistory, HistoriesGrow, IsOneWorld};
+    ghost use Rattle.wf_farm.specs.Allocating.{AllocatesAt};
+    ghost use Rattle.wf_farm.specs.Cluster.{TellsWhy, last_refused};
+    ghost use Rattle.wf_farm.specs.Event.{view};
+    ghost use Rattle.wf_farm.specs.Farm.{IsAtOnce, Runs, RunsPart, Shows, size};
+    ghost use Rattle.wf_farm.specs.Leading.{AreFresh};
+    ghost use Rattle.wf_farm.specs.Nodes.{AllRun, nodes_in};
+
+    /// Returns a farm of n nodes, all running, with all parts empty: the model's start. Err: F1 with 0 if an allocation fails.
+    #[tactic(auto, using(crate::proofs::Worlds::farm_started, crate::proofs::Worlds::fresh_run, crate::proofs::Worlds::fresh_are_new))]
+    pub fn new(alloc: Global, n: u8) -> Result<Farm<MemoryTape>, FarmFault>
+        requires some { 1 ≤ n }
+        requires most { n ≤ 64 }
+        ensures start { IfOk result (λ farm. Shows farm (start n)) }
+        ensures size { IfOk result (λ farm. size farm ≡ n) }
+        ensures fresh { IfOk result (λ farm. (farm.pumped ≡ 0) × (farm.refused ≡ None)) }
+        ensures complete { IfOk result (λ farm. farm.complete ≡ true) }
+        ensures running { IfOk result (λ farm. AllRun farm.places) }
+        ensures new { IfOk result (λ farm. AreFresh (nodes_in farm)) }
+        ensures memory { IfErr result IsAtOnce }
+    {
+        match Cluster::new(alloc, n) {
+            Ok(cluster) => Ok(Farm {
+                cluster,
+                pumped: 0,
+                refused: None,
+                complete: true,
+            }),
+            Err(_) => Err(FarmFault::Memory(0)),
+        }
+    }
+
+    /// Applies the events in order: the farm becomes the model's world after them. Err: F1 with the number of events done if an
+    /// allocation fails; the farm is then the world after these, and the next event would have an effect. In either case each
+    /// node's published list before is a prefix of its list afterwards.
+    #[tactic(auto, using(crate::proofs::Worlds::members_of))]
+    pub fn run(&mut self, alloc: Global, events: &[Event]) -> Result<(), FarmFault>
+        ensures done { OnOk result (Runs (map view events.now) self.old self.new) }
+        ensures refused { OnOk result
+            (TellsWhy (λ w. last_refused w (map view events.now)) self.new.refused
+            self.old.places self.old.sent) }
+        ensures part { IfErr result (λ fault.
+            RunsPart fault (map view events.now) self.old self.new) }
+        ensures may { IfErr result (λ fault.
+            AllocatesAt fault (map view events.now) self.old.places self.old.sent) }
+        ensures none { OnErr result (self.new.refused ≡ None) }
+        ensures grows { HistoriesGrow self.old self.new }
+        ensures size { size self.new ≡ size self.old }
+        ensures pumped { self.new.pumped ≡ self.old.pumped }
+        ensures complete { self.new.complete ≡ self.old.complete }
+    {
+        // Theorems of the model and of the tape: applying two lists of events in turn is applying their concatenation, messages sent
+        // earlier only shift message numbers, lists only grow, and a tape stands for exactly one stored part.
+        steps_in_turn::<Canon>();
+        earlier_messages::<Canon>();
+        crate::law::agreement();
+        records_are_read_one_way();
+        match self.cluster.run(alloc, events) {
+            Ok(why) => {
+                self.refused = why;
+                Ok(())
+            }
+            Err(done) => {
+                self.refused = None;
+                Err(FarmFault::Memory(done))
+            }
+        }
+    }
 
     /// The headline, for the farm that the caller holds: whatever happened to it, no two of its nodes, running or stopped,
-    /// publish different definitions under one sequence. And the farm is exactly one world of the model.
+    /// publish different definitions under one sequence. And a farm that has all messages is exactly one world of the model.
     #[tactic(auto, using(crate::proofs::Worlds::agree_reached, crate::proofs::Worlds::one_world))]
     pub fn agree(&self)
         ensures agree { HasOneHistory self.now }
-        ensures world { IsOneWorld self.now }
+        ensures world { self.now.complete ≡ true → IsOneWorld self.now }
     {
         let _ = &self.cluster;
         crate::law::agreement();

@@ -52,7 +52,7 @@ pub(crate) fn open(
     tape: MemoryTape,
     id: NodeId,
     n: u8,
-) -> Result<Place, AllocError>
+) -> Result<Place<MemoryTape>, AllocError>
     requires nodes { n ≤ 64 }
     requires member { id < n }
     ensures restarted { IfOk result (Restarts (Stopped tape)) }
@@ -69,7 +69,7 @@ pub(crate) fn open(
 }
 
 /// The entry of a node, without the fuse on its tape.
-fn running(fuse: &mut Fuse, node: Node<MemoryTape>) -> Place
+fn running(fuse: &mut Fuse, node: Node<MemoryTape>) -> Place<MemoryTape>
     ensures { result ≡ Running (record node { tape = with_fuse 0 0 node.tape }) }
 {
     let mut node = node;
@@ -86,7 +86,7 @@ fn open_again(
     why: OpenFault,
     id: NodeId,
     n: u8,
-) -> Result<Place, AllocError>
+) -> Result<Place<MemoryTape>, AllocError>
     requires nodes { n ≤ 64 }
     requires member { id < n }
     ensures restarted { IfOk result (Restarts (Stopped tape)) }
@@ -105,7 +105,12 @@ fn open_again(
 }
 
 /// Opens a node from a tape without a fuse. Err if an allocation fails.
-fn open_whole(alloc: Global, tape: MemoryTape, id: NodeId, n: u8) -> Result<Place, AllocError>
+fn open_whole(
+    alloc: Global,
+    tape: MemoryTape,
+    id: NodeId,
+    n: u8,
+) -> Result<Place<MemoryTape>, AllocError>
     requires nodes { n ≤ 64 }
     requires member { id < n }
     requires fuse { NeverFails tape }

@@ -1,6 +1,6 @@
 //! A run of a farm in which one call of a node's tape fails.
 
-ghost use Rattle.std.specs.Prelude.{◌≡◌, ◌<◌, ◌≤◌, [], ◌∷◌, None, length, map, IfOk, IfErr, OnOk};
+ghost use Rattle.std.specs.Prelude.{◌≡◌, ◌<◌, ◌≤◌, [], ◌∷◌, None, length, map, IfOk, IfErr};
 ghost use Rattle.wf_def.specs.Equality.{definition_eq};
 ghost use Rattle.wf_model.specs.World.{deliver, start, steps};
 ghost use Rattle.wf_farm.specs.Agreement.{HistoriesGrow};
@@ -18,13 +18,15 @@ use crate::targets::targets_of;
 use std::alloc::Global;
 use wf_canon::Canon;
 use wf_journal::records_are_read_one_way;
+use wf_law::earlier_messages;
 use wf_model::steps_in_turn;
+use wf_tape::MemoryTape;
 
 /// What a run leaves in which one call of a node's tape fails.
 #[derive(Drop)]
 pub struct Fused {
     /// The farm. No tape of it fails any more.
-    pub farm: Farm,
+    pub farm: Farm<MemoryTape>,
     /// The number of the event within whose step the tape failed, counted from 0, and what the crash left of the node; None if the
     /// tape didn't fail within a step.
     pub torn: Option<(usize, Kept)>,
@@ -44,10 +46,10 @@ pub struct FusedPump {
 /// synced, and is opened again: the farm is then the model's world after a crash within the step and a restart of the node, and `torn`
 /// has 0 and what was kept. Otherwise the farm is the world after the event. It tells why the event was rejected, if it was. Err: F1 with 0
 /// if an allocation fails; the farm is lost then.
-#[tactic(auto, using(crate::proofs::TriedEvents::none_fails))]
+#[tactic(auto, using(crate::proofs::TriedEvents::none_fails, crate::proofs::Worlds::members_of))]
 pub fn happen_fused(
     alloc: Global,
-    farm: Farm,
+    farm: Farm<MemoryTape>,
     event: &Event,
     node: usize,
     fuse: &mut Fuse,
@@ -60,17 +62,20 @@ pub fn happen_fused(
     ensures grows { IfOk result (λ fused. HistoriesGrow farm fused.farm) }
     ensures size { IfOk result (λ fused. size fused.farm ≡ size farm) }
     ensures pumped { IfOk result (λ fused. fused.farm.pumped ≡ farm.pumped) }
+    ensures complete { IfOk result (λ fused. fused.farm.complete ≡ farm.complete) }
     ensures memory { IfErr result IsAtOnce }
 {
-    // Theorems of the model and of the tape: applying two lists of events in turn is applying their concatenation, lists only grow,
-    // and a tape stands for exactly one stored part.
+    // Theorems of the model and of the tape: applying two lists of events in turn is applying their concatenation, messages sent
+    // earlier only shift message numbers, lists only grow, and a tape stands for exactly one stored part.
     steps_in_turn::<Canon>();
+    earlier_messages::<Canon>();
     crate::law::agreement();
     records_are_read_one_way();
     let Farm {
         mut cluster,
         pumped,
         refused: _,
+        complete,
     } = farm;
     match cluster.tell_fused(alloc, event, node, fuse) {
         Ok((torn, refused)) => {
@@ -78,6 +83,7 @@ pub fn happen_fused(
                 cluster,
                 pumped,
                 refused,
+                complete,
             };
             Ok(Fused { farm, torn })
         }
@@ -92,11 +98,11 @@ pub fn happen_fused(
 /// [`happen_fused`] does one event; `torn` has the number of the delivery that was torn, counted from 0, and what was kept. No delivery is
 /// rejected, and the last run's rejection stands. Err, and the farm is lost: an allocation failed; or the carrier failed or brought another
 /// message, which a faithful one never does.
-#[tactic(auto, using(crate::proofs::TriedEvents::none_fails))]
+#[tactic(auto, using(crate::proofs::TriedEvents::none_fails, crate::proofs::Worlds::members_of))]
 pub fn deliver_fused<C: Carrier>(
     alloc: Global,
     carrier: &mut C,
-    farm: Farm,
+    farm: Farm<MemoryTape>,
     to: usize,
     messages: &[usize],
     node: usize,
@@ -109,16 +115,19 @@ pub fn deliver_fused<C: Carrier>(
     ensures size { IfOk result (λ fused. size fused.farm ≡ size farm) }
     ensures refused { IfOk result (λ fused. fused.farm.refused ≡ farm.refused) }
     ensures pumped { IfOk result (λ fused. fused.farm.pumped ≡ farm.pumped) }
+    ensures complete { IfOk result (λ fused. fused.farm.complete ≡ farm.complete) }
     ensures memory { C.faithful → IfErr result (λ fault. fault ≡ carriers.Memory) }
 {
     // The same theorems.
     steps_in_turn::<Canon>();
+    earlier_messages::<Canon>();
     crate::law::agreement();
     records_are_read_one_way();
     let Farm {
         mut cluster,
         pumped,
         refused,
+        complete,
     } = farm;
     match cluster.deliver_fused(alloc, carrier, to, messages, node, fuse) {
         Ok(torn) => {
@@ -126,6 +135,7 @@ pub fn deliver_fused<C: Carrier>(
                 cluster,
                 pumped,
                 refused,
+                complete,
             };
             Ok(Fused { farm, torn })
         }
@@ -139,11 +149,11 @@ pub fn deliver_fused<C: Carrier>(
 /// A pump to the named nodes by the carrier, as [`Farm::pump_by`], with the fuse on the tape of node `node`, as [`happen_fused`] does one
 /// event. A delivery that was torn counts, and the pump goes on after it. Err, and the farm is lost: an allocation failed; or the carrier
 /// failed or brought another message, which a faithful one never does.
-#[tactic(auto, using(crate::proofs::TriedEvents::none_fails))]
+#[tactic(auto, using(crate::proofs::TriedEvents::none_fails, crate::proofs::Worlds::members_of))]
 pub fn pump_fused<C: Carrier>(
     alloc: Global,
     carrier: &mut C,
-    farm: Farm,
+    farm: Farm<MemoryTape>,
     nodes: &[usize],
     node: usize,
     fuse: &mut Fuse,
@@ -154,16 +164,19 @@ pub fn pump_fused<C: Carrier>(
     ensures grows { IfOk result (λ pump. HistoriesGrow farm pump.fused.farm) }
     ensures size { IfOk result (λ pump. size pump.fused.farm ≡ size farm) }
     ensures refused { IfOk result (λ pump. pump.fused.farm.refused ≡ farm.refused) }
+    ensures complete { IfOk result (λ pump. pump.fused.farm.complete ≡ farm.complete) }
     ensures memory { C.faithful → IfErr result (λ fault. fault ≡ carriers.Memory) }
 {
     // The same theorems.
     steps_in_turn::<Canon>();
+    earlier_messages::<Canon>();
     crate::law::agreement();
     records_are_read_one_way();
     let Farm {
         mut cluster,
         pumped,
         refused,
+        complete,
     } = farm;
     let Ok(targets) = targets_of(alloc, nodes, cluster.places.len()) else {
         drop(cluster);
@@ -178,6 +191,7 @@ pub fn pump_fused<C: Carrier>(
                 cluster,
                 pumped: progress.pumped(pumped),
                 refused,
+                complete,
             };
             Ok(FusedPump {
                 fused: Fused { farm, torn },
@@ -226,10 +240,10 @@ pub fn run_fused(
 }
 
 /// The farm after the events, with the fuse on the tape of this node.
-#[tactic(auto, using(crate::proofs::TriedEvents::fails_at, crate::proofs::TriedEvents::none_fails))]
+#[tactic(auto, using(crate::proofs::TriedEvents::fails_at, crate::proofs::TriedEvents::none_fails, crate::proofs::Worlds::members_of))]
 fn go(
     alloc: Global,
-    farm: Farm,
+    farm: Farm<MemoryTape>,
     events: &[Event],
     node: usize,
     fuse: Fuse,
@@ -241,12 +255,15 @@ fn go(
     ensures size { IfOk result (λ fused. size fused.farm ≡ size farm) }
     ensures memory { IfErr result (FailsWithin (length events.now)) }
 {
-    // Theorem of the model: applying two lists of events in turn is applying their concatenation.
+    // Theorems of the model: applying two lists of events in turn is applying their concatenation, and messages sent earlier only
+    // shift message numbers.
     steps_in_turn::<Canon>();
+    earlier_messages::<Canon>();
     let Farm {
         mut cluster,
         pumped,
         refused: _,
+        complete,
     } = farm;
     match cluster.run_fused(alloc, events, node, fuse) {
         Ok(torn) => {
@@ -254,6 +271,7 @@ fn go(
                 cluster,
                 pumped,
                 refused: None,
+                complete,
             };
             Ok(Fused { farm, torn })
         }

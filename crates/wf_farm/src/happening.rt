@@ -22,11 +22,12 @@ use wf_ballot::NodeId;
 use wf_canon::Canon;
 use wf_codec::Message;
 use wf_node::Input;
+use wf_tape::MemoryTape;
 
 /// The most messages that one step sends: the answer to an Ask.
 pub(crate) const MOST_SAID: usize = 8;
 
-impl Cluster {
+impl Cluster<MemoryTape> {
     /// Applies the event, and returns its rejection, if its node rejects. If an allocation fails, the world is unchanged, and the
     /// event would have an effect.
     #[tactic(auto, using(crate::proofs::Events::same_members))]

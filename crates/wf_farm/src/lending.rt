@@ -6,11 +6,11 @@ ghost use Rattle.wf_farm.specs.Farm.{running_in};
 
 use crate::place::Place;
 use wf_node::Node;
-use wf_tape::MemoryTape;
+use wf_tape::Tape;
 
-impl Place {
+impl<T: Tape> Place<T> {
     /// The node, if it runs.
-    pub(crate) fn running(&self) -> Option<&Node<MemoryTape>>
+    pub(crate) fn running(&self) -> Option<&Node<T>>
         ensures { option_copied result ≡ running_in (Some self.now) }
     {
         match self {

@@ -1,11 +1,11 @@
-//! A farm of Paxos nodes in memory, the events that may happen to it, and the agreement theorem for it.
+//! A farm of Paxos nodes over any kind of tape, the events that may happen to one in memory, and the agreement theorem.
 //!
 //! **Model.** The world of `wf_model`: its nodes and all messages ever sent. A [`Farm`] is modelled as its entries, one per node,
-//! its messages, and the number of the first message not pumped yet. `Shows` (`specs/Farm.antt`) relates it to a world: a running
-//! node has both its parts, stored and working; a stopped one has the stored part that its tape stands for. An [`Event`] is the
-//! model's event; it names a message by its number.
+//! its messages, the number of the first message not pumped yet, and whether these are all messages ever sent. `Shows`
+//! (`specs/Farm.antt`) relates it to a world: a running node has both its parts, stored and working; a stopped one has the stored part
+//! that its tape stands for. An [`Event`] is the model's event; it names a message by its number.
 //!
-//! **Promises.**
+//! **Promises** over tapes in memory:
 //! - A new farm is the model's start.
 //! - A run of events leaves exactly the model's world after them. A pump is a run of deliveries only, of each message not pumped
 //!   yet to each of its targets (`specs/Pump.antt`). If an allocation fails, the farm is the world after the events or deliveries
@@ -23,6 +23,13 @@
 //! - A running node answers clients as `wf_wms` does, from what it published ([`Farm::answer`]). Two nodes with the same last
 //!   published sequence, or asked for the same map, answer the same query with the same bytes: [`Farm::answers_agree`].
 //! - The four theorems of `wf_law` hold for the program's definitions.
+//!
+//! Over any kind of tape:
+//! - [`Farm::open`] makes a farm of nodes that a caller has opened on tapes that aren't known to be honest, as files aren't.
+//! - [`Farm::exchange`] lets a [`Client`] ask a node, delivers the node's messages to every node, and those sent meanwhile, and forgets
+//!   them then. Some events of the model lead from what the nodes were to what they are afterwards (`specs/Exchange.antt`).
+//! - [`Farm::nodes_agree`]: over honest tapes some events led to the farm from the start, so no two of its nodes publish different
+//!   definitions under one sequence; over others, if some events did.
 //!
 //! Nodes that a caller holds, over any kind of tape, receive one another's messages by [`deliver_all`]: each message is delivered
 //! to each node in turn, until none is left or it reports that it stopped early, and it reports how many deliveries an allocation
@@ -52,6 +59,7 @@ mod crashing;
 mod delivering;
 mod delivery;
 mod event;
+mod exchange;
 mod failing;
 mod farm;
 mod fate;
@@ -79,6 +87,7 @@ mod tearing;
 pub use carrier::{Carrier, CarrierFault, Copies};
 pub use delivering::{Pumped, deliver_all};
 pub use event::{Action, Event, Kept};
+pub use exchange::Client;
 pub use farm::Farm;
 pub use fault::FarmFault;
 pub use fuse::Fuse;
@@ -88,6 +97,7 @@ pub use leading::{
     a_step_leads_on, deliveries_lead_on, fresh_nodes_are_reached, leading_goes_on,
     reached_nodes_agree, reached_nodes_answer_alike, reached_stays, reopened_nodes_are_reached,
 };
+pub use place::Place;
 pub use publishing::{a_proposal_is_published, a_pump_delivers_alike, new_nodes_stay_new};
 pub use rejection::Rejection;
 pub use starting::{open_fresh, reopen};

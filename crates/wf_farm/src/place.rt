@@ -1,11 +1,11 @@
 use wf_node::Node;
-use wf_tape::MemoryTape;
+use wf_tape::Tape;
 
 /// The entry of a node in a farm.
 #[derive(Drop)]
-pub enum Place {
-    /// The node runs.
-    Running(Node<MemoryTape>),
+pub enum Place<T: Tape> {
+    /// The node runs; if its tape failed, it is halted.
+    Running(Node<T>),
     /// The node is stopped: its tape is kept.
-    Stopped(MemoryTape),
+    Stopped(T),
 }

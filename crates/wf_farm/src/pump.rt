@@ -3,7 +3,7 @@
 ghost use Rattle.std.specs.Prelude.{◌≡◌, ◌<◌, ◌≤◌, length, IfOk, IfErr};
 ghost use Rattle.wf_farm.specs.Agreement.{HistoriesGrow};
 ghost use Rattle.wf_farm.specs.Carrying.{IsMemory};
-ghost use Rattle.wf_farm.specs.Cluster.{AreMembers, Between, HoldsIn, KeepMembers};
+ghost use Rattle.wf_farm.specs.Cluster.{AreMembers, Between, KeepMembers};
 ghost use Rattle.wf_farm.specs.Farm.{size};
 ghost use Rattle.wf_farm.specs.Progress.{HasCome, IsEnd, MayEnd};
 ghost use Rattle.wf_farm.specs.Pump.{IsPumped, IsPumpedPart};
@@ -19,9 +19,11 @@ use crate::targets::targets_of;
 use std::alloc::Global;
 use wf_canon::Canon;
 use wf_journal::records_are_read_one_way;
+use wf_law::earlier_messages;
 use wf_model::steps_in_turn;
+use wf_tape::MemoryTape;
 
-impl Farm {
+impl Farm<MemoryTape> {
     /// Delivers each message not pumped yet, in order of number and including new ones, once to each named node, ascending; to
     /// every node if none is named. A delivery without effect counts too, even to a node that doesn't exist. A message counts as
     /// pumped from its first delivery on. Returns Ok(true) iff it stopped after 100,000 deliveries with some left. Err: F1 with
@@ -34,6 +36,7 @@ impl Farm {
         ensures grows { HistoriesGrow self.old self.new }
         ensures size { size self.new ≡ size self.old }
         ensures refused { self.new.refused ≡ self.old.refused }
+        ensures complete { self.new.complete ≡ self.old.complete }
     {
         let mut copies = Copies;
         self.pump_by(alloc, &mut copies, nodes)
@@ -42,7 +45,7 @@ impl Farm {
     /// A pump by the carrier: each delivery that has an effect is made of what it brings. Err: F1 as for a pump; F3 with the number of
     /// deliveries done if the carrier fails or brings another message: the farm is then the world after these, and the next
     /// delivery would have an effect. Of a faithful carrier, F1 is the only error.
-    #[tactic(auto, using(crate::proofs::Carried::pump_for_memory))]
+    #[tactic(auto, using(crate::proofs::Carried::pump_for_memory, crate::proofs::Worlds::members_of))]
     pub fn pump_by<C: Carrier>(
         &mut self,
         alloc: Global,
@@ -55,10 +58,12 @@ impl Farm {
         ensures grows { HistoriesGrow self.old self.new }
         ensures size { size self.new ≡ size self.old }
         ensures refused { self.new.refused ≡ self.old.refused }
+        ensures complete { self.new.complete ≡ self.old.complete }
     {
-        // Theorems of the model and of the tape: applying two lists of events in turn is applying their concatenation, lists only
-        // grow, and a tape stands for exactly one stored part.
+        // Theorems of the model and of the tape: applying two lists of events in turn is applying their concatenation, messages sent
+        // earlier only shift message numbers, lists only grow, and a tape stands for exactly one stored part.
         steps_in_turn::<Canon>();
+        earlier_messages::<Canon>();
         crate::law::agreement();
         records_are_read_one_way();
         let Ok(targets) = targets_of(alloc, nodes, self.cluster.places.len()) else {
@@ -70,7 +75,7 @@ impl Farm {
     }
 }
 
-impl Cluster {
+impl Cluster<MemoryTape> {
     /// Delivers the messages from number `first` on to each target by the carrier, until none is left, the limit of deliveries is
     /// reached, or one isn't made.
     fn pump<C: Carrier>(

@@ -21,8 +21,9 @@ use crate::round::Receiver;
 use std::alloc::{AllocError, Global};
 use wf_codec::Message;
 use wf_node::{Input, NodeFault};
+use wf_tape::MemoryTape;
 
-impl<C: Carrier> Receiver<C> for Place {
+impl<C: Carrier> Receiver<C> for Place<MemoryTape> {
     ghost use Rattle.wf_farm.specs.Progress.{CanTake, IsGiven, IsWithheld};
 
     ghost takes = { CanTake };
@@ -37,7 +38,7 @@ impl<C: Carrier> Receiver<C> for Place {
     fn deliver(
         alloc: Global,
         carrier: &mut C,
-        receivers: &mut [Place],
+        receivers: &mut [Place<MemoryTape>],
         sent: &mut Vec<Message>,
         node: usize,
         number: usize,
@@ -55,7 +56,7 @@ impl<C: Carrier> Receiver<C> for Place {
 pub(crate) fn deliver_to<C: Carrier>(
     alloc: Global,
     carrier: &mut C,
-    places: &mut [Place],
+    places: &mut [Place<MemoryTape>],
     sent: &mut Vec<Message>,
     node: usize,
     number: usize,
@@ -86,7 +87,7 @@ pub(crate) fn deliver_to<C: Carrier>(
 /// The node takes the message, if it exists and runs. The only error is allocation failure.
 fn take(
     alloc: Global,
-    places: &mut [Place],
+    places: &mut [Place<MemoryTape>],
     sent: &mut Vec<Message>,
     node: usize,
     message: Message,
@@ -112,7 +113,7 @@ fn take(
 #[tactic(auto, using(crate::proofs::Events::same_members))]
 pub(crate) fn step(
     alloc: Global,
-    places: &mut [Place],
+    places: &mut [Place<MemoryTape>],
     sent: &mut Vec<Message>,
     node: usize,
     input: Input,
@@ -145,7 +146,7 @@ pub(crate) fn step(
 }
 
 /// Whether the node of that number exists and runs.
-pub(crate) fn runs(places: &[Place], node: usize) -> bool
+pub(crate) fn runs(places: &[Place<MemoryTape>], node: usize) -> bool
     ensures value { result ≡ is_some (running_in (slice_get places.now node)) }
     ensures within { result ≡ true → node < length places.now }
 {

@@ -1,6 +1,6 @@
 //! A run of events.
 
-ghost use Rattle.std.specs.Prelude.{◌≡◌, ◌<◌, ◌≤◌, length, map, take, IfOk, IfErr};
+ghost use Rattle.std.specs.Prelude.{◌<◌, ◌≤◌, length, map, take, IfOk, IfErr};
 ghost use Rattle.wf_farm.specs.Allocating.{MayAllocateAt};
 ghost use Rattle.wf_farm.specs.Cluster.{AreMembers, Between, HaveRun, HoldsIn, KeepMembers, Moves};
 ghost use Rattle.wf_farm.specs.Event.{view};
@@ -9,8 +9,9 @@ use crate::cluster::Cluster;
 use crate::event::Event;
 use crate::rejection::Rejection;
 use std::alloc::Global;
+use wf_tape::MemoryTape;
 
-impl Cluster {
+impl Cluster<MemoryTape> {
     /// Applies the events in order, and returns the last one's rejection, if it is rejected. Err: the number of events that were
     /// applied before an allocation failed, at an event that would have an effect.
     #[tactic(auto, using(crate::proofs::Events::same_members))]

@@ -19,16 +19,17 @@ use wf_journal::records_are_read_one_way;
 use wf_node::Node;
 use wf_tape::MemoryTape;
 
-impl Cluster {
+impl Cluster<MemoryTape> {
     /// Returns n nodes, all running, with all parts empty, and no message.
     #[tactic(auto, using(crate::proofs::Worlds::start_shown, crate::proofs::Worlds::start_members, crate::proofs::Worlds::none_fresh))]
-    pub(crate) fn new(alloc: Global, n: u8) -> Result<Cluster, AllocError>
+    pub(crate) fn new(alloc: Global, n: u8) -> Result<Cluster<MemoryTape>, AllocError>
         requires { n ≤ 64 }
         ensures size { IfOk result (λ cluster. length cluster.places.items ≡ n) }
         ensures members { IfOk result (λ cluster. AreMembers cluster.places.items) }
         ensures shows { IfOk result (λ cluster.
             Shows cluster.places.items cluster.sent.items (start n)) }
         ensures sent { IfOk result (λ cluster. cluster.sent.items ≡ []) }
+        ensures fresh { IfOk result (λ cluster. AreFresh n 0 cluster.places.items) }
     {
         let mut places = Vec::new(alloc);
         for number in 0..n {
@@ -45,7 +46,12 @@ impl Cluster {
 
 /// Appends node `id` of n, with an empty tape.
 #[tactic(auto, using(crate::proofs::Worlds::one_more_fresh))]
-fn add_node(alloc: Global, places: &mut Vec<Place>, id: NodeId, n: u8) -> Result<(), AllocError>
+fn add_node(
+    alloc: Global,
+    places: &mut Vec<Place<MemoryTape>>,
+    id: NodeId,
+    n: u8,
+) -> Result<(), AllocError>
     requires most { n ≤ 64 }
     requires member { id < n }
     requires next { length places.old.items ≡ id }
@@ -64,7 +70,7 @@ fn add_node(alloc: Global, places: &mut Vec<Place>, id: NodeId, n: u8) -> Result
 
 /// Node `id` of n, with an empty tape.
 #[tactic(auto, using(crate::proofs::Steps::fresh_shown))]
-fn first_node(alloc: Global, id: NodeId, n: u8) -> Result<Place, AllocError>
+fn first_node(alloc: Global, id: NodeId, n: u8) -> Result<Place<MemoryTape>, AllocError>
     requires most { n ≤ 64 }
     requires member { id < n }
     ensures node { IfOk result (λ place. IsNode place fresh_node) }

@@ -18,7 +18,7 @@ use wf_model::rows_are_short;
 use wf_node::{Input, Node, NodeFault};
 use wf_tape::MemoryTape;
 
-impl Place {
+impl Place<MemoryTape> {
     /// Performs a step of the node. A stopped node sends nothing. An error leaves the node unchanged.
     #[tactic(auto, using(crate::proofs::Steps::any_done, crate::proofs::Steps::any_denied, crate::proofs::Steps::any_few, crate::proofs::Steps::any_member, crate::proofs::Steps::stopped_steps, crate::proofs::Steps::same_member))]
     pub(crate) fn step(&mut self, alloc: Global, input: Input) -> Result<Vec<Message>, NodeFault>
@@ -49,7 +49,7 @@ impl Place {
     }
 
     /// The entry of the node after it stopped.
-    fn stopped(self) -> Place
+    fn stopped(self) -> Place<MemoryTape>
         ensures stopped { Stops self result }
         ensures member { KeepsMember self result }
     {
@@ -84,7 +84,12 @@ impl Place {
 
     /// The entry with its node restarted as node `id` of n; if an allocation fails, the entry with its tape returned.
     #[tactic(auto, using(crate::proofs::Steps::opened, crate::proofs::Steps::not_opened, crate::proofs::Steps::still_running, crate::proofs::Steps::opened_member, crate::proofs::Steps::returned_member, crate::proofs::Allocating::stopped_there))]
-    pub(crate) fn reopened(self, alloc: Global, id: NodeId, n: u8) -> Result<Place, Place>
+    pub(crate) fn reopened(
+        self,
+        alloc: Global,
+        id: NodeId,
+        n: u8,
+    ) -> Result<Place<MemoryTape>, Place<MemoryTape>>
         requires nodes { n ≤ 64 }
         requires member { id < n }
         ensures restarted { IfOk result (Restarts self) }
@@ -106,7 +111,7 @@ impl Place {
     }
 
     /// The placeholder of an entry while its node is moved: an empty tape. Allocates nothing.
-    pub(crate) fn blank(alloc: Global) -> Place {
+    pub(crate) fn blank(alloc: Global) -> Place<MemoryTape> {
         Place::Stopped(MemoryTape::new(Vec::new(alloc)))
     }
 }

@@ -13,8 +13,9 @@ use crate::place::Place;
 use std::alloc::Global;
 use wf_canon::Canon;
 use wf_node::{Input, NodeFault};
+use wf_tape::MemoryTape;
 
-impl Place {
+impl Place<MemoryTape> {
     /// Performs a step and stops the node at once; its messages are lost. A stopped node is unchanged. An error leaves the node
     /// unchanged.
     #[tactic(auto, using(crate::proofs::Steps::step_stops, crate::proofs::Steps::denied_tears, crate::proofs::Steps::member_twice))]

@@ -13,10 +13,9 @@ use Rattle.wf_model.specs.World.{Event, Node, World, deliver, delivered, happens
 use Rattle.wf_farm.specs.Agreement.{HasStored, HistoriesGrow, IsOneWorld}
 use Rattle.wf_farm.specs.Cluster.{AreNodes, Moves, last_refused}
 use Rattle.wf_farm.specs.Carrying.{IsMemory}
-use Rattle.wf_farm.specs.Farm.{Farm, IsAtOnce, Runs, Shows, size}
-use Rattle.wf_farm.specs.Place.{IsNode}
+use Rattle.wf_farm.specs.Farm.{MemoryFarm, IsAtOnce, Runs, Shows, size}
+use Rattle.wf_farm.specs.Place.{MemoryPlace, IsNode}
 use Rattle.wf_farm.specs.declared.fault.FarmFault.{FarmFault}
-use Rattle.wf_farm.specs.declared.place.Place.{Place}
 use Rattle.wf_farm.specs.declared.place.Place.TheVariants.{Running, Stopped}
 use Rattle.wf_play.specs.Performing.{Delivers}
 use Rattle.wf_play.specs.Session.{Plays}
@@ -33,7 +32,7 @@ unfolding steps
 steps_on w [] more = refl
 steps_on w (event ∷ events) more = steps_on (happens definition_eq w event) events more
 
-runs_on : (events more : List (Event Definition)) (before between after : Farm) → Runs events before between → Runs more between after → Runs (events ++ more) before after
+runs_on : (events more : List (Event Definition)) (before between after : MemoryFarm) → Runs events before between → Runs more between after → Runs (events ++ more) before after
 unfolding Moves
 runs_on events more before between after first second = λ w shows.
     subst (λ (v : World Definition). Shows after v) (steps_on w events more) (second (steps definition_eq w events) (first w shows))
@@ -45,40 +44,40 @@ beginning_on xs ys zs first second =
     (first.0 ++ second.0, sym (append_assoc xs first.0 second.0) ∙ ap (λ front. front ++ second.0) first.1 ∙ second.1)
 
 -- a node of the model has a stored part
-stored_at : (place : Place) (node : Node Definition) → IsNode place node → HasStored (Some place) node.stored
+stored_at : (place : MemoryPlace) (node : Node Definition) → IsNode place node → HasStored (Some place) node.stored
 stored_at (Running running) node is = ap (λ (n : Node Definition). n.stored) is
 stored_at (Stopped tape) node is = is.1
 
-stored_in : (places : List Place) (nodes : List (Node Definition)) (i : ℕ) → AreNodes places nodes → i < length places → (stored : Stored Definition) × HasStored (slice_get places i) stored
+stored_in : (places : List MemoryPlace) (nodes : List (Node Definition)) (i : ℕ) → AreNodes places nodes → i < length places → (stored : Stored Definition) × HasStored (slice_get places i) stored
 stored_in [] nodes i are there = absurd (omega arith)
 stored_in (place ∷ places) [] i are there = absurd are
 stored_in (place ∷ places) (node ∷ nodes) zero are there = (node.stored, stored_at place node are.0)
 stored_in (place ∷ places) (node ∷ nodes) (suc i) are there = stored_in places nodes i are.1 (omega arith)
 
 -- what has a stored part is there
-there_is : (places : List Place) (i : ℕ) (stored : Stored Definition) → HasStored (slice_get places i) stored → i < length places
+there_is : (places : List MemoryPlace) (i : ℕ) (stored : Stored Definition) → HasStored (slice_get places i) stored → i < length places
 there_is [] i stored has = absurd has
 there_is (place ∷ places) zero stored has = omega arith
 there_is (place ∷ places) (suc i) stored has = let below = there_is places i stored has in omega arith
 
-grows_on : (before between after : Farm) → size between ≡ size before → IsOneWorld between → HistoriesGrow before between → HistoriesGrow between after → HistoriesGrow before after
+grows_on : (before between after : MemoryFarm) → size between ≡ size before → IsOneWorld between → HistoriesGrow before between → HistoriesGrow between after → HistoriesGrow before after
 unfolding HistoriesGrow
 grows_on before between after same one first second = λ i old new had has.
     let below = there_is before.places i old had in
     let middle = stored_in between.places one.the_world.nodes i one.shown.nodes (omega (arith, below, same)) in
     beginning_on old.history middle.0.history new.history (first i old middle.0 had middle.1) (second i middle.0 new middle.1 has)
 
-places_grow : (before between after : Farm) → between.places ≡ before.places → HistoriesGrow between after → HistoriesGrow before after
+places_grow : (before between after : MemoryFarm) → between.places ≡ before.places → HistoriesGrow between after → HistoriesGrow before after
 unfolding HistoriesGrow
-places_grow before between after same grows = λ i old new had has. grows i old new (subst (λ (p : List Place). HasStored (slice_get p i) old) (sym same) had) has
+places_grow before between after same grows = λ i old new had has. grows i old new (subst (λ (p : List MemoryPlace). HasStored (slice_get p i) old) (sym same) had) has
 
-grow_places : (before between after : Farm) → after.places ≡ between.places → HistoriesGrow before between → HistoriesGrow before after
+grow_places : (before between after : MemoryFarm) → after.places ≡ between.places → HistoriesGrow before between → HistoriesGrow before after
 unfolding HistoriesGrow
-grow_places before between after same grows = λ i old new had has. grows i old new had (subst (λ (p : List Place). HasStored (slice_get p i) new) same has)
+grow_places before between after same grows = λ i old new had has. grows i old new had (subst (λ (p : List MemoryPlace). HasStored (slice_get p i) new) same has)
 
 -- ---- a play, and a delivery more
 
-plays_on : (more : List (Event Definition)) (before between after : Farm) → Plays before between → IsOneWorld between → Runs more between after → size after ≡ size between → HistoriesGrow between after → Plays before after
+plays_on : (more : List (Event Definition)) (before between after : MemoryFarm) → Plays before between → IsOneWorld between → Runs more between after → size after ≡ size between → HistoriesGrow between after → Plays before after
 plays_on more before between after plays one runs same grows = record {
   events = plays.events ++ more;
   runs = runs_on plays.events more before between after plays.runs runs;
@@ -97,20 +96,21 @@ abbrev to_node : ℕ → ℕ → Event Definition
 to_node i k = deliver i k
 
 -- the first messages, as many as the index says, were delivered
-pub record HaveDelivered (i : ℕ) (messages : List ℕ) (index : ℕ) (before after : Farm) : Type 0 where
+pub record HaveDelivered (i : ℕ) (messages : List ℕ) (index : ℕ) (before after : MemoryFarm) : Type 0 where
   pub runs : Runs (map (λ k. deliver i k) (take index messages)) before after
   pub refused : after.refused ≡ before.refused
   pub pumped : after.pumped ≡ before.pumped
+  pub complete : after.complete ≡ before.complete
   pub plays : Plays before after
 
-runs_none : (i : ℕ) (messages : List ℕ) (farm : Farm) → Runs (map (λ k. deliver i k) (take 0 messages)) farm farm
+runs_none : (i : ℕ) (messages : List ℕ) (farm : MemoryFarm) → Runs (map (λ k. deliver i k) (take 0 messages)) farm farm
 unfolding Moves steps
 runs_none i messages farm = λ w shows. shows
 
-pub none_so_far : (i : ℕ) (messages : List ℕ) (farm : Farm) → HaveDelivered i messages 0 farm farm
-none_so_far i messages farm = record { runs = runs_none i messages farm; refused = refl; pumped = refl; plays = nothing_played farm }
+pub none_so_far : (i : ℕ) (messages : List ℕ) (farm : MemoryFarm) → HaveDelivered i messages 0 farm farm
+none_so_far i messages farm = record { runs = runs_none i messages farm; refused = refl; pumped = refl; complete = refl; plays = nothing_played farm }
 
-runs_one : (i : ℕ) (messages : List ℕ) (index k d : ℕ) (before between after : Farm) → index < length messages → k ≡ get_or messages index d →
+runs_one : (i : ℕ) (messages : List ℕ) (index k d : ℕ) (before between after : MemoryFarm) → index < length messages → k ≡ get_or messages index d →
     Runs (map (λ k. deliver i k) (take index messages)) before between → Runs (deliver i k ∷ []) between after → Runs (map (λ k. deliver i k) (take (index + 1) messages)) before after
 runs_one i messages index k d before between after below is first second =
     let last : to_node i k ≡ to_node i (get_or messages index d) = ap (to_node i) is in
@@ -118,16 +118,18 @@ runs_one i messages index k d before between after below is first second =
     ap (λ e. map (to_node i) (take index messages) ++ e ∷ []) last ∙ sym (map_more (to_node i) messages index d below) in
     subst (λ (events : List (Event Definition)). Runs events before after) all (runs_on (map (to_node i) (take index messages)) (to_node i k ∷ []) before between after first second)
 
-pub one_more : (i : ℕ) (messages : List ℕ) (index k d : ℕ) (before between after : Farm) → HaveDelivered i messages index before between → index < length messages → k ≡ get_or messages index d → IsOneWorld between →
-    Runs (deliver i k ∷ []) between after → after.refused ≡ between.refused → after.pumped ≡ between.pumped → size after ≡ size between → HistoriesGrow between after → HaveDelivered i messages (index + 1) before after
-one_more i messages index k d before between after so_far below is one runs refused pumped same grows = record {
+pub one_more : (i : ℕ) (messages : List ℕ) (index k d : ℕ) (before between after : MemoryFarm) → HaveDelivered i messages index before between → index < length messages → k ≡ get_or messages index d → IsOneWorld between →
+    Runs (deliver i k ∷ []) between after → after.refused ≡ between.refused → after.pumped ≡ between.pumped → after.complete ≡ between.complete → size after ≡ size between → HistoriesGrow between after →
+    HaveDelivered i messages (index + 1) before after
+one_more i messages index k d before between after so_far below is one runs refused pumped complete same grows = record {
   runs = runs_one i messages index k d before between after below is so_far.runs runs;
   refused = refused ∙ so_far.refused;
   pumped = pumped ∙ so_far.pumped;
+  complete = complete ∙ so_far.complete;
   plays = plays_on (deliver i k ∷ []) before between after so_far.plays one runs same grows;
 }
 
-pub one_failed : (i : ℕ) (messages : List ℕ) (index : ℕ) (before between after : Farm) → HaveDelivered i messages index before between → IsOneWorld between → Runs [] between after → size after ≡ size between →
+pub one_failed : (i : ℕ) (messages : List ℕ) (index : ℕ) (before between after : MemoryFarm) → HaveDelivered i messages index before between → IsOneWorld between → Runs [] between after → size after ≡ size between →
     HistoriesGrow between after → Plays before after
 one_failed i messages index before between after so_far one runs same grows = plays_on [] before between after so_far.plays one runs same grows
 
@@ -154,7 +156,7 @@ none_refused w i [] = refl
 none_refused w i (k ∷ []) = never_refused w i k
 none_refused w i (k ∷ next ∷ rest) = none_refused (happens definition_eq w (deliver i k)) i (next ∷ rest)
 
-pub all_delivered : (i : ℕ) (messages : List ℕ) (index : ℕ) (before after : Farm) → length messages ≤ index → HaveDelivered i messages index before after → Delivers i messages before after
+pub all_delivered : (i : ℕ) (messages : List ℕ) (index : ℕ) (before after : MemoryFarm) → length messages ≤ index → HaveDelivered i messages index before after → Delivers i messages before after
 all_delivered i messages index before after all so_far = record {
   runs = subst (λ (ks : List ℕ). Runs (map (λ k. deliver i k) ks) before after) (take_all index messages all) so_far.runs;
   rejected = λ w shows. none_refused w i messages;

@@ -1,7 +1,7 @@
 -- The errors of a play: which tells of a failed write, and which of an order.
 use Rattle.std.proofs.Common.{◌≡◌, ℕ, List, true, refl, sym, subst}
 use Rattle.std.specs.Prelude.{Option, Some, Err}
-use Rattle.wf_farm.specs.Farm.{Farm}
+use Rattle.wf_farm.specs.Farm.{MemoryFarm}
 use Rattle.wf_farm.specs.declared.carrier.CarrierFault.{CarrierFault}
 use Rattle.wf_farm.specs.declared.carrier.CarrierFault.TheVariants as carrier
 use Rattle.wf_script.specs.Script.{Numbered}
@@ -27,7 +27,7 @@ none_lost_yet input play.Write why = absurd why
 none_lost_yet input play.Wire why = absurd why
 
 -- an order's error, by its cause
-pub order_fault_there : (there : Option Numbered) (n : Numbered) (before : Farm) (fault : CarrierFault) → Some n ≡ there → (fault ≡ carrier.Lost → may_use n.order before ≡ true)
+pub order_fault_there : (there : Option Numbered) (n : Numbered) (before : MemoryFarm) (fault : CarrierFault) → Some n ≡ there → (fault ≡ carrier.Lost → may_use n.order before ≡ true)
     → IsOrderFault there before (order_fault fault n.line)
 order_fault_there there n before carrier.Memory is lost = fault_there there n is
 order_fault_there there n before carrier.Lost is lost = subst (λ o. may_use_at o before ≡ true) is (lost refl)
@@ -36,14 +36,14 @@ pub none_lost : (fault : CarrierFault) (line : ℕ) → fault ≡ carrier.Memory
 none_lost fault line is = subst (λ f. LosesNone (order_fault f line)) (sym is) tt
 
 -- it ends a play
-pub order_fault_ends : (there : Option Numbered) (before : Farm) (fault : PlayFault) → IsOrderFault there before fault → IsPlayingFault fault
+pub order_fault_ends : (there : Option Numbered) (before : MemoryFarm) (fault : PlayFault) → IsOrderFault there before fault → IsPlayingFault fault
 order_fault_ends there before (play.Script fault) why = fault_is_memory there fault why
 order_fault_ends there before play.Wire why = tt
 order_fault_ends there before play.Read why = absurd why
 order_fault_ends there before play.Write why = absurd why
 
 -- and isn't about a write
-pub order_writes_none : (there : Option Numbered) (before : Farm) (fault : PlayFault) (old new : ℕ) → IsOrderFault there before fault → new ≡ old → CountsWrites {T = Unit {0}} (Err fault) old new
+pub order_writes_none : (there : Option Numbered) (before : MemoryFarm) (fault : PlayFault) (old new : ℕ) → IsOrderFault there before fault → new ≡ old → CountsWrites {T = Unit {0}} (Err fault) old new
 order_writes_none there before (play.Script fault) old new why same = same
 order_writes_none there before play.Wire old new why same = same
 order_writes_none there before play.Read old new why same = same

@@ -1,7 +1,7 @@
 -- A failed write is the last call of a play.
 use Rattle.std.proofs.Common.{◌≡◌, ◌∙◌, ℕ, List, ◌++◌}
 use Rattle.std.specs.Prelude.{Option}
-use Rattle.wf_farm.specs.Farm.{Farm}
+use Rattle.wf_farm.specs.Farm.{MemoryFarm}
 use Rattle.wf_script.specs.Script.{Numbered, Script}
 use Rattle.wf_stream.specs.KnownLaws.{appends_more}
 use Rattle.wf_stream.specs.Reading.{EndsByFailing}
@@ -27,7 +27,7 @@ module _ {K : Type 0} (sinks : Sink K) where
   )
 
   -- an order's error isn't about a write
-  pub order_is_not_last : (there : Option Numbered) (farm : Farm) (old new : K) (fault : PlayFault) → IsOrderFault there farm fault → EndsWriting sinks old new fault
+  pub order_is_not_last : (there : Option Numbered) (farm : MemoryFarm) (old new : K) (fault : PlayFault) → IsOrderFault there farm fault → EndsWriting sinks old new fault
   order_is_not_last there farm old new (play.Script fault) why = tt
   order_is_not_last there farm old new play.Wire why = tt
   order_is_not_last there farm old new play.Read why = absurd why

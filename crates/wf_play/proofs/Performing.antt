@@ -3,7 +3,7 @@ use Rattle.std.proofs.Common.{◌≡◌, ℕ, Bool, false, List, [], ◌∷◌, 
 use Rattle.std.specs.Prelude.{Result, Ok, Err, OnOk}
 use Rattle.wf_def.specs.Definition.{Definition}
 use Rattle.wf_model.specs.World.{Event}
-use Rattle.wf_farm.specs.Farm.{Farm}
+use Rattle.wf_farm.specs.Farm.{MemoryFarm}
 use Rattle.wf_farm.specs.Pump.{IsPumped}
 use Rattle.std.proofs.lemmas.Option.{same_Some}
 use Rattle.wf_script.specs.declared.fault.ScriptFault.{ScriptFault}
@@ -29,15 +29,15 @@ pub fault_there : (there : Option Numbered) (n : Numbered) → Some n ≡ there 
 fault_there there n is = subst (λ o. fault_at o ≡ Some (Memory n.line)) is refl
 
 -- the event that an order is
-pub happened : (there : Option (Event Definition)) (event : Event Definition) (before after : Farm) → Some event ≡ there → Happens (event ∷ []) before after → HappensIf there before after
+pub happened : (there : Option (Event Definition)) (event : Event Definition) (before after : MemoryFarm) → Some event ≡ there → Happens (event ∷ []) before after → HappensIf there before after
 happened there event before after is does = subst (λ o. HappensIf o before after) is does
 
 -- nothing, where it is none
-pub unhappened : (there : Option (Event Definition)) (before after : Farm) → None ≡ there → after ≡ before → HappensIf there before after
+pub unhappened : (there : Option (Event Definition)) (before after : MemoryFarm) → None ≡ there → after ≡ before → HappensIf there before after
 unhappened there before after is same = subst (λ o. HappensIf o before after) is same
 
 -- a pump, whether it stopped early or not
-pub pump_performed : (names : List ℕ) (before after : Farm) (stopped : Bool) → IsPumped names before after stopped → ArePumped names before after
+pub pump_performed : (names : List ℕ) (before after : MemoryFarm) (stopped : Bool) → IsPumped names before after stopped → ArePumped names before after
 pump_performed names before after stopped done = record { stopped = stopped; pumped = done }
 
 -- what is done is done where that is reported
@@ -51,5 +51,5 @@ fault_is_memory None fault is = absurd (cc)
 fault_is_memory (Some n) fault is = subst IsMemory (same_Some (Memory n.line) fault is) refl
 
 -- whether the order at an index may use the carrier
-pub used_there : (there : Option Numbered) (n : Numbered) (before : Farm) → Some n ≡ there → may_use_at there before ≡ false → may_use n.order before ≡ false
+pub used_there : (there : Option Numbered) (n : Numbered) (before : MemoryFarm) → Some n ≡ there → may_use_at there before ≡ false → may_use n.order before ≡ false
 used_there there n before is unused = subst (λ o. may_use_at o before ≡ false) (sym is) unused

@@ -8,7 +8,7 @@ use Rattle.wf_model.specs.World as world
 use Rattle.wf_model.specs.World.{Event}
 use Rattle.wf_farm.specs.Agreement.{HistoriesGrow}
 use Rattle.wf_farm.specs.Cluster.{last_refused}
-use Rattle.wf_farm.specs.Farm.{Farm, size}
+use Rattle.wf_farm.specs.Farm.{MemoryFarm, size}
 use Rattle.wf_farm.specs.Fused.{PumpsOrTears, RunsOrTears, TellsUnlessTorn, with_torn}
 use Rattle.wf_farm.specs.Pump.{IsPumped}
 use Rattle.wf_model.specs.declared.kept.Kept.{Kept}
@@ -23,11 +23,11 @@ use Rattle.wf_play.proofs.Telling.{also_ok}
 
 -- ---- no tape has failed
 
-pub does_whole : {T E : Type 0} (result : Result T E) (maps : List Definition) (o : Order) (fuse : Option ℕ) (torn : Option (ℕ × Kept)) (before after : Farm) → torn ≡ None → OnOk result (Performs maps o before after) →
+pub does_whole : {T E : Type 0} (result : Result T E) (maps : List Definition) (o : Order) (fuse : Option ℕ) (torn : Option (ℕ × Kept)) (before after : MemoryFarm) → torn ≡ None → OnOk result (Performs maps o before after) →
     OnOk result (Does maps o fuse torn before after)
 does_whole result maps o fuse torn before after none does = also_ok result (λ d. subst (λ t. Does maps o fuse t before after) (sym none) d) does
 
-pub tells_whole : {T E : Type 0} (result : Result T E) (script : Script) (o : Order) (torn : Option (ℕ × Kept)) (before after : Farm) (old new : List ℕ) → torn ≡ None → OnOk result (Adds (WritesWith script o None before after) old new) →
+pub tells_whole : {T E : Type 0} (result : Result T E) (script : Script) (o : Order) (torn : Option (ℕ × Kept)) (before after : MemoryFarm) (old new : List ℕ) → torn ≡ None → OnOk result (Adds (WritesWith script o None before after) old new) →
     OnOk result (Adds (WritesWith script o torn before after) old new)
 tells_whole result script o torn before after old new none tells = also_ok result (λ t. subst (λ x. Adds (WritesWith script o x before after) old new) (sym none) t) tells
 
@@ -42,7 +42,7 @@ performed (Err e) maps o torn before after left does is set = tt
 
 -- ---- one event
 
-module _ (script : Script) (event : Event Definition) (before after : Farm) where
+module _ (script : Script) (event : Event Definition) (before after : MemoryFarm) where
   happened_as : (o : Order) → event_at script.maps o ≡ Some event → Happens (event ∷ []) before after → Performs script.maps o before after
   happened_as (order.Deliver i messages) is happens = absurd (none-some event is)
   happened_as (order.Pump nodes) is happens = absurd (none-some event is)
@@ -123,7 +123,7 @@ module _ (script : Script) (event : Event Definition) (before after : Farm) wher
 abbrev pub told_of : ℕ → Option (ℕ × Kept) → Option (ℕ × Kept)
 told_of node torn = option_map (λ t. (node, t.1)) torn
 
-module _ (node : ℕ) (before after : Farm) where
+module _ (node : ℕ) (before after : MemoryFarm) where
   made : (event : Event Definition) (torn : Option (ℕ × Kept)) → RunsOrTears node (event ∷ []) torn before after → TellsUnlessTorn event torn before after → after.pumped ≡ before.pumped →
       HappensOrTears node event (told_of node torn) before after
   unfolding last_refused
@@ -187,7 +187,7 @@ module _ (node : ℕ) (before after : Farm) where
   tears_played events torn runs same grows = record { events = with_torn events torn; runs = runs.runs; size = same; grows = inr grows }
 
 -- Deliveries, in the order's words.
-module _ (script : Script) (to : ℕ) (messages : List ℕ) (before after : Farm) where
+module _ (script : Script) (to : ℕ) (messages : List ℕ) (before after : MemoryFarm) where
   delivers_as : (node : ℕ) (fuse : Option ℕ) (torn : Option (ℕ × Kept)) → fuse ≡ Some node → DeliversOrTears node to messages torn before after → Does script.maps (order.Deliver to messages) fuse torn before after
   delivers_as node fuse None set done = done
   delivers_as node fuse (Some torn) set tears = (set ∙ ap Some (sym tears.0), tears.1)

@@ -9,11 +9,11 @@ use Rattle.wf_model.specs.Stored.{definition_at}
 use Rattle.wf_node.specs.Node.{Node}
 use Rattle.wf_tape.specs.MemoryTape.{TapeValue}
 use Rattle.wf_farm.specs.Answering.{IsNoAnswer}
-use Rattle.wf_farm.specs.Farm.{Farm, running_in}
+use Rattle.wf_farm.specs.Farm.{MemoryFarm, running_in}
+use Rattle.wf_farm.specs.Place.{MemoryPlace}
 use Rattle.wf_farm.specs.Pump.{IsPumped}
 use Rattle.wf_farm.specs.declared.fault.FarmFault.{FarmFault}
 use Rattle.wf_farm.specs.declared.fault.FarmFault.TheVariants.{NoNode}
-use Rattle.wf_farm.specs.declared.place.Place.{Place}
 use Rattle.wf_model.specs.declared.kept.Kept.{Kept}
 use Rattle.wf_play.specs.Comparison.{IsUncompared}
 use Rattle.wf_script.specs.Script.{Numbered, Script}
@@ -34,10 +34,10 @@ nothing_more (Ok x) old = ([], refl, sym (append-nil old))
 nothing_more (Err e) old = tt
 
 -- one index more is written
-abbrev pub word : Place → List ℕ
+abbrev pub word : MemoryPlace → List ℕ
 word place = published_word (running_in (Some place))
 
-one_told : (places : List Place) (i : ℕ) → i < length places
+one_told : (places : List MemoryPlace) (i : ℕ) → i < length places
     → flat_map word (take (suc i) places) ≡ flat_map word (take i places) ++ published_word (running_in (slice_get places i))
 one_told [] i there = absurd (omega arith)
 one_told (place ∷ places) zero there = append-nil (word place)
@@ -45,7 +45,7 @@ one_told (place ∷ places) (suc i) there =
     ap (λ rest. word place ++ rest) (one_told places i (omega arith))
     ∙ sym (append_assoc (word place) (flat_map word (take i places)) (published_word (running_in (slice_get places i))))
 
-pub place_told : (places : List Place) (i : ℕ) (old front so_far now : List ℕ) → i < length places → so_far ≡ old ++ (front ++ flat_map word (take i places))
+pub place_told : (places : List MemoryPlace) (i : ℕ) (old front so_far now : List ℕ) → i < length places → so_far ≡ old ++ (front ++ flat_map word (take i places))
     → now ≡ so_far ++ published_word (running_in (slice_get places i)) → now ≡ old ++ (front ++ flat_map word (take (i + 1) places))
 place_told places i old front so_far now there is next =
     let one : suc i ≡ i + 1 = omega arith in
@@ -68,7 +68,7 @@ of_answer None fault why = subst IsOfAnswer (sym why) tt
 of_answer (Some node) fault why = subst IsOfAnswer (sym why) tt
 
 -- and so is why no answers are compared
-pub of_comparison : (farm : Farm) (i j : ℕ) (fault : FarmFault) → IsUncompared farm i j fault → IsOfAnswer fault
+pub of_comparison : (farm : MemoryFarm) (i j : ℕ) (fault : FarmFault) → IsUncompared farm i j fault → IsOfAnswer fault
 of_comparison farm i j fault why =
     elim why [
       | inl first ↦ of_answer (running_in (slice_get farm.places i)) fault first
@@ -80,12 +80,12 @@ is_absent : (place : Option (Node TapeValue)) → IsNoAnswer place NoNode → pl
 is_absent None why = refl
 is_absent (Some node) why = absurd (cc)
 
-pub no_answer_told : (farm : Farm) (i : ℕ) (query : List ℕ) (fault : FarmFault) (old new : List ℕ) → IsNoAnswer (running_in (slice_get farm.places i)) fault → IsToldAbsent fault old new
+pub no_answer_told : (farm : MemoryFarm) (i : ℕ) (query : List ℕ) (fault : FarmFault) (old new : List ℕ) → IsNoAnswer (running_in (slice_get farm.places i)) fault → IsToldAbsent fault old new
     → Adds (TellsAnswer farm i query) old new
 no_answer_told farm i query fault old new why told =
     (no_node, inr (is_absent (running_in (slice_get farm.places i)) (subst (λ f. IsNoAnswer (running_in (slice_get farm.places i)) f) told.0 why), refl), told.1)
 
-pub uncompared_told : (farm : Farm) (i j : ℕ) (query : List ℕ) (fault : FarmFault) (old new : List ℕ) → IsUncompared farm i j fault → IsToldAbsent fault old new
+pub uncompared_told : (farm : MemoryFarm) (i j : ℕ) (query : List ℕ) (fault : FarmFault) (old new : List ℕ) → IsUncompared farm i j fault → IsToldAbsent fault old new
     → Adds (TellsEqual farm i j query) old new
 uncompared_told farm i j query fault old new why told =
     elim (subst (λ f. IsUncompared farm i j f) told.0 why) [
@@ -94,17 +94,17 @@ uncompared_told farm i j query fault old new why told =
     ]
 
 -- a pump, whether it stopped early or not
-pub pump_told : (nodes : List ℕ) (before after : Farm) (stopped : Bool) (old new : List ℕ) → IsPumped nodes before after stopped → new ≡ old ++ pump_line stopped
+pub pump_told : (nodes : List ℕ) (before after : MemoryFarm) (stopped : Bool) (old new : List ℕ) → IsPumped nodes before after stopped → new ≡ old ++ pump_line stopped
     → Adds (TellsPump nodes before after) old new
 pump_told nodes before after stopped old new done is = (pump_line stopped, (stopped, done, refl), is)
 
 -- what the order at an index writes, where that order is there
-pub written_at : (script : Script) (there : Option Numbered) (n : Numbered) (torn : Option (ℕ × Kept)) (before after : Farm) (old new : List ℕ) → Some n ≡ there → Adds (WritesWith script n.order torn before after) old new
+pub written_at : (script : Script) (there : Option Numbered) (n : Numbered) (torn : Option (ℕ × Kept)) (before after : MemoryFarm) (old new : List ℕ) → Some n ≡ there → Adds (WritesWith script n.order torn before after) old new
     → Adds (WritesAt script there torn before after) old new
 unfolding WritesAt
 written_at script there n torn before after old new is tells = subst (λ o. Adds (WritesAt script o torn before after) old new) is tells
 
 -- where there is none
-pub nothing_written : (script : Script) (there : Option Numbered) (torn : Option (ℕ × Kept)) (before after : Farm) (old : List ℕ) → None ≡ there → Adds (WritesAt script there torn before after) old old
+pub nothing_written : (script : Script) (there : Option Numbered) (torn : Option (ℕ × Kept)) (before after : MemoryFarm) (old : List ℕ) → None ≡ there → Adds (WritesAt script there torn before after) old old
 unfolding WritesAt
 nothing_written script there torn before after old is = ([], subst (λ o. WritesAt script o torn before after []) is refl, sym (append-nil old))

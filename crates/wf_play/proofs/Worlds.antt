@@ -6,14 +6,14 @@ use Rattle.wf_model.specs.Chosen.{IsIn}
 use Rattle.wf_model.specs.World.{World, after, happens}
 use Rattle.wf_law.specs.Laws.{AsksForItself, KeptPromises, KeptPromisesIn, OwnBallots, OwnBallotsIn, PromisedMajority, PromisedMajorityIn, node_of}
 use Rattle.wf_farm.specs.Agreement.{IsOneWorld}
-use Rattle.wf_farm.specs.Farm.{Farm, Shows, size}
+use Rattle.wf_farm.specs.Farm.{MemoryFarm, Shows, size}
 use Rattle.wf_play.specs.Law.{HasKeptPromises, HasOwnBallots, HasPromisedMajorities}
 
 -- a world that the farm shows is the one that its events lead to
-reached : (farm : Farm) (one : IsOneWorld farm) (w : World Definition) → Shows farm w → after definition_eq (size farm) one.events ≡ w
+reached : (farm : MemoryFarm) (one : IsOneWorld farm) (w : World Definition) → Shows farm w → after definition_eq (size farm) one.events ≡ w
 reached farm one w shows = sym (one.no_other w shows ∙ one.reached)
 
-pub own_ballots_there : (farm : Farm) → OwnBallots Definition → IsOneWorld farm → HasOwnBallots farm
+pub own_ballots_there : (farm : MemoryFarm) → OwnBallots Definition → IsOneWorld farm → HasOwnBallots farm
 own_ballots_there farm law one = record {
   now = λ w shows. subst (λ (v : World Definition). OwnBallotsIn v) (reached farm one w shows) (law.facts definition_eq (size farm) one.events);
   next = λ w event message shows.
@@ -21,11 +21,11 @@ own_ballots_there farm law one = record {
       (reached farm one w shows) (law.asked definition_eq (size farm) one.events event message);
 }
 
-pub kept_promises_there : (farm : Farm) → KeptPromises Definition → IsOneWorld farm → HasKeptPromises farm
+pub kept_promises_there : (farm : MemoryFarm) → KeptPromises Definition → IsOneWorld farm → HasKeptPromises farm
 unfolding HasKeptPromises
 kept_promises_there farm law one = λ w shows. subst (λ (v : World Definition). KeptPromisesIn v) (reached farm one w shows) (law definition_eq (size farm) one.events)
 
-pub promised_majorities_there : (farm : Farm) → PromisedMajority Definition → IsOneWorld farm → HasPromisedMajorities farm
+pub promised_majorities_there : (farm : MemoryFarm) → PromisedMajority Definition → IsOneWorld farm → HasPromisedMajorities farm
 unfolding HasPromisedMajorities
 promised_majorities_there farm law one = λ w shows.
     subst (λ (v : World Definition). PromisedMajorityIn (size farm) v.sent) (reached farm one w shows) (law definition_eq (size farm) one.events)

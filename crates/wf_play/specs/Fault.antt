@@ -7,7 +7,7 @@ use Rattle.wf_script.specs.Fault.{IsMemory, is_memory}
 use Rattle.wf_script.specs.Order.{Order}
 use Rattle.wf_script.specs.Script.{Numbered}
 use Rattle.wf_script.specs.declared.fault.ScriptFault.TheVariants as script
-use Rattle.wf_farm.specs.Farm.{Farm}
+use Rattle.wf_farm.specs.Farm.{MemoryFarm}
 use Rattle.wf_farm.specs.declared.carrier.CarrierFault.{CarrierFault}
 use Rattle.wf_farm.specs.declared.carrier.CarrierFault.TheVariants as carrier
 use Rattle.wf_play.specs.Performing.{fault_at, may_use, may_use_at}
@@ -63,14 +63,14 @@ order_fault carrier.Lost line = play.Wire
 
 -- Why an order isn't performed to its end: an allocation failed, and the error is that of its line; or a message that it carries
 -- wasn't carried.
-abbrev pub IsOrderFault : Option Numbered → Farm → PlayFault → Type 0
+abbrev pub IsOrderFault : Option Numbered → MemoryFarm → PlayFault → Type 0
 IsOrderFault numbered before (play.Script fault) = fault_at numbered ≡ Some fault
 IsOrderFault numbered before play.Wire = may_use_at numbered before ≡ true
 IsOrderFault numbered before play.Read = ⊥
 IsOrderFault numbered before play.Write = ⊥
 
 -- for the crate's own contracts: only what may use the carrier loses a message
-abbrev pub LosesOnlyOf : Order → Farm → CarrierFault → Type 0
+abbrev pub LosesOnlyOf : Order → MemoryFarm → CarrierFault → Type 0
 LosesOnlyOf order before fault = fault ≡ carrier.Lost → may_use order before ≡ true
 
 -- no message was lost on its way

@@ -7,7 +7,7 @@ use Rattle.wf_model.specs.Table as table
 use Rattle.wf_model.specs.World as world
 use Rattle.wf_model.specs.World.{Event, World}
 use Rattle.wf_farm.specs.Cluster.{TellsWhy, last_refused}
-use Rattle.wf_farm.specs.Farm.{Farm, Runs, Shows}
+use Rattle.wf_farm.specs.Farm.{MemoryFarm, Runs, Shows}
 use Rattle.wf_farm.specs.Pump.{IsPumped}
 use Rattle.wf_model.specs.Kept.{view as view_kept}
 use Rattle.wf_model.specs.declared.action.Action.{Action}
@@ -36,32 +36,32 @@ event_at maps other = None
 
 -- Exactly these events have happened: the farm reports why the last one was rejected, if it was, and as many messages count as
 -- pumped as before.
-pub record Happens (events : List (Event Definition)) (before after : Farm) : Type 0 where
+pub record Happens (events : List (Event Definition)) (before after : MemoryFarm) : Type 0 where
   pub runs : Runs events before after
   pub refused : TellsWhy (λ w. last_refused w events) after.refused before.places before.sent
   pub pumped : after.pumped ≡ before.pumped
 
 -- this event has happened, or nothing
-abbrev pub HappensIf : Option (Event Definition) → Farm → Farm → Type 0
+abbrev pub HappensIf : Option (Event Definition) → MemoryFarm → MemoryFarm → Type 0
 HappensIf None before after = after ≡ before
 HappensIf (Some event) before after = Happens (event ∷ []) before after
 
 -- Exactly these messages were delivered to node i, in turn. No delivery is rejected; the farm reports the rejection that it reported
 -- before, and as many messages count as pumped as before.
-pub record Delivers (i : ℕ) (messages : List ℕ) (before after : Farm) : Type 0 where
+pub record Delivers (i : ℕ) (messages : List ℕ) (before after : MemoryFarm) : Type 0 where
   pub runs : Runs (map (λ k. world.deliver i k) messages) before after
   pub rejected : (w : World Definition) → Shows before w → last_refused w (map (λ k. world.deliver i k) messages) ≡ None
   pub refused : after.refused ≡ before.refused
   pub pumped : after.pumped ≡ before.pumped
 
 -- Messages were pumped to the nodes that are named, to the end or until a pump stops.
-pub record ArePumped (nodes : List ℕ) (before after : Farm) : Type 0 where
+pub record ArePumped (nodes : List ℕ) (before after : MemoryFarm) : Type 0 where
   pub stopped : Bool
   pub pumped : IsPumped nodes before after stopped
 
 -- What each order does. Any but deliveries, a pump and `skip` is one event or leaves the farm as it is: a question, and a message that
 -- is cut off.
-abbrev pub Performs : List Definition → Order → Farm → Farm → Type 0
+abbrev pub Performs : List Definition → Order → MemoryFarm → MemoryFarm → Type 0
 Performs maps (order.Deliver i messages) before after = Delivers i messages before after
 Performs maps (order.Pump nodes) before after = ArePumped nodes before after
 Performs maps order.Skip before after = after ≡ record before { pumped = length before.sent }
@@ -71,45 +71,45 @@ Performs maps other before after = HappensIf (event_at maps other) before after
 
 -- These events have happened, but one of them is a step of node i, within which its tape failed: the node crashed there, which kept
 -- this, and was opened again.
-pub record Tears (i : ℕ) (kept : Kept) (events : List (Event Definition)) (before after : Farm) : Type 0 where
+pub record Tears (i : ℕ) (kept : Kept) (events : List (Event Definition)) (before after : MemoryFarm) : Type 0 where
   pub at : ℕ
   pub runs : RunsOrTears i events (Some (at, kept)) before after
   pub pumped : after.pumped ≡ before.pumped
 
 -- The order's one event was torn so; the farm reports no rejection.
-pub record TearsEvent (torn : ℕ × Kept) (event : Option (Event Definition)) (before after : Farm) : Type 0 where
+pub record TearsEvent (torn : ℕ × Kept) (event : Option (Event Definition)) (before after : MemoryFarm) : Type 0 where
   pub the_event : Event Definition
   pub is_event : event ≡ Some the_event
   pub tears : Tears torn.0 torn.1 (the_event ∷ []) before after
   pub refused : after.refused ≡ None
 
 -- One of the deliveries was; the farm reports the rejection that it reported before.
-pub record TearsDelivery (torn : ℕ × Kept) (i : ℕ) (messages : List ℕ) (before after : Farm) : Type 0 where
+pub record TearsDelivery (torn : ℕ × Kept) (i : ℕ) (messages : List ℕ) (before after : MemoryFarm) : Type 0 where
   pub tears : Tears torn.0 torn.1 (map (λ k. world.deliver i k) messages) before after
   pub refused : after.refused ≡ before.refused
 
 -- One of the deliveries of a pump was.
-pub record TearsPump (torn : ℕ × Kept) (nodes : List ℕ) (stopped : Bool) (before after : Farm) : Type 0 where
+pub record TearsPump (torn : ℕ × Kept) (nodes : List ℕ) (stopped : Bool) (before after : MemoryFarm) : Type 0 where
   pub at : ℕ
   pub pumps : PumpsOrTears torn.0 nodes (Some (at, torn.1)) stopped before after
 
 -- What an order does within which the tape of a node failed. It is an event, or deliveries.
-abbrev pub PerformsTorn : List Definition → Order → ℕ × Kept → Farm → Farm → Type 0
+abbrev pub PerformsTorn : List Definition → Order → ℕ × Kept → MemoryFarm → MemoryFarm → Type 0
 PerformsTorn maps (order.Deliver i messages) torn before after = TearsDelivery torn i messages before after
 PerformsTorn maps (order.Pump nodes) torn before after = (stopped : Bool) × TearsPump torn nodes stopped before after
 PerformsTorn maps other torn before after = TearsEvent torn (event_at maps other) before after
 
 -- What an order does where the tape of this node may fail, by whether it did within the order.
-abbrev pub Does : List Definition → Order → Option ℕ → Option (ℕ × Kept) → Farm → Farm → Type 0
+abbrev pub Does : List Definition → Order → Option ℕ → Option (ℕ × Kept) → MemoryFarm → MemoryFarm → Type 0
 Does maps order fuse None before after = Performs maps order before after
 Does maps order fuse (Some torn) before after = (fuse ≡ Some torn.0) × PerformsTorn maps order torn before after
 
 -- for the crate's own contracts: the same of one event, and of deliveries
-abbrev pub HappensOrTears : ℕ → Event Definition → Option (ℕ × Kept) → Farm → Farm → Type 0
+abbrev pub HappensOrTears : ℕ → Event Definition → Option (ℕ × Kept) → MemoryFarm → MemoryFarm → Type 0
 HappensOrTears i event None before after = Happens (event ∷ []) before after
 HappensOrTears i event (Some torn) before after = (torn.0 ≡ i) × TearsEvent torn (Some event) before after
 
-abbrev pub DeliversOrTears : ℕ → ℕ → List ℕ → Option (ℕ × Kept) → Farm → Farm → Type 0
+abbrev pub DeliversOrTears : ℕ → ℕ → List ℕ → Option (ℕ × Kept) → MemoryFarm → MemoryFarm → Type 0
 DeliversOrTears i to messages None before after = Delivers to messages before after
 DeliversOrTears i to messages (Some torn) before after = (torn.0 ≡ i) × TearsDelivery torn to messages before after
 
@@ -144,12 +144,12 @@ carries (order.Pump nodes) = true
 carries other = false
 
 -- Whether the order may use the carrier: it carries messages. A message is cut off only if it was sent and its node runs.
-abbrev pub may_use : Order → Farm → Bool
+abbrev pub may_use : Order → MemoryFarm → Bool
 may_use (order.Cut i k bytes) farm = is_some (node_at farm i) && is_some (slice_get farm.sent k)
 may_use other farm = carries other
 
 -- the same for the order at an index
-abbrev pub may_use_at : Option Numbered → Farm → Bool
+abbrev pub may_use_at : Option Numbered → MemoryFarm → Bool
 may_use_at None farm = false
 may_use_at (Some numbered) farm = may_use numbered.order farm
 

@@ -5,7 +5,7 @@ use Rattle.wf_model.specs.World.{Event}
 use Rattle.wf_node.specs.Node.{Node}
 use Rattle.wf_tape.specs.MemoryTape.{TapeValue}
 use Rattle.wf_farm.specs.Agreement.{HistoriesGrow, Publishes}
-use Rattle.wf_farm.specs.Farm.{Farm, Runs, running_in, size}
+use Rattle.wf_farm.specs.Farm.{MemoryFarm, Runs, running_in, size}
 use Rattle.wf_model.specs.declared.kept.Kept.{Kept}
 use Rattle.wf_script.specs.Script.{Script}
 
@@ -13,13 +13,13 @@ use Rattle.wf_script.specs.Script.{Script}
 -- a step of this node, what the crash there kept.
 pub record Session : Type 0 where
   pub script : Script
-  pub farm : Farm
+  pub farm : MemoryFarm
   pub fuse : Option ℕ
   pub torn : Option (ℕ × Kept)
 
 -- What an order may change: the farm, and which tape will fail.
 pub record Stage : Type 0 where
-  pub farm : Farm
+  pub farm : MemoryFarm
   pub fuse : Option ℕ
 
 abbrev pub stage : Session → Stage
@@ -33,16 +33,16 @@ pub record KeepsRest (before after : Session) : Type 0 where
 
 -- The farm has made some events of the model. Its nodes are as they were, or the list that each had published is a prefix of
 -- the list that it has published now.
-pub record Plays (before after : Farm) : Type 0 where
+pub record Plays (before after : MemoryFarm) : Type 0 where
   pub events : List (Event Definition)
   pub runs : Runs events before after
   pub size : size after ≡ size before
   pub grows : (after.places ≡ before.places) ⊎ HistoriesGrow before after
 
 -- node i, if it runs
-abbrev pub node_at : Farm → ℕ → Option (Node TapeValue)
+abbrev pub node_at : MemoryFarm → ℕ → Option (Node TapeValue)
 node_at farm i = running_in (slice_get farm.places i)
 
 -- some node publishes this definition under sequence s
-abbrev pub IsPublished : Farm → ℕ → Definition → Type 0
+abbrev pub IsPublished : MemoryFarm → ℕ → Definition → Type 0
 IsPublished farm s d = (i : ℕ) × Publishes farm i s d

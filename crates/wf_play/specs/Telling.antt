@@ -14,12 +14,12 @@ use Rattle.wf_wms.specs.declared.exception.Exception.TheVariants as exception
 use Rattle.wf_wms.specs.declared.kind.Kind.{Kind}
 use Rattle.wf_wms.specs.declared.kind.Kind.TheVariants as kind
 use Rattle.wf_farm.specs.Answering.{Answers, sequence_at}
-use Rattle.wf_farm.specs.Farm.{Farm, running_in}
+use Rattle.wf_farm.specs.Farm.{MemoryFarm, running_in}
 use Rattle.wf_farm.specs.Fault.{number_of as rejection_number}
+use Rattle.wf_farm.specs.Place.{MemoryPlace}
 use Rattle.wf_farm.specs.Pump.{IsPumped}
 use Rattle.wf_farm.specs.declared.fault.FarmFault.{FarmFault}
 use Rattle.wf_farm.specs.declared.fault.FarmFault.TheVariants.{Memory, NoNode, Carried}
-use Rattle.wf_farm.specs.declared.place.Place.{Place}
 use Rattle.wf_farm.specs.declared.rejection.Rejection.{Rejection}
 use Rattle.wf_play.specs.Comparison.{Compares}
 use Rattle.wf_script.specs.Order as order
@@ -43,7 +43,7 @@ pump_line true = codes "pump stopped\n"
 pump_line false = []
 
 -- messages were pumped, and it is written whether that stopped early
-abbrev pub TellsPump : List ℕ → Farm → Farm → List ℕ → Type 0
+abbrev pub TellsPump : List ℕ → MemoryFarm → MemoryFarm → List ℕ → Type 0
 TellsPump nodes before after text = (stopped : Bool) × IsPumped nodes before after stopped × (text ≡ pump_line stopped)
 
 -- the line about a node that is absent or stopped
@@ -55,7 +55,7 @@ abbrev pub published_word : Option (Node TapeValue) → List ℕ
 published_word None = codes " -"
 published_word (Some node) = codes " " ++ decimal (length node.parts.history)
 
-abbrev pub published_line : List Place → List ℕ
+abbrev pub published_line : List MemoryPlace → List ℕ
 published_line places = codes "published" ++ flat_map (λ place. published_word (running_in (Some place))) places ++ codes "\n"
 
 abbrev pub sent_line : ℕ → List ℕ
@@ -78,7 +78,7 @@ definition_line script i s None = no_node
 definition_line script i s (Some node) = codes "definition " ++ decimal i ++ codes " " ++ decimal s ++ codes " " ++ name_of script (map_at node.parts.history s) ++ codes "\n"
 
 -- the answer to a question; it is always `same`, since nodes never publish different maps under one sequence
-abbrev pub answer_text : Script → Question → Farm → List ℕ
+abbrev pub answer_text : Script → Question → MemoryFarm → List ℕ
 answer_text script question.Published farm = published_line farm.places
 answer_text script question.Sent farm = sent_line (length farm.sent)
 answer_text script (question.Proposal i) farm = proposal_line i (node_at farm i)
@@ -108,7 +108,7 @@ kind_line i kind.Map size = codes "get " ++ decimal i ++ codes " map " ++ decima
 kind_line i (kind.Exception e) size = exception_line i e size
 
 -- no node runs there
-abbrev pub IsAbsent : Farm → ℕ → Type 0
+abbrev pub IsAbsent : MemoryFarm → ℕ → Type 0
 IsAbsent farm i = node_at farm i ≡ None
 
 -- an error of an answer: nothing is carried for one
@@ -126,7 +126,7 @@ abbrev pub Adds : (List ℕ → Type 0) → List ℕ → List ℕ → Type 0
 Adds P old new = (text : List ℕ) × P text × (new ≡ old ++ text)
 
 -- The line about the node's answer to the query, or that there is no such node.
-abbrev pub TellsAnswer : Farm → ℕ → List ℕ → List ℕ → Type 0
+abbrev pub TellsAnswer : MemoryFarm → ℕ → List ℕ → List ℕ → Type 0
 TellsAnswer farm i query text = ((answer : AnswerValue) × Answers farm i (sequence_at farm i) query answer × (text ≡ kind_line i answer.kind (length answer.bytes))) ⊎ (IsAbsent farm i × (text ≡ no_node))
 
 abbrev pub equal_line : Bool → List ℕ
@@ -134,7 +134,7 @@ equal_line true = codes "equal\n"
 equal_line false = codes "differ\n"
 
 -- The line whether the answers of two nodes to the query are equal, or that one of them doesn't run.
-abbrev pub TellsEqual : Farm → ℕ → ℕ → List ℕ → List ℕ → Type 0
+abbrev pub TellsEqual : MemoryFarm → ℕ → ℕ → List ℕ → List ℕ → Type 0
 TellsEqual farm i j query text = ((equal : Bool) × Compares farm i j query equal × (text ≡ equal_line equal)) ⊎ ((IsAbsent farm i ⊎ IsAbsent farm j) × (text ≡ no_node))
 
 -- what is written after an event, if there was one
@@ -143,7 +143,7 @@ happened_text None refused = []
 happened_text (Some event) refused = refusal_line refused
 
 -- What an order writes. Of an event it is the rejection, if it was rejected. A delivery writes nothing, since none is rejected.
-abbrev pub Writes : Script → Order → Farm → Farm → List ℕ → Type 0
+abbrev pub Writes : Script → Order → MemoryFarm → MemoryFarm → List ℕ → Type 0
 Writes script (order.Pump nodes) before after text = TellsPump nodes before after text
 Writes script (order.Ask question) before after text = text ≡ answer_text script question after
 Writes script (order.Get i query) before after text = TellsAnswer after i query text
@@ -168,21 +168,21 @@ event_text None refused = refusal_line refused
 event_text (Some torn) refused = torn_line torn
 
 -- One delivery of a pump was torn, and it is written whether the pump stopped early, and then that.
-abbrev pub TellsTornPump : List ℕ → ℕ × Kept → Farm → Farm → List ℕ → Type 0
+abbrev pub TellsTornPump : List ℕ → ℕ × Kept → MemoryFarm → MemoryFarm → List ℕ → Type 0
 TellsTornPump nodes torn before after text = (stopped : Bool) × TearsPump torn nodes stopped before after × (text ≡ pump_line stopped ++ torn_line torn)
 
 -- What an order writes within which the tape of a node failed. No event of it was rejected.
-abbrev pub WritesTorn : Order → ℕ × Kept → Farm → Farm → List ℕ → Type 0
+abbrev pub WritesTorn : Order → ℕ × Kept → MemoryFarm → MemoryFarm → List ℕ → Type 0
 WritesTorn (order.Pump nodes) torn before after text = TellsTornPump nodes torn before after text
 WritesTorn other torn before after text = text ≡ torn_line torn
 
 -- what an order writes, by whether a tape failed within it
-abbrev pub WritesWith : Script → Order → Option (ℕ × Kept) → Farm → Farm → List ℕ → Type 0
+abbrev pub WritesWith : Script → Order → Option (ℕ × Kept) → MemoryFarm → MemoryFarm → List ℕ → Type 0
 WritesWith script order None before after text = Writes script order before after text
 WritesWith script order (Some torn) before after text = WritesTorn order torn before after text
 
 -- what the order at an index writes: nothing where there is none
-unfoldable pub WritesAt : Script → Option Numbered → Option (ℕ × Kept) → Farm → Farm → List ℕ → Type 0
+unfoldable pub WritesAt : Script → Option Numbered → Option (ℕ × Kept) → MemoryFarm → MemoryFarm → List ℕ → Type 0
 WritesAt script None torn before after text = text ≡ []
 WritesAt script (Some numbered) torn before after text = WritesWith script numbered.order torn before after text
 

@@ -1,6 +1,6 @@
 //! Orders that carry messages: deliveries, pumps, and messages that are cut off on their way.
 
-ghost use Rattle.std.specs.Prelude.{◌≡◌, IfErr, OnOk};
+ghost use Rattle.std.specs.Prelude.{◌≡◌, true, IfErr, OnOk};
 ghost use Rattle.wf_farm.specs.Carrying.{IsMemory};
 ghost use Rattle.wf_farm.specs.declared.carrier.CarrierFault.TheVariants as faults;
 ghost use Rattle.wf_play.specs.Performing.{Delivers};
@@ -12,7 +12,7 @@ use std::alloc::Global;
 use wf_farm::{Carrier, CarrierFault, Farm, FarmFault};
 
 impl<'s> Session<'s> {
-    ghost use Rattle.std.specs.Prelude.{true, false};
+    ghost use Rattle.std.specs.Prelude.{false};
     ghost use Rattle.wf_play.specs.Performing.{ArePumped, may_use};
     ghost use Rattle.wf_play.specs.Telling.{IsOneAppended, TellsPump};
     ghost use Rattle.wf_script.specs.Order.{Cut};
@@ -80,7 +80,7 @@ impl<'s> Session<'s> {
     }
 }
 
-/// The messages go to the node, one after the other.
+/// The messages go to the node, one after the other. The farm has all messages.
 #[tactic(auto, using(crate::proofs::Carried::at_once_is_memory))]
 fn deliver_in_turn<C: Carrier>(
     alloc: Global,
@@ -89,9 +89,11 @@ fn deliver_in_turn<C: Carrier>(
     node: usize,
     messages: &[usize],
 ) -> Result<(), CarrierFault>
+    requires { farm.old.complete ≡ true }
     ensures does { OnOk result (Delivers node messages.now farm.old farm.new) }
     ensures faithful { C.faithful → IfErr result (λ fault. fault ≡ faults.Memory) }
     ensures plays { Plays farm.old farm.new }
+    ensures complete { farm.new.complete ≡ true }
 {
     for message in messages {
         // Theorem: the farm is one world, so what its nodes published then is what they have published now.

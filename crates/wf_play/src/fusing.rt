@@ -17,7 +17,7 @@ use wf_farm::{
 use wf_script::Order;
 
 impl<'s> Session<'s> {
-    ghost use Rattle.std.specs.Prelude.{None, Some, IfOk, false, option_map};
+    ghost use Rattle.std.specs.Prelude.{None, Some, IfOk, true, false, option_map};
     ghost use Rattle.wf_farm.specs.Event.{view as event_view};
     ghost use Rattle.wf_play.specs.Fault.{LosesOnlyOf};
     ghost use Rattle.wf_play.specs.Performing.{DeliversOrTears, HappensOrTears, Obeys, left_by, may_use};
@@ -197,6 +197,7 @@ impl<'s> Session<'s> {
     /// Lends the farm; a new one, of one node, is in its place until [`Session::take_back`].
     fn lend_farm(&mut self, alloc: Global) -> Result<Farm, AllocError>
         ensures farm { IfOk result (λ farm. farm ≡ self.old.farm) }
+        ensures complete { IfOk result (λ farm. farm.complete ≡ true) }
         ensures rest { KeepsRest self.old self.new }
     {
         match Farm::new(alloc, 1) {
@@ -207,6 +208,7 @@ impl<'s> Session<'s> {
 
     /// Takes the farm that a run left, in which the tape of this node could fail, and what is left of the fuse.
     fn take_back(&mut self, fused: Fused, node: usize, left: Fuse)
+        requires complete { fused.farm.complete ≡ true }
         requires torn { self.old.torn ≡ None }
         requires node { self.old.fuse ≡ Some node }
         ensures script { self.new.script ≡ self.old.script }

@@ -24,7 +24,7 @@ pub struct Session<'s> {
 impl<'s> Model for Session<'s> {
     ghost use Rattle.std.specs.Coded.{codes};
     ghost use Rattle.std.specs.FinMap as map;
-    ghost use Rattle.std.specs.Prelude.{option_map};
+    ghost use Rattle.std.specs.Prelude.{◌≡◌, true, option_map};
     ghost use Rattle.wf_play.specs.Session.{Session};
 
     ghost Value = { Session };
@@ -37,6 +37,9 @@ impl<'s> Model for Session<'s> {
       fuse = option_map (λ f. f.0) s.fuse;
       torn = s.torn;
     } };
+
+    // No order forgets a message of the farm, so it is one world of the model.
+    ghost invariant = { λ s. s.farm.complete ≡ true };
 }
 
 impl<'s> Session<'s> {

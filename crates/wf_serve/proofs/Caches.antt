@@ -8,7 +8,7 @@ use Rattle.wf_farm.specs.Delivering.{EachGrows}
 use Rattle.wf_farm.specs.PlaceLaws.{get_set_same, get_set_other}
 use Rattle.wf_node.specs.Node.{Node}
 use Rattle.wf_wms.specs.KeptPictures.{AllKept, CacheValue, GrowthKeepsAll}
-use Rattle.wf_serve.specs.Caching.{AreEmpty, AreKept}
+use Rattle.wf_serve.specs.Caching.{AreEmpty, AreKept, IsKeptAt}
 
 -- the element at an index of a list
 there_is : {A : Type 0} (xs : List A) (i : ℕ) → i < length xs → (x : A) × (slice_get xs i ≡ Some x)
@@ -30,19 +30,20 @@ kept_grown law nodes after caches long grows are = record {
       subst (λ n. AllKept n.parts.history cache) it (kept_on law old.0.parts.history new.0.parts.history cache new.2 (are.kept i old.0 cache old.1 there));
 }
 
--- if one node and its cache have changed
-pub kept_set : {T : Type 0} (nodes : List (Node T)) (caches : List CacheValue) (place : ℕ) (node after : Node T) (cache next : CacheValue) → slice_get nodes place ≡ Some node →
-    slice_get caches place ≡ Some cache → AllKept after.parts.history next → AreKept nodes caches → AreKept (slice_set nodes place after) (slice_set caches place next)
-kept_set nodes caches place node after cache next at there kept are = record {
-  as_many = length-set caches place next ∙ are.as_many ∙ sym (length-set nodes place after);
-  kept = λ i other kept_there other_at cache_at. elim (cases_eq i place) [
-    | inl same ↦
-        let it = get_set_same nodes place after node other at (subst (λ k. slice_get (slice_set nodes place after) k ≡ Some other) same other_at) in
-        let its = get_set_same caches place next cache kept_there there (subst (λ k. slice_get (slice_set caches place next) k ≡ Some kept_there) same cache_at) in
-        subst (λ n. AllKept n.parts.history kept_there) it (subst (AllKept after.parts.history) its kept)
-    | inr differs ↦ are.kept i other kept_there (sym (get_set_other nodes place i after differs) ∙ other_at) (sym (get_set_other caches place i next differs) ∙ cache_at)
-  ];
-}
+-- if the nodes' lists have grown, and one cache has changed, and is its node's still
+pub kept_with : {T : Type 0} → GrowthKeepsAll → (nodes after : List (Node T)) (caches : List CacheValue) (place : ℕ) (cache next : CacheValue) → length after ≡ length nodes → EachGrows nodes after →
+    slice_get caches place ≡ Some cache → IsKeptAt after place next → AreKept nodes caches → AreKept after (slice_set caches place next)
+kept_with law nodes after caches place cache next long grows there own are =
+    let grown = kept_grown law nodes after caches long grows are in
+    record {
+      as_many = length-set caches place next ∙ grown.as_many;
+      kept = λ i node kept at cache_at. elim (cases_eq i place) [
+        | inl same ↦
+            let its = get_set_same caches place next cache kept there (subst (λ k. slice_get (slice_set caches place next) k ≡ Some kept) same cache_at) in
+            subst (AllKept node.parts.history) its (own node (subst (λ k. slice_get after k ≡ Some node) same at))
+        | inr differs ↦ grown.kept i node kept at (sym (get_set_other caches place i next differs) ∙ cache_at)
+      ];
+    }
 
 -- ---- empty caches
 

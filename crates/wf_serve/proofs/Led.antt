@@ -7,11 +7,16 @@ use Rattle.wf_model.specs.Table as table
 use Rattle.wf_edge.specs.Serving.{HandsOut, MovesOnce, Stays, Proposes}
 use Rattle.wf_farm.specs.Delivering.{KeepHalted, KeepTurn, StandInTurn}
 use Rattle.wf_farm.specs.DeliveringLaws.{halted_twice, keeps_turn_twice}
+use Rattle.wf_farm.specs.Exchange.{IsSturdy, LeadsOn}
+use Rattle.wf_farm.specs.ExchangeLaws.{same_sturdy, step_sturdy}
 use Rattle.wf_farm.specs.Leading.{AreLedSaying, IsOwn, NothingIsSaid, StepLeadsOn, said_by}
 use Rattle.wf_farm.specs.PlaceLaws.{set_same}
 use Rattle.wf_node.specs.Node.{Node}
 use Rattle.wf_node.specs.declared.fault.NodeFault.{NodeFault}
 use Rattle.wf_serve.specs.Serving.{IsAsked, IsAskedAndHeard}
+use Rattle.wf_serve.specs.Visiting.{own_input}
+use Rattle.wf_serve.specs.declared.visiting.Own.{Own}
+use Rattle.wf_serve.specs.declared.visiting.Own.TheVariants.{CatchUp, Retry}
 use Rattle.wf_tape.specs.declared.tape.Tape.{Ghosts as Tape}
 
 pub hands_said : (answer : Result (Vec Message Global) NodeFault) (said : Vec Message Global) → HandsOut answer said → said_by answer ≡ said.items
@@ -36,6 +41,29 @@ module _ {T : Type 0} (tapes : Tape T) (law : StepLeadsOn tapes)
   moved_leads quiet (Proposes d result proposed hands) =
       subst (λ ms. AreLedSaying tapes nodes ms (slice_set nodes i after)) (hands_said result said hands)
       (law nodes i before after (table.Propose d) result at turns tt proposed.refused proposed.steps)
+
+-- What the farm itself asks isn't a delivery.
+pub inputs_are_own : (own : Own) → IsOwn (own_input own)
+inputs_are_own CatchUp = tt
+inputs_are_own Retry = tt
+
+-- A node that was asked leads any nodes on among which it is, and isn't halted where its tape won't fail.
+module _ {T : Type 0} (tapes : Tape T) (law : StepLeadsOn tapes) (before after : Node T) (said : Vec Message Global) where
+  pub asked_leads_on : (input : table.Input Definition) → IsOwn input → IsAsked tapes input before said after → LeadsOn tapes before said.items after
+  unfolding LeadsOn
+  asked_leads_on input own asked = λ nodes i at turns. asked_leads tapes law nodes i before after at turns said input own asked
+
+  pub moved_leads_on : NothingIsSaid tapes → MovesOnce tapes before said after → LeadsOn tapes before said.items after
+  unfolding LeadsOn
+  moved_leads_on quiet moves = λ nodes i at turns. moved_leads tapes law nodes i before after at turns said quiet moves
+
+module _ {T : Type 0} (tapes : Tape T) (before after : Node T) (said : Vec Message Global) where
+  pub asked_sturdy : (input : table.Input Definition) → IsAsked tapes input before said after → IsSturdy tapes before after
+  asked_sturdy input asked = step_sturdy tapes before after input asked.answer asked.answers.steps asked.answers.sturdy asked.answers.sound
+
+  pub moved_sturdy : MovesOnce tapes before said after → IsSturdy tapes before after
+  moved_sturdy (Stays unmoved) = same_sturdy tapes before after unmoved.same
+  moved_sturdy (Proposes d result proposed hands) = step_sturdy tapes before after (table.Propose d) result proposed.steps proposed.sturdy proposed.sound
 
 -- A node was asked for a step of its own, and its messages were delivered: each node keeps its index and what it published, and one
 -- whose tape had failed is unchanged.

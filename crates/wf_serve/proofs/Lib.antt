@@ -3,8 +3,10 @@ mod Caches
 mod Come
 mod Ended
 mod Led
+mod Exchanged
 mod First
 mod Opened
+mod Running
 mod New
 mod Published
 mod Shortened

@@ -2,7 +2,11 @@
 use Rattle.std.proofs.Common.{◌≡◌, ◌⊎◌, ℕ, zero, suc, List, [], ◌∷◌, ◌++◌, length, slice_get, Some, refl, sym, ap, subst, ◌∙◌, inl, inr}
 use Rattle.std.proofs.lemmas.Option.{none-some, same_Some}
 use Rattle.wf_farm.specs.Delivering.{StandAmong, StandInTurn}
-use Rattle.wf_farm.specs.Leading.{AreFresh, IsFresh}
+use Rattle.wf_farm.specs.declared.place.Place.{Place}
+use Rattle.wf_farm.specs.declared.place.Place.TheVariants.{Running}
+use Rattle.wf_farm.specs.Nodes.{nodes_from, nodes_of}
+use Rattle.wf_farm.specs.NodesLaws.{length-nodes, long_from, none_run, one_more_node, one_more_runs}
+use Rattle.wf_serve.specs.Opening.{AreOpened}
 use Rattle.wf_node.specs.Node.{Node}
 
 -- the element at an index of a list with one more at its end: the one that was there, or the last one
@@ -16,29 +20,26 @@ more_at (z ∷ xs) y (suc i) x e = elim (more_at xs y i x e) [
 ]
 
 -- The next node of n, appended.
-pub one_more : {T : Type 0} (n : ℕ) (nodes : List (Node T)) (node : Node T) → StandAmong n nodes → node.id ≡ length nodes → node.n ≡ n → StandAmong n (nodes ++ node ∷ [])
+one_more_among : {T : Type 0} (n : ℕ) (nodes : List (Node T)) (node : Node T) → StandAmong n nodes → node.id ≡ length nodes → node.n ≡ n → StandAmong n (nodes ++ node ∷ [])
 unfolding StandAmong
-one_more n nodes node turns next of = λ i x e. elim (more_at nodes node i x e) [
+one_more_among n nodes node turns next of = λ i x e. elim (more_at nodes node i x e) [
   | inl before ↦ turns i x before
   | inr last ↦ subst (λ y. (y.id ≡ i) × (y.n ≡ n)) last.1 (next ∙ sym last.0, of)
 ]
 
--- One more on an empty tape, appended to others on empty tapes.
-pub one_more_fresh : {T : Type 0} (nodes : List (Node T)) (node : Node T) → IsFresh node → AreFresh nodes → AreFresh (nodes ++ node ∷ [])
-unfolding AreFresh
-one_more_fresh nodes node fresh are = λ i x e. elim (more_at nodes node i x e) [
-  | inl before ↦ are i x before
-  | inr last ↦ subst IsFresh last.1 fresh
-]
+-- No node is opened yet.
+pub none_opened : (T : Type 0) (n : ℕ) → AreOpened {T = T} n []
+unfolding StandAmong nodes_from
+none_opened T n = record { in_turn = λ i node e. absurd (none-some node e); running = none_run T }
 
-pub none_fresh : (T : Type 0) → AreFresh {T = T} []
-unfolding AreFresh
-none_fresh T = λ i node e. absurd (none-some node e)
-
-pub none_yet : (T : Type 0) (n : ℕ) → StandAmong {T = T} n []
-unfolding StandAmong
-none_yet T n = λ i node e. absurd (none-some node e)
+-- One more is.
+pub one_more : {T : Type 0} (n : ℕ) (places : List (Place T)) (node : Node T) → AreOpened n places → node.id ≡ length places → node.n ≡ n → AreOpened n (places ++ Running node ∷ [])
+one_more n places node are next of = record {
+  in_turn = subst (StandAmong n) (sym (one_more_node n 0 places node)) (one_more_among n (nodes_from n 0 places) node are.in_turn (next ∙ sym (long_from n 0 places)) of);
+  running = one_more_runs places node are.running;
+}
 
 -- Once there are n nodes, each is at the index of its number.
-pub in_place : {T : Type 0} (n : ℕ) (items nodes : List (Node T)) → nodes ≡ items → length items ≡ n → StandAmong n items → StandInTurn nodes
-in_place n items nodes same long turns = subst (λ ns. StandAmong (length ns) ns) (sym same) (subst (λ k. StandAmong k items) (sym long) turns)
+pub in_place : {T : Type 0} (n : ℕ) (places : List (Place T)) → length places ≡ n → AreOpened n places → StandInTurn (nodes_of places)
+in_place n places long are =
+    subst (λ k. StandAmong k (nodes_of places)) (sym (length-nodes places)) (subst (λ k. StandAmong k (nodes_from k 0 places)) (sym long) are.in_turn)

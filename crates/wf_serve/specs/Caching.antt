@@ -4,6 +4,10 @@ use Rattle.wf_def.specs.Definition.{Definition}
 use Rattle.wf_node.specs.Node.{Node}
 use Rattle.wf_wms.specs.KeptPictures.{AllKept, CacheValue}
 
+-- Each picture in the cache is of a map that the node at index `place` has published.
+abbrev pub IsKeptAt : {T : Type 0} → List (Node T) → ℕ → CacheValue → Type 0
+IsKeptAt {T} nodes place cache = (node : Node T) → slice_get nodes place ≡ Some node → AllKept node.parts.history cache
+
 -- At index i is the cache of node i: each picture in it is of a map that the node has published.
 pub record AreKept {T : Type 0} (nodes : List (Node T)) (caches : List CacheValue) : Type 0 where
   pub as_many : length caches ≡ length nodes

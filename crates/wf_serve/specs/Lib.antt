@@ -2,8 +2,10 @@ pub mod Caching
 pub mod Fault
 pub mod Listening
 pub mod Serving
+pub mod Visiting
 pub mod Connections
 pub mod Folder
+pub mod Opening
 pub mod Agreeing
 pub mod Shortening
 pub mod Publishing

@@ -53,6 +53,14 @@ module _ {T : Type 0} (tapes : Tape T) where
     -- also if the input isn't known
     pub moves : MovesOnce tapes before said after
 
+  -- The node at index `place` served the request that was received, and its messages were delivered.
+  pub record IsServedAndHeard (place : ℕ) (input old new : Option (List ℕ)) (nodes : List (Node T)) (outcome : Outcome) (nodes_after : List (Node T)) : Type 0 where
+    -- the node's messages in serving, and the nodes by then
+    pub said : Vec Message Global
+    pub served : List (Node T)
+    pub request : IsServedAt place input old new nodes said served outcome
+    pub hearing : AreHeard served said nodes_after
+
   -- The messages of a node that is asked for a step: exactly the step's, none if the step was rejected or failed.
   pub record IsAsked (input : Input Definition) (before : Node T) (said : Vec Message Global) (after : Node T) : Type 0 where
     pub answer : Result (Vec Message Global) NodeFault

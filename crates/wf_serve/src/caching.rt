@@ -1,25 +1,26 @@
 //! The caches of the nodes.
 ghost use Rattle.std.specs.Prelude.{◌≡◌, ◌≤◌, ◌+◌, length, IfOk, OnOk};
+ghost use Rattle.wf_farm.specs.Nodes.{nodes_in};
 ghost use Rattle.wf_serve.specs.Caching.{AreEmpty, AreKept};
 ghost use Rattle.wf_wms.specs.KeptPictures.{most_kept};
 
 use std::alloc::{AllocError, Global};
-use wf_node::Node;
+use wf_farm::Farm;
 use wf_tape::Tape;
 use wf_wms::cache::Cache;
 
-/// Returns a cache for each node, of `pictures` pictures at most, all empty.
+/// Returns a cache for each node, of `capacity` pictures at most, all empty.
 pub(crate) fn caches_for<T: Tape>(
     alloc: Global,
-    nodes: &[Node<T>],
+    farm: &Farm<T>,
     capacity: u8,
 ) -> Result<Vec<Cache>, AllocError>
     requires least { 1 ≤ capacity }
     requires most { capacity ≤ most_kept }
-    ensures { IfOk result (λ caches. AreKept nodes.now caches.items) }
+    ensures { IfOk result (λ caches. AreKept (nodes_in farm.now) caches.items) }
 {
     let mut caches = Vec::new(alloc);
-    for number in 0..nodes.len() {
+    for number in 0..farm.size() {
         add(alloc, &mut caches, number, capacity)?;
     }
     Ok(caches)

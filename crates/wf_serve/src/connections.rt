@@ -1,7 +1,9 @@
 //! Connections accepted at a listener, each served by the node whose turn it is.
-ghost use Rattle.std.specs.Prelude.{◌≡◌, ◌<◌, ◌%◌, length};
-ghost use Rattle.wf_farm.specs.Delivering.{AnyPart, EachGrows, StandInTurn};
+ghost use Rattle.std.specs.Prelude.{◌≡◌, ◌<◌, ◌%◌};
+ghost use Rattle.wf_farm.specs.Delivering.{AnyPart, EachGrows};
+ghost use Rattle.wf_farm.specs.Farm.{size};
 ghost use Rattle.wf_farm.specs.Leading.{AreLedOn, AreReached, HaveOneHistory};
+ghost use Rattle.wf_farm.specs.Nodes.{AllRun, nodes_in};
 ghost use Rattle.wf_serve.specs.Agreeing.{RespondAlike};
 ghost use Rattle.wf_serve.specs.Caching.{AreKept};
 ghost use Rattle.wf_serve.specs.Connections.{HaveCome, IsAnswered, MayBeAnswered};
@@ -11,8 +13,7 @@ use crate::parting::part;
 use crate::serving::{agree_still, serve_connection};
 use std::net::{TcpListener, TcpStream};
 use std::time::{Clock, Duration};
-use wf_farm::leading_goes_on;
-use wf_node::Node;
+use wf_farm::{Farm, leading_goes_on};
 use wf_stream::Stream;
 use wf_tape::Tape;
 use wf_wms::cache::Cache;
@@ -29,27 +30,31 @@ const PEER_SECONDS: u64 = 10;
 pub fn serve_connections<R: Clock + AllocGlobal, T: Tape>(
     rt: &R,
     listener: &TcpListener,
-    nodes: &mut [Node<T>],
+    farm: &mut Farm<T>,
     caches: &mut [Cache],
     requests: u32,
 )
-    requires some { 0 < length nodes.old }
-    requires in_turn { StandInTurn nodes.old }
-    requires kept { AreKept nodes.old caches.old }
-    ensures come { HaveCome T.Tape (length nodes.old) requests nodes.old nodes.new }
-    ensures led { AreLedOn T.Tape nodes.old nodes.new }
-    ensures reached { AreReached AnyPart nodes.old → AreReached AnyPart nodes.new }
-    ensures agree { AreReached AnyPart nodes.old → HaveOneHistory nodes.new }
-    ensures alike { AreReached AnyPart nodes.old → RespondAlike T.Tape nodes.new }
-    ensures grows { EachGrows nodes.old nodes.new }
-    ensures kept { AreKept nodes.new caches.new }
+    requires running { AllRun farm.old.places }
+    requires kept { AreKept (nodes_in farm.old) caches.old }
+    ensures come { HaveCome T.Tape (size farm.old) requests
+        (nodes_in farm.old) (nodes_in farm.new) }
+    ensures led { AreLedOn T.Tape (nodes_in farm.old) (nodes_in farm.new) }
+    ensures reached { AreReached AnyPart (nodes_in farm.old) →
+        AreReached AnyPart (nodes_in farm.new) }
+    ensures agree { AreReached AnyPart (nodes_in farm.old) →
+        HaveOneHistory (nodes_in farm.new) }
+    ensures alike { AreReached AnyPart (nodes_in farm.old) →
+        RespondAlike T.Tape (nodes_in farm.new) }
+    ensures grows { EachGrows (nodes_in farm.old) (nodes_in farm.new) }
+    ensures running { AllRun farm.new.places }
+    ensures kept { AreKept (nodes_in farm.new) caches.new }
 {
     leading_goes_on::<T>();
-    let count = nodes.len();
+    let count = farm.size();
     for connection in 0..requests {
-        serve_next(rt, listener, nodes, caches, turn_of(connection, count));
+        serve_next(rt, listener, farm, caches, turn_of(connection, count));
     }
-    agree_still(nodes);
+    agree_still(farm);
 }
 
 /// The index of the node that serves a connection.
@@ -65,45 +70,47 @@ fn turn_of(connection: u32, count: usize) -> usize
 fn serve_next<R: Clock + AllocGlobal, T: Tape>(
     rt: &R,
     listener: &TcpListener,
-    nodes: &mut [Node<T>],
+    farm: &mut Farm<T>,
     caches: &mut [Cache],
     place: usize,
 )
-    requires within { place < length nodes.old }
-    requires in_turn { StandInTurn nodes.old }
-    requires kept { AreKept nodes.old caches.old }
-    ensures answered { MayBeAnswered T.Tape place nodes.old nodes.new }
-    ensures led { AreLedOn T.Tape nodes.old nodes.new }
-    ensures kept { AreKept nodes.new caches.new }
+    requires within { place < size farm.old }
+    requires running { AllRun farm.old.places }
+    requires kept { AreKept (nodes_in farm.old) caches.old }
+    ensures answered { MayBeAnswered T.Tape place (nodes_in farm.old) (nodes_in farm.new) }
+    ensures led { AreLedOn T.Tape (nodes_in farm.old) (nodes_in farm.new) }
+    ensures running { AllRun farm.new.places }
+    ensures kept { AreKept (nodes_in farm.new) caches.new }
 {
     leading_goes_on::<T>();
     let Ok((stream, _)) = listener.accept() else {
         return;
     };
-    serve_stream(rt, stream, nodes, caches, place);
+    serve_stream(rt, stream, farm, caches, place);
 }
 
 /// Serves an accepted connection by the node at an index, and closes it.
 fn serve_stream<R: Clock + AllocGlobal, T: Tape>(
     rt: &R,
     stream: TcpStream,
-    nodes: &mut [Node<T>],
+    farm: &mut Farm<T>,
     caches: &mut [Cache],
     place: usize,
 )
-    requires within { place < length nodes.old }
-    requires in_turn { StandInTurn nodes.old }
-    requires kept { AreKept nodes.old caches.old }
-    ensures answered { IsAnswered T.Tape place nodes.old nodes.new }
-    ensures led { AreLedOn T.Tape nodes.old nodes.new }
-    ensures kept { AreKept nodes.new caches.new }
+    requires within { place < size farm.old }
+    requires running { AllRun farm.old.places }
+    requires kept { AreKept (nodes_in farm.old) caches.old }
+    ensures answered { IsAnswered T.Tape place (nodes_in farm.old) (nodes_in farm.new) }
+    ensures led { AreLedOn T.Tape (nodes_in farm.old) (nodes_in farm.new) }
+    ensures running { AllRun farm.new.places }
+    ensures kept { AreKept (nodes_in farm.new) caches.new }
 {
     let time = Duration::from_secs(PEER_SECONDS);
     let outcome = serve_connection(
         rt.alloc(),
         &mut Stream::new(Limited::new(rt, &stream, time)),
         &mut Stream::new(Limited::new(rt, &stream, time)),
-        nodes,
+        farm,
         caches,
         place,
     );

@@ -4,16 +4,16 @@
 //! the folder of the nodes' tapes. [`serve`] binds the port, and goes on in steps that a caller can also take alone:
 //! - [`listen`] returns a listener at 127.0.0.1.
 //! - [`serve_at`] opens the nodes and serves them at a listener.
-//! - [`serve_nodes`] lets open nodes catch up ([`catch_up`]), prints the port and serves them.
+//! - [`serve_nodes`] lets a farm's nodes catch up ([`catch_up`]), prints the port and serves them.
 //! - [`serve_connections`] serves a number of connections.
 //! - [`serve_connection`] serves one, over any reader and writer.
 //!
 //! **Promises.**
-//! - A connection: the node at the given index serves the request with its cache, as `wf_edge`'s `serve_one_cached` does, while
-//!   each other node is unchanged, and each cache's pictures are of its node's maps throughout (`specs/Caching.antt`). Then the
-//!   nodes are what `wf_farm`'s `deliver_all` leaves after delivering exactly the messages that the node sent. Then, if a
-//!   proposal of that node still runs, the node is asked once to restart it, and the messages that it sends are delivered
-//!   likewise; otherwise nothing happens (`specs/Serving.antt`).
+//! - A connection is an exchange with the farm's node at the given index (`Farm::exchange` of `wf_farm`). The node serves the request
+//!   with its cache, as `wf_edge`'s `serve_one_cached` does, while each other node is unchanged, and each cache's pictures are of its
+//!   node's maps throughout (`specs/Caching.antt`). Then exactly the messages that the node sent are delivered to all nodes, and those
+//!   sent in reply. Then, if a proposal of that node still runs, the node is asked once to restart it, and the messages that it sends
+//!   are delivered likewise; otherwise nothing happens (`specs/Serving.antt`).
 //! - Many connections: connection c, counted from 0, is served so by node c mod n, or changes nothing if it can't be accepted
 //!   (`specs/Connections.antt`).
 //! - Catching up: each node was asked to, in turn.
@@ -25,7 +25,7 @@
 //!   aren't served, and what is written of that line by then (`specs/Listening.antt`).
 //! - Of that line and of each response a failed write is the last call of its writer.
 //! - All of this is one run of the farm's model: whatever world of it the nodes were, some of its events lead to what they are
-//!   afterwards, and no node's published sequence goes back. If they are reached from its start, as new nodes in memory are, no two
+//!   afterwards, and no node's published sequence goes back. If they are reached from its start, as those of a farm in memory are, no two
 //!   of them have published different maps under one sequence, whatever the connections sent, and two that stand at one sequence
 //!   respond to equal requests for maps with equal bytes (`led`, `grows`, `reached`, `agree` and `alike` of [`serve_nodes`],
 //!   [`serve_connections`] and [`serve_connection`]; `specs/Agreeing.antt`).
@@ -51,6 +51,7 @@ mod port;
 mod publishing;
 mod serving;
 mod shortening;
+mod visiting;
 
 pub use connections::serve_connections;
 pub use fault::ServeFault;

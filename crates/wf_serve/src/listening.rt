@@ -1,7 +1,8 @@
 //! Opens the nodes, lets them catch up, prints their port, and serves the connections.
-ghost use Rattle.std.specs.Prelude.{◌≡◌, ◌<◌, length, Some, None};
-ghost use Rattle.wf_farm.specs.Delivering.{AnyPart, EachGrows, StandInTurn};
+ghost use Rattle.std.specs.Prelude.{◌≡◌, Some, None};
+ghost use Rattle.wf_farm.specs.Delivering.{AnyPart, EachGrows};
 ghost use Rattle.wf_farm.specs.Leading.{AreLedOn, AreReached, HaveOneHistory};
+ghost use Rattle.wf_farm.specs.Nodes.{AllRun, nodes_in};
 ghost use Rattle.wf_serve.specs.Agreeing.{RespondAlike};
 ghost use Rattle.wf_serve.specs.Caching.{AreKept};
 ghost use Rattle.wf_serve.specs.Connections.{IfTold, IsServing};
@@ -13,15 +14,14 @@ use crate::caching::caches_for;
 use crate::connections::serve_connections;
 use crate::fault::ServeFault;
 use crate::holding::hold;
-use crate::opening::{in_files, in_memory};
+use crate::opening::in_files;
 use crate::port::{listen, tell_port};
 use crate::serving::{agree_still, catch_up};
 use std::fs::File;
 use std::net::{Net, TcpListener, TcpStream};
 use std::rt::Files;
 use std::time::Clock;
-use wf_farm::leading_goes_on;
-use wf_node::Node;
+use wf_farm::{Farm, leading_goes_on};
 use wf_service::Service;
 use wf_stream::Sink;
 use wf_tape::Tape;
@@ -86,8 +86,8 @@ fn serve_memory<R: Clock + AllocGlobal, K: Sink>(
     requires memory { service.state ≡ None }
     ensures { TellsPort K.Sink service.entry.port sink.old sink.new result }
 {
-    match in_memory(rt.alloc(), service.nodes) {
-        Ok(nodes) => serve_opened(rt, listener, service, nodes, sink),
+    match Farm::new(rt.alloc(), service.nodes) {
+        Ok(farm) => serve_opened(rt, listener, service, farm, sink),
         Err(_) => Err(ServeFault::Start),
     }
 }
@@ -125,7 +125,7 @@ fn serve_tapes<R: Files + Eprint + Clock + AllocGlobal, K: Sink>(
     ensures { TellsPort K.Sink service.entry.port sink.old sink.new result }
 {
     match in_files(rt, service.nodes, folder) {
-        Ok(nodes) => serve_opened(rt, listener, service, nodes, sink),
+        Ok(farm) => serve_opened(rt, listener, service, farm, sink),
         Err(_) => Err(ServeFault::Start),
     }
 }
@@ -135,20 +135,19 @@ fn serve_opened<R: Clock + AllocGlobal, K: Sink, T: Tape + Drop>(
     rt: &R,
     listener: &TcpListener,
     service: Service<'_>,
-    mut nodes: Vec<Node<T>>,
+    mut farm: Farm<T>,
     sink: &mut K,
 ) -> Result<(), ServeFault>
     requires service { IsService service }
-    requires some { 0 < length nodes.items }
-    requires in_turn { StandInTurn nodes.items }
+    requires running { AllRun farm.places }
     ensures { TellsPort K.Sink service.entry.port sink.old sink.new result }
 {
-    let outcome = serve_nodes(rt, listener, service, nodes.as_mut_slice(), sink);
-    drop(nodes);
+    let outcome = serve_nodes(rt, listener, service, &mut farm, sink);
+    drop(farm);
     outcome
 }
 
-/// Serves nodes that a caller holds at a listener: each requests the definitions that it missed, and the messages are delivered;
+/// Serves a farm that a caller holds at a listener: each node requests the definitions that it missed, and the messages are delivered;
 /// the line `listening P` with the listener's port is written; and then connections are served as by [`serve_connections`]. The
 /// service gives the number of pictures cached for each node; its number of nodes and its folder are ignored.
 ///
@@ -159,31 +158,34 @@ pub fn serve_nodes<R: Clock + AllocGlobal, K: Sink, T: Tape>(
     rt: &R,
     listener: &TcpListener,
     service: Service<'_>,
-    nodes: &mut [Node<T>],
+    farm: &mut Farm<T>,
     sink: &mut K,
 ) -> Result<(), ServeFault>
     requires service { IsService service }
-    requires some { 0 < length nodes.old }
-    requires in_turn { StandInTurn nodes.old }
+    requires running { AllRun farm.old.places }
     ensures told { IsTold service.entry.port (K.written sink.old) (K.written sink.new) result }
     ensures writes { CountsWrites result (K.failures sink.old) (K.failures sink.new) }
     ensures last { IsEnded K.Sink service.entry.port sink.old sink.new result }
-    ensures served { IsServing T.Tape service.entry.requests nodes.old result nodes.new }
-    ensures led { AreLedOn T.Tape nodes.old nodes.new }
-    ensures reached { AreReached AnyPart nodes.old → AreReached AnyPart nodes.new }
-    ensures agree { AreReached AnyPart nodes.old → HaveOneHistory nodes.new }
-    ensures alike { AreReached AnyPart nodes.old → RespondAlike T.Tape nodes.new }
-    ensures grows { EachGrows nodes.old nodes.new }
+    ensures served { IsServing T.Tape service.entry.requests
+        (nodes_in farm.old) result (nodes_in farm.new) }
+    ensures led { AreLedOn T.Tape (nodes_in farm.old) (nodes_in farm.new) }
+    ensures reached { AreReached AnyPart (nodes_in farm.old) →
+        AreReached AnyPart (nodes_in farm.new) }
+    ensures agree { AreReached AnyPart (nodes_in farm.old) →
+        HaveOneHistory (nodes_in farm.new) }
+    ensures alike { AreReached AnyPart (nodes_in farm.old) →
+        RespondAlike T.Tape (nodes_in farm.new) }
+    ensures grows { EachGrows (nodes_in farm.old) (nodes_in farm.new) }
 {
     leading_goes_on::<T>();
-    catch_up(rt.alloc(), nodes);
-    let Ok(mut caches) = caches_for(rt.alloc(), nodes, service.cache) else {
-        agree_still(nodes);
+    catch_up(rt.alloc(), farm);
+    let Ok(mut caches) = caches_for(rt.alloc(), farm, service.cache) else {
+        agree_still(farm);
         return Err(ServeFault::Start);
     };
-    let outcome = serve_kept(rt, listener, service, nodes, caches.as_mut_slice(), sink);
+    let outcome = serve_kept(rt, listener, service, farm, caches.as_mut_slice(), sink);
     drop(caches);
-    agree_still(nodes);
+    agree_still(farm);
     outcome
 }
 
@@ -192,21 +194,21 @@ fn serve_kept<R: Clock + AllocGlobal, K: Sink, T: Tape>(
     rt: &R,
     listener: &TcpListener,
     service: Service<'_>,
-    nodes: &mut [Node<T>],
+    farm: &mut Farm<T>,
     caches: &mut [Cache],
     sink: &mut K,
 ) -> Result<(), ServeFault>
-    requires some { 0 < length nodes.old }
-    requires in_turn { StandInTurn nodes.old }
-    requires kept { AreKept nodes.old caches.old }
+    requires running { AllRun farm.old.places }
+    requires kept { AreKept (nodes_in farm.old) caches.old }
     ensures tells { TellsPort K.Sink service.entry.port sink.old sink.new result }
-    ensures come { IfTold T.Tape service.entry.requests nodes.old result nodes.new }
-    ensures led { AreLedOn T.Tape nodes.old nodes.new }
+    ensures come { IfTold T.Tape service.entry.requests
+        (nodes_in farm.old) result (nodes_in farm.new) }
+    ensures led { AreLedOn T.Tape (nodes_in farm.old) (nodes_in farm.new) }
 {
     leading_goes_on::<T>();
     match tell_port(rt.alloc(), listener, service.port, sink) {
         Ok(()) => {
-            serve_connections(rt, listener, nodes, caches, service.requests);
+            serve_connections(rt, listener, farm, caches, service.requests);
             Ok(())
         }
         Err(fault) => Err(fault),

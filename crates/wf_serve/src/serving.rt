@@ -1,26 +1,23 @@
-//! The effect of a connection on the nodes, and their catch-up before the first.
-ghost use Rattle.std.specs.Prelude.{◌≡◌, ◌≢◌, ◌<◌, false, true, length};
-ghost use Rattle.wf_edge.specs.Asking.{IsAnswer};
+//! The effect of a connection on a farm, and the catch-up of its nodes before the first.
+ghost use Rattle.std.specs.Prelude.{◌≡◌, ◌≢◌, ◌<◌, false, true};
 ghost use Rattle.wf_edge.specs.Hearing.{CountsHearing};
 ghost use Rattle.wf_edge.specs.Page.{standing_at};
 ghost use Rattle.wf_edge.specs.Saying.{CountsSaying};
-ghost use Rattle.wf_farm.specs.Delivering.{AnyPart, EachGrows, KeepTurn, StandInTurn};
-ghost use Rattle.wf_farm.specs.Leading.{AreLedOn, AreLedSaying, AreReached, HaveOneHistory, IsOwn};
-ghost use Rattle.wf_node.specs.Input.{view};
+ghost use Rattle.wf_farm.specs.Delivering.{AnyPart, EachGrows};
+ghost use Rattle.wf_farm.specs.Farm.{size};
+ghost use Rattle.wf_farm.specs.Leading.{AreLedOn, AreReached, HaveOneHistory};
+ghost use Rattle.wf_farm.specs.Nodes.{AllRun, nodes_in};
 ghost use Rattle.wf_serve.specs.Agreeing.{AgreeStill, RespondAlike};
-ghost use Rattle.wf_serve.specs.Caching.{AreKept};
-ghost use Rattle.wf_serve.specs.Serving.{AreHeard, EndsWriting, HaveCaughtUp, IsAsked, IsAskedAndHeard, IsAskedAt, IsConnection, IsRetried, IsServedAt};
+ghost use Rattle.wf_serve.specs.Caching.{AreKept, IsKeptAt};
+ghost use Rattle.wf_serve.specs.Serving.{EndsWriting, HaveCaughtUp, IsAskedAndHeard, IsConnection, IsRetried, IsServedAndHeard, RestsAt, RunsAt};
+ghost use Rattle.wf_serve.specs.Visiting.{own_input};
 
+use crate::visiting::{Own, Visit};
 use std::alloc::Global;
-use wf_codec::Message;
 use wf_edge::law::equal_requests_have_equal_responses;
 use wf_edge::outcome::Outcome;
-use wf_edge::serve::{Served, serve_one_cached};
-use wf_farm::{
-    a_step_leads_on, deliver_all, deliveries_lead_on, leading_goes_on, reached_nodes_agree,
-    reached_stays,
-};
-use wf_node::{Input, Node, NodeFault};
+use wf_farm::{Farm, leading_goes_on, reached_stays};
+use wf_node::Node;
 use wf_proposer::Standing;
 use wf_stream::{Sink, Source};
 use wf_tape::Tape;
@@ -28,14 +25,15 @@ use wf_wms::cache::Cache;
 use wf_wms::law::kept_pictures_outlast_growth;
 
 /// Asks each node in turn to catch up, and delivers its request and the messages sent in reply before the next node is asked.
-pub fn catch_up<T: Tape>(alloc: Global, nodes: &mut [Node<T>])
-    requires { StandInTurn nodes.old }
-    ensures caught { HaveCaughtUp T.Tape (length nodes.old) nodes.old nodes.new }
-    ensures led { AreLedOn T.Tape nodes.old nodes.new }
+pub fn catch_up<T: Tape>(alloc: Global, farm: &mut Farm<T>)
+    requires { AllRun farm.old.places }
+    ensures caught { HaveCaughtUp T.Tape (size farm.old) (nodes_in farm.old) (nodes_in farm.new) }
+    ensures led { AreLedOn T.Tape (nodes_in farm.old) (nodes_in farm.new) }
+    ensures running { AllRun farm.new.places }
 {
     leading_goes_on::<T>();
-    for number in 0..nodes.len() {
-        ask(alloc, nodes, number, Input::CatchUp);
+    for number in 0..farm.size() {
+        ask(alloc, farm, number, Own::CatchUp);
     }
 }
 
@@ -47,89 +45,135 @@ pub fn serve_connection<S: Source, K: Sink, T: Tape>(
     alloc: Global,
     source: &mut S,
     sink: &mut K,
-    nodes: &mut [Node<T>],
+    farm: &mut Farm<T>,
     caches: &mut [Cache],
     place: usize,
 ) -> Outcome
-    requires within { place < length nodes.old }
-    requires in_turn { StandInTurn nodes.old }
-    requires kept { AreKept nodes.old caches.old }
-    ensures connection { IsConnection T.Tape place
-        (S.left source.old) (K.written sink.old) (K.written sink.new) nodes.old result nodes.new }
+    requires within { place < size farm.old }
+    requires running { AllRun farm.old.places }
+    requires kept { AreKept (nodes_in farm.old) caches.old }
+    ensures connection { IsConnection T.Tape place (S.left source.old) (K.written sink.old)
+        (K.written sink.new) (nodes_in farm.old) result (nodes_in farm.new) }
     ensures reads { CountsHearing result (S.failures source.old) (S.failures source.new) }
     ensures writes { CountsSaying result (K.failures sink.old) (K.failures sink.new) }
     ensures last { EndsWriting K.Sink sink.old sink.new result }
-    ensures led { AreLedOn T.Tape nodes.old nodes.new }
-    ensures reached { AreReached AnyPart nodes.old → AreReached AnyPart nodes.new }
-    ensures agree { AreReached AnyPart nodes.old → HaveOneHistory nodes.new }
-    ensures alike { AreReached AnyPart nodes.old → RespondAlike T.Tape nodes.new }
-    ensures grows { EachGrows nodes.old nodes.new }
-    ensures kept { AreKept nodes.new caches.new }
+    ensures led { AreLedOn T.Tape (nodes_in farm.old) (nodes_in farm.new) }
+    ensures reached { AreReached AnyPart (nodes_in farm.old) →
+        AreReached AnyPart (nodes_in farm.new) }
+    ensures agree { AreReached AnyPart (nodes_in farm.old) → HaveOneHistory (nodes_in farm.new) }
+    ensures alike { AreReached AnyPart (nodes_in farm.old) →
+        RespondAlike T.Tape (nodes_in farm.new) }
+    ensures grows { EachGrows (nodes_in farm.old) (nodes_in farm.new) }
+    ensures running { AllRun farm.new.places }
+    ensures kept { AreKept (nodes_in farm.new) caches.new }
 {
     kept_pictures_outlast_growth();
-    deliveries_lead_on::<T>();
     leading_goes_on::<T>();
-    let Served { outcome, messages } = served_at(alloc, source, sink, nodes, caches, place);
-    hear(alloc, nodes, messages);
-    retry(alloc, nodes, place);
-    agree_still(nodes);
+    let outcome = served_at(alloc, source, sink, farm, &mut caches[place], place);
+    retry(alloc, farm, place);
+    agree_still(farm);
     outcome
 }
 
 /// Nodes led on from reached nodes are reached, publish one history, and respond alike.
-pub(crate) fn agree_still<T: Tape>(nodes: &[Node<T>])
-    ensures { AgreeStill T.Tape nodes.now }
+pub(crate) fn agree_still<T: Tape>(farm: &Farm<T>)
+    ensures { AgreeStill T.Tape (nodes_in farm.now) }
 {
     reached_stays::<T>();
-    reached_nodes_agree(nodes);
+    farm.nodes_agree();
     equal_requests_have_equal_responses::<T>();
 }
 
-/// Serves one request by the node at an index.
+/// Serves one request by the node at an index with its cache, and delivers its messages.
 fn served_at<S: Source, K: Sink, T: Tape>(
     alloc: Global,
     source: &mut S,
     sink: &mut K,
-    nodes: &mut [Node<T>],
-    caches: &mut [Cache],
+    farm: &mut Farm<T>,
+    cache: &mut Cache,
     place: usize,
-) -> Served
-    requires within { place < length nodes.old }
-    requires in_turn { StandInTurn nodes.old }
-    requires kept { AreKept nodes.old caches.old }
-    ensures served { IsServedAt T.Tape place
-        (S.left source.old) (K.written sink.old) (K.written sink.new)
-        nodes.old result.messages nodes.new result.outcome }
-    ensures reads { CountsHearing result.outcome (S.failures source.old) (S.failures source.new) }
-    ensures writes { CountsSaying result.outcome (K.failures sink.old) (K.failures sink.new) }
-    ensures last { EndsWriting K.Sink sink.old sink.new result.outcome }
-    ensures says { AreLedSaying T.Tape nodes.old result.messages.items nodes.new }
-    ensures kept { AreKept nodes.new caches.new }
+) -> Outcome
+    requires within { place < size farm.old }
+    requires running { AllRun farm.old.places }
+    requires kept { IsKeptAt (nodes_in farm.old) place cache.old }
+    ensures served { IsServedAndHeard T.Tape place (S.left source.old) (K.written sink.old)
+        (K.written sink.new) (nodes_in farm.old) result (nodes_in farm.new) }
+    ensures reads { CountsHearing result (S.failures source.old) (S.failures source.new) }
+    ensures writes { CountsSaying result (K.failures sink.old) (K.failures sink.new) }
+    ensures last { EndsWriting K.Sink sink.old sink.new result }
+    ensures led { AreLedOn T.Tape (nodes_in farm.old) (nodes_in farm.new) }
+    ensures running { AllRun farm.new.places }
+    ensures kept { IsKeptAt (nodes_in farm.new) place cache.new }
 {
-    a_step_leads_on::<T>();
-    leading_goes_on::<T>();
-    serve_one_cached(alloc, source, sink, &mut nodes[place], &mut caches[place])
+    let mut visit = Visit {
+        source,
+        sink,
+        cache,
+        outcome: Outcome::NoRequest,
+    };
+    receive(alloc, farm, place, &mut visit);
+    let Visit {
+        source: _,
+        sink: _,
+        cache: _,
+        outcome,
+    } = visit;
+    outcome
 }
 
-/// Delivers messages to the nodes, and the messages that they send in reply.
-fn hear<T: Tape>(alloc: Global, nodes: &mut [Node<T>], said: Vec<Message>)
-    requires { StandInTurn nodes.old }
-    ensures heard { AreHeard T.Tape nodes.old said nodes.new }
-    ensures turn { KeepTurn nodes.old nodes.new }
+/// Lets a request ask the node at an index, and delivers the node's messages.
+fn receive<S: Source, K: Sink, T: Tape>(
+    alloc: Global,
+    farm: &mut Farm<T>,
+    place: usize,
+    visit: &mut Visit<'_, '_, '_, S, K>,
+)
+    requires within { place < size farm.old }
+    requires running { AllRun farm.old.places }
+    requires kept { IsKeptAt (nodes_in farm.old) place visit.old.cache.now }
+    ensures served { IsServedAndHeard T.Tape place (S.left visit.old.source.now)
+        (K.written visit.old.sink.now) (K.written visit.new.sink.now)
+        (nodes_in farm.old) visit.new.outcome (nodes_in farm.new) }
+    ensures reads { CountsHearing visit.new.outcome
+        (S.failures visit.old.source.now) (S.failures visit.new.source.now) }
+    ensures writes { CountsSaying visit.new.outcome
+        (K.failures visit.old.sink.now) (K.failures visit.new.sink.now) }
+    ensures last { EndsWriting K.Sink visit.old.sink.now visit.new.sink.now visit.new.outcome }
+    ensures led { AreLedOn T.Tape (nodes_in farm.old) (nodes_in farm.new) }
+    ensures running { AllRun farm.new.places }
+    ensures kept { IsKeptAt (nodes_in farm.new) place visit.new.cache.now }
+    ensures source { visit.new.source.ghost_name ≡ visit.old.source.ghost_name }
+    ensures sink { visit.new.sink.ghost_name ≡ visit.old.sink.ghost_name }
+    ensures cache { visit.new.cache.ghost_name ≡ visit.old.cache.ghost_name }
 {
-    let _ = deliver_all(alloc, nodes, said);
+    kept_pictures_outlast_growth();
+    let _ = farm.exchange(alloc, place, visit);
 }
 
 /// If the proposal of the node at an index still runs, restarts it and delivers the messages.
-fn retry<T: Tape>(alloc: Global, nodes: &mut [Node<T>], place: usize)
-    requires within { place < length nodes.old }
-    requires in_turn { StandInTurn nodes.old }
-    ensures retried { IsRetried T.Tape place nodes.old nodes.new }
-    ensures led { AreLedOn T.Tape nodes.old nodes.new }
+fn retry<T: Tape>(alloc: Global, farm: &mut Farm<T>, place: usize)
+    requires within { place < size farm.old }
+    requires running { AllRun farm.old.places }
+    ensures retried { IsRetried T.Tape place (nodes_in farm.old) (nodes_in farm.new) }
+    ensures led { AreLedOn T.Tape (nodes_in farm.old) (nodes_in farm.new) }
+    ensures running { AllRun farm.new.places }
 {
     leading_goes_on::<T>();
-    if runs(&nodes[place]) {
-        ask(alloc, nodes, place, Input::Retry);
+    if proposes(farm, place) {
+        ask(alloc, farm, place, Own::Retry);
+    }
+}
+
+/// Whether the proposal of the node at an index is running.
+fn proposes<T: Tape>(farm: &Farm<T>, place: usize) -> bool
+    requires within { place < size farm.now }
+    requires running { AllRun farm.now.places }
+    ensures running { result ≡ true → RunsAt place (nodes_in farm.now) }
+    ensures resting { result ≡ false → RestsAt place (nodes_in farm.now) }
+{
+    match farm.node(place) {
+        Some(node) => runs(node),
+        None => false,
     }
 }
 
@@ -144,53 +188,15 @@ fn runs<T: Tape>(node: &Node<T>) -> bool
     }
 }
 
-/// Asks the node at an index for a step of its own, not a delivery, and delivers its messages.
-fn ask<T: Tape>(alloc: Global, nodes: &mut [Node<T>], place: usize, input: Input)
-    requires within { place < length nodes.old }
-    requires in_turn { StandInTurn nodes.old }
-    requires own { IsOwn (view input) }
-    ensures heard { IsAskedAndHeard T.Tape place (view input) nodes.old nodes.new }
-    ensures led { AreLedOn T.Tape nodes.old nodes.new }
+/// Asks the node at an index for a step of its own, and delivers its messages.
+fn ask<T: Tape>(alloc: Global, farm: &mut Farm<T>, place: usize, own: Own)
+    requires within { place < size farm.old }
+    requires running { AllRun farm.old.places }
+    ensures heard { IsAskedAndHeard T.Tape place (own_input own)
+        (nodes_in farm.old) (nodes_in farm.new) }
+    ensures led { AreLedOn T.Tape (nodes_in farm.old) (nodes_in farm.new) }
+    ensures running { AllRun farm.new.places }
 {
-    deliveries_lead_on::<T>();
-    let said = said_at(alloc, nodes, place, input);
-    hear(alloc, nodes, said);
-}
-
-/// The messages of the node at an index for an input of its own.
-fn said_at<T: Tape>(
-    alloc: Global,
-    nodes: &mut [Node<T>],
-    place: usize,
-    input: Input,
-) -> Vec<Message>
-    requires within { place < length nodes.old }
-    requires in_turn { StandInTurn nodes.old }
-    requires own { IsOwn (view input) }
-    ensures asked { IsAskedAt T.Tape place (view input) nodes.old result nodes.new }
-    ensures says { AreLedSaying T.Tape nodes.old result.items nodes.new }
-{
-    a_step_leads_on::<T>();
-    said(alloc, &mut nodes[place], input)
-}
-
-/// The messages of a node for an input; none if it rejects.
-fn said<T: Tape>(alloc: Global, node: &mut Node<T>, input: Input) -> Vec<Message>
-    ensures { IsAsked T.Tape (view input) node.old result node.new }
-{
-    match answer(alloc, node, input) {
-        Ok(said) => said,
-        Err(_) => Vec::new(alloc),
-    }
-}
-
-/// The result of a node's step.
-fn answer<T: Tape>(
-    alloc: Global,
-    node: &mut Node<T>,
-    input: Input,
-) -> Result<Vec<Message>, NodeFault>
-    ensures { IsAnswer T.Tape (view input) node.old result node.new }
-{
-    node.step(alloc, input)
+    let mut own = own;
+    let _ = farm.exchange(alloc, place, &mut own);
 }

@@ -1,5 +1,6 @@
 -- A completed step sends few messages; after an error the node is unchanged, or halted, or the input is lost.
 use Rattle.wf_node.specs.Input.{view}
+use Rattle.wf_farm.specs.ExchangeLaws.{any_sturdy}
 use Rattle.wf_farm.proofs.Deliveries.{any_answered, any_rejected, any_short}
 use Rattle.wf_farm.proofs.delivering.step.Goals as goal
 
@@ -14,3 +15,7 @@ returns-clause-takes g c =
 
 pub returns-clause-few : goal.returns-clause-few
 returns-clause-few g c = any_short c.args.node.now c.step.new.self (view c.args.input) c.rows_are_short.ensures c.step.result c.step.ensures.row
+
+pub returns-clause-sturdy : goal.returns-clause-sturdy
+returns-clause-sturdy g c =
+    any_sturdy g.T.Tape c.args.node.now c.step.new.self (view c.args.input) c.step.result c.step.ensures.running c.step.ensures.row c.step.ensures.unchanged c.step.ensures.memory c.step.ensures.sturdy c.step.ensures.sound

@@ -2,6 +2,8 @@
 use Rattle.std.proofs.Common.{length, sym, subst, ap, arith}
 use Rattle.wf_serve.specs.Caching.{AreEmpty}
 use Rattle.wf_serve.proofs.Caches.{none_yet, kept_empty}
+use Rattle.wf_farm.specs.Nodes.{nodes_in}
+use Rattle.wf_farm.specs.NodesLaws.{length-nodes}
 use Rattle.wf_serve.proofs.caching.caches_for.Goals as goal
 
 pub loop-number-init : goal.loop-number-init
@@ -11,4 +13,4 @@ pub loop-number-preserved : goal.loop-number-preserved
 loop-number-preserved g c = record { size = c.in_ok-add.ensures.size; empty = c.in_ok-add.ensures.empty }
 
 pub returns : goal.returns
-returns g c = kept_empty c.args.nodes.now c.loop-number.caches.items (omega (arith, c.loop-number.invariant.size, c.loop-number-test.false)) c.loop-number.invariant.empty
+returns g c = kept_empty (nodes_in c.args.farm.now) c.loop-number.caches.items (omega (arith, c.loop-number.invariant.size, c.loop-number-test.false, length-nodes c.args.farm.now.places)) c.loop-number.invariant.empty

@@ -1,52 +1,60 @@
 -- One more connection, by the node whose turn it is.
-use Rattle.std.proofs.Common.{◌≡◌, length, subst, arith}
+use Rattle.std.proofs.Common.{◌≡◌, ◌∙◌, ◌%◌, length, ap, subst, arith}
+use Rattle.wf_farm.specs.Nodes.{nodes_in}
+use Rattle.wf_farm.specs.NodesLaws.{length-nodes}
 use Rattle.wf_serve.specs.Connections.{HaveCome}
 use Rattle.wf_serve.proofs.Come.{none_came, one_more_came}
 use Rattle.wf_serve.proofs.connections.serve_connections.Goals as goal
 
 pub loop-connection-init : goal.loop-connection-init
 loop-connection-init g c = record {
-  come = none_came g.T.Tape (length c.args.nodes.now) c.args.nodes.now;
-  led = c.leading_goes_on.ensures.still c.args.nodes.now;
+  come = none_came g.T.Tape (length c.args.farm.now.places) (nodes_in c.args.farm.now);
+  led = c.leading_goes_on.ensures.still (nodes_in c.args.farm.now);
+  running = c.requires.running;
   kept = c.requires.kept;
 }
 
 pub serve_next-requires-clause-within : goal.serve_next-requires-clause-within
-serve_next-requires-clause-within g c = omega (arith, c.turn_of.ensures.within, c.loop-connection.invariant.led.turn.as_many)
+serve_next-requires-clause-within g c =
+    omega (arith, c.turn_of.ensures.within, c.size-count.ensures.value, c.loop-connection.invariant.led.turn.as_many, length-nodes c.args.farm.now.places, length-nodes c.loop-connection.farm.places)
 
-pub serve_next-requires-clause-in_turn : goal.serve_next-requires-clause-in_turn
-serve_next-requires-clause-in_turn g c = c.loop-connection.invariant.led.turn.in_turn c.requires.in_turn
+pub serve_next-requires-clause-running : goal.serve_next-requires-clause-running
+serve_next-requires-clause-running g c = c.loop-connection.invariant.running
 
 pub serve_next-requires-clause-kept : goal.serve_next-requires-clause-kept
 serve_next-requires-clause-kept g c = c.loop-connection.invariant.kept
 
 pub loop-connection-preserved : goal.loop-connection-preserved
 loop-connection-preserved g c = record {
-  come = one_more_came g.T.Tape (length c.args.nodes.now) c.loop-connection.connection c.turn_of.result c.args.nodes.now c.loop-connection.nodes c.serve_next.new.nodes
-      c.turn_of.ensures.turn c.loop-connection.invariant.come c.serve_next.ensures.answered;
-  led = c.leading_goes_on.ensures.again c.args.nodes.now c.loop-connection.nodes c.serve_next.new.nodes c.loop-connection.invariant.led c.serve_next.ensures.led;
+  come = one_more_came g.T.Tape (length c.args.farm.now.places) c.loop-connection.connection c.turn_of.result (nodes_in c.args.farm.now) (nodes_in c.loop-connection.farm) (nodes_in c.serve_next.new.farm)
+      (c.turn_of.ensures.turn ∙ ap (λ n. c.loop-connection.connection % n) c.size-count.ensures.value) c.loop-connection.invariant.come c.serve_next.ensures.answered;
+  led = c.leading_goes_on.ensures.again (nodes_in c.args.farm.now) (nodes_in c.loop-connection.farm) (nodes_in c.serve_next.new.farm) c.loop-connection.invariant.led c.serve_next.ensures.led;
+  running = c.serve_next.ensures.running;
   kept = c.serve_next.ensures.kept;
 }
 
 pub returns-clause-come : goal.returns-clause-come
 returns-clause-come g c =
     let all : c.loop-connection.connection ≡ c.args.requests = omega (arith, c.loop-connection-test.false) in
-    subst (λ k. HaveCome g.T.Tape (length c.args.nodes.now) k c.args.nodes.now c.loop-connection.nodes) all c.loop-connection.invariant.come
+    subst (λ k. HaveCome g.T.Tape (length c.args.farm.now.places) k (nodes_in c.args.farm.now) (nodes_in c.loop-connection.farm)) all c.loop-connection.invariant.come
 
 pub returns-clause-led : goal.returns-clause-led
 returns-clause-led g c = c.loop-connection.invariant.led
 
 pub returns-clause-reached : goal.returns-clause-reached
-returns-clause-reached g c = λ reached. (c.agree_still.ensures c.args.nodes.now reached c.loop-connection.invariant.led).reached
+returns-clause-reached g c = λ reached. (c.agree_still.ensures (nodes_in c.args.farm.now) reached c.loop-connection.invariant.led).reached
 
 pub returns-clause-agree : goal.returns-clause-agree
-returns-clause-agree g c = λ reached. (c.agree_still.ensures c.args.nodes.now reached c.loop-connection.invariant.led).history
+returns-clause-agree g c = λ reached. (c.agree_still.ensures (nodes_in c.args.farm.now) reached c.loop-connection.invariant.led).history
 
 pub returns-clause-alike : goal.returns-clause-alike
-returns-clause-alike g c = λ reached. (c.agree_still.ensures c.args.nodes.now reached c.loop-connection.invariant.led).alike
+returns-clause-alike g c = λ reached. (c.agree_still.ensures (nodes_in c.args.farm.now) reached c.loop-connection.invariant.led).alike
 
 pub returns-clause-grows : goal.returns-clause-grows
 returns-clause-grows g c = c.loop-connection.invariant.led.turn.lists
+
+pub returns-clause-running : goal.returns-clause-running
+returns-clause-running g c = c.loop-connection.invariant.running
 
 pub returns-clause-kept : goal.returns-clause-kept
 returns-clause-kept g c = c.loop-connection.invariant.kept

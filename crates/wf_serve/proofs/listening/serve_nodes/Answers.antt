@@ -1,48 +1,48 @@
 -- The nodes catch up, and then the connections are served.
-use Rattle.std.proofs.Common.{refl, arith}
+use Rattle.std.proofs.Common.{refl, sym, subst}
+use Rattle.wf_farm.specs.Nodes.{nodes_in}
+use Rattle.wf_farm.specs.NodesLaws.{length-nodes}
+use Rattle.wf_serve.specs.Serving.{HaveCaughtUp}
 use Rattle.wf_serve.proofs.listening.serve_nodes.Goals as goal
 
-pub serve_kept-outcome-requires-clause-some : goal.serve_kept-outcome-requires-clause-some
-serve_kept-outcome-requires-clause-some g c = omega (arith, c.requires.some, c.catch_up.ensures.led.turn.as_many)
-
-pub serve_kept-outcome-requires-clause-in_turn : goal.serve_kept-outcome-requires-clause-in_turn
-serve_kept-outcome-requires-clause-in_turn g c = c.catch_up.ensures.led.turn.in_turn c.requires.in_turn
+pub serve_kept-outcome-requires-clause-running : goal.serve_kept-outcome-requires-clause-running
+serve_kept-outcome-requires-clause-running g c = c.catch_up.ensures.running
 
 pub returns-in_default-clause-served : goal.returns-in_default-clause-served
-returns-in_default-clause-served g c = record { caught = c.catch_up.new.nodes; catch_up = c.catch_up.ensures.caught; come = refl }
+returns-in_default-clause-served g c = record { caught = (nodes_in c.catch_up.new.farm); catch_up = subst (λ k. HaveCaughtUp g.T.Tape k (nodes_in c.args.farm.now) (nodes_in c.catch_up.new.farm)) (sym (length-nodes c.args.farm.now.places)) c.catch_up.ensures.caught; come = refl }
 
 pub returns-in_default-clause-led : goal.returns-in_default-clause-led
 returns-in_default-clause-led g c = c.catch_up.ensures.led
 
 pub returns-in_default-clause-reached : goal.returns-in_default-clause-reached
-returns-in_default-clause-reached g c = λ reached. (c.agree_still.ensures c.args.nodes.now reached c.catch_up.ensures.led).reached
+returns-in_default-clause-reached g c = λ reached. (c.agree_still.ensures (nodes_in c.args.farm.now) reached c.catch_up.ensures.led).reached
 
 pub returns-in_default-clause-agree : goal.returns-in_default-clause-agree
-returns-in_default-clause-agree g c = λ reached. (c.agree_still.ensures c.args.nodes.now reached c.catch_up.ensures.led).history
+returns-in_default-clause-agree g c = λ reached. (c.agree_still.ensures (nodes_in c.args.farm.now) reached c.catch_up.ensures.led).history
 
 pub returns-in_default-clause-alike : goal.returns-in_default-clause-alike
-returns-in_default-clause-alike g c = λ reached. (c.agree_still.ensures c.args.nodes.now reached c.catch_up.ensures.led).alike
+returns-in_default-clause-alike g c = λ reached. (c.agree_still.ensures (nodes_in c.args.farm.now) reached c.catch_up.ensures.led).alike
 
 pub returns-in_default-clause-grows : goal.returns-in_default-clause-grows
 returns-in_default-clause-grows g c = c.catch_up.ensures.led.turn.lists
 
 pub returns-clause-served : goal.returns-clause-served
-returns-clause-served g c = record { caught = c.catch_up.new.nodes; catch_up = c.catch_up.ensures.caught; come = c.serve_kept-outcome.ensures.come }
+returns-clause-served g c = record { caught = (nodes_in c.catch_up.new.farm); catch_up = subst (λ k. HaveCaughtUp g.T.Tape k (nodes_in c.args.farm.now) (nodes_in c.catch_up.new.farm)) (sym (length-nodes c.args.farm.now.places)) c.catch_up.ensures.caught; come = c.serve_kept-outcome.ensures.come }
 
 pub returns-clause-led : goal.returns-clause-led
-returns-clause-led g c = c.leading_goes_on.ensures.again c.args.nodes.now c.catch_up.new.nodes c.serve_kept-outcome.new.nodes c.catch_up.ensures.led c.serve_kept-outcome.ensures.led
+returns-clause-led g c = c.leading_goes_on.ensures.again (nodes_in c.args.farm.now) (nodes_in c.catch_up.new.farm) (nodes_in c.serve_kept-outcome.new.farm) c.catch_up.ensures.led c.serve_kept-outcome.ensures.led
 
 pub returns-clause-reached : goal.returns-clause-reached
 returns-clause-reached g c = λ reached.
-    (c.agree_still-2.ensures c.args.nodes.now reached (c.leading_goes_on.ensures.again c.args.nodes.now c.catch_up.new.nodes c.serve_kept-outcome.new.nodes c.catch_up.ensures.led c.serve_kept-outcome.ensures.led)).reached
+    (c.agree_still-2.ensures (nodes_in c.args.farm.now) reached (c.leading_goes_on.ensures.again (nodes_in c.args.farm.now) (nodes_in c.catch_up.new.farm) (nodes_in c.serve_kept-outcome.new.farm) c.catch_up.ensures.led c.serve_kept-outcome.ensures.led)).reached
 
 pub returns-clause-agree : goal.returns-clause-agree
 returns-clause-agree g c = λ reached.
-    (c.agree_still-2.ensures c.args.nodes.now reached (c.leading_goes_on.ensures.again c.args.nodes.now c.catch_up.new.nodes c.serve_kept-outcome.new.nodes c.catch_up.ensures.led c.serve_kept-outcome.ensures.led)).history
+    (c.agree_still-2.ensures (nodes_in c.args.farm.now) reached (c.leading_goes_on.ensures.again (nodes_in c.args.farm.now) (nodes_in c.catch_up.new.farm) (nodes_in c.serve_kept-outcome.new.farm) c.catch_up.ensures.led c.serve_kept-outcome.ensures.led)).history
 
 pub returns-clause-alike : goal.returns-clause-alike
 returns-clause-alike g c = λ reached.
-    (c.agree_still-2.ensures c.args.nodes.now reached (c.leading_goes_on.ensures.again c.args.nodes.now c.catch_up.new.nodes c.serve_kept-outcome.new.nodes c.catch_up.ensures.led c.serve_kept-outcome.ensures.led)).alike
+    (c.agree_still-2.ensures (nodes_in c.args.farm.now) reached (c.leading_goes_on.ensures.again (nodes_in c.args.farm.now) (nodes_in c.catch_up.new.farm) (nodes_in c.serve_kept-outcome.new.farm) c.catch_up.ensures.led c.serve_kept-outcome.ensures.led)).alike
 
 pub returns-clause-grows : goal.returns-clause-grows
-returns-clause-grows g c = (c.leading_goes_on.ensures.again c.args.nodes.now c.catch_up.new.nodes c.serve_kept-outcome.new.nodes c.catch_up.ensures.led c.serve_kept-outcome.ensures.led).turn.lists
+returns-clause-grows g c = (c.leading_goes_on.ensures.again (nodes_in c.args.farm.now) (nodes_in c.catch_up.new.farm) (nodes_in c.serve_kept-outcome.new.farm) c.catch_up.ensures.led c.serve_kept-outcome.ensures.led).turn.lists

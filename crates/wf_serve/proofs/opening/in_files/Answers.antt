@@ -1,11 +1,18 @@
 -- There is no node yet; then one more is appended.
-use Rattle.std.proofs.Common.{length, sym, ap, subst}
-use Rattle.wf_farm.specs.Delivering.{StandAmong}
-use Rattle.wf_serve.proofs.Opened.{none_yet}
+use Rattle.std.proofs.Common.{length, sym, ap, subst, arith}
+use Rattle.wf_serve.specs.Opening.{AreOpened}
+use Rattle.wf_serve.proofs.Opened.{in_place, none_opened}
 use Rattle.wf_serve.proofs.opening.in_files.Goals as goal
 
 pub loop-number-init : goal.loop-number-init
-loop-number-init g c = (subst (λ ns. StandAmong c.args.n ns) (sym c.new-nodes.ensures.items) (none_yet _ c.args.n), ap length c.new-nodes.ensures.items)
+loop-number-init g c = record {
+  opened = subst (AreOpened c.args.n) (sym c.new-places.ensures.items) (none_opened _ c.args.n);
+  size = ap length c.new-places.ensures.items;
+}
 
 pub loop-number-preserved : goal.loop-number-preserved
-loop-number-preserved g c = (c.in-Ok.ensures.in_turn, c.in-Ok.ensures.size)
+loop-number-preserved g c = record { opened = c.in-Ok.ensures.opened; size = c.in-Ok.ensures.size }
+
+pub open-requires-clause-in_turn : goal.open-requires-clause-in_turn
+open-requires-clause-in_turn g c =
+    in_place c.args.n c.loop-number.places.items (omega (arith, c.loop-number.invariant.size, c.loop-number-test.false)) c.loop-number.invariant.opened

@@ -1,54 +1,71 @@
 -- The request, the deliveries and the retry come in turn, each leading the nodes on.
-use Rattle.std.proofs.Common.{arith}
-use Rattle.wf_farm.specs.DeliveringLaws.{keeps_turn_twice}
-use Rattle.wf_serve.proofs.Caches.{kept_grown}
+use Rattle.std.proofs.Common.{◌<◌, length, refl, rules, slice_set, subst, arith}
+use Rattle.std.proofs.lemmas.Option.{slice_get_read}
+use Rattle.wf_farm.specs.Leading.{AreLedOn}
+use Rattle.wf_farm.specs.Nodes.{nodes_in}
+use Rattle.wf_farm.specs.NodesLaws.{length-nodes}
+use Rattle.wf_wms.specs.KeptPictures.{AllKept}
+use Rattle.wf_serve.proofs.Caches.{kept_grown, kept_with}
+use Rattle.wf_serve.proofs.serving.serve_connection.Given as given
 use Rattle.wf_serve.proofs.serving.serve_connection.Goals as goal
 
-pub hear-requires : goal.hear-requires
-hear-requires g c = c.served_at-outcome.ensures.says.turn.in_turn c.requires.in_turn
+led : (g : given.Over) (c : goal.After-agree_still g) → AreLedOn g.T.Tape (nodes_in c.args.farm.now) (nodes_in c.retry.new.farm)
+led g c = c.leading_goes_on.ensures.again (nodes_in c.args.farm.now) (nodes_in c.served_at-outcome.new.farm) (nodes_in c.retry.new.farm) c.served_at-outcome.ensures.led c.retry.ensures.led
 
 pub retry-requires-clause-within : goal.retry-requires-clause-within
-retry-requires-clause-within g c = omega (arith, c.requires.within, c.served_at-outcome.ensures.says.turn.as_many, c.hear.ensures.turn.as_many)
+retry-requires-clause-within g c =
+    omega (arith, c.requires.within, c.served_at-outcome.ensures.led.turn.as_many, length-nodes c.args.farm.now.places, length-nodes c.served_at-outcome.new.farm.places)
 
-pub retry-requires-clause-in_turn : goal.retry-requires-clause-in_turn
-retry-requires-clause-in_turn g c = c.hear.ensures.turn.in_turn (c.served_at-outcome.ensures.says.turn.in_turn c.requires.in_turn)
+pub retry-requires-clause-running : goal.retry-requires-clause-running
+retry-requires-clause-running g c = c.served_at-outcome.ensures.running
 
 pub returns-clause-connection : goal.returns-clause-connection
-returns-clause-connection g c = record {
-  said = c.served_at-outcome.result.messages;
-  served = c.served_at-outcome.new.nodes;
-  heard = c.hear.new.nodes;
-  request = c.served_at-outcome.ensures.served;
-  hearing = c.hear.ensures.heard;
-  retry = c.retry.ensures.retried;
-}
+returns-clause-connection g c =
+    let served = c.served_at-outcome.ensures.served in
+    record {
+      said = served.said;
+      served = served.served;
+      heard = nodes_in c.served_at-outcome.new.farm;
+      request = served.request;
+      hearing = served.hearing;
+      retry = c.retry.ensures.retried;
+    }
 
 pub returns-clause-led : goal.returns-clause-led
-returns-clause-led g c =
-    let first = c.deliveries_lead_on.ensures c.args.nodes.now c.served_at-outcome.new.nodes c.hear.new.nodes c.served_at-outcome.result.messages.items c.hear.ensures.heard.deliveries c.served_at-outcome.ensures.says c.hear.ensures.heard.delivered in
-    c.leading_goes_on.ensures.again c.args.nodes.now c.hear.new.nodes c.retry.new.nodes first c.retry.ensures.led
+returns-clause-led g c = led g c
 
 pub returns-clause-reached : goal.returns-clause-reached
-returns-clause-reached g c = λ reached.
-    let first = c.deliveries_lead_on.ensures c.args.nodes.now c.served_at-outcome.new.nodes c.hear.new.nodes c.served_at-outcome.result.messages.items c.hear.ensures.heard.deliveries c.served_at-outcome.ensures.says c.hear.ensures.heard.delivered in
-    (c.agree_still.ensures c.args.nodes.now reached (c.leading_goes_on.ensures.again c.args.nodes.now c.hear.new.nodes c.retry.new.nodes first c.retry.ensures.led)).reached
+returns-clause-reached g c = λ reached. (c.agree_still.ensures (nodes_in c.args.farm.now) reached (led g c)).reached
 
 pub returns-clause-agree : goal.returns-clause-agree
-returns-clause-agree g c = λ reached.
-    let first = c.deliveries_lead_on.ensures c.args.nodes.now c.served_at-outcome.new.nodes c.hear.new.nodes c.served_at-outcome.result.messages.items c.hear.ensures.heard.deliveries c.served_at-outcome.ensures.says c.hear.ensures.heard.delivered in
-    (c.agree_still.ensures c.args.nodes.now reached (c.leading_goes_on.ensures.again c.args.nodes.now c.hear.new.nodes c.retry.new.nodes first c.retry.ensures.led)).history
+returns-clause-agree g c = λ reached. (c.agree_still.ensures (nodes_in c.args.farm.now) reached (led g c)).history
 
 pub returns-clause-alike : goal.returns-clause-alike
-returns-clause-alike g c = λ reached.
-    let first = c.deliveries_lead_on.ensures c.args.nodes.now c.served_at-outcome.new.nodes c.hear.new.nodes c.served_at-outcome.result.messages.items c.hear.ensures.heard.deliveries c.served_at-outcome.ensures.says c.hear.ensures.heard.delivered in
-    (c.agree_still.ensures c.args.nodes.now reached (c.leading_goes_on.ensures.again c.args.nodes.now c.hear.new.nodes c.retry.new.nodes first c.retry.ensures.led)).alike
+returns-clause-alike g c = λ reached. (c.agree_still.ensures (nodes_in c.args.farm.now) reached (led g c)).alike
 
 pub returns-clause-grows : goal.returns-clause-grows
-returns-clause-grows g c =
-    let first = c.deliveries_lead_on.ensures c.args.nodes.now c.served_at-outcome.new.nodes c.hear.new.nodes c.served_at-outcome.result.messages.items c.hear.ensures.heard.deliveries c.served_at-outcome.ensures.says c.hear.ensures.heard.delivered in
-    (c.leading_goes_on.ensures.again c.args.nodes.now c.hear.new.nodes c.retry.new.nodes first c.retry.ensures.led).turn.lists
+returns-clause-grows g c = (led g c).turn.lists
+
+pub bounds-caches-place : goal.bounds-caches-place
+bounds-caches-place g c = omega (arith, c.requires.within, c.requires.kept.as_many, length-nodes c.args.farm.now.places)
+
+pub offset_bounds-caches-place : goal.offset_bounds-caches-place
+offset_bounds-caches-place g c =
+    let within : c.args.place < length c.args.caches.now = omega (arith, c.requires.within, c.requires.kept.as_many, length-nodes c.args.farm.now.places) in
+    search rules
+
+pub served_at-outcome-requires-clause-kept : goal.served_at-outcome-requires-clause-kept
+served_at-outcome-requires-clause-kept g c = λ node at.
+    let within : c.args.place < length c.args.caches.now = omega (arith, c.requires.within, c.requires.kept.as_many, length-nodes c.args.farm.now.places) in
+    let there = slice_get_read c.args.caches.now (length c.args.caches.now) c.args.place c.index-caches-place.result refl within c.index-caches-place.is in
+    subst (AllKept node.parts.history) c.index-caches-place.is (c.requires.kept.kept c.args.place node c.index-caches-place.result at there)
 
 pub returns-clause-kept : goal.returns-clause-kept
 returns-clause-kept g c =
-    let after = keeps_turn_twice c.served_at-outcome.new.nodes c.hear.new.nodes c.retry.new.nodes c.hear.ensures.turn c.retry.ensures.led.turn in
-    kept_grown c.kept_pictures_outlast_growth.ensures c.served_at-outcome.new.nodes c.retry.new.nodes c.served_at-outcome.new.caches after.as_many after.lists c.served_at-outcome.ensures.kept
+    let one = c.served_at-outcome in
+    let caches = c.args.caches.now in
+    let law = c.kept_pictures_outlast_growth.ensures in
+    let within : c.args.place < length caches = omega (arith, c.requires.within, c.requires.kept.as_many, length-nodes c.args.farm.now.places) in
+    let there = slice_get_read caches (length caches) c.args.place c.index-caches-place.result refl within c.index-caches-place.is in
+    let served = kept_with law (nodes_in c.args.farm.now) (nodes_in one.new.farm) caches c.args.place c.index-caches-place.result one.new.cache one.ensures.led.turn.as_many one.ensures.led.turn.lists there one.ensures.kept c.requires.kept in
+    kept_grown law (nodes_in one.new.farm) (nodes_in c.retry.new.farm) (slice_set caches c.args.place one.new.cache) c.retry.ensures.led.turn.as_many c.retry.ensures.led.turn.lists served

@@ -1,0 +1,178 @@
+-- Deliveries to the entries of a farm are deliveries to its nodes; and what a client does to one of them is done to the nodes.
+use Rattle.std.proofs.Common.{◌≡◌, ℕ, zero, suc, ◌∷◌, slice_index_or, ◌+◌, ◌≤◌, Bool, false, List, [], ◌++◌, length, slice_get, slice_set, Some, refl, sym, ap, subst, ◌∙◌, arith, Vec}
+use Rattle.std.specs.declared.alloc.Global.{Global}
+use Rattle.std.proofs.lemmas.Option.{none-some, same_Some}
+use Rattle.wf_codec.specs.Message as message
+use Rattle.wf_codec.specs.declared.message.Message.{Message}
+use Rattle.wf_def.specs.Definition.{Definition}
+use Rattle.wf_journal.specs.Records.{AreReadOneWay}
+use Rattle.wf_model.specs.Table as table
+use Rattle.wf_model.specs.Table.{Input}
+use Rattle.wf_model.specs.World.{after}
+use Rattle.wf_node.specs.Node.{Node}
+use Rattle.wf_farm.specs.declared.place.Place.{Place}
+use Rattle.wf_farm.specs.declared.place.Place.TheVariants.{Running, Stopped}
+use Rattle.wf_farm.specs.declared.progress.End.{End}
+use Rattle.wf_farm.specs.declared.progress.End.TheVariants as end_case
+use Rattle.wf_farm.specs.declared.progress.Progress.{Progress}
+use Rattle.wf_farm.specs.Delivering.{AreKept, IsGiven, IsOne, StandAmong}
+use Rattle.wf_farm.specs.Exchange.{IsAsked, IsGivenTo, IsNotGiven, IsReadyFor, IsSturdy, LeadsOn}
+use Rattle.wf_farm.specs.Farm.{IsFarm}
+use Rattle.wf_farm.specs.Giving as giving
+use Rattle.wf_farm.specs.Giving.{Takes}
+use Rattle.wf_farm.specs.Leading.{AreLedOn, AreLedSaying}
+use Rattle.wf_farm.specs.Nodes.{KeepPlaces, KeepsPlace, node_in, nodes_of}
+use Rattle.wf_farm.specs.PlaceLaws.{set_there}
+use Rattle.wf_farm.specs.Places.{IsMember, AreMembers}
+use Rattle.wf_farm.specs.Round.{Begin, Go, HaveEnded, HaveGone, IsLeft}
+use Rattle.wf_farm.proofs.Deliveries.{one_delivery, stays_itself}
+use Rattle.wf_farm.specs.NodesLaws.{keep_set, keep_themselves, keep_twice, length-nodes, nodes_get, nodes_set}
+use Rattle.wf_farm.proofs.Nodes.{in_turn_of, member_of, reached_led, running_stopped, set_members}
+use Rattle.wf_tape.specs.declared.tape.Tape.{Ghosts as Tape}
+
+-- ---- the rounds
+
+left_as : {T : Type 0} (end : End) (node number : ℕ) (middle after : List (Place T)) (said more : List Message) → IsLeft IsNotGiven end node number middle said after more →
+    IsLeft AreKept end node number (nodes_of middle) said (nodes_of after) more
+left_as end_case.Done node number middle after said more left = (ap nodes_of left.0, left.1)
+left_as end_case.Stopped node number middle after said more left = (ap nodes_of left.0, left.1)
+left_as (end_case.Failed fault) node number middle after said more left = (left.0, ap nodes_of left.1)
+
+kept_left : {T : Type 0} (end : End) (node number : ℕ) (middle after : List (Place T)) (said more : List Message) → IsLeft IsNotGiven end node number middle said after more → after ≡ middle
+kept_left end_case.Done node number middle after said more left = left.0
+kept_left end_case.Stopped node number middle after said more left = left.0
+kept_left (end_case.Failed fault) node number middle after said more left = left.1
+
+module _ {T : Type 0} (tapes : Tape T) (places : List (Place T)) (messages : List Message) (round : ℕ) where
+  gone_as : (p : Progress) (lost : ℕ) (after : List (Place T)) (more : List Message) → HaveGone (IsGivenTo tapes) [] round 0 places messages p lost after more →
+      HaveGone (IsGiven tapes) [] round 0 (nodes_of places) messages p lost (nodes_of after) more
+  gone_as _ _ _ _ Begin = Begin
+  gone_as _ _ _ _ (Go p lost loses middle after said more gone left one) = Go p lost loses (nodes_of middle) (nodes_of after) said more (gone_as p lost middle said gone) left one.0
+
+  gone_kept : (p : Progress) (lost : ℕ) (after : List (Place T)) (more : List Message) → HaveGone (IsGivenTo tapes) [] round 0 places messages p lost after more → KeepPlaces places after
+  gone_kept _ _ _ _ Begin = keep_themselves places
+  gone_kept _ _ _ _ (Go p lost loses middle after said more gone left one) = keep_twice places middle after (gone_kept p lost middle said gone) one.1
+
+  module _ (p : Progress) (lost : ℕ) (end : End) (after : List (Place T)) (more : List Message) (ended : HaveEnded (IsGivenTo tapes) IsNotGiven [] round 0 places messages p lost end after more) where
+    -- Deliveries to the entries, ended so, are deliveries to the nodes.
+    pub ended_as : round ≡ length places → HaveEnded (IsGiven tapes) AreKept [] (length (nodes_of places)) 0 (nodes_of places) messages p lost end (nodes_of after) more
+    ended_as long = subst (λ k. HaveEnded (IsGiven tapes) AreKept [] k 0 (nodes_of places) messages p lost end (nodes_of after) more) (long ∙ sym (length-nodes places)) (record {
+      middle = nodes_of ended.middle;
+      said = ended.said;
+      gone = gone_as p lost ended.middle ended.said ended.gone;
+      left = left_as end _ _ ended.middle after ended.said more ended.left;
+    })
+
+    pub ended_kept : KeepPlaces places after
+    ended_kept = subst (λ (ps : List (Place T)). KeepPlaces places ps) (sym (kept_left end _ _ ended.middle after ended.said more ended.left)) (gone_kept p lost ended.middle ended.said ended.gone)
+
+-- ---- one delivery
+
+module _ {T : Type 0} (tapes : Tape T) where
+  -- A stopped node takes nothing, as one that is halted.
+  pub stopped_takes : (n i : ℕ) (tape : T) (input : Input Definition) (said : List Message) (lost : Bool) → said ≡ [] → lost ≡ false → Takes tapes lost input (node_in n i (Stopped tape)) (node_in n i (Stopped tape)) said
+  stopped_takes n i tape input said lost none kept =
+      subst (λ b. Takes tapes b input (node_in n i (Stopped tape)) (node_in n i (Stopped tape)) said) (sym kept) (giving.Halts refl refl none)
+
+  -- A node that takes an input is still a member.
+  pub member_taken : (n i : ℕ) (node after : Node T) (input : Input Definition) (said : List Message) (lost : Bool) → Takes tapes lost input node after said → IsSturdy tapes node after →
+      IsMember tapes.honest tapes.images tapes.never_fails n i (Running node) → IsMember tapes.honest tapes.images tapes.never_fails n i (Running after)
+  member_taken n i node after input said lost takes sturdy is =
+      let stays = stays_itself tapes node after input said lost takes in
+      (stays.0 ∙ is.0, stays.1 ∙ is.1, λ h. sturdy (is.2 h).1 (is.2 h).0)
+
+module _ {T : Type 0} (tapes : Tape T) (places : List (Place T)) (sent : List Message) (i k : ℕ) (place next : Place T) (m : Message) (said : List Message)
+    (at : slice_get places i ≡ Some place) (there : slice_get sent k ≡ Some m) (members : AreMembers tapes.honest tapes.images tapes.never_fails places) where
+  abbrev heard : Input Definition
+  heard = table.Deliver (message.view m)
+
+  -- A delivery to an entry.
+  pub given_to : (lost : Bool) → Takes tapes lost heard (node_in (length places) i place) (node_in (length places) i next) said → KeepsPlace place next →
+      IsGivenTo tapes i k lost places sent (slice_set places i next) (sent ++ said)
+  given_to lost takes keeps =
+      let node = node_in (length places) i place in
+      let after = node_in (length places) i next in
+      let here = nodes_get places i place at in
+      let turns = in_turn_of tapes.honest tapes.images tapes.never_fails places members in (
+        (
+          subst (λ ns. IsOne tapes (nodes_of places) sent ns (sent ++ said)) (sym (nodes_set places i next)) (one_delivery tapes (nodes_of places) sent i k node after m said here there turns lost takes),
+          record { node = node; after = after; handed = m; said = said; at = here; there = there; takes = takes; nodes_are = nodes_set places i next; sent_are = refl },
+        ),
+        keep_set places i place next at keeps,
+      )
+
+-- ---- a node that is asked
+
+-- the entry that was read at the index
+index_running_there : {T : Type 0} (places : List (Place T)) (i : ℕ) (default : Place T) (node : Node T) → slice_get places i ≡ Some (Running node) → slice_index_or places i default ≡ Running node
+index_running_there [] i default node at = absurd (none-some (Running node) at)
+index_running_there (p ∷ places) zero default node at = same_Some p (Running node) at
+index_running_there (p ∷ places) (suc i) default node at = index_running_there places i default node at
+
+pub index_running : {T : Type 0} (places : List (Place T)) (i : ℕ) (default : Place T) (node found : Node T) → slice_get places i ≡ Some (Running node) → slice_index_or places i default ≡ Running found →
+    slice_get places i ≡ Some (Running found)
+index_running places i default node found at is = at ∙ ap Some (sym (index_running_there places i default node at) ∙ is)
+
+pub not_stopped : {T : Type 0} (places : List (Place T)) (i : ℕ) (default : Place T) (node : Node T) (tape : T) → slice_get places i ≡ Some (Running node) → slice_index_or places i default ≡ Stopped tape → ⊥
+not_stopped places i default node tape at is = running_stopped node tape (sym (index_running_there places i default node at) ∙ is)
+
+pub ready_there : {T C : Type 0} (ready : C → Node T → Type 0) (client : C) (places : List (Place T)) (i : ℕ) (node : Node T) → IsReadyFor ready client places i → slice_get places i ≡ Some (Running node) → ready client node
+unfolding IsReadyFor
+ready_there ready client places i node is at = is node at
+
+-- Node i was asked.
+pub asked_as : {T C : Type 0} (tapes : Tape T) (asks : C → Node T → Vec Message Global → Node T → C → Type 0) (places : List (Place T)) (i : ℕ) (client next : C) (before after : Node T) (said : Vec Message Global) →
+    slice_get places i ≡ Some (Running before) → asks client before said after next → IsAsked asks i client (nodes_of places) said next (nodes_of (slice_set places i (Running after)))
+asked_as tapes asks places i client next before after said at is = record {
+  before = before;
+  after = after;
+  was = nodes_get places i (Running before) at;
+  is = nodes_set places i (Running after);
+  asked = is;
+}
+
+pub asked_kept : {T : Type 0} (places : List (Place T)) (i : ℕ) (before after : Node T) → slice_get places i ≡ Some (Running before) → KeepPlaces places (slice_set places i (Running after))
+asked_kept places i before after at = keep_set places i (Running before) (Running after) at (after, refl)
+
+module _ {T : Type 0} (tapes : Tape T) (places : List (Place T)) (i : ℕ) (before after : Node T) (said : List Message) (at : slice_get places i ≡ Some (Running before))
+    (members : AreMembers tapes.honest tapes.images tapes.never_fails places) (leads : LeadsOn tapes before said after) where
+  -- The nodes are led on, and these messages were sent.
+  pub asked_leads : AreLedSaying tapes (nodes_of places) said (nodes_of (slice_set places i (Running after)))
+  unfolding LeadsOn
+  asked_leads = subst (λ ns. AreLedSaying tapes (nodes_of places) said ns) (sym (nodes_set places i (Running after)))
+      (leads (nodes_of places) i (nodes_get places i (Running before) at) (in_turn_of tapes.honest tapes.images tapes.never_fails places members))
+
+  -- The entries are members still.
+  pub asked_members : IsSturdy tapes before after → AreMembers tapes.honest tapes.images tapes.never_fails (slice_set places i (Running after))
+  unfolding StandAmong
+  asked_members sturdy =
+      let turn = asked_leads.turn in
+      let now : slice_get (nodes_of (slice_set places i (Running after))) i ≡ Some after =
+      subst (λ ns. slice_get ns i ≡ Some after) (sym (nodes_set places i (Running after))) (set_there (nodes_of places) i after before (nodes_get places i (Running before) at)) in
+      let stands = turn.in_turn (in_turn_of tapes.honest tapes.images tapes.never_fails places members) i after now in
+      let was = member_of tapes.honest tapes.images tapes.never_fails places i (Running before) at members in
+      set_members tapes.honest tapes.images tapes.never_fails places i (Running before) (Running after) at
+      (stands.0, stands.1 ∙ turn.as_many ∙ length-nodes places, λ h. sturdy (was.2 h).1 (was.2 h).0) members
+
+-- ---- the farm
+
+-- as many nodes as before
+pub led_long : {T : Type 0} (tapes : Tape T) (places next : List (Place T)) → AreLedOn tapes (nodes_of places) (nodes_of next) → length next ≡ length places
+led_long tapes places next led = sym (length-nodes next) ∙ led.turn.as_many ∙ length-nodes places
+
+module _ {T : Type 0} (tapes : Tape T) where
+  abbrev IsFarmOf : List (Place T) → List Message → ℕ → Bool → Type 0
+  IsFarmOf places sent pumped complete = IsFarm tapes.honest tapes.images tapes.never_fails places sent pumped complete
+
+  -- A farm whose nodes were led on is one, with no message left.
+  pub farm_led : AreReadOneWay → (places next : List (Place T)) (sent : List Message) (pumped : ℕ) (complete : Bool) → IsFarmOf places sent pumped complete → AreMembers tapes.honest tapes.images tapes.never_fails next →
+      KeepPlaces places next → AreLedOn tapes (nodes_of places) (nodes_of next) → IsFarmOf next [] 0 false
+  farm_led one places next sent pumped complete farm members keep led =
+      let long = led_long tapes places next led in
+      record {
+        some = subst (λ k. 1 ≤ k) (sym long) farm.some;
+        most = subst (λ k. k ≤ 64) (sym long) farm.most;
+        members = members;
+        pumped_within = omega arith;
+        reached = λ h. reached_led tapes h places next keep long farm.members members one sent complete led (farm.reached h);
+      }

@@ -1,0 +1,218 @@
+-- The entries of a farm as a list of nodes; and a farm over honest tapes whose nodes are led on is reached still.
+use Rattle.std.proofs.Common.{◌≡◌, ℕ, zero, suc, ◌+◌, Bool, true, false, List, [], ◌∷◌, ◌++◌, map, length, slice_get, slice_set, Option, Some, None, refl, sym, ap, subst, ◌∙◌, arith, inl, inr, length-set}
+use Rattle.std.proofs.lemmas.Bool.{both_ways, cases_eq, false≢true}
+use Rattle.std.proofs.lemmas.List.{append-nil}
+use Rattle.std.proofs.lemmas.Option.{none-some, same_Some}
+use Rattle.wf_codec.specs.Message as message
+use Rattle.wf_codec.specs.declared.message.Message.{Message}
+use Rattle.wf_def.specs.Definition.{Definition}
+use Rattle.wf_def.specs.Equality.{definition_eq}
+use Rattle.wf_journal.specs.Records.{AreReadOneWay}
+use Rattle.wf_model.specs.StepsLaws.{steps_in_turn}
+use Rattle.wf_model.specs.World as world
+use Rattle.wf_model.specs.World.{World, start, after, steps}
+use Rattle.wf_node.specs.Images.{AllStandFor}
+use Rattle.wf_node.specs.Node.{Node}
+use Rattle.wf_farm.specs.declared.place.Place.{Place}
+use Rattle.wf_farm.specs.declared.place.Place.TheVariants.{Running, Stopped}
+use Rattle.wf_farm.specs.Delivering as delivering
+use Rattle.wf_farm.specs.Delivering.{AnyPart, StandAmong, StandFor, StandInTurn, MayLeave, IsNodeBy}
+use Rattle.wf_farm.specs.Farm.{IsReached}
+use Rattle.wf_farm.specs.Leading.{AreLedOn, AreReached, LeadTo}
+use Rattle.wf_farm.specs.Nodes.{KeepPlaces, KeepsPlace, node_in, nodes_of}
+use Rattle.wf_farm.specs.NodesLaws.{length-nodes, nodes_back, nodes_get}
+use Rattle.wf_farm.specs.PlaceLaws.{get_set_same, get_set_other}
+use Rattle.wf_farm.specs.Places.{IsNode, AreNodes, IsMember, AreMembers}
+use Rattle.wf_farm.proofs.Entries.{all_nodes, as_many, node_at}
+use Rattle.wf_farm.proofs.Steps.{one_stand}
+use Rattle.wf_tape.specs.declared.tape.Tape.{Ghosts as Tape}
+
+-- ---- the members
+
+module _ {T : Type 0} (honest : Type 0) (images : T → List ℕ → Type 0) (never_fails : T → Type 0) where
+  turn_by : (n i : ℕ) (place : Place T) → IsMember honest images never_fails n i place → ((node_in n i place).id ≡ i) × ((node_in n i place).n ≡ n)
+  turn_by n i (Running node) is = (is.0, is.1)
+  turn_by n i (Stopped tape) is = (refl, refl)
+
+  -- members are in turn
+  pub in_turn_of : (places : List (Place T)) → AreMembers honest images never_fails places → StandInTurn (nodes_of places)
+  unfolding StandAmong AreMembers
+  in_turn_of places are = λ i node at.
+      let back = nodes_back places i node at in
+      let turn = turn_by (length places) i back.0 (are i back.0 back.1) in
+      (sym (ap (λ (x : Node T). x.id) back.2) ∙ turn.0, sym (ap (λ (x : Node T). x.n) back.2) ∙ turn.1 ∙ sym (length-nodes places))
+
+  outside_member : (honest → ⊥) → (n i : ℕ) (place : Place T) → ((node_in n i place).id ≡ i) × ((node_in n i place).n ≡ n) → IsMember honest images never_fails n i place
+  outside_member outside n i (Running node) turn = (turn.0, turn.1, λ h. absurd (outside h))
+  outside_member outside n i (Stopped tape) turn = λ h. absurd (outside h)
+
+  -- nodes in turn are members, where the tapes aren't known to be honest
+  pub outside_members : (honest → ⊥) → (places : List (Place T)) → StandInTurn (nodes_of places) → AreMembers honest images never_fails places
+  unfolding StandAmong AreMembers
+  outside_members outside places turns = λ i place at.
+      let turn = turns i (node_in (length places) i place) (nodes_get places i place at) in
+      outside_member outside (length places) i place (turn.0, turn.1 ∙ length-nodes places)
+
+  -- A member that replaces one.
+  pub set_members : (places : List (Place T)) (i : ℕ) (place next : Place T) → slice_get places i ≡ Some place → IsMember honest images never_fails (length places) i next →
+      AreMembers honest images never_fails places → AreMembers honest images never_fails (slice_set places i next)
+  unfolding AreMembers
+  set_members places i place next at is are = λ j p e. subst (λ n. IsMember honest images never_fails n j p) (sym (length-set places i next)) (elim (cases_eq j i) [
+    | inl same ↦ subst (λ k. IsMember honest images never_fails (length places) k p) (sym same)
+        (subst (λ q. IsMember honest images never_fails (length places) i q) (get_set_same places i next place p at (subst (λ k. slice_get (slice_set places i next) k ≡ Some p) same e)) is)
+    | inr differs ↦ are j p (sym (get_set_other places i j next differs) ∙ e)
+  ])
+
+  -- The member at an index.
+  pub member_of : (places : List (Place T)) (i : ℕ) (place : Place T) → slice_get places i ≡ Some place → AreMembers honest images never_fails places → IsMember honest images never_fails (length places) i place
+  unfolding AreMembers
+  member_of places i place at are = are i place at
+
+-- ---- a stopped node's tape
+
+abbrev Runs : {T : Type 0} → Place T → Type 0
+Runs (Running node) = Unit {0}
+Runs (Stopped tape) = ⊥
+
+abbrev tape_in : {T : Type 0} → Place T → T
+tape_in (Running node) = node.tape
+tape_in (Stopped tape) = tape
+
+pub running_stopped : {T : Type 0} (node : Node T) (tape : T) → Running node ≡ Stopped tape → ⊥
+running_stopped {T} node tape same = subst (λ (p : Place T). Runs p) same tt
+
+same_tape : {T : Type 0} (other tape : T) → Stopped other ≡ Stopped tape → other ≡ tape
+same_tape {T} other tape same = ap (λ (p : Place T). tape_in p) same
+
+-- what stays a stopped node was one
+was_stopped : {T : Type 0} (place : Place T) (tape : T) → KeepsPlace place (Stopped tape) → place ≡ Stopped tape
+was_stopped (Running node) tape keeps = absurd (running_stopped keeps.0 tape (sym keeps.1))
+was_stopped (Stopped other) tape keeps = sym keeps
+
+-- an entry of as many entries
+entry_there : {A B : Type 0} (xs : List A) (ys : List B) (i : ℕ) (y : B) → length ys ≡ length xs → slice_get ys i ≡ Some y → (x : A) × (slice_get xs i ≡ Some x)
+entry_there xs [] i y long e = absurd (none-some y e)
+entry_there [] (z ∷ ys) i y long e = absurd (omega (arith, long))
+entry_there (x ∷ xs) (z ∷ ys) zero y long e = (x, refl)
+entry_there (x ∷ xs) (z ∷ ys) (suc i) y long e = entry_there xs ys i y (omega (arith, long)) e
+
+-- ---- a farm over honest tapes is reached
+
+module _ {T : Type 0} (honest : Type 0) (images : T → List ℕ → Type 0) (never_fails : T → Type 0) where
+  any_node : (n i : ℕ) (place : Place T) (shown : world.Node Definition) → IsMember honest images never_fails n i place → honest → IsNode images place shown → delivering.IsNode (AnyPart i) (node_in n i place) shown
+  any_node n i (Running node) shown member h is = subst (λ b. IsNodeBy b (AnyPart i) node shown) (sym (member.2 h).0) is
+  any_node n i (Stopped tape) shown member h is = (is.0, (shown.stored.history, refl), tt)
+
+  -- Its nodes are reached.
+  pub reached_any : (places : List (Place T)) (sent : List Message) (complete : Bool) → AreMembers honest images never_fails places → honest → IsReached images complete places sent → AreReached AnyPart (nodes_of places)
+  reached_any places sent complete members h reached =
+      let w = after definition_eq (length places) reached.events in
+      record {
+        sent = reached.earlier ++ sent;
+        events = reached.events;
+        shows = subst (λ k. delivering.Shows AnyPart (nodes_of places) (reached.earlier ++ sent) (after definition_eq k reached.events)) (sym (length-nodes places)) (record {
+          nodes_are = record {
+            as_many = as_many images places w.nodes reached.nodes ∙ sym (length-nodes places);
+            node_is = λ i node at.
+                let back = nodes_back places i node at in
+                let here = node_at images places w.nodes i back.0 reached.nodes back.1 in
+                (here.0, here.1, subst (λ (x : Node T). delivering.IsNode (AnyPart i) x here.0) back.2 (any_node (length places) i back.0 here.0 (member_of honest images never_fails places i back.0 back.1 members) h here.2));
+          };
+          messages = reached.messages;
+        });
+      }
+
+-- ---- a farm over honest tapes is led on from where it was reached
+
+module _ {T : Type 0} (tapes : Tape T) (honest : tapes.honest) (places next : List (Place T)) (keep : KeepPlaces places next) (long : length next ≡ length places)
+    (members : AreMembers tapes.honest tapes.images tapes.never_fails places) (next_members : AreMembers tapes.honest tapes.images tapes.never_fails next) where
+  -- what a crash may leave of each stopped node's tape
+  left_by : (i : ℕ) (there : Option (Place T)) → slice_get next i ≡ there → List ℕ
+  left_by i None e = []
+  left_by i (Some (Running node)) e = []
+  left_by i (Some (Stopped tape)) e = (member_of tapes.honest tapes.images tapes.never_fails next i (Stopped tape) e next_members honest).1.0
+
+  left : ℕ → List ℕ
+  left i = left_by i (slice_get next i) refl
+
+  is_left_by : (i : ℕ) (there : Option (Place T)) (e : slice_get next i ≡ there) (tape : T) → there ≡ Some (Stopped tape) → tapes.images tape (left_by i there e)
+  unfolding left_by
+  is_left_by i None e tape is = absurd (none-some (Stopped tape) is)
+  is_left_by i (Some (Running node)) e tape is = absurd (running_stopped node tape (same_Some (Running node) (Stopped tape) is))
+  is_left_by i (Some (Stopped other)) e tape is =
+      subst (λ (t : T). tapes.images t (left_by i (Some (Stopped other)) e)) (same_tape other tape (same_Some (Stopped other) (Stopped tape) is))
+      (member_of tapes.honest tapes.images tapes.never_fails next i (Stopped other) e next_members honest).1.1
+
+  is_left : (i : ℕ) (tape : T) → slice_get next i ≡ Some (Stopped tape) → tapes.images tape (left i)
+  unfolding left
+  is_left i tape at = is_left_by i (slice_get next i) refl tape at
+
+  left_of : (i : ℕ) (place : Place T) (node : Node T) → slice_get next i ≡ Some place → node_in (length next) i place ≡ node → node.halted ≡ true → tapes.images node.tape (left i)
+  left_of i (Running held) node at same halted =
+      absurd (both_ways held.halted ((member_of tapes.honest tapes.images tapes.never_fails next i (Running held) at next_members).2 honest).0 (subst (λ (x : Node T). x.halted ≡ true) (sym same) halted))
+  left_of i (Stopped tape) node at same halted = subst (λ (x : Node T). tapes.images x.tape (left i)) same (is_left i tape at)
+
+  may : MayLeave tapes (nodes_of next) left
+  unfolding MayLeave
+  may = λ i node at halted. let back = nodes_back next i node at in left_of i back.0 node back.1 back.2 halted
+
+  -- a stopped node was stopped before, with the same tape
+  stopped_before : (i : ℕ) (tape : T) → slice_get next i ≡ Some (Stopped tape) → slice_get places i ≡ Some (Stopped tape)
+  unfolding KeepPlaces
+  stopped_before i tape at =
+      let before = entry_there places next i (Stopped tape) long at in
+      let kept = keep i before.0 before.1 in
+      let same : kept.0 ≡ Stopped tape = same_Some kept.0 (Stopped tape) (sym kept.1 ∙ at) in
+      before.1 ∙ ap Some (was_stopped before.0 tape (subst (λ (p : Place T). KeepsPlace before.0 p) same kept.2))
+
+  stopped_after : (i : ℕ) (tape : T) → slice_get places i ≡ Some (Stopped tape) → slice_get next i ≡ Some (Stopped tape)
+  unfolding KeepPlaces
+  stopped_after i tape at = let kept = keep i (Stopped tape) at in kept.1 ∙ ap Some kept.2
+
+  module _ (w : World Definition) (are : AreNodes tapes.images places w.nodes) where
+    is_by : (i : ℕ) (place : Place T) (shown : world.Node Definition) → slice_get places i ≡ Some place → IsNode tapes.images place shown →
+        delivering.IsNode (StandFor left i) (node_in (length places) i place) shown
+    is_by i (Running node) shown at is =
+        subst (λ b. IsNodeBy b (StandFor left i) node shown) (sym ((member_of tapes.honest tapes.images tapes.never_fails places i (Running node) at members).2 honest).0) is
+    is_by i (Stopped tape) shown at is = (is.0, (shown.stored.history, refl), is.1 (left i) (is_left i tape (stopped_after i tape at)))
+
+    -- the nodes that the entries are, for these bytes
+    shown_before : delivering.AreNodes (StandFor left) (nodes_of places) w.nodes
+    shown_before = record {
+      as_many = as_many tapes.images places w.nodes are ∙ sym (length-nodes places);
+      node_is = λ i node at.
+          let back = nodes_back places i node at in
+          let here = node_at tapes.images places w.nodes i back.0 are back.1 in
+          (here.0, here.1, subst (λ (x : Node T). delivering.IsNode (StandFor left i) x here.0) back.2 (is_by i back.0 here.0 back.1 here.2));
+    }
+
+    module _ (one : AreReadOneWay) (v : World Definition) (shows : delivering.AreNodes (StandFor left) (nodes_of next) v.nodes) where
+      is_now : (i : ℕ) (place : Place T) → slice_get next i ≡ Some place → (node : world.Node Definition) × (slice_get v.nodes i ≡ Some node) × IsNode tapes.images place node
+      is_now i (Running node) at =
+          let here = shows.node_is i node (nodes_get next i (Running node) at) in
+          (here.0, here.1, subst (λ b. IsNodeBy b (StandFor left i) node here.0) ((member_of tapes.honest tapes.images tapes.never_fails next i (Running node) at next_members).2 honest).0 here.2)
+      is_now i (Stopped tape) at =
+          let here = shows.node_is i (node_in (length next) i (Stopped tape)) (nodes_get next i (Stopped tape) at) in
+          let was = node_at tapes.images places w.nodes i (Stopped tape) are (stopped_before i tape at) in
+          let same : was.0.stored ≡ here.0.stored = one_stand one (left i) was.0.stored here.0.stored (was.2.1 (left i) (is_left i tape at)) here.2.2 in
+          (here.0, here.1, (here.2.0, subst (λ stored. AllStandFor stored (tapes.images tape)) same was.2.1))
+
+      shown_now : AreNodes tapes.images next v.nodes
+      shown_now = all_nodes tapes.images next v.nodes (shows.as_many ∙ length-nodes next) is_now
+
+  -- What was reached and led on is reached; its messages may be forgotten.
+  pub reached_led : AreReadOneWay → (sent : List Message) (complete : Bool) → AreLedOn tapes (nodes_of places) (nodes_of next) → IsReached tapes.images complete places sent → IsReached tapes.images false next []
+  unfolding LeadTo after
+  reached_led one sent complete led reached =
+      let w = steps definition_eq (start (length places)) reached.events in
+      let on = led.on_tape honest left may w (reached.earlier ++ sent) (record { nodes_are = shown_before w reached.nodes; messages = reached.messages }) in
+      let v = steps definition_eq w on.events in
+      let goes : steps definition_eq (start (length next)) (reached.events ++ on.events) ≡ v =
+      steps_in_turn Definition definition_eq (start (length next)) reached.events on.events ∙ ap (λ k. steps definition_eq (steps definition_eq (start k) reached.events) on.events) long in
+      record {
+        events = reached.events ++ on.events;
+        earlier = on.sent;
+        nodes = subst (λ x. AreNodes tapes.images next x.nodes) (sym goes) (shown_now w reached.nodes one v on.shows.nodes_are);
+        messages = ap (λ x. x.sent) goes ∙ on.shows.messages ∙ ap (λ ms. map message.view ms) (sym (append-nil on.sent));
+        all = λ is. absurd (false≢true is);
+      }

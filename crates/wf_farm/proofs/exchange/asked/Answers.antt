@@ -1,0 +1,35 @@
+-- The client asks the node at the index, which runs.
+use Rattle.std.proofs.Common.{◌≡◌, slice_get, Some, length-set}
+use Rattle.wf_farm.specs.declared.place.Place.TheVariants.{Running}
+use Rattle.wf_farm.proofs.Exchanges.{asked_as, asked_kept, asked_leads, asked_members, index_running, not_stopped, ready_there}
+use Rattle.wf_farm.proofs.exchange.asked.Given as given
+use Rattle.wf_farm.proofs.exchange.asked.Goals as goal
+
+here : (g : given.Over) (c : goal.After-ask g) → slice_get c.args.places.now c.args.number ≡ Some (Running c.in-Running.node)
+here g c = index_running c.args.places.now c.args.number c.index-places-number.result c.requires.runs.0 c.in-Running.node c.requires.runs.1 c.in-Running.is
+
+pub ask-requires : goal.ask-requires
+ask-requires g c =
+    ready_there g.C.Client.ready c.args.client.now c.args.places.now c.args.number c.in-Running.node c.requires.ready
+    (index_running c.args.places.now c.args.number c.index-places-number.result c.requires.runs.0 c.in-Running.node c.requires.runs.1 c.in-Running.is)
+
+pub unreachable-requires : goal.unreachable-requires
+unreachable-requires g c = not_stopped c.args.places.now c.args.number c.index-places-number.result c.requires.runs.0 c.in-Stopped.field-0 c.requires.runs.1 c.in-Stopped.is
+
+pub returns-clause-asked : goal.returns-clause-asked
+returns-clause-asked g c =
+    asked_as g.T.Tape g.C.Client.asks c.args.places.now c.args.number c.args.client.now c.ask.new.self c.in-Running.node c.ask.new.node c.ask.result (here g c) c.ask.ensures.asks
+
+pub returns-clause-says : goal.returns-clause-says
+returns-clause-says g c =
+    asked_leads g.T.Tape c.args.places.now c.args.number c.in-Running.node c.ask.new.node c.ask.result.items (here g c) c.requires.members c.ask.ensures.leads
+
+pub returns-clause-members : goal.returns-clause-members
+returns-clause-members g c =
+    asked_members g.T.Tape c.args.places.now c.args.number c.in-Running.node c.ask.new.node c.ask.result.items (here g c) c.requires.members c.ask.ensures.leads c.ask.ensures.sturdy
+
+pub returns-clause-kept : goal.returns-clause-kept
+returns-clause-kept g c = asked_kept c.args.places.now c.args.number c.in-Running.node c.ask.new.node (here g c)
+
+pub returns-clause-size : goal.returns-clause-size
+returns-clause-size g c = length-set c.args.places.now c.args.number (Running c.ask.new.node)

@@ -1,0 +1,59 @@
+-- An exchange: a node of a farm is asked to do something, and its messages are delivered, and those sent in reply.
+use Rattle.std.specs.Prelude.{◌≡◌, ◌<◌, ℕ, Bool, false, List, length, slice_get, slice_set, Some, Vec}
+use Rattle.std.specs.declared.alloc.Global.{Global}
+use Rattle.wf_codec.specs.declared.message.Message.{Message}
+use Rattle.wf_node.specs.Node.{Node}
+use Rattle.wf_farm.specs.declared.delivering.Pumped.{Pumped}
+use Rattle.wf_farm.specs.declared.place.Place.{Place}
+use Rattle.wf_farm.specs.declared.place.Place.TheVariants.{Running}
+use Rattle.wf_farm.specs.Delivering.{AreHandedOut, IsDelivered, IsGiven, StandInTurn}
+use Rattle.wf_farm.specs.Leading.{AreLedSaying}
+use Rattle.wf_farm.specs.Nodes.{KeepPlaces, nodes_of}
+use Rattle.wf_farm.specs.Places.{AreMembers}
+use Rattle.wf_tape.specs.declared.tape.Tape.{Ghosts as Tape}
+
+-- The client may ask node `number`, if it runs.
+unfoldable pub IsReadyFor : {T C : Type 0} → (C → Node T → Type 0) → C → List (Place T) → ℕ → Type 0
+IsReadyFor {T} ready client places number = (node : Node T) → slice_get places number ≡ Some (Running node) → ready client node
+
+-- Node `number` was asked, and sent these messages, which the client's relation tells of.
+pub record IsAsked {T C : Type 0} (asks : C → Node T → Vec Message Global → Node T → C → Type 0) (number : ℕ) (client : C) (nodes : List (Node T)) (said : Vec Message Global) (client_after : C) (nodes_after : List (Node T)) : Type 0 where
+  -- the node before and after it was asked
+  pub before : Node T
+  pub after : Node T
+  pub was : slice_get nodes number ≡ Some before
+  pub is : nodes_after ≡ slice_set nodes number after
+  pub asked : asks client before said after client_after
+
+module _ {T : Type 0} (tapes : Tape T) where
+  -- What was done to a node leads any nodes on among which it is, and sends exactly these messages.
+  unfoldable pub LeadsOn : Node T → List Message → Node T → Type 0
+  LeadsOn before said after = (nodes : List (Node T)) (i : ℕ) → slice_get nodes i ≡ Some before → StandInTurn nodes → AreLedSaying tapes nodes said (slice_set nodes i after)
+
+  -- Where the tape won't fail, a node that isn't halted still isn't, and the tape still won't.
+  abbrev pub IsSturdy : Node T → Node T → Type 0
+  IsSturdy before after = tapes.never_fails before.tape → before.halted ≡ false → (after.halted ≡ false) × tapes.never_fails after.tape
+
+  -- Node `number` was asked; and its messages were delivered to the nodes, and so were the messages that they sent in reply: each to
+  -- each node, until none was left, or the deliveries stopped early.
+  pub record IsExchange {C : Type 0} (asks : C → Node T → Vec Message Global → Node T → C → Type 0) (number : ℕ) (client : C) (nodes : List (Node T)) (pumped : Pumped) (client_after : C) (nodes_after : List (Node T)) : Type 0 where
+    -- the node's messages, and the nodes by then
+    pub said : Vec Message Global
+    pub middle : List (Node T)
+    pub asked : IsAsked asks number client nodes said client_after middle
+    pub delivered : IsDelivered tapes middle said.items pumped.deliveries nodes_after
+    pub handed : AreHandedOut tapes middle said.items pumped.deliveries pumped.lost pumped.stopped nodes_after
+
+  -- ---- for the crate's own contracts
+
+  -- a message can be delivered to entry i
+  abbrev pub CanTake : List (Place T) → ℕ → Type 0
+  CanTake places i = AreMembers tapes.honest tapes.images tapes.never_fails places × (i < length places)
+
+  -- one delivery to an entry, as the world and its node see it
+  abbrev pub IsGivenTo : ℕ → ℕ → Bool → List (Place T) → List Message → List (Place T) → List Message → Type 0
+  IsGivenTo i k lost places sent places_after sent_after = IsGiven tapes i k lost (nodes_of places) sent (nodes_of places_after) sent_after × KeepPlaces places places_after
+
+-- a delivery that wasn't made
+abbrev pub IsNotGiven : {T : Type 0} → ℕ → ℕ → List (Place T) → List Message → List (Place T) → List Message → Type 0
+IsNotGiven i k places sent places_after sent_after = places_after ≡ places
