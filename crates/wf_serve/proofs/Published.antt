@@ -31,7 +31,7 @@ use Rattle.wf_node.specs.Node.{Node, working_of}
 use Rattle.wf_proposer.specs.Standing.{standing_of}
 use Rattle.wf_proposer.specs.declared.standing.Standing.TheVariants as standing
 use Rattle.wf_serve.specs.Publishing.{WasAccepted, HavePublished, AcceptedIsPublished, accepted_status}
-use Rattle.wf_serve.specs.Serving.{IsConnection, IsRetried, RunsAt}
+use Rattle.wf_serve.specs.Serving.{IsConnection, IsRetried, ProposesAt}
 use Rattle.wf_tape.specs.declared.tape.Tape.{Ghosts as Tape}
 
 -- ---- the response
@@ -119,7 +119,7 @@ rests_still (model.Won s) rests is = cc
 rests_still (model.Overtaken s) rests is = cc
 
 module _ {T : Type 0} (tapes : Tape T) (place : ℕ) (heard : List (Node T)) (map : Definition) (published : AllPublish heard map) (none : NoneHalted heard) where
-  not_running : RunsAt place heard → ⊥
+  not_running : ProposesAt place heard → ⊥
   unfolding AllPublish NoneHalted
   not_running runs =
       rests_still (working_of runs.0).proposing (published place runs.0 runs.1).1

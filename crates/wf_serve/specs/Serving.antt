@@ -24,8 +24,8 @@ pub record IsChangedAt {T : Type 0} (place : ℕ) (nodes : List (Node T)) (befor
   pub is : nodes_after ≡ slice_set nodes place after
 
 -- the node at index `place` has a running proposal
-abbrev pub RunsAt : {T : Type 0} → ℕ → List (Node T) → Type 0
-RunsAt {T} place nodes = (node : Node T) × (slice_get nodes place ≡ Some node) × (standing_at node ≡ Running)
+abbrev pub ProposesAt : {T : Type 0} → ℕ → List (Node T) → Type 0
+ProposesAt {T} place nodes = (node : Node T) × (slice_get nodes place ≡ Some node) × (standing_at node ≡ Running)
 
 -- it has none
 abbrev pub RestsAt : {T : Type 0} → ℕ → List (Node T) → Type 0
@@ -91,7 +91,7 @@ module _ {T : Type 0} (tapes : Tape T) where
 
   -- The proposal of the node at index `place` was running; the node was asked to restart it, and its messages were delivered.
   pub record IsBegunAnew (place : ℕ) (nodes nodes_after : List (Node T)) : Type 0 where
-    pub runs : RunsAt place nodes
+    pub runs : ProposesAt place nodes
     pub anew : IsAskedAndHeard place Retry nodes nodes_after
 
   -- A running proposal was restarted; if none was running, nothing happened.

@@ -9,7 +9,7 @@ ghost use Rattle.wf_farm.specs.Leading.{AreLedOn, AreReached, HaveOneHistory};
 ghost use Rattle.wf_farm.specs.Nodes.{AllRun, nodes_in};
 ghost use Rattle.wf_serve.specs.Agreeing.{AgreeStill, RespondAlike};
 ghost use Rattle.wf_serve.specs.Caching.{AreKept, IsKeptAt};
-ghost use Rattle.wf_serve.specs.Serving.{EndsWriting, HaveCaughtUp, IsAskedAndHeard, IsConnection, IsRetried, IsServedAndHeard, RestsAt, RunsAt};
+ghost use Rattle.wf_serve.specs.Serving.{EndsWriting, HaveCaughtUp, IsAskedAndHeard, IsConnection, IsRetried, IsServedAndHeard, RestsAt, ProposesAt};
 ghost use Rattle.wf_serve.specs.Visiting.{own_input};
 
 use crate::visiting::{Own, Visit};
@@ -168,7 +168,7 @@ fn retry<T: Tape>(alloc: Global, farm: &mut Farm<T>, place: usize)
 fn proposes<T: Tape>(farm: &Farm<T>, place: usize) -> bool
     requires within { place < size farm.now }
     requires running { AllRun farm.now.places }
-    ensures running { result ≡ true → RunsAt place (nodes_in farm.now) }
+    ensures running { result ≡ true → ProposesAt place (nodes_in farm.now) }
     ensures resting { result ≡ false → RestsAt place (nodes_in farm.now) }
 {
     match farm.node(place) {
