@@ -1,0 +1,528 @@
+#!/usr/bin/env python3
+"""Makes a self-contained mapfile for wfarm from data that GDAL reads: GeoJSON, GeoPackage, shapefile, a table with points.
+
+    python3 tools/make_map.py --name county --title "The county" --fit \\
+        --layer communes.gpkg --table communes --class-by use --palette soft --outline 90,90,90 --label name \\
+        --layer roads.shp --where "class IN ('A', 'B')" --color 90,130,220 --width 3 > county.map
+
+Each --layer begins a layer; the options after it, up to the next --layer, are that layer's. Layers are drawn in the
+order in which a request lists them. Data with more than one kind of geometry become a layer for each kind
+(`roads_line`, `roads_point`). The data are reprojected from their own system, or from that of --source, to longitude
+and latitude in degrees, or by --crs 3857 to metres of the Mercator projection.
+
+Features have no attributes on the map but those of --items; labels and classes don't need them. Colours by an attribute:
+--class-by alone gives each value a colour of the palette, --class VALUE=COLOR colours some values, and --ranges cuts
+numbers into classes.
+
+A feature that can't be drawn ends the tool with a line that names it; --skip leaves such features out and counts them.
+What is changed, simplified or left out is told on standard error. A map over a limit of wfarm isn't written: --fit finds
+the least simplification at which it is within them. Borders that shapes share stay shared.
+
+It needs Debian's python3-gdal and, for filled polygons and to simplify, python3-shapely.
+"""
+
+import argparse
+import json
+import math
+import re
+import sys
+from dataclasses import dataclass, field
+from pathlib import Path
+
+from maps import fitting, options, texts
+from maps.errors import MapError, Notes, library
+from maps.geometry import DIGITS, checked, on_grid, whole_extent
+from maps.model import LABEL_SIZES, LEAST_POINTS, MOST_CLASSES, POSITIONS, Class, Feature, Label, Layer, Map, Style
+from maps.query import picture_query
+
+KINDS = ("POINT", "LINE", "POLYGON")
+MEMBERS = {"MULTIPOINT", "MULTILINESTRING", "MULTIPOLYGON"}
+PALETTES = {
+    "soft": ["#8dd3c7", "#ffffb3", "#bebada", "#fb8072", "#80b1d3", "#fdb462", "#b3de69", "#fccde5", "#d9d9d9", "#bc80bd", "#ccebc5", "#ffed6f"]
+    + ["#a6cee3", "#e5c494", "#cab2d6"],
+    "bright": ["#e41a1c", "#377eb8", "#4daf4a", "#984ea3", "#ff7f00", "#ffd92f", "#a65628", "#f781bf", "#1b9e77", "#666666", "#66c2a5", "#1f78b4"]
+    + ["#b2df8a", "#fb9a99", "#6a3d9a"],
+    "greens": ["#f7fcf5", "#00441b"],
+    "blues": ["#f7fbff", "#08306b"],
+    "heat": ["#ffffcc", "#fd8d3c", "#800026"],
+}  # of the last three the colours between are mixed
+LISTED = ("soft", "bright")
+OTHER = "other"
+
+
+# ---- what is asked for
+
+
+@dataclass
+class LayerOptions:
+    """The options of one layer, as they are without options."""
+
+    path: str
+    table: str = None
+    where: str = None
+    source: str = None
+    encoding: str = None
+    layer_name: str = None
+    layer_title: str = None
+    items: list = field(default_factory=list)
+    label: str = None
+    label_size: str = "MEDIUM"
+    label_position: str = "CC"
+    label_priority: int = 1
+    label_color: tuple = (0, 0, 0)
+    color: tuple = None
+    outline: tuple = None
+    width: int = 1
+    size: int = 5
+    class_by: str = None
+    classes: list = field(default_factory=list)
+    ranges: list = None
+    palette: str = None
+
+
+class BeginLayer(argparse.Action):
+    def __call__(self, parser, namespace, value, option=None):
+        namespace.layers = (namespace.layers or []) + [LayerOptions(value)]
+
+
+class OfLayer(argparse.Action):
+    """An option of the layer that the last --layer began."""
+
+    def __call__(self, parser, namespace, value, option=None):
+        if not namespace.layers:
+            parser.error(f"{option} stands before the first --layer")
+        layer = namespace.layers[-1]
+        if self.dest == "classes":
+            layer.classes.append(value)
+        else:
+            setattr(layer, self.dest, value)
+
+
+def class_of(text):
+    """A class: the value of --class-by, and the color that features with it are drawn in."""
+    value, equals, shade = text.rpartition("=")
+    if not equals:
+        raise argparse.ArgumentTypeError(f"{text!r} is no class: VALUE=R,G,B")
+    return value, options.color(shade)
+
+
+def ranges_of(text):
+    """The numbers that classes begin at, ascending."""
+    try:
+        breaks = [float(piece) for piece in text.split(",")]
+    except ValueError:
+        breaks = []
+    if not breaks or not all(map(math.isfinite, breaks)) or breaks != sorted(set(breaks)):
+        raise argparse.ArgumentTypeError(f"{text!r} isn't a list of numbers that rise, as 100,500,1000")
+    return breaks
+
+
+def arguments():
+    parser = argparse.ArgumentParser(
+        description="Makes a self-contained mapfile for wfarm from data that GDAL reads.",
+        epilog="The options after --layer, up to the next one, are that layer's.",
+    )
+    parser.add_argument("--name", required=True, help="the map's name")
+    parser.add_argument("--title", help="its title (the name)")
+    parser.add_argument("--abstract", default="", help="what it shows")
+    parser.add_argument("--address", default="http://localhost/wms?", help="the address that clients will use")
+    parser.add_argument("--crs", choices=["4326", "3857"], default="4326", help="degrees, or metres of the Mercator projection")
+    parser.add_argument("--extent", type=options.extent, metavar="MINX,MINY,MAXX,MAXY", help="in the map's units (that of the data); a negative one as --extent=-3,51,-2,52")
+    parser.add_argument("--skip", action="store_true", help="leave out features that can't be drawn, and count them")
+    options.add_common(parser)
+    parser.add_argument("--layer", action=BeginLayer, dest="layers", metavar="FILE", required=True, help="data that GDAL reads")
+    layer = parser.add_argument_group("options of a layer")
+    layer.add_argument("--table", action=OfLayer, metavar="NAME", help="the table of the file, where it has several")
+    layer.add_argument("--where", action=OfLayer, metavar="CONDITION", help="which features, as in SQL: \"use = 'forest'\"")
+    layer.add_argument("--source", action=OfLayer, metavar="EPSG:N", help="the data's system (that which the data name)")
+    layer.add_argument("--encoding", action=OfLayer, metavar="NAME", help="of a shapefile's texts, as ISO-8859-1 or CP1252")
+    layer.add_argument("--layer-name", action=OfLayer, metavar="NAME", help="its name (the table's, or the file's)")
+    layer.add_argument("--layer-title", action=OfLayer, metavar="TEXT", help="its title (its name)")
+    layer.add_argument("--items", action=OfLayer, type=lambda text: text.split(","), metavar="NAME,..", help="the attributes to keep (none)")
+    layer.add_argument("--label", action=OfLayer, metavar="NAME", help="the attribute that is written beside a feature")
+    layer.add_argument("--label-size", action=OfLayer, choices=LABEL_SIZES, help="(MEDIUM)")
+    layer.add_argument("--label-position", action=OfLayer, choices=POSITIONS, help="(CC)")
+    layer.add_argument("--label-priority", action=OfLayer, type=options.whole(1, 10), help="which label stays where two meet: the higher (1)")
+    layer.add_argument("--label-color", action=OfLayer, type=options.color, metavar="COLOR", help="(black)")
+    layer.add_argument("--color", action=OfLayer, type=options.color, help="R,G,B or #rrggbb")
+    layer.add_argument("--outline", action=OfLayer, type=options.color, metavar="COLOR", help="of polygons")
+    layer.add_argument("--width", action=OfLayer, type=options.whole(1, 16), help="of lines and outlines, in pixels (1)")
+    layer.add_argument("--size", action=OfLayer, type=options.whole(1, 64), help="of points, in pixels (5)")
+    layer.add_argument("--class-by", action=OfLayer, metavar="NAME", help="the attribute that chooses a feature's color")
+    layer.add_argument("--class", action=OfLayer, dest="classes", type=class_of, metavar="VALUE=COLOR", help="may be repeated; others have --color")
+    layer.add_argument("--ranges", action=OfLayer, type=ranges_of, metavar="N,..", help="numbers that classes of --class-by begin at")
+    layer.add_argument("--palette", action=OfLayer, choices=PALETTES, help="of --class-by (soft, and heat with --ranges)")
+    return parser.parse_args()
+
+
+# ---- the data
+
+
+@dataclass
+class Record:
+    """A feature of the data: where it comes from, its parts by kind, and the texts of its attributes by name."""
+
+    place: str
+    parts: dict
+    values: dict
+
+
+class Source:
+    """The features of one table of a file."""
+
+    def __init__(self, gdal, asked, notes):
+        self.gdal, self.asked, self.notes = gdal, asked, notes
+        self.path = asked.path
+        given = [f"ENCODING={asked.encoding}"] if asked.encoding else []
+        try:
+            self.data = gdal.gdal.OpenEx(asked.path, gdal.gdal.OF_VECTOR, open_options=given)
+        except RuntimeError as error:
+            raise MapError(f"{self.path}: {unread(gdal, asked.path, error)}") from error
+        self.table = self.chosen()
+        self.fields = self.field_names()
+
+    def chosen(self):
+        names = [self.data.GetLayer(i).GetName() for i in range(self.data.GetLayerCount())]
+        if self.asked.table is None and len(names) == 1:
+            return self.data.GetLayer(0)
+        if self.asked.table in names:
+            return self.data.GetLayer(names.index(self.asked.table))
+        if not names:
+            raise MapError(f"{self.path}: it has no table: is it data with geometry?")
+        wrong = "it has several tables" if self.asked.table is None else f"it has no table {self.asked.table}"
+        raise MapError(f"{self.path}: {wrong}: write --table and one of {', '.join(names)}")
+
+    def field_names(self):
+        definition = self.table.GetLayerDefn()
+        names = [definition.GetFieldDefn(i).GetName() for i in range(definition.GetFieldCount())]
+        for wanted in self.wanted():
+            if wanted not in names:
+                raise MapError(f"{self.path}: it has no attribute {wanted!r}: it has {', '.join(names) or 'none'}")
+        return names
+
+    def wanted(self):
+        asked = self.asked
+        return dict.fromkeys([*asked.items, *filter(None, [asked.label, asked.class_by])])
+
+    def transformation(self, crs):
+        """From the data's system to the map's, None where they are one."""
+        osr = self.gdal.osr
+        target = osr.SpatialReference()
+        target.ImportFromEPSG(int(crs))
+        source = self.table.GetSpatialRef()
+        if self.asked.source:
+            source = osr.SpatialReference()
+            try:
+                source.SetFromUserInput(self.asked.source)
+            except RuntimeError as error:
+                raise MapError(f"{self.path}: {self.asked.source} is no system: write --source EPSG: and a number") from error
+        if source is None:
+            raise MapError(f"{self.path}: the data name no system: write --source EPSG: and its number")
+        for system in (source, target):
+            system.SetAxisMappingStrategy(osr.OAMS_TRADITIONAL_GIS_ORDER)
+        return None if source.IsSame(target) else osr.CoordinateTransformation(source, target)
+
+    def records(self, crs, skip):
+        """The features, in the map's system."""
+        if self.asked.where:
+            try:
+                self.table.SetAttributeFilter(self.asked.where)
+            except RuntimeError as error:
+                raise MapError(f"{self.path}: --where {self.asked.where!r} isn't understood: {error}") from error
+        change = self.transformation(crs)
+        try:
+            features = [feature for feature in self.table]  # no list(): it asks for a length, which OpenStreetMap's has none of
+        except RuntimeError as error:
+            raise MapError(f"{self.path}: {unread(self.gdal, self.path, error)}") from error
+        for place, feature in enumerate(features, 1):
+            name = f"{self.path}: feature {place}"
+            try:
+                parts = self.parts_of(feature, change, crs, name)
+            except MapError as error:
+                if not skip:
+                    raise MapError(f"{error}, or write --skip") from error
+                self.notes.add("a feature that can't be drawn was left out", str(error))
+                continue
+            yield Record(name, parts, self.values_of(feature, name))
+
+    def parts_of(self, feature, change, crs, place):
+        geometry = feature.GetGeometryRef()
+        if geometry is None or geometry.IsEmpty():
+            raise MapError(f"{place}: it has no geometry: leave it out by --where")
+        if geometry.Is3D():
+            self.notes.add("heights were left out", place)
+        if geometry.HasCurveGeometry():
+            geometry = geometry.GetLinearGeometry()
+            self.notes.add("curves became straight lines", place)
+        parts = {}
+        for kind, points in raw_parts(geometry, place):
+            if change is not None:
+                points = changed(change, points, place)
+            parts.setdefault(kind, []).append(checked(points, crs, kind, place))
+        return parts
+
+    def values_of(self, feature, place):
+        return {name: texts.plain(self.text_of(feature, name, place), self.notes, place) for name in self.wanted()}
+
+    def text_of(self, feature, name, place):
+        """The attribute as a text, empty where it is missing."""
+        ogr = self.gdal.ogr
+        index = self.fields.index(name)
+        definition = feature.GetFieldDefnRef(index)
+        if not feature.IsFieldSetAndNotNull(index):
+            return ""
+        if definition.GetType() == ogr.OFTBinary:
+            raise MapError(f"{place}: attribute {name} is binary: keep another")
+        if definition.GetSubType() == ogr.OFSTBoolean:
+            return "true" if feature.GetFieldAsInteger(index) else "false"
+        if definition.GetType() in (ogr.OFTStringList, ogr.OFTIntegerList, ogr.OFTInteger64List, ogr.OFTRealList):
+            return ",".join(map(str, feature.GetField(index)))
+        try:
+            text = feature.GetFieldAsString(index)
+            text.encode()
+        except (UnicodeError, AttributeError) as error:
+            raise MapError(f"{place}: attribute {name} isn't UTF-8: write its --encoding, as ISO-8859-1") from error
+        return text
+
+
+def unread(gdal, path, error):
+    """Why a file can't be read, and which feature of GeoJSON is the first that can't."""
+    text = str(error).strip()
+    if not Path(path).exists() and not re.match("/vsi|[A-Za-z0-9]{2,}:", path):
+        return "there is no such file"
+    try:
+        listed = json.loads(Path(path).read_text(encoding="utf-8-sig"))["features"]
+        for place, entry in enumerate(listed, 1):
+            shape = entry.get("geometry")
+            if shape is not None and not reads(gdal, shape):
+                return f"feature {place}: its geometry is malformed: repair it ({text})"
+    except (OSError, ValueError, KeyError, TypeError, AttributeError):
+        pass
+    return f"GDAL can't read it: {text}"
+
+
+def reads(gdal, shape):
+    try:
+        return gdal.ogr.CreateGeometryFromJson(json.dumps(shape)) is not None
+    except RuntimeError:
+        return False
+
+
+def raw_parts(geometry, place):
+    """The parts of a geometry, each with its kind."""
+    name = geometry.GetGeometryName()
+    if name in MEMBERS:
+        for i in range(geometry.GetGeometryCount()):
+            yield from raw_parts(geometry.GetGeometryRef(i), place)
+    elif name == "POLYGON":
+        for i in range(geometry.GetGeometryCount()):
+            yield "POLYGON", long_enough("POLYGON", geometry.GetGeometryRef(i).GetPoints(), place)
+    elif name in ("POINT", "LINESTRING"):
+        kind = "POINT" if name == "POINT" else "LINE"
+        yield kind, long_enough(kind, geometry.GetPoints(), place)
+    else:
+        raise MapError(f"{place}: it is a {name}: split it into points, lines and polygons (ogr2ogr -explodecollections -unsetFid)")
+
+
+def long_enough(kind, points, place):
+    least = max(1, LEAST_POINTS[kind] - (kind == "POLYGON"))
+    if len(points or ()) < least:
+        raise MapError(f"{place}: a {kind.lower()} with {len(points or ())} points, and it needs {least}: repair it")
+    return points
+
+
+def changed(change, points, place):
+    """The points in the map's system."""
+    try:
+        return change.TransformPoints([point[:2] for point in points])
+    except RuntimeError as error:
+        raise MapError(f"{place}: it can't be reprojected: {error}: give the data's own system (--source)") from error
+
+
+# ---- classes
+
+
+def shades(palette, count):
+    """So many colours of a palette."""
+    colors = [options.color(text) for text in PALETTES[palette]]
+    if palette in LISTED:
+        return [colors[i % len(colors)] for i in range(count)]
+    return [mixed(colors, i / max(1, count - 1)) for i in range(count)]
+
+
+def mixed(colors, share):
+    """The colour at a share of the way along the colours."""
+    along = share * (len(colors) - 1)
+    first = min(int(along), len(colors) - 2)
+    rest = along - first
+    return tuple(round(a + (b - a) * rest) for a, b in zip(colors[first], colors[first + 1]))
+
+
+def range_names(breaks):
+    names = [f"{a:g} to {b:g}" for a, b in zip(breaks, breaks[1:])]
+    return [f"under {breaks[0]:g}", *names, f"{breaks[-1]:g} and more"]
+
+
+def range_of(text, breaks):
+    """The index of the range that the number is in, or None."""
+    try:
+        value = float(text)
+    except ValueError:
+        return None
+    return None if math.isnan(value) else sum(value >= start for start in breaks)
+
+
+class Classes:
+    """The classes of a layer: names, colours, and which one a feature is in. The last is for all others."""
+
+    def __init__(self, asked, records, notes):
+        self.asked = asked
+        self.names, self.colors, self.index = [], [], {}
+        if asked.class_by is None:
+            if asked.classes or asked.ranges or asked.palette:
+                raise MapError(f"{asked.path}: --class, --ranges and --palette need --class-by and an attribute")
+        elif asked.ranges:
+            self.take(range_names(asked.ranges), shades(asked.palette or "heat", len(asked.ranges) + 1))
+        elif asked.classes:
+            named = [(texts.plain(name, notes, "--class"), shade) for name, shade in asked.classes]
+            self.take([name for name, _ in named], [shade for _, shade in named])
+            self.warn_of_absent(records, notes)
+        else:
+            values = sorted({record.values[asked.class_by] for record in records} - {""})
+            if len(values) >= MOST_CLASSES:
+                raise MapError(
+                    f"{asked.path}: attribute {asked.class_by} has {len(values)} values, and a layer at most {MOST_CLASSES - 1} classes "
+                    "by value: name the most important by --class, or cut numbers by --ranges"
+                )
+            self.take(values, shades(asked.palette or "soft", len(values)))
+        self.others = [record for record in records if self.of(record) is None]
+        if asked.class_by is not None and self.others:
+            notes.add(f"{asked.path}: features in no class of {asked.class_by} have --color", self.others[0].place, len(self.others))
+
+    def take(self, names, colors):
+        self.names, self.colors = names, colors
+        self.index = {name: i for i, name in enumerate(names)}
+
+    def warn_of_absent(self, records, notes):
+        values = {record.values[self.asked.class_by] for record in records}
+        for name in self.names:
+            if name not in values:
+                notes.add(f"{self.asked.path}: no feature has {self.asked.class_by} {name!r}")
+
+    def of(self, record):
+        """The index of the record's class, None for all others."""
+        if self.asked.class_by is None:
+            return None
+        text = record.values[self.asked.class_by]
+        return range_of(text, self.asked.ranges) if self.asked.ranges else self.index.get(text)
+
+    def drawn(self, kind, layer_name):
+        """The classes as they are drawn; the one for all others only where there are others."""
+        shaded = [Class(name, [style_of(kind, self.asked, shade)], label_of(self.asked)) for name, shade in zip(self.names, self.colors)]
+        if self.others or not shaded:
+            shaded.append(Class(OTHER if shaded else layer_name, [style_of(kind, self.asked, None)], label_of(self.asked)))
+        return shaded
+
+    def group(self, record):
+        index = self.of(record)
+        return len(self.names) if index is None else index
+
+
+def label_of(asked):
+    if asked.label is None:
+        return None
+    return Label(asked.label_color, asked.label_size, asked.label_position, asked.label_priority)
+
+
+def style_of(kind, asked, shade):
+    """How a class is drawn in the color of a class, or else in that of the layer."""
+    fill = shade or asked.color
+    if kind == "LINE":
+        return Style(color=fill or (60, 60, 60), width=asked.width)
+    if kind == "POINT":
+        return Style(color=fill or (200, 40, 40), size=asked.size)
+    if fill is None and asked.outline is None:
+        return Style(color=(220, 220, 205), outline=(110, 110, 100), width=asked.width)
+    return Style(color=fill, outline=asked.outline, width=asked.width)
+
+
+# ---- the map
+
+
+def layers_of(gdal, asked, common, notes):
+    """The layers of one --layer, one for each kind of geometry."""
+    source = Source(gdal, asked, notes)
+    records = list(source.records(common.crs, common.skip))
+    if not records:
+        raise MapError(f"{asked.path}: no feature is left to draw: look at --where and --table")
+    classes = Classes(asked, records, notes)
+    name = asked.layer_name or (Path(asked.path).stem if asked.table is None else asked.table)
+    name = texts.plain(name, notes, "a layer's name").replace(",", "_")
+    kinds = [kind for kind in KINDS if any(kind in record.parts for record in records)]
+    for kind in kinds:
+        own = name if len(kinds) == 1 else f"{name}_{kind.lower()}"
+        title = texts.plain(asked.layer_title or own, notes, "a layer's title")
+        items = [texts.plain(item, notes, "an attribute's name").replace(",", "_") for item in asked.items]
+        yield Layer(own, title, kind, classes.drawn(kind, own), features_of(kind, records, classes, common, notes), items)
+
+
+def features_of(kind, records, classes, common, notes):
+    asked = classes.asked
+    features = []
+    for record in records:
+        parts = record.parts.get(kind)
+        if parts is None:
+            continue
+        grid = on_grid(parts, kind, common.last_digit)
+        if len(grid) < len(parts):
+            notes.add("a part is smaller than the last digit and was left out", record.place, len(parts) - len(grid))
+        if grid:
+            text = texts.label(record.values[asked.label], common.ascii, notes, record.place) if asked.label else ""
+            values = [texts.value(record.values[item], notes, record.place) for item in asked.items]
+            features.append(Feature(grid, classes.group(record), values, text))
+    return features
+
+
+def sides_of(layers, common):
+    """The sides of the map's extent, in its units."""
+    if common.extent:
+        return common.extent
+    points = [point for layer in layers for feature in layer.features for part in feature.parts for point in part]
+    if not points:
+        raise MapError("nothing is left to draw: write more --digits, or look at --where")
+    xs, ys = zip(*points)
+    return tuple(side / 10**common.last_digit for side in (min(xs), min(ys), max(xs), max(ys)))
+
+
+def the_map(common, notes):
+    gdal = library("osgeo", "python3-gdal")
+    for part in ("gdal", "ogr", "osr"):
+        library(f"osgeo.{part}", "python3-gdal").UseExceptions()
+    gdal.gdal.PushErrorHandler("CPLQuietErrorHandler")
+    common.last_digit = DIGITS[common.crs] if common.digits is None else common.digits
+    layers = [layer for asked in common.layers for layer in layers_of(gdal, asked, common, notes)]
+    name, title, abstract, address = (
+        texts.plain(text, notes, "the map's texts") for text in (common.name, common.title or common.name, common.abstract, common.address)
+    )
+    extent = whole_extent(sides_of(layers, common), common.last_digit)
+    return Map(name, title, abstract, address, common.crs, common.last_digit, extent, layers)
+
+
+def main():
+    common = arguments()
+    notes = Notes()
+    try:
+        made = the_map(common, notes)
+        written = fitting.finished(made, common, notes)
+        if common.query is not None:
+            common.query.write_text(picture_query(made, common.side) + "\n", encoding="ascii")
+    except (MapError, OSError) as error:
+        print(f"error: {error}", file=sys.stderr)
+        return 1
+    fitting.tell(written, notes)
+    sys.stdout.buffer.write(written.text.encode())
+    return 0
+
+
+if __name__ == "__main__":
+    sys.exit(main())

@@ -1,0 +1,172 @@
+"""Simplification that keeps shared borders: a line that two shapes share is simplified once.
+
+All rings and lines of a map are cut into arcs where shapes meet or part (as TopoJSON does), each arc is simplified by
+Douglas and Peucker's method, and the shapes are put together from the simplified arcs. Neighbours have the same arc
+between them, so no gap and no overlap opens. An arc that would cross another, where neither did before, keeps more points.
+
+Coordinates are whole numbers, so that equal points are equal.
+"""
+
+import math
+from functools import cached_property
+
+from .errors import library
+from .geometry import meetings
+
+MOST_REFINEMENTS = 8  # of an arc's distance, each to a half; then it keeps all of its points
+APART = "FF*F*****"  # two lines share nothing but ends (DE-9IM)
+
+
+def distance(point, first, last):
+    """How far the point lies from the segment."""
+    dx, dy = last[0] - first[0], last[1] - first[1]
+    span = dx * dx + dy * dy
+    if span == 0:
+        return math.dist(point, first)
+    along = ((point[0] - first[0]) * dx + (point[1] - first[1]) * dy) / span
+    along = 0.0 if along < 0 else 1.0 if along > 1 else along
+    return math.hypot(point[0] - first[0] - along * dx, point[1] - first[1] - along * dy)
+
+
+def weights(points):
+    """For each point the greatest distance of simplification at which it is still left out. The ends are always kept."""
+    result = [0.0] * len(points)
+    result[0] = result[-1] = math.inf
+    spans = [(0, len(points) - 1, math.inf)]
+    while spans:
+        first, last, bound = spans.pop()
+        if last - first < 2:
+            continue
+        a, b = points[first], points[last]
+        far, place = max((distance(points[i], a, b), i) for i in range(first + 1, last))
+        result[place] = min(far, bound)
+        spans += [(first, place, result[place]), (place, last, result[place])]
+    return result
+
+
+class Arc:
+    """A line between two places where shapes meet, or a whole ring that meets no other."""
+
+    def __init__(self, points):
+        self.points = points
+        self.halvings = 0
+        self.is_border = False  # of a polygon
+
+    @cached_property
+    def weights(self):
+        return weights(self.points)
+
+    def kept(self, tolerance):
+        """The points that are left at the distance (None: all of them)."""
+        if tolerance is None or self.halvings > MOST_REFINEMENTS:
+            return self.points
+        least = tolerance / 2**self.halvings
+        return [point for point, weight in zip(self.points, self.weights) if weight > least]
+
+
+class Borders:
+    """The arcs of shapes. A shape is a part with at least two points; a ring ends with its first point."""
+
+    def __init__(self):
+        self.arcs = []
+        self.index = {}  # of an arc, by its points
+        self.neighbours = {}  # the points beside a point, or None where shapes meet
+
+    def meet(self, part):
+        """Takes note of where the part lies. All parts come here before any is cut."""
+        if part[0] == part[-1]:
+            ring = part[:-1]
+            beside = zip(ring[-1:] + ring[:-1], ring, ring[1:] + ring[:1])
+        else:
+            self.neighbours[part[0]] = self.neighbours[part[-1]] = None
+            beside = zip(part, part[1:], part[2:])
+        for before, point, after in beside:
+            pair = (before, after) if before <= after else (after, before)
+            if self.neighbours.setdefault(point, pair) != pair:
+                self.neighbours[point] = None
+
+    def cut(self, part, is_border):
+        """The part as arcs: (arc, whether it runs backwards) in order."""
+        if part[0] == part[-1]:
+            part = self.turned(part[:-1])
+        places = [0] + [i for i in range(1, len(part) - 1) if self.neighbours[part[i]] is None] + [len(part) - 1]
+        if len(places) == 2 and part[0] == part[-1] and self.neighbours[part[0]] is None:
+            # A loop that meets others at one point: two arcs, so that each has ends.
+            places.insert(1, max(range(1, len(part) - 1), key=lambda i: (math.dist(part[0], part[i]), part[i])))
+        return [self.arc_of(part[first : last + 1], is_border) for first, last in zip(places, places[1:])]
+
+    def turned(self, ring):
+        """The ring, closed, from a place where shapes meet, else from its least point, so that equal rings are equal."""
+        start = next((i for i, point in enumerate(ring) if self.neighbours[point] is None), None)
+        if start is None:
+            start = ring.index(min(ring))
+        return ring[start:] + ring[: start + 1]
+
+    def arc_of(self, points, is_border):
+        backwards = points[::-1] < points
+        key = tuple(points[::-1] if backwards else points)
+        if key not in self.index:
+            self.index[key] = len(self.arcs)
+            self.arcs.append(Arc(list(key)))
+        arc = self.arcs[self.index[key]]
+        arc.is_border = arc.is_border or is_border
+        return arc, backwards
+
+    def distances(self):
+        """All distances at which something changes, ascending."""
+        return sorted({weight for arc in self.arcs for weight in arc.weights if weight < math.inf})
+
+    def refine(self, tolerance):
+        """Has borders that would cross at this distance keep more points."""
+        for arc in self.arcs:
+            arc.halvings = 0
+        lines = Lines([arc for arc in self.arcs if arc.is_border])
+        for _ in range(MOST_REFINEMENTS + 1):
+            crossing = lines.crossing(tolerance)
+            if not crossing:
+                return
+            for arc in crossing:
+                arc.halvings += 1
+
+
+class Lines:
+    """Arcs as lines of shapely, to find those that cross."""
+
+    def __init__(self, arcs):
+        self.line_of = library("shapely.geometry", "python3-shapely").LineString
+        self.arcs = arcs
+        self.answers = {}  # to questions about arcs before anything was left out, by their indices
+
+    def crossing(self, tolerance):
+        """The arcs that cross another at this distance, or themselves, and don't where nothing is left out."""
+        kept = {i: arc.kept(tolerance) for i, arc in enumerate(self.arcs)}
+        left = [i for i, points in kept.items() if points[0] != points[-1] or len(points) > 3]
+        lines = [self.line_of(kept[i]) for i in left]
+        found = {i for i, line in zip(left, lines) if not line.is_simple and self.was_simple(i)}
+        for k, m in meetings(lines):
+            if not lines[k].relate_pattern(lines[m], APART) and self.were_apart(left[k], left[m]):
+                found |= {left[k], left[m]}
+        return [self.arcs[i] for i in found]
+
+    def was_simple(self, i):
+        """Whether the arc didn't cross itself before anything was left out."""
+        return self.before((i,), lambda line: line.is_simple)
+
+    def were_apart(self, i, j):
+        """Whether the two arcs didn't cross before anything was left out."""
+        return self.before((i, j), lambda one, other: one.relate_pattern(other, APART))
+
+    def before(self, indices, question):
+        if indices not in self.answers:
+            self.answers[indices] = question(*(self.line_of(self.arcs[i].points) for i in indices))
+        return self.answers[indices]
+
+
+def joined(arcs, tolerance):
+    """The part that the arcs make at this distance."""
+    points = []
+    for arc, backwards in arcs:
+        kept = arc.kept(tolerance)
+        kept = kept[::-1] if backwards else kept
+        points += kept[1:] if points else kept
+    return points

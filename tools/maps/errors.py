@@ -1,0 +1,45 @@
+"""Errors in one line, notes on what was changed, and the libraries of Debian that the tools need."""
+
+import importlib
+import sys
+import warnings
+
+
+class MapError(Exception):
+    """Why no map is written: one line that says where, what, and what to do."""
+
+    def __init__(self, message):
+        super().__init__(" ".join(str(message).split()))
+
+
+class Notes:
+    """What was changed or left out, each kind counted, with the first place where it happened."""
+
+    def __init__(self):
+        self.counts = {}
+        self.places = {}
+
+    def add(self, what, place="", count=1):
+        self.counts[what] = self.counts.get(what, 0) + count
+        self.places.setdefault(what, place)
+
+    def lines(self):
+        for what, count in self.counts.items():
+            place = self.places[what]
+            if count > 1:
+                yield f"{what} ({count} times{', first in ' + place if place else ''})"
+            else:
+                yield f"{what}{' (' + place + ')' if place else ''}"
+
+
+def library(name, package):
+    """The module, or an error that names its Debian package."""
+    try:
+        with warnings.catch_warnings():
+            warnings.simplefilter("ignore", DeprecationWarning)
+            return importlib.import_module(name)
+    except ImportError as error:
+        raise MapError(
+            f"Python's {name} isn't there: apt-get install {package}, and run this tool by Debian's Python, "
+            f"/usr/bin/python3 (this is {sys.executable})"
+        ) from error

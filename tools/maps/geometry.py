@@ -1,0 +1,90 @@
+"""Points of the two systems that wfarm draws: EPSG:4326 in degrees, longitude first, and EPSG:3857 in metres."""
+
+import math
+import warnings
+
+from .errors import MapError, library
+from .model import EXTENT_DIGITS, LEAST_POINTS
+
+EARTH_RADIUS = 6_378_137.0  # metres, of the sphere of EPSG:3857
+METRES_A_DEGREE = math.radians(1) * EARTH_RADIUS
+DIGITS = {"4326": 6, "3857": 1}  # after the point, unless asked otherwise
+WORLD = {"4326": (180.0, 90.0), "3857": (math.pi * EARTH_RADIUS, 20_048_966.2)}  # half its width and height
+ROUNDING = 1e-9  # of the world's half, by which a point at its edge may lie outside
+
+
+def checked(points, crs, kind, place):
+    """The points, or an error if one isn't in the system's world or a side leaps over its edge."""
+    half_width, half_height = WORLD[crs]
+    for point in points:
+        x, y = point[0], point[1]
+        if not (math.isfinite(x) and math.isfinite(y)):
+            raise MapError(f"{place}: a point without a place in EPSG:{crs} ({x:g} {y:g}): {cure(crs)}")
+        if abs(x) > half_width * (1 + ROUNDING) or abs(y) > half_height * (1 + ROUNDING):
+            raise MapError(f"{place}: the point {x:g} {y:g} lies outside of EPSG:{crs}: {cure(crs)}")
+    if kind != "POINT":
+        for (x, *_), (then, *_) in zip(points, points[1:]):
+            leap = abs(then - x)
+            if half_width < leap < 2 * half_width * (1 - ROUNDING):
+                raise MapError(f"{place}: it crosses 180 degrees ({x:g} to {then:g}): cut it there (ogr2ogr -wrapdateline)")
+    return points
+
+
+def cure(crs):
+    if crs == "3857":
+        return "give the data's own system (--source), cut the data at 85.06 degrees, or write --crs 4326"
+    return "give the data's own system (--source), or cut the data (ogr2ogr -wrapdateline)"
+
+
+def whole_extent(sides, digits):
+    """The sides of an extent, rounded to the digits, as a map has them."""
+    return tuple(round(side * 10**digits) * 10 ** (EXTENT_DIGITS - digits) for side in sides)
+
+
+def on_grid(parts, kind, digits):
+    """The parts with coordinates as whole numbers of 10^-digits, rings closed, points that fall together once, the
+    greatest part first (a label stands at its middle). Those that become too small are left out."""
+    scale = 10**digits
+    result = []
+    for part in parts:
+        points = [(round(point[0] * scale), round(point[1] * scale)) for point in part]
+        if kind != "POINT":
+            points = points[:1] + [point for before, point in zip(points, points[1:]) if point != before]
+        if kind == "POLYGON" and points and points[0] != points[-1]:
+            points.append(points[0])
+        if len(points) >= LEAST_POINTS[kind]:
+            result.append(points)
+    if kind != "POINT" and len(result) > 1:
+        extent = ring_area if kind == "POLYGON" else length
+        greatest = max(result, key=extent)
+        result = [greatest] + [part for part in result if part is not greatest]
+    return result
+
+
+def ring_area(ring):
+    """Twice the area inside of a closed ring."""
+    return abs(sum(x * next_y - next_x * y for (x, y), (next_x, next_y) in zip(ring, ring[1:])))
+
+
+def length(line):
+    return sum(map(math.dist, line, line[1:]))
+
+
+def metres_a_unit(crs, extent):
+    """How many metres on the ground a unit of the system is, upwards from the middle of the extent (in units)."""
+    if crs == "4326":
+        return METRES_A_DEGREE
+    return 1 / math.cosh((extent[1] + extent[3]) / 2 / EARTH_RADIUS)
+
+
+def meetings(shapes):
+    """The pairs of indices, the lesser first, of shapely's shapes whose boxes meet."""
+    with warnings.catch_warnings():
+        warnings.simplefilter("ignore")  # shapely 1.8 warns of shapely 2, which is provided for below
+        tree = library("shapely.strtree", "python3-shapely").STRtree(shapes)
+    places = {id(shape): i for i, shape in enumerate(shapes)}
+    for i, shape in enumerate(shapes):
+        for found in tree.query(shape):
+            j = places[id(found)] if hasattr(found, "geom_type") else int(found)  # shapely 1.8, or 2
+            if i < j:
+                yield i, j

@@ -1,0 +1,118 @@
+"""Features as one shape, where no picture can tell: each one costs bytes, and counts.
+
+Features that are drawn alike, have the same attributes and no label become one. A feature joins one before it only if
+none of another class stands between them, since the later is drawn over the earlier. Lines and points that lie over one
+another look the same either way. The insides of two polygons don't: where both are, one shape has a hole. So filled
+polygons become one only if their boxes lie apart, or if they are neighbours, with points in common, whose insides lie
+apart; and none that is filled and outlined, or drawn by several styles. A border between two of them is left out: a side
+that is there twice counts for nothing where a shape is filled (even-odd).
+"""
+
+from itertools import groupby, repeat
+
+from .errors import library
+from .geometry import meetings
+from .model import Feature
+
+
+def merged(layer):
+    """The layer's features, with those that can be one as one."""
+    result = []
+    for group, run in groupby(layer.features, key=lambda feature: feature.group):
+        how = layer.classes[group]
+        run = list(run)
+        result += run if how.label is not None else alike(layer.kind, how.styles, run)
+    return result
+
+
+def alike(kind, styles, run):
+    """The run of features of one class without labels, with those that can be one as one, in the order of the first."""
+    if kind == "LINE":
+        return joined(run, repeat(0))
+    if len(styles) != 1 or (styles[0].color is not None and styles[0].outline is not None):
+        return run
+    if kind == "POLYGON" and styles[0].color is None:
+        return joined(run, repeat(0))
+    if kind == "POLYGON":
+        shapes = joined(run, turns(run))
+        for shape in shapes:
+            shape.parts = dissolved(shape.parts)
+        return shapes
+    shapes = joined(run, repeat(0))
+    for shape in shapes:
+        shape.parts = [[point for part in shape.parts for point in part]]
+    return shapes
+
+
+def joined(run, numbers):
+    """One feature for those with the same attributes and the same number."""
+    shapes = {}
+    for feature, number in zip(run, numbers):
+        key = (tuple(feature.values), number)
+        if key in shapes:
+            shapes[key].parts += feature.parts
+        else:
+            shapes[key] = Feature(list(feature.parts), feature.group, feature.values)
+    return list(shapes.values())
+
+
+def turns(run):
+    """Numbers for polygons, such that those with the same number lie apart."""
+    geometry = library("shapely.geometry", "python3-shapely")
+    before = [[] for _ in run]  # the earlier ones that a polygon can't be one with
+    points = [{point for part in feature.parts for point in part} for feature in run]
+    insides = [geometry.Polygon(feature.parts[0]) if len(feature.parts) == 1 else None for feature in run]
+    for i, j in meetings([geometry.box(*bounds(feature.parts)) for feature in run]):
+        if points[i].isdisjoint(points[j]) or not lie_apart(insides[i], insides[j]):
+            before[j].append(i)
+    numbers = []
+    for others in before:
+        taken = {numbers[i] for i in others}
+        numbers.append(next(number for number in range(len(taken) + 1) if number not in taken))
+    return numbers
+
+
+def lie_apart(one, other):
+    """Whether the insides of two polygons have nothing in common; False where either isn't a plain polygon."""
+    if one is None or other is None or not one.is_valid or not other.is_valid:
+        return False
+    return one.relate_pattern(other, "F********")
+
+
+def dissolved(rings):
+    """Rings of the sides that are there once. Sides in both directions are one."""
+    sides = {}
+    for side in (side for ring in rings for side in zip(ring, ring[1:])):
+        key = min(side), max(side)
+        if key in sides:
+            del sides[key]
+        else:
+            sides[key] = None
+    if len(sides) == sum(len(ring) - 1 for ring in rings):
+        return rings
+    ends = {}
+    for one, other in sides:
+        ends.setdefault(one, []).append(other)
+        ends.setdefault(other, []).append(one)
+    result = []
+    for start in list(ends):
+        while ends[start]:
+            result.append(ring_from(start, ends))
+    return result
+
+
+def ring_from(start, ends):
+    """A ring along sides that are taken from the ends. It is back at its start since each point has an even number."""
+    ring = [start]
+    while len(ring) == 1 or ring[-1] != start:
+        after = ends[ring[-1]].pop()
+        ends[after].remove(ring[-1])
+        ring.append(after)
+    return ring
+
+
+def bounds(parts):
+    """The least and greatest coordinates of the parts."""
+    xs = [x for part in parts for x, _ in part]
+    ys = [y for part in parts for _, y in part]
+    return min(xs), min(ys), max(xs), max(ys)

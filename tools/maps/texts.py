@@ -1,0 +1,102 @@
+"""Texts and numbers as a mapfile of wfarm holds them (docs/MAPFILES.md, "Tokens")."""
+
+import unicodedata
+
+from .errors import MapError
+
+MOST_TEXT = 1_000  # bytes of one text
+MOST_COORDINATE = 100_000_000  # magnitude of a number
+
+# What NFKD leaves as it is. Labels draw small letters as capitals, so the case is kept.
+ASCII = {
+    "ß": "ss", "ẞ": "SS", "ø": "o", "Ø": "O", "æ": "ae", "Æ": "AE", "œ": "oe", "Œ": "OE", "ł": "l", "Ł": "L", "đ": "d",
+    "Đ": "D", "ð": "d", "Ð": "D", "þ": "th", "Þ": "TH", "ı": "i", "ħ": "h", "Ħ": "H", "ŋ": "ng", "Ŋ": "NG", "ŧ": "t",
+    "Ŧ": "T", "'": " ", "’": " ", "‘": " ", "/": "-", "_": "-", "–": "-", "—": "-", "‐": "-", "‑": "-", "−": "-",
+    ",": " ", ";": " ", "(": " ", ")": " ", "·": ".", "\t": " ",
+}  # fmt: skip
+DRAWN = set("ABCDEFGHIJKLMNOPQRSTUVWXYZabcdefghijklmnopqrstuvwxyz0123456789-. ")
+
+
+def is_allowed(character):
+    """Whether a text may hold the character (and, of quotes, one kind at a time)."""
+    code = ord(character)
+    if character == "\\" or 0xD800 <= code <= 0xDFFF or code in (0xFFFE, 0xFFFF):
+        return False
+    return code >= 32 or character in "\t\n\r"
+
+
+def decoded(text, notes, place):
+    """The text, read as ISO-8859-1 if it isn't UTF-8: bytes that aren't are lone surrogates in it."""
+    try:
+        text.encode()
+        return text
+    except UnicodeEncodeError:
+        notes.add("a text that isn't UTF-8 was read as ISO-8859-1", place)
+        return text.encode("utf-8", "surrogateescape").decode("iso-8859-1")
+
+
+def plain(text, notes, place):
+    """The text with what no text of a mapfile holds replaced, and each kind of replacement noted. Double quotes always
+    become apostrophes, since a text with both kinds has no spelling, and equal values must stay equal."""
+    text = decoded(text, notes, place)
+    changed = text.replace("\r\n", " ").translate({10: " ", 13: " ", 9: " "})
+    if changed != text:
+        notes.add("line feeds and tabs of a text became spaces", place)
+    for old, new, what in (("\\", "/", "a backslash became a slash"), ('"', "'", "double quotes became apostrophes")):
+        if old in changed:
+            notes.add(what, place)
+            changed = changed.replace(old, new)
+    kept = "".join(filter(is_allowed, changed))
+    if kept != changed:
+        notes.add("characters that no text holds were left out", place)
+    return kept
+
+
+def value(text, notes, place):
+    """The text as one value among those that semicolons separate."""
+    if ";" in text:
+        notes.add("a semicolon in a value became a comma", place)
+        text = text.replace(";", ",")
+    return plain(text, notes, place)
+
+
+def quoted(text, what):
+    """The text as the string of a mapfile, or an error if no string holds it."""
+    size = len(text.encode("utf-8", "surrogatepass"))
+    if size > MOST_TEXT:
+        raise MapError(f"{what}: {size} bytes, over the limit of {MOST_TEXT}: shorten it, or keep fewer attributes")
+    if not all(map(is_allowed, text)) or ('"' in text and "'" in text):
+        raise MapError(f"{what}: {text!r} can't be written as a text of a mapfile")
+    return f"'{text}'" if '"' in text else f'"{text}"'
+
+
+def number(units, digits):
+    """The text of units / 10^digits, without zeros at the end of its fraction."""
+    if abs(units) > MOST_COORDINATE * 10**digits:
+        raise MapError(f"the coordinate {units / 10**digits:g} is over the limit of {MOST_COORDINATE}: give the data's own system")
+    whole, fraction = divmod(abs(units), 10**digits)
+    tail = f"{fraction:0{digits}d}".rstrip("0") if digits else ""
+    return ("-" if units < 0 else "") + (f"{whole}.{tail}" if tail else str(whole))
+
+
+def ascii_letters(text):
+    """The text in letters that labels draw, as far as there are any (é as e, ß as ss)."""
+    replaced = "".join(ASCII.get(character, character) for character in text)
+    letters = unicodedata.normalize("NFKD", replaced)
+    return " ".join("".join(character for character in letters if not unicodedata.combining(character)).split())
+
+
+def boxes(text):
+    """How many characters of a label are drawn as a filled box."""
+    return sum(character not in DRAWN for character in text)
+
+
+def label(text, in_ascii, notes, place):
+    """The text as a label, in letters that are drawn if asked. Labels with characters that are drawn as boxes are noted."""
+    text = plain(text, notes, place)
+    if in_ascii:
+        text = ascii_letters(text)
+    if boxes(text):
+        cure = "" if in_ascii else "; --ascii writes é as e, ß as ss, and so on"
+        notes.add(f"a label has letters that are drawn as boxes{cure}", f"{place}: {text}")
+    return text

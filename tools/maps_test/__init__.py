@@ -1,0 +1,1 @@
+"""Data and checks of tools/test_maps.py."""

@@ -1,0 +1,220 @@
+"""What no single input shows: borders by area, features as one shape, pictures beside MapServer's, and speed."""
+
+import re
+import time
+
+from osgeo import ogr
+from shapely.geometry import Polygon
+from shapely.ops import unary_union
+
+from maps.borders import weights
+from maps.texts import number
+
+from . import agency, pictures
+from .case import TOOLS, canonical, run
+
+EXAMPLES = TOOLS.parent / "examples"
+DATA = TOOLS / "geojson"
+
+
+def rings_of(text):
+    """The rings of a map's features, a list for each feature."""
+    features, ring = [], None
+    for line in text.splitlines():
+        if line == "FEATURE":
+            features.append([])
+        elif line == "POINTS":
+            ring = []
+        elif ring is not None and line == "END":
+            features[-1].append(ring)
+            ring = None
+        elif ring is not None:
+            ring.append(tuple(float(side) for side in line.split()))
+    return features
+
+
+def said(done):
+    return done.stderr.decode().strip()
+
+
+# ---- borders
+
+
+def borders_stay_shared(folder, program, keep):
+    """Communes in labelled polygons, simplified until they fit: no overlap, no gap between them, in square metres."""
+    agency.write_data(folder, depth=5, roads=1, towns=1)
+    done = run("make_map.py", ["--name", "a", "--crs", "3857", "--fit", "--layer", "communes.shp", "--label", "NAME", "--ascii"], folder)
+    if done.returncode != 0 or "simplified by" not in said(done):
+        return said(done)
+    polygons = [Polygon(rings[0]) for rings in rings_of(done.stdout.decode())]
+    union = unary_union(polygons)
+    overlap = sum(polygon.area for polygon in polygons) - union.area
+    outlines = [union.exterior] if union.geom_type == "Polygon" else [part.exterior for part in union.geoms]
+    gaps = sum(Polygon(outline).area for outline in outlines) - union.area
+    if len(polygons) != 200 or abs(overlap) > 1 or gaps > 1 or len(outlines) != 1:
+        return f"{len(polygons)} polygons overlap by {overlap:,.1f} m² and leave gaps of {gaps:,.1f} m² in {len(outlines)} pieces"
+    return None
+
+
+def borders_do_not_cross(folder, program, keep):
+    """A narrow tongue beside a bent border: simplified by itself, the border would cut the tongue off."""
+    tongue = [(0, 0), (50, 0), (50, 49), (52, 49), (52, 0), (100, 0), (100, 100), (60, 100), (51, 51), (40, 100), (0, 100), (0, 0)]
+    inner = [(44, 90), (51, 55), (56, 90), (44, 90)]
+    rows = [(agency.polygon([(2600000 + 100 * x, 1200000 + 100 * y) for x, y in ring]), ()) for ring in (tongue, inner)]
+    agency.write_table(folder / "a.gpkg", "GPKG", "a", ogr.wkbPolygon, [], rows)
+    for distance in (100, 200, 500, 1000, 2000, 4000):
+        done = run("make_map.py", ["--name", "a", "--crs", "3857", "--simplify", str(distance), "--layer", "a.gpkg"], folder)
+        if done.returncode != 0:
+            return said(done)
+        polygons = [Polygon(rings[0]) for rings in rings_of(done.stdout.decode())]
+        if not all(polygon.is_valid for polygon in polygons) or (len(polygons) == 2 and polygons[0].intersection(polygons[1]).area > 1):
+            return f"at {distance} m the polygons cross"
+    return None
+
+
+def weights_of_a_line(folder, program, keep):
+    """The distance of each point at which Douglas and Peucker's method leaves it out, worked out by hand."""
+    found = weights([(0, 0), (1, 1), (2, 4), (3, 1), (4, 0)])
+    wanted = [float("inf"), 1 / 5**0.5, 4.0, 1 / 5**0.5, float("inf")]
+    return None if all(a == b or abs(a - b) < 1e-9 for a, b in zip(found, wanted)) else f"{found}"
+
+
+def numbers_as_written(folder, program, keep):
+    wanted = {(0, 6): "0", (-1, 6): "-0.000001", (1500000, 6): "1.5", (-12, 1): "-1.2", (7, 0): "7", (-20, 1): "-2"}
+    return next((f"{units} is {number(units, digits)}" for (units, digits), text in wanted.items() if number(units, digits) != text), None)
+
+
+# ---- features as one shape
+
+
+SHAPED = {
+    "paths": ["--layer", "paths.geojson", "--class-by", "kind", "--class", "road=200,0,0", "--width", "9"],
+    "woods": ["--layer", "woods.geojson", "--color", "0,120,0"],
+    "fences": ["--layer", "woods.geojson", "--outline", "0,120,0", "--width", "9"],
+    "fields": ["--layer", "woods.geojson", "--color", "200,200,0", "--outline", "0,120,0", "--width", "9"],
+    "wards": ["--layer", "wards.geojson", "--class-by", "party", "--outline", "0,0,0", "--label", "ward"],
+}
+
+
+def one_shape_looks_alike(folder, program, keep):
+    """Features that became one shape have the picture of each by itself, and fewer bytes where any did."""
+    for name, words in SHAPED.items():
+        one = run("make_map.py", ["--name", name, *words], DATA)
+        each = run("make_map.py", ["--name", name, "--apart", *words], DATA)
+        if one.returncode or each.returncode:
+            return f"{name}: {said(one)} {said(each)}"
+        drawn = [pictures.drawn_by_wfarm(program, done.stdout.decode(), 500) for done in (one, each)]
+        if drawn[0] != drawn[1] or len(one.stdout) > len(each.stdout):
+            return f"{name}: another picture, or more bytes"
+    return None
+
+
+def neighbours_as_one_look_alike(folder, program, keep):
+    """Neighbours of one colour without labels become one shape without the borders between them."""
+    rows = [(agency.polygon(ring), (agency.USES[i * 7 // 3 % 4],)) for i, ring in enumerate(agency.coverage(12, 6, 3))]
+    agency.write_table(folder / "a.gpkg", "GPKG", "a", ogr.wkbPolygon, [("use", ogr.OFTString)], rows)
+    words = ["--name", "a", "--crs", "3857", "--by-class", "--layer", "a.gpkg", "--class-by", "use"]
+    one, each = run("make_map.py", words, folder), run("make_map.py", ["--apart", *words], folder)
+    drawn = [pictures.drawn_by_wfarm(program, done.stdout.decode(), 800) for done in (one, each)]
+    if drawn[0] != drawn[1] or len(one.stdout) > len(each.stdout) * 0.8:
+        return f"another picture, or {len(one.stdout)} bytes for {len(each.stdout)}"
+    return None
+
+
+# ---- beside MapServer
+
+
+def own_maps_stay(folder, program, keep):
+    """Maps of wfarm go through MapServer's library and back with every pixel."""
+    for name in ("roads", "parcels", "lakes", "towns"):
+        done = run("import_mapfile.py", ["--digits", "6", str(EXAMPLES / f"{name}.map")], folder)
+        if done.returncode != 0:
+            return f"{name}: {said(done)}"
+        own = canonical(program, (EXAMPLES / f"{name}.map").read_bytes()).stdout.decode()
+        before, after = (pictures.drawn_by_wfarm(program, text, 1024) for text in (own, done.stdout.decode()))
+        if before != after:
+            return f"{name}: {pictures.share_equal(pictures.pixels_of(before), pictures.pixels_of(after)):.4%} of the pixels are equal"
+    return None
+
+
+def shown(folder, program, keep, name, words, least, layers=None):
+    """Imports agency.map and looks how many pixels of the pictures are equal. Told, too, is how many are if MapServer's
+    smoothed borders count as the nearer colour."""
+    done = run("import_mapfile.py", [*words, "agency.map"], folder)
+    if done.returncode != 0:
+        return said(done)
+    text = done.stdout.decode()
+    png = pictures.drawn_by_mapserver(folder / "agency.map", text, 1024, layers)
+    theirs, ours = pictures.pixels_of_png(png), pictures.pixels_of(pictures.drawn_by_wfarm(program, text, 1024))
+    colors = set(pictures.pixels(ours))
+    plain, share = pictures.share_equal(ours, theirs), pictures.share_equal(ours, pictures.nearest(theirs, colors))
+    print(f"{name}: {plain:.2%} of the pixels are equal, {share:.2%} without MapServer's smoothing; {said(done).splitlines()[-1]}")
+    if keep is not None:
+        keep.mkdir(parents=True, exist_ok=True)
+        (keep / f"{name}-mapserver.png").write_bytes(png)
+        (keep / f"{name}.ppm").write_bytes(pictures.drawn_by_wfarm(program, text, 1024))
+        (keep / f"{name}.map").write_text(text)
+    return None if plain >= least else f"{plain:.2%} of the pixels are equal, and {least:.0%} are wanted"
+
+
+def polygons_beside_mapserver(folder, program, keep):
+    agency.write_data(folder, columns=12, rows=6, roads=1, towns=1)
+    agency.write_mapfile(folder, labels=False)
+    words = ["--crs", "3857", "--fit", "--layers", "communes"]
+    return shown(folder, program, keep, "polygons", words, 0.97, ["communes"])
+
+
+def whole_map_beside_mapserver(folder, program, keep):
+    """All of an agency's map, with its labels, which have other letters: most of it is alike."""
+    agency.write_data(folder)
+    agency.write_mapfile(folder)
+    return shown(folder, program, keep, "agency", ["--crs", "3857", "--fit", "--by-class", "--ascii"], 0.75)
+
+
+# ---- speed, and the whole way
+
+
+def seconds_of(tool, words, folder):
+    start = time.monotonic()
+    done = run(tool, words, folder)
+    return time.monotonic() - start, done
+
+
+def fast_enough(folder, program, keep):
+    """200 communes, 300 roads and 60 towns by --fit in 15 seconds; 100,000 points of a GeoPackage in a minute."""
+    agency.write_data(folder, depth=4)
+    agency.write_mapfile(folder)
+    took, done = seconds_of("import_mapfile.py", ["--crs", "3857", "--fit", "--ascii", "agency.map"], folder)
+    rows = [(agency.polygon(ring), (f"C{i}",)) for i, ring in enumerate(agency.coverage(20, 10, 7))]
+    agency.write_table(folder / "big.gpkg", "GPKG", "big", ogr.wkbPolygon, [("name", ogr.OFTString)], rows)
+    long, big = seconds_of("make_map.py", ["--name", "a", "--fit", "--layer", "big.gpkg", "--label", "name"], folder)
+    print(f"speed: the agency's map in {took:.1f} seconds, 102,400 points in {long:.1f}")
+    if done.returncode or big.returncode:
+        return f"{said(done)} {said(big)}"
+    return None if took < 15 and long < 60 else "too slow"
+
+
+def query_of_the_map(folder, program, keep):
+    """--query writes a query that draws the whole map."""
+    done = run("make_map.py", ["--name", "a", "--query", str(folder / "query"), "--layer", "wards.geojson", "--label", "ward"], DATA)
+    query = (folder / "query").read_text().strip()
+    drawn = pictures.picture(program, query, done.stdout)
+    return None if re.match(rb"P6\n400 267\n", drawn) else f"{query}: {drawn[:40]}"
+
+
+def report_of_what_is_lost(folder, program, keep):
+    agency.write_data(folder, columns=4, rows=2, depth=3, roads=9, towns=5)
+    agency.write_mapfile(folder)
+    done = run("import_mapfile.py", ["--crs", "4326", "--report", "lost.txt", "agency.map"], folder)
+    report = (folder / "lost.txt").read_text()
+    return None if report.strip() == said(done) and "layer roads: lost: PATTERN of STYLE" in report else report
+
+
+CHECKS = {
+    check.__name__.replace("_", " "): check
+    for check in (
+        borders_stay_shared, borders_do_not_cross, weights_of_a_line, numbers_as_written, one_shape_looks_alike,
+        neighbours_as_one_look_alike, own_maps_stay, polygons_beside_mapserver, whole_map_beside_mapserver, fast_enough,
+        query_of_the_map, report_of_what_is_lost,
+    )
+}  # fmt: skip

@@ -1,0 +1,224 @@
+"""Odd inputs of tools/make_map.py, each with the error or map that is wanted."""
+
+import json
+
+from osgeo import gdal, ogr
+
+from .agency import line, point, polygon, system, write_table
+from .case import Case
+
+
+def feature(kind, coordinates, **properties):
+    return {"type": "Feature", "properties": properties, "geometry": {"type": kind, "coordinates": coordinates}}
+
+
+def without(**properties):
+    return {"type": "Feature", "properties": properties, "geometry": None}
+
+
+def collection(*features, **members):
+    return json.dumps({"type": "FeatureCollection", **members, "features": list(features)})
+
+
+SQUARE = [[0, 0], [2, 0], [2, 2], [0, 2], [0, 0]]
+TWO = [feature("Point", [1, 1], name="one"), feature("Point", [2, 3], name="two")]
+WORDS = ["--name", "made", "--layer", "made.geojson"]
+
+
+def made(name, features, words=(), text=None, **wanted):
+    """A case of one file of GeoJSON."""
+    content = text if text is not None else collection(*features)
+    return Case(name, [*WORDS, *words], {"made.geojson": content}, **wanted)
+
+
+def named(value, **others):
+    return [feature("Point", [1, 1], name=value, **others), TWO[1]]
+
+
+GEOMETRY = [
+    made("null geometry", [*TWO, without(name="x")], error=r"made.geojson: feature 3: it has no geometry.*--skip"),
+    made("null geometry, skipped", [*TWO, without(name="x")], ["--skip"], notes=("left out .*feature 3: it has no geometry",)),
+    made("empty line", [*TWO, feature("LineString", [])], error=r"feature 3: it has no geometry"),
+    made("empty polygon", [*TWO, feature("Polygon", [])], error=r"feature 3: it has no geometry"),
+    made("polygon with an empty ring", [*TWO, feature("Polygon", [[]])], error=r"feature 3"),
+    made("collection", [*TWO, {"type": "Feature", "properties": {}, "geometry": {"type": "GeometryCollection", "geometries": [
+        {"type": "Point", "coordinates": [1, 1]}]}}], error=r"feature 3: it is a GEOMETRYCOLLECTION: split it"),
+    made("empty collection", [*TWO, {"type": "Feature", "properties": {}, "geometry": {"type": "GeometryCollection", "geometries": []}}],
+         error=r"feature 3: it has no geometry"),
+    made("unknown kind of geometry", [*TWO, feature("Circle", [1, 1])], error=r"made.geojson: feature 3: its geometry is malformed|feature 3: it has no geometry"),
+    made("NaN", [], text=collection(*TWO, feature("Point", ["N", 1])).replace('"N"', "NaN"), error=r"feature 3"),
+    made("infinity", [], text=collection(*TWO, feature("Point", ["N", 1])).replace('"N"', "1e999"), error=r"made.geojson: feature 3"),
+    made("huge coordinate", [*TWO, feature("Point", [1e300, 1])], error=r"feature 3: the point 1e\+300 1 lies outside of EPSG:4326: give the data's own system"),
+    made("longitude out of range", [*TWO, feature("Point", [200, 1])], error=r"feature 3: the point 200 1 lies outside of EPSG:4326"),
+    made("latitude out of range", [*TWO, feature("Point", [20, 91])], error=r"feature 3: the point 20 91 lies outside"),
+    made("metres taken as degrees", [feature("Point", [2600000, 1200000])], error=r"feature 1: .*outside of EPSG:4326: give the data's own system \(--source\)"),
+    made("metres of a named system", [], text=collection(
+        feature("Point", [2600000, 1200000]), feature("Point", [2700000, 1250000]),
+        crs={"type": "name", "properties": {"name": "urn:ogc:def:crs:EPSG::2056"}}), lines=("7.438632 46.951083",)),
+    made("metres by --source", [feature("Point", [2600000, 1200000]), feature("Point", [2700000, 1250000])], ["--source", "EPSG:2056"],
+         lines=("7.438632 46.951083",)),
+    made("position of one number", [*TWO, feature("Point", [1])], error=r"made.geojson: feature 3"),
+    made("line with a position of one number", [*TWO, feature("LineString", [[1, 1], [2]])], error=r"made.geojson: feature 3"),
+    made("position of four numbers", [*TWO, feature("Point", [1, 2, 3, 4])], lines=("1 2",), notes=("heights were left out",)),
+    made("position of texts", [*TWO, feature("Point", ["a", "b"])], error=r"made.geojson: feature 3"),
+    made("coordinates that are no list", [*TWO, feature("Point", 7)], error=r"made.geojson: feature 3"),
+    made("heights", [feature("LineString", [[1, 1, 9], [2, 3, 9]])], notes=("heights were left out",), lines=("1 1", "2 3")),
+    made("ring that isn't closed", [feature("Polygon", [SQUARE[:-1]])], lines=("0 0",)),
+    made("ring of two points", [*TWO, feature("Polygon", [[[0, 0], [1, 1]]])], error=r"feature 3: a polygon with 2 points, and it needs 3"),
+    made("line of one point", [*TWO, feature("LineString", [[0, 0]])], error=r"feature 3: a line with 1 points, and it needs 2"),
+    made("line of one point, twice", [*TWO, feature("LineString", [[0, 0], [0, 0]])], notes=("a part is smaller than the last digit",)),
+    made("a polygon below the last digit", [feature("Polygon", [[[0, 0], [0.1, 0], [0.1, 0.1], [0, 0]]])], ["--digits", "0"], error=r"nothing is left to draw: write more --digits"),
+    made("mixed kinds", [*TWO, feature("LineString", [[0, 0], [1, 1]]), feature("Polygon", [SQUARE])],
+         lines=('NAME "made_point"', 'NAME "made_line"', 'NAME "made_polygon"')),
+    made("line across 180 degrees", [feature("LineString", [[179, 0], [-179, 1]])], error=r"feature 1: it crosses 180 degrees \(179 to -179\): cut it there"),
+    made("polygon across 180 degrees", [*TWO, feature("Polygon", [[[170, 0], [-170, 0], [-170, 9], [170, 9], [170, 0]]])], error=r"feature 3: it crosses 180"),
+    made("across 180 degrees in metres", [feature("LineString", [[179, 0], [-179, 1]])], ["--crs", "3857"], error=r"feature 1: it crosses 180"),
+    made("the whole world", [feature("Polygon", [[[-180, -90], [180, -90], [180, 90], [-180, 90], [-180, -90]]])], lines=("EXTENT -180 -90 180 90",)),
+    made("a pole in metres", [*TWO, feature("Point", [1, 90])], ["--crs", "3857"], error=r"feature 3: .*--crs 4326"),
+    made("a line east to west at 180", [feature("LineString", [[170, 0], [180, 5]])], lines=("180 5",)),
+    made("one point", TWO[:1], error=r"the extent 1 1 1 1 is empty: give one by --extent"),
+    made("one point with an extent", TWO[:1], ["--extent=0,0,2,2"], lines=("EXTENT 0 0 2 2",)),
+    made("many parts", [feature("MultiPolygon", [[SQUARE], [[[5, 5], [9, 5], [9, 9], [5, 5]]]])], lines=("EXTENT 0 0 9 9",)),
+]  # fmt: skip
+
+FILES = [
+    made("not JSON", [], text="MAP END", error=r"made.geojson: GDAL can't read it"),
+    made("an empty file", [], text="", error=r"made.geojson: GDAL can't read it"),
+    made("cut JSON", [], text=collection(*TWO)[:-9], error=r"made.geojson: GDAL can't read it"),
+    made("JSON of something else", [], text='{"a": 1}', error=r"made.geojson: GDAL can't read it"),
+    made("a JSON list", [], text="[1, 2]", error=r"made.geojson: GDAL can't read it"),
+    made("features that are null", [], text='{"type": "FeatureCollection", "features": null}', error=r"made.geojson"),
+    made("no features", [], error=r"made.geojson: no feature is left to draw"),
+    made("a feature alone", [], text=json.dumps(feature("LineString", [[1, 1], [2, 3]])), lines=("2 3",)),
+    made("a geometry alone", [], text=json.dumps({"type": "LineString", "coordinates": [[1, 1], [2, 3]]}), lines=("2 3",)),
+    made("a byte order mark", [], text="\ufeff" + collection(*TWO), lines=("2 3",)),
+    Case("no file", WORDS, error=r"made.geojson: there is no such file"),
+    Case("a folder", ["--name", "a", "--layer", "."], error=r"\.: GDAL can't read it"),
+    Case("a layer without a comma in its name", ["--name", "a", "--layer", "a,b.geojson"], {"a,b.geojson": collection(*TWO)}, lines=('NAME "a_b"',)),
+    Case("two layers of one name", [*WORDS, "--layer", "made.geojson"], {"made.geojson": collection(*TWO)}, error=r"two layers have the name made: rename"),
+    Case("a table without places", ["--name", "a", "--layer", "a.csv"], {"a.csv": "name,age\nx,3\n"}, error=r"a.csv: (feature 1: it has no geometry|the data name no system)"),
+    made("an option before any layer", TWO, error="--label stands before the first --layer", status=2),
+]
+FILES[-1].words = ["--name", "made", "--label", "name", "--layer", "made.geojson"]
+
+TEXTS = [
+    made("both quotes in a label", named("5\" of 'x'"), ["--label", "name"], notes=("double quotes became apostrophes .*feature 1",), lines=("TEXT \"5' of 'x'\"",)),
+    made("quotes in two attributes", named('say "a"', other="it's"), ["--items", "name,other"], lines=("ITEMS \"say 'a';it's\"",)),
+    made("a list with quotes", named(['a"', "b'"]), ["--items", "name"], notes=("double quotes became",)),
+    made("a list", named(["a", "b"]), ["--items", "name"], lines=('ITEMS "a,b"',)),
+    made("an object", named({"a": "it's"}), ["--items", "name"]),
+    made("a line feed", named("a\nb"), ["--label", "name"], lines=('TEXT "a b"',), notes=("line feeds and tabs",)),
+    made("a backslash", named("a\\b"), ["--label", "name"], lines=('TEXT "a/b"',), notes=("a backslash became a slash",)),
+    made("a semicolon", named("a;b"), ["--items", "name"], lines=('ITEMS "a,b"',), notes=("a semicolon in a value became a comma",)),
+    made("a semicolon in a label", named("a;b"), ["--label", "name"], lines=('TEXT "a;b"',)),
+    made("a control character", named("a\u0001b"), ["--label", "name"], lines=('TEXT "ab"',), notes=("characters that no text holds",)),
+    made("half of a surrogate pair", [], ["--label", "name"], text=collection(*named("a@b")).replace("@", "\\ud800"), notes=("",)),
+    made("values of other types", named(True, n=3.0, m=None, k=0.1), ["--items", "name,n,m,k"], lines=('ITEMS "true;3;;0.1"',)) ,
+    made("a long label", named("x" * 1001), ["--label", "name"], error=r"layer made: feature 1: 1001 bytes, over the limit of 1000: shorten it"),
+    made("letters that are boxes", named("Zürich"), ["--label", "name"], notes=("drawn as boxes; --ascii .*feature 1: Zürich",)),
+    made("letters in ASCII", named("Straße nach Øresund/Łódź"), ["--label", "name", "--ascii"], lines=('TEXT "Strasse nach Oresund-Lodz"',)),
+    made("letters that stay boxes", named("東京"), ["--label", "name", "--ascii"], notes=("drawn as boxes .*東京",)),
+    made("an unknown label", TWO, ["--label", "nme"], error=r"made.geojson: it has no attribute 'nme': it has name"),
+    made("an unknown item", TWO, ["--items", "nme"], error=r"it has no attribute 'nme'"),
+    made("an unknown class item", TWO, ["--class-by", "nme"], error=r"it has no attribute 'nme'"),
+    made("quotes in the title", TWO, ["--title", "\"a\" and 'b'"], lines=("\"wms_title\" \"'a' and 'b'\"",)),
+    made("a condition that isn't SQL", TWO, ["--where", "name ="], error=r"--where 'name =' isn't understood"),
+    made("a condition that nothing meets", TWO, ["--where", "name = 'x'"], error=r"no feature is left to draw: look at --where"),
+    made("an unknown system", TWO, ["--source", "here"], error=r"here is no system: write --source EPSG:"),
+    made("a system without a number", TWO, ["--source", "EPSG:99999"], error=r"EPSG:99999 is no system"),
+]  # fmt: skip
+
+USES = [feature("Point", [i, i], use=f"use {i % 3}", pop=i * 100) for i in range(9)]
+CLASSES = [
+    made("colours of the palette", USES, ["--class-by", "use"], lines=('NAME "use 2"', 'EXPRESSION "3"'), absent=('NAME "other"',)),
+    made("some values", USES, ["--class-by", "use", "--class", "use 1=1,2,3"], lines=("COLOR 1 2 3", 'NAME "other"'), notes=(r"features in no class of use have --color \(6 times",)),
+    made("a value that isn't there", USES, ["--class-by", "use", "--class", "nix=1,2,3"], notes=("no feature has use 'nix'",)),
+    made("ranges", USES, ["--class-by", "pop", "--ranges", "100,500"], lines=('NAME "under 100"', 'NAME "100 to 500"', 'NAME "500 and more"')),
+    made("ranges of texts", USES, ["--class-by", "use", "--ranges", "100,500"], lines=('NAME "other"',), notes=("features in no class",)),
+    made("ranges that fall", USES, ["--class-by", "pop", "--ranges", "500,100"], error="isn't a list of numbers that rise", status=2),
+    made("ranges of nothing", USES, ["--ranges", "100"], error=r"need --class-by"),
+    made("too many values", [feature("Point", [i, i], n=i) for i in range(20)], ["--class-by", "n"], error=r"attribute n has 20 values, and a layer at most 15 classes"),
+    made("a value with quotes", named('a"b'), ["--class-by", "name", "--class", 'a"b=1,2,3'], lines=("NAME \"a'b\"", "COLOR 1 2 3")),
+    made("no colour", USES, ["--color", "red"], error="is no color", status=2),
+]  # fmt: skip
+
+
+def wavy(points):
+    return [[i / 1000, (i * i % 7) / 1000] for i in range(points)]
+
+
+LIMITS = [
+    made("too many features", [feature("Point", [i % 50, i // 50], n=i) for i in range(2001)], ["--items", "n"], error=r"2,001 features, over the limit of 2,000: write --fit"),
+    made("too many points", [feature("LineString", wavy(20001))], error=r"20,001 points, over the limit of 20,000: write --fit"),
+    made("too many bytes", [feature("LineString", wavy(8000))], error=r"bytes of canonical text, over the limit of 65,536: write --fit"),
+    made("too many bytes, fitted", [feature("LineString", wavy(8000))], ["--fit"], notes=(r"simplified by .* m on the ground, .* pixels",)),
+    made("too many points, by a distance", [feature("LineString", wavy(20001))], ["--simplify", "3000"], notes=("simplified by 3,000 m",)),
+    made("points that can't fit", [feature("Point", [i % 50, i // 50], n=f"n{i}") for i in range(2001)], ["--label", "n", "--fit"],
+         error=r"even with the simplest shapes the map has 2,001 features"),
+    made("too many layers", [], error=r"65 layers, over the limit of 64"),
+]  # fmt: skip
+LIMITS[-1].files = {f"{i}.geojson": collection(*TWO) for i in range(65)}
+LIMITS[-1].words = ["--name", "a"] + [word for i in range(65) for word in ("--layer", f"{i}.geojson")]
+
+
+# ---- other formats
+
+
+def two_tables(folder):
+    rows = [(point(7, 47), ("a",)), (point(8, 46), ("b",))]
+    for table in ("one", "two"):
+        write_table(folder / "a.gpkg", "GPKG", table, ogr.wkbPoint, [("name", ogr.OFTString)], rows, epsg=4326)
+
+
+def shapefile(folder, encoding="ISO-8859-1", beside=(".prj", ".cpg")):
+    rows = [(line([(2600000, 1200000), (2700000, 1250000)]), ("Genève",))]
+    write_table(folder / "a.shp", "ESRI Shapefile", "a", ogr.wkbLineString, [("name", ogr.OFTString)], rows, options=[f"ENCODING={encoding}"])
+    for ending in {".prj", ".cpg"} - set(beside):
+        (folder / f"a{ending}").unlink(missing_ok=True)
+
+
+def curve(folder):
+    data = ogr.GetDriverByName("GPKG").CreateDataSource(str(folder / "a.gpkg"))
+    table = data.CreateLayer("a", system(4326), ogr.wkbCircularString)
+    row = ogr.Feature(table.GetLayerDefn())
+    row.SetGeometry(ogr.CreateGeometryFromWkt("CIRCULARSTRING (0 0, 1 1, 2 0)"))
+    table.CreateFeature(row)
+
+
+def invalid_polygon(folder):
+    bow = [(0, 0), (2, 2), (2, 0), (0, 2), (0, 0)]
+    write_table(folder / "a.gpkg", "GPKG", "a", ogr.wkbPolygon, [], [(polygon(bow), ()), (polygon([(0, 0), (2, 0), (1, 1), (0, 0)]), ())], epsg=4326)
+
+
+def cut_shapefile(folder):
+    shapefile(folder)
+    whole = (folder / "a.shp").read_bytes()
+    (folder / "a.shp").write_bytes(whole[:110])
+
+
+OSM = """<?xml version="1.0"?><osm version="0.6">
+<node id="1" lat="47" lon="7" version="1"/><node id="2" lat="47.1" lon="7.2" version="1"/>
+<way id="9" version="1"><nd ref="1"/><nd ref="2"/><tag k="highway" v="primary"/><tag k="name" v="Ring"/></way></osm>"""
+GPKG = ["--name", "a", "--layer", "a.gpkg"]
+SHP = ["--name", "a", "--layer", "a.shp"]
+FORMATS = [
+    Case("two tables", GPKG, make=two_tables, error=r"a.gpkg: it has several tables: write --table and one of one, two"),
+    Case("one of two tables", [*GPKG, "--table", "two", "--label", "name"], make=two_tables, lines=('NAME "two"', 'TEXT "b"')),
+    Case("no such table", [*GPKG, "--table", "three"], make=two_tables, error=r"it has no table three"),
+    Case("a shapefile in Latin-1", [*SHP, "--label", "name"], make=shapefile, lines=('TEXT "Genève"', "7.438632 46.951083")),
+    Case("a shapefile that names no encoding", [*SHP, "--label", "name"], make=lambda folder: shapefile(folder, beside=(".prj",)),
+         error=r"a.shp: feature 1: attribute name isn't UTF-8: write its --encoding"),
+    Case("a shapefile by --encoding", [*SHP, "--label", "name", "--encoding", "ISO-8859-1"], make=lambda folder: shapefile(folder, beside=(".prj",)),
+         lines=('TEXT "Genève"',)),
+    Case("a shapefile without .prj", SHP, make=lambda folder: shapefile(folder, beside=()), error=r"a.shp: the data name no system: write --source EPSG:"),
+    Case("a shapefile by --source", [*SHP, "--source", "EPSG:2056"], make=lambda folder: shapefile(folder, beside=()), lines=("7.438632 46.951083",)),
+    Case("a cut shapefile", SHP, make=cut_shapefile, error=r"a.shp: "),
+    Case("OpenStreetMap", ["--name", "a", "--layer", "a.osm", "--table", "lines", "--where", "highway = 'primary'", "--label", "name"], {"a.osm": OSM},
+         lines=('TEXT "Ring"', "7.2 47.1")),
+    Case("a curve", GPKG, make=curve, notes=("curves became straight lines",)),
+    Case("a polygon that crosses itself", GPKG, make=invalid_polygon, lines=("EXTENT 0 0 2 2",)),
+    Case("a polygon that crosses itself, simplified", [*GPKG, "--simplify", "1000"], make=invalid_polygon),
+]  # fmt: skip
+
+gdal.UseExceptions()
+CASES = GEOMETRY + FILES + TEXTS + CLASSES + LIMITS + FORMATS
